@@ -1,0 +1,11 @@
+//! Worked examples of the codecs, with bytes from outside.
+#![tactic(auto)]
+
+#[cfg(test)]
+mod bytes;
+#[cfg(test)]
+mod cutting;
+#[cfg(test)]
+mod heads;
+#[cfg(test)]
+mod tlvs;

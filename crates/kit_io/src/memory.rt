@@ -1,0 +1,62 @@
+ghost use Rattle.std.specs.Prelude.{◌≡◌, ◌≤◌, [], Some, IfOk};
+ghost use Rattle.std.specs.Option.{option_copied};
+
+use crate::{Failed, Faults, Record, Sink};
+use std::alloc::{AllocError, Global};
+
+/// What a sink in memory answers to one call.
+#[derive(Clone, Copy, Debug, PartialEq, Eq)]
+pub enum SinkAnswer {
+    /// It takes at most so many bytes, but at least one.
+    Takes(usize),
+    /// The call fails.
+    Fails,
+}
+
+/// A sink in memory. It answers by its script, and behind the script's end it takes all.
+#[derive(Drop)]
+pub struct MemSink {
+    // The answers still to come, the next one last.
+    script: Vec<SinkAnswer>,
+    taken: Record<u8>,
+    faults: Faults,
+}
+
+impl MemSink {
+    /// A sink that follows this script, with room to tell of so many bytes.
+    pub fn new(alloc: Global, mut script: Vec<SinkAnswer>, room: usize) -> Result<Self, AllocError>
+        ensures told { IfOk result (λ sink. sink.taken.told ≡ Some []) }
+        ensures room { IfOk result (λ sink. room ≤ sink.taken.room) }
+    {
+        script.reverse();
+        Ok(MemSink {
+            script,
+            taken: Record::new(alloc, room)?,
+            faults: Faults::none(),
+        })
+    }
+
+    /// The bytes taken so far, where told.
+    pub fn taken(&self) -> Option<&[u8]>
+        ensures { self.now.taken.told ≡ option_copied result }
+    {
+        self.taken.told()
+    }
+}
+
+impl Sink for MemSink {
+    ghost taken = { λ s. s.taken.told };
+
+    ghost faults = { λ s. s.faults };
+
+    fn write(&mut self, bytes: &[u8]) -> Result<usize, Failed> {
+        match self.script.pop().unwrap_or(SinkAnswer::Takes(usize::MAX)) {
+            SinkAnswer::Takes(most) => {
+                let count = bytes.len().min(most.max(1));
+                self.taken.extend(&bytes[..count]);
+                Ok(count)
+            }
+            SinkAnswer::Fails => Err(self.faults.fail()),
+        }
+    }
+}

@@ -1,0 +1,75 @@
+ghost use Rattle.std.specs.Prelude.{◌≡◌, ◌≤◌, ℕ, Bool, true, List, [], ◌∷◌, Option, length, is_ok, IfOk};
+ghost use Rattle.kit_io.specs.Causes.{HasCause};
+ghost use Rattle.kit_io.specs.Told.{Grows};
+
+use kit_bytes::Text;
+use kit_io::Failed;
+
+/// How many bytes the buffer of a take has.
+pub const TAKE_ROOM: usize = 16_384;
+
+/// Where a link leads.
+#[derive(Debug, Drop)]
+pub enum Target {
+    /// A Unix socket, by its path.
+    Socket(Text),
+}
+
+/// What a take gives.
+#[derive(Clone, Copy, Debug, PartialEq, Eq)]
+pub enum Taken {
+    /// So many bytes stand at the front of the buffer.
+    Bytes(usize),
+    /// Nothing came in one tick.
+    Quiet,
+    /// Nothing will come any more.
+    End,
+}
+
+/// A way to one modem or proxy.
+pub trait Link {
+    ghost use Rattle.link_io.specs.Calls.{Call, Opened, Closed, take_call, Sends, EndsForGood};
+    ghost use Rattle.link_io.specs.Target.{path_of, IsWithin};
+
+    /// The calls so far, where told.
+    ghost calls: { Self → Option (List Call) };
+
+    /// Whether a take has found the end.
+    ghost ended: { Self → Bool };
+
+    /// How many calls of `open` have failed.
+    ghost open_faults: { Self → ℕ };
+
+    /// How many other calls have failed.
+    ghost faults: { Self → ℕ };
+
+    /// Opens the link.
+    fn open(&mut self, target: &Target) -> Result<(), Failed>
+        ensures calls { Grows (calls self.old) (Opened (path_of target.now) (is_ok result) ∷ []) (calls self.new) }
+        ensures ended { ended self.old ≡ true → ended self.new ≡ true }
+        ensures cause { HasCause (open_faults self.old) (open_faults self.new) result }
+        ensures later { faults self.old ≤ faults self.new };
+
+    /// Sends all the bytes, or a front of them where it fails.
+    fn send(&mut self, bytes: &[u8]) -> Result<(), Failed>
+        ensures calls { Sends (calls self.old) bytes.now result (calls self.new) }
+        ensures ended { ended self.old ≡ true → ended self.new ≡ true }
+        ensures cause { HasCause (faults self.old) (faults self.new) result }
+        ensures later { open_faults self.old ≤ open_faults self.new };
+
+    /// Waits for bytes, for at most one tick.
+    fn take(&mut self, buffer: &mut [u8]) -> Result<Taken, Failed>
+        requires { length buffer.old ≡ TAKE_ROOM }
+        ensures within { IfOk result (λ taken. IsWithin taken TAKE_ROOM) }
+        ensures calls { Grows (calls self.old) (take_call result buffer.new ∷ []) (calls self.new) }
+        ensures ended { EndsForGood (ended self.old) result (ended self.new) }
+        ensures cause { HasCause (faults self.old) (faults self.new) result }
+        ensures later { open_faults self.old ≤ open_faults self.new };
+
+    /// Closes the link.
+    fn close(&mut self)
+        ensures calls { Grows (calls self.old) (Closed ∷ []) (calls self.new) }
+        ensures ended { ended self.old ≡ true → ended self.new ≡ true }
+        ensures later { faults self.old ≤ faults self.new }
+        ensures later_open { open_faults self.old ≤ open_faults self.new };
+}

@@ -1,0 +1,141 @@
+ghost use Rattle.std.specs.Prelude.{◌≡◌, ◌≤◌, [], Some, IfOk};
+ghost use Rattle.link_io.specs.Made.{calls_of};
+
+use crate::{Link, Taken, Target};
+use kit_io::{Failed, Faults, Log};
+use std::alloc::{AllocError, Global};
+
+/// What a link in memory answers to one call.
+#[derive(Debug, Drop)]
+pub enum LinkAnswer {
+    /// The call does what it is to do; a take gives nothing.
+    Does,
+    /// The call fails; a send sends the first half of its bytes.
+    Fails,
+    /// A take gives these bytes, as many as fit.
+    Gives(Vec<u8>),
+    /// A take finds the end.
+    Ends,
+}
+
+/// A call that was made on a link in memory. Its bytes stand beside it: the path, or what was sent
+/// or given.
+#[derive(Clone, Copy, Debug, PartialEq, Eq)]
+pub enum Made {
+    Opened { ok: bool },
+    Sent { ok: bool },
+    Took,
+    WasQuiet,
+    WasEnd,
+    TakeFailed,
+    Closed,
+}
+
+/// A link in memory. It answers by its script, and behind the script's end a take finds the end.
+#[derive(Debug, Drop)]
+pub struct MemLink {
+    // The answers still to come, the next one last.
+    script: Vec<LinkAnswer>,
+    log: Log<Made>,
+    ended: bool,
+    open_faults: Faults,
+    faults: Faults,
+}
+
+impl MemLink {
+    /// A link that follows this script, with room to tell of so many calls, and of so many bytes of
+    /// theirs in all.
+    pub fn new(
+        alloc: Global,
+        mut script: Vec<LinkAnswer>,
+        room: usize,
+        bytes_room: usize,
+    ) -> Result<Self, AllocError>
+        ensures told { IfOk result (λ link. link.log.told ≡ Some []) }
+        ensures room { IfOk result (λ link. room ≤ link.log.room) }
+        ensures bytes_room { IfOk result (λ link. bytes_room ≤ link.log.bytes_room) }
+    {
+        script.reverse();
+        Ok(MemLink {
+            script,
+            log: Log::new(alloc, room, bytes_room)?,
+            ended: false,
+            open_faults: Faults::none(),
+            faults: Faults::none(),
+        })
+    }
+
+    /// The calls so far.
+    pub fn log(&self) -> &Log<Made>
+        ensures { result.now ≡ self.now.log }
+    {
+        &self.log
+    }
+}
+
+impl Link for MemLink {
+    ghost calls = { λ s. calls_of s.log.told };
+
+    ghost ended = { λ s. s.ended };
+
+    ghost open_faults = { λ s. s.open_faults };
+
+    ghost faults = { λ s. s.faults };
+
+    #[tactic(auto, using(kit_io::proofs::Told::growing))]
+    fn open(&mut self, target: &Target) -> Result<(), Failed> {
+        let Target::Socket(path) = target;
+        let path = path.as_str().as_bytes();
+        if let Some(LinkAnswer::Fails) = self.script.pop() {
+            self.log.note(Made::Opened { ok: false }, path);
+            return Err(self.open_faults.fail());
+        }
+        self.log.note(Made::Opened { ok: true }, path);
+        Ok(())
+    }
+
+    #[tactic(auto, using(kit_io::proofs::Told::growing))]
+    fn send(&mut self, bytes: &[u8]) -> Result<(), Failed> {
+        if let Some(LinkAnswer::Fails) = self.script.pop() {
+            let half = &bytes[..bytes.len() / 2];
+            self.log.note(Made::Sent { ok: false }, half);
+            return Err(self.faults.fail());
+        }
+        self.log.note(Made::Sent { ok: true }, bytes);
+        Ok(())
+    }
+
+    #[tactic(auto, using(kit_io::proofs::Told::growing))]
+    fn take(&mut self, buffer: &mut [u8]) -> Result<Taken, Failed> {
+        if self.ended {
+            self.log.note(Made::WasEnd, &[]);
+            return Ok(Taken::End);
+        }
+        match self.script.pop() {
+            Some(LinkAnswer::Gives(bytes)) if !bytes.is_empty() => {
+                let count = bytes.len().min(buffer.len());
+                buffer[..count].copy_from_slice(&bytes[..count]);
+                self.log.note(Made::Took, &buffer[..count]);
+                Ok(Taken::Bytes(count))
+            }
+            Some(LinkAnswer::Ends) | None => {
+                self.ended = true;
+                self.log.note(Made::WasEnd, &[]);
+                Ok(Taken::End)
+            }
+            Some(LinkAnswer::Fails) => {
+                self.log.note(Made::TakeFailed, &[]);
+                Err(self.faults.fail())
+            }
+            Some(LinkAnswer::Gives(_) | LinkAnswer::Does) => {
+                self.log.note(Made::WasQuiet, &[]);
+                Ok(Taken::Quiet)
+            }
+        }
+    }
+
+    #[tactic(auto, using(kit_io::proofs::Told::growing))]
+    fn close(&mut self) {
+        self.log.note(Made::Closed, &[]);
+    }
+}

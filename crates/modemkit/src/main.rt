@@ -1,0 +1,25 @@
+//! The program: its words come from the command line, its text goes to the standard streams, and
+//! its link is a Unix socket. What it does with them is `program`'s.
+#![tactic(auto)]
+
+use kit_io::StdSink;
+use link_io::UnixLink;
+use program::{refuse, run_tool};
+use std::process::ExitCode;
+use std::{env, io};
+
+fn main(rt: HostRuntime) -> ExitCode {
+    let mut out = StdSink::new(rt.stdout());
+    let mut err = StdSink::new(rt.stderr());
+    let mut link = UnixLink::new(&rt);
+    let status = match read_words(&rt) {
+        Ok(words) => run_tool(rt.alloc(), &words, &mut out, &mut err, &mut link),
+        Err(_) => refuse(&mut err),
+    };
+    ExitCode::from(status.code())
+}
+
+// The words behind the program's name.
+fn read_words(rt: &HostRuntime) -> io::Result<Vec<String>> {
+    Ok(env::args(rt)?.skip(1).collect(rt.alloc())?)
+}

@@ -1,0 +1,57 @@
+ghost use Rattle.std.specs.Prelude.{◌≡◌, OnOk};
+ghost use Rattle.kit_io.specs.Causes.{Rose, HasCause};
+ghost use Rattle.kit_io.specs.Told.{Grows};
+ghost use Rattle.program.specs.Status.{error_line, line_of};
+
+use crate::{Status, UsageKind};
+use itoa::Buffer;
+use kit_io::{Sink, WriteFault, write_all_to};
+
+/// Refuses words that couldn't be read.
+pub fn refuse<E: Sink>(err: &mut E) -> Status
+    ensures status { result ≡ Status.Usage UsageKind.Words }
+    ensures line { ¬ Rose (E.faults err.old) (E.faults err.new) → Grows (E.taken err.old) (line_of result) (E.taken err.new) }
+{
+    let status = Status::Usage {
+        kind: UsageKind::Words,
+    };
+    report(status, err);
+    status
+}
+
+/// Writes the line that tells how a run ended. A fault of the sink changes nothing.
+pub fn report<E: Sink>(status: Status, err: &mut E)
+    ensures { ¬ Rose (E.faults err.old) (E.faults err.new) → Grows (E.taken err.old) (line_of status) (E.taken err.new) }
+{
+    let _ = write_line(status, err);
+}
+
+#[tactic(auto, using(kit_io::proofs::Told::growing))]
+fn write_line<E: Sink>(status: Status, err: &mut E) -> Result<(), WriteFault>
+    ensures line { OnOk result (Grows (E.taken err.old) (line_of status) (E.taken err.new)) }
+    ensures cause { HasCause (E.faults err.old) (E.faults err.new) result }
+{
+    match status {
+        Status::Done => Ok(()),
+        Status::Usage { kind } => write_error(b"usage: ", kind.word().as_bytes(), err),
+        Status::LinkFault => write_error(b"link fault", b"", err),
+        Status::LinkEnd => write_error(b"link ended", b"", err),
+        Status::TimedOut => write_error(b"timed out", b"", err),
+        Status::Broken { place } => {
+            write_error(b"broken at ", Buffer::new().format(place).as_bytes(), err)
+        }
+        Status::WriteFault => write_error(b"write fault", b"", err),
+        Status::OutOfMemory => write_error(b"out of memory", b"", err),
+    }
+}
+
+fn write_error<E: Sink>(what: &[u8], which: &[u8], err: &mut E) -> Result<(), WriteFault>
+    ensures line { OnOk result (Grows (E.taken err.old) (error_line what.now which.now) (E.taken err.new)) }
+    ensures cause { HasCause (E.faults err.old) (E.faults err.new) result }
+{
+    write_all_to(err, b"error: ")?;
+    write_all_to(err, what)?;
+    write_all_to(err, which)?;
+    write_all_to(err, b"\n")?;
+    Ok(())
+}

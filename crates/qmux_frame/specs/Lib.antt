@@ -1,0 +1,5 @@
+pub mod Frame
+pub mod Framing
+pub mod Head
+pub mod Reply
+pub mod Padding

@@ -1,0 +1,53 @@
+ghost use Rattle.std.specs.Prelude.{◌≡◌, ◌≤◌, length};
+
+use kit_bytes::u16_at;
+
+/// The fields at the head of a message.
+#[derive(Clone, Copy, Debug, PartialEq, Eq)]
+pub struct Head {
+    pub service: u8,
+    /// The client id.
+    pub client: u8,
+    /// Byte 6, which tells a request, a response and an indication apart.
+    pub flags: u8,
+    /// The number that pairs a request with its answer.
+    pub number: u16,
+    /// The message id: which of the service's messages it is.
+    pub message: u16,
+    /// The head is whole, and its TLV length counts the bytes behind it.
+    pub framed: bool,
+}
+
+impl Head {
+    ghost use Rattle.qmux_frame.specs.Head.{head_of};
+
+    /// The head of a whole message, which has at least 12 bytes.
+    pub fn read(message: &[u8]) -> Head
+        requires { 12 ≤ length message.now }
+        ensures { result ≡ head_of message.now }
+    {
+        let service = message[4];
+        let client = message[5];
+        let flags = message[6];
+        if service == 0 {
+            Head {
+                service,
+                client,
+                flags,
+                number: u16::from(message[7]),
+                message: u16_at(message, 8),
+                framed: 12 + usize::from(u16_at(message, 10)) == message.len(),
+            }
+        } else {
+            Head {
+                service,
+                client,
+                flags,
+                number: u16_at(message, 7),
+                message: u16_at(message, 9),
+                framed: message.len() >= 13
+                    && 13 + usize::from(u16_at(message, 11)) == message.len(),
+            }
+        }
+    }
+}

@@ -1,0 +1,4 @@
+pub mod Tlv
+pub mod Reading
+pub mod Looking
+pub mod Laws

@@ -1,0 +1,9 @@
+//! Tests of the outside and of the tools: what no contract says.
+#![tactic(auto)]
+
+#[cfg(test)]
+mod links;
+#[cfg(test)]
+mod sinks;
+#[cfg(test)]
+mod versions;
