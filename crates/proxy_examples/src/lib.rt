@@ -1,0 +1,9 @@
+//! Worked examples of the QMI proxy, byte for byte.
+#![tactic(auto)]
+
+pub mod answers;
+pub mod client_ids;
+pub mod connections;
+pub mod full_space;
+pub mod pieces;
+pub mod verdicts;

@@ -1,0 +1,9 @@
+pub mod Lists
+pub mod Numbers
+pub mod Streams
+pub mod Rendering
+pub mod GoesOn
+pub mod Away
+pub mod Sound
+pub mod SoundLaws
+pub mod Few

@@ -1,0 +1,51 @@
+-- The bytes taken and those that wait are all the bytes.
+use Rattle.std.proofs.Common.{◌≡◌, ℕ, ◌+◌, Bool, true, false, ◌||◌, nat_lt, List, [], ◌∷◌, ◌++◌, length, take, drop, refl, ap, sym, ◌∙◌, append_assoc, take-append-drop, length-append, length-take-le}
+use Rattle.std.proofs.Math.Seq.{drop-append_seam, take-append_seam}
+use Rattle.proxy_history.specs.Limits.{outbox_limit}
+use Rattle.proxy_history.specs.View.{Entry, Sent, Response, Refused, Indication, Collected, End}
+use Rattle.proxy_history.specs.Rendering.{Rendering, render, put, put_unless}
+use Rattle.proxy_history.specs.Laws.{collected, collected_count, CollectsWhatWaits, IsSplitByCount}
+
+put_unless-split : (over : Bool) (new front : List ℕ) (r : Rendering) → r.bytes ≡ front ++ r.waiting → (put_unless over new r).bytes ≡ front ++ (put_unless over new r).waiting
+put_unless-split true new front r split = split
+put_unless-split false new front r split = ap (λ (l : List ℕ). l ++ new) split ∙ append_assoc front r.waiting new
+
+put-split : (new front : List ℕ) (r : Rendering) → r.bytes ≡ front ++ r.waiting → (put new r).bytes ≡ front ++ (put new r).waiting
+put-split new front r split = put_unless-split (r.is_over || nat_lt outbox_limit (length r.waiting + length new)) new front r split
+
+module _ (text : List Entry → Entry → List ℕ) where
+  pub collected_and_waiting : (entries : List Entry) → (render text entries).bytes ≡ collected text entries ++ (render text entries).waiting
+  unfolding render collected
+  collected_and_waiting [] = refl
+  collected_and_waiting (Collected count ∷ entries) =
+      collected_and_waiting entries
+      ∙ ap (λ (l : List ℕ). collected text entries ++ l) (sym (take-append-drop count (render text entries).waiting))
+      ∙ sym (append_assoc (collected text entries) (take count (render text entries).waiting) (drop count (render text entries).waiting))
+  collected_and_waiting (Sent message verdict ∷ entries) = put-split (text entries (Sent message verdict)) (collected text entries) (render text entries) (collected_and_waiting entries)
+  collected_and_waiting (Response place message ∷ entries) = put-split (text entries (Response place message)) (collected text entries) (render text entries) (collected_and_waiting entries)
+  collected_and_waiting (Refused place cause ∷ entries) = put-split (text entries (Refused place cause)) (collected text entries) (render text entries) (collected_and_waiting entries)
+  collected_and_waiting (Indication message ∷ entries) = put-split (text entries (Indication message)) (collected text entries) (render text entries) (collected_and_waiting entries)
+  collected_and_waiting (End why ∷ entries) = collected_and_waiting entries
+
+  length-collected : (entries : List Entry) → CollectsWhatWaits text entries → length (collected text entries) ≡ collected_count entries
+  unfolding collected collected_count
+  length-collected [] c = refl
+  length-collected (Collected count ∷ entries) c =
+      length-append (collected text entries) (take count (render text entries).waiting)
+      ∙ ap (λ (n : ℕ). n + length (take count (render text entries).waiting)) (length-collected entries c.1)
+      ∙ ap (λ (n : ℕ). collected_count entries + n) (length-take-le count (render text entries).waiting c.0)
+  length-collected (Sent message verdict ∷ entries) c = length-collected entries c
+  length-collected (Response place message ∷ entries) c = length-collected entries c
+  length-collected (Refused place cause ∷ entries) c = length-collected entries c
+  length-collected (Indication message ∷ entries) c = length-collected entries c
+  length-collected (End why ∷ entries) c = length-collected entries c
+
+  pub split_by_count : (entries : List Entry) → CollectsWhatWaits text entries → IsSplitByCount text entries
+  split_by_count entries c = record {
+    collected = sym (ap (λ (l : List ℕ). take (collected_count entries) l) (collected_and_waiting entries)
+        ∙ ap (λ (n : ℕ). take n (collected text entries ++ (render text entries).waiting)) (sym (length-collected entries c))
+        ∙ take-append_seam (collected text entries) (render text entries).waiting);
+    waiting = sym (ap (λ (l : List ℕ). drop (collected_count entries) l) (collected_and_waiting entries)
+        ∙ ap (λ (n : ℕ). drop n (collected text entries ++ (render text entries).waiting)) (sym (length-collected entries c))
+        ∙ drop-append_seam (collected text entries) (render text entries).waiting);
+  }

@@ -1,0 +1,15 @@
+pub mod Limits
+pub mod Events
+pub mod Streams
+pub mod Items
+pub mod Facts
+pub mod Connections
+pub mod Requests
+pub mod ClientIds
+pub mod Modem
+pub mod View
+pub mod Rendering
+pub mod Noting
+pub mod Unanswered
+pub mod Laws
+pub mod Sound

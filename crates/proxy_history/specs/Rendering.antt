@@ -1,0 +1,39 @@
+-- The bytes for one client, made from its view alone. A view has the newest entry first; bytes have the oldest first.
+use Rattle.std.specs.Prelude.{ℕ, ◌+◌, Bool, false, ◌||◌, nat_lt, if◌then◌else◌, List, [], ◌∷◌, ◌++◌, length, drop}
+use Rattle.proxy_history.specs.Limits.{outbox_limit}
+use Rattle.proxy_history.specs.View.{Entry, Sent, Response, Refused, Indication, Collected, End}
+
+pub record Rendering : Type 0 where
+  -- all bytes for the client so far
+  pub bytes : List ℕ
+  -- those of them that its socket hasn't taken
+  pub waiting : List ℕ
+  -- an entry's bytes didn't fit the outbox: neither they nor any later ones were written
+  pub is_over : Bool
+
+abbrev pub put_unless : Bool → List ℕ → Rendering → Rendering
+put_unless over new r = record {
+  bytes = if over then r.bytes else r.bytes ++ new;
+  waiting = if over then r.waiting else r.waiting ++ new;
+  is_over = over;
+}
+
+abbrev pub put : List ℕ → Rendering → Rendering
+put new r = put_unless (r.is_over || nat_lt outbox_limit (length r.waiting + length new)) new r
+
+abbrev pub collect : ℕ → Rendering → Rendering
+collect count r = record { bytes = r.bytes; waiting = drop count r.waiting; is_over = r.is_over }
+
+-- how a protocol puts an entry
+abbrev pub EntryText : Type 0
+EntryText = List Entry → Entry → List ℕ
+
+-- `text entries entry`: the bytes of an entry that follows these entries
+unfoldable pub render : EntryText → List Entry → Rendering
+render text [] = record { bytes = []; waiting = []; is_over = false }
+render text (Collected count ∷ entries) = collect count (render text entries)
+render text (Sent message verdict ∷ entries) = put (text entries (Sent message verdict)) (render text entries)
+render text (Response place message ∷ entries) = put (text entries (Response place message)) (render text entries)
+render text (Refused place cause ∷ entries) = put (text entries (Refused place cause)) (render text entries)
+render text (Indication message ∷ entries) = put (text entries (Indication message)) (render text entries)
+render text (End why ∷ entries) = render text entries

@@ -1,0 +1,53 @@
+ghost use Rattle.proxy_history.specs.Sound.{RequestsInUseDiffer, WaitingArePresent, HoldersArePresent, FewArePresent, FewAreInUse, GoneViewsStay, EndsAreLast};
+ghost use Rattle.proxy_history.specs.Laws.{StreamsGoOnFromTheirRest, InUseUntilFreed, PendingUntilEnded, GivesFirstFree, GivesNoneWhereFull, CollectedAndWaitingAreAll, TakingsSplitTheBytes};
+
+/// The law that what a piece brings depends on the piece and on what the stream left before it.
+pub fn streams_go_on_from_their_rest()
+    ensures { StreamsGoOnFromTheirRest }
+{}
+
+/// The law that a request is in use, or waits, exactly where it was forwarded and no later fact ends that.
+pub fn requests_go_on_until_they_end()
+    ensures in_use { InUseUntilFreed }
+    ensures pending { PendingUntilEnded }
+{}
+
+/// The law that the first free number after the last one is given, exactly where fewer than the
+/// limit are in use.
+pub fn a_free_number_is_given()
+    ensures first { GivesFirstFree }
+    ensures none { GivesNoneWhereFull }
+{}
+
+/// The law that the bytes that a client's socket took and those that wait are all its bytes.
+pub fn taken_and_waiting_are_all()
+    ensures all { CollectedAndWaitingAreAll }
+    ensures split { TakingsSplitTheBytes }
+{}
+
+/// The law that in a sound history two requests in use differ in their serial numbers and, in one
+/// number space, in their transaction numbers.
+pub fn requests_in_use_differ()
+    ensures { RequestsInUseDiffer }
+{}
+
+/// The law that in a sound history whoever waits for an answer or holds a client id is there, or is
+/// the proxy itself.
+pub fn parties_are_present()
+    ensures waiting { WaitingArePresent }
+    ensures holders { HoldersArePresent }
+{}
+
+/// The law that in a sound history no more connections are there, and no more numbers of a space in
+/// use, than may be.
+pub fn limits_are_kept()
+    ensures present { FewArePresent }
+    ensures in_use { FewAreInUse }
+{}
+
+/// The law that in a sound history nothing is added to the view of a connection that ended, and
+/// that an entry for its end is the last.
+pub fn views_of_gone_connections_stay()
+    ensures stay { GoneViewsStay }
+    ensures last { EndsAreLast }
+{}

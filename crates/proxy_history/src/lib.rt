@@ -1,0 +1,13 @@
+//! The history of a proxy between several clients and one modem: the definitions that say what
+//! each client and the modem get, and their laws.
+//!
+//! `docs/MODEL.md` tells the model in plain words.
+#![tactic(auto)]
+
+mod laws;
+
+pub use laws::{
+    a_free_number_is_given, limits_are_kept, parties_are_present, requests_go_on_until_they_end,
+    requests_in_use_differ, streams_go_on_from_their_rest, taken_and_waiting_are_all,
+    views_of_gone_connections_stay,
+};

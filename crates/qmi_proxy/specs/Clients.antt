@@ -1,0 +1,98 @@
+-- What a client's message adds to the history. A list of facts has the newest first.
+-- The verdict is the first that fits, here with the error of its reply:
+--   from the client's own view (OwnReplies)   malformed 1, Proxy Open of the device 0, of another one 3,
+--                                             before a Proxy Open 3, Sync 0, bad client id 7
+--   from what all clients share               client id of another connection 7, modem away 3,
+--                                             no number or no room 23, else forwarded
+use Rattle.std.specs.Prelude.{ℕ, ◌+◌, ◌-◌, ◌^◌, min, Bool, true, false, not, ◌&&◌, nat_le, if◌then◌else◌, List, ◌∷◌, length, Option, Some, None}
+use Rattle.qmux_frame.specs.Reply.{with_number}
+use Rattle.proxy_history.specs.Limits.{modem_outbox_limit}
+use Rattle.proxy_history.specs.Facts.{Verdict, Own, Foreign, Away, Full, Forward, Request, Fact, Judged, Forwarded, Granted}
+use Rattle.proxy_history.specs.Connections.{message_count}
+use Rattle.proxy_history.specs.Requests.{forward_count, next_number}
+use Rattle.proxy_history.specs.ClientIds.{holder, is_other}
+use Rattle.proxy_history.specs.Modem.{now, is_away, modem_queue}
+use Rattle.qmi_proxy.specs.Setup.{Setup}
+use Rattle.qmi_proxy.specs.Spaces.{space_of, limit_of, top_of}
+use Rattle.qmi_proxy.specs.Messages.{uses_id, used_service, used_client}
+use Rattle.qmi_proxy.specs.OwnReplies.{own_reply}
+use Rattle.qmi_proxy.specs.Text.{view_of, note}
+
+-- ---- what the history tells of the message ----
+
+-- the transaction number that it would get
+abbrev pub number_for : List ℕ → List Fact → Option ℕ
+number_for m past = next_number (limit_of (space_of m)) (top_of (space_of m)) (space_of m) past
+
+-- the connection that holds the client id that it uses
+abbrev pub holder_for : List ℕ → List Fact → Option ℕ
+holder_for m past = if uses_id m then holder (used_service m) (used_client m) past else None
+
+-- a request's bytes as the modem sees them: with the proxy's number
+abbrev pub wire : Request → List ℕ
+wire r = with_number r.number r.message
+
+abbrev pub has_room : ℕ → List ℕ → Bool
+has_room waiting m = nat_le (waiting + length m) modem_outbox_limit
+
+-- ---- the verdict ----
+
+abbrev pub is_number : Option ℕ → Bool
+is_number None = false
+is_number (Some number) = true
+
+-- from what is shared: who holds the id, whether the modem is away, the free number, and whether there is room
+abbrev pub shared_verdict_of : ℕ → Option ℕ → Bool → Option ℕ → Bool → Verdict
+shared_verdict_of c holder away number room =
+    if is_other c holder then Foreign
+    else if away then Away
+    else if not (is_number number && room) then Full
+    else Forward
+
+abbrev pub shared_verdict : Setup → ℕ → List ℕ → List Fact → Verdict
+shared_verdict s c m past =
+    shared_verdict_of c (holder_for m past) (is_away s.starts_away past) (number_for m past)
+    (has_room (length (modem_queue wire past)) m)
+
+-- the client's own view comes first
+abbrev pub own_or : Option ℕ → Verdict → Verdict
+own_or None shared = shared
+own_or (Some error) shared = Own
+
+abbrev pub verdict_on : Setup → ℕ → List ℕ → List Fact → Verdict
+verdict_on s c m past = own_or (own_reply s.device (view_of c past) m) (shared_verdict s c m past)
+
+-- ---- what follows from it ----
+
+-- the time as a 64-bit number, the greatest for those past it
+abbrev pub deadline_of : ℕ → ℕ → ℕ
+deadline_of time limit = min (time + limit) (2 ^ 64 - 1)
+
+abbrev pub request_of : Setup → ℕ → List ℕ → ℕ → List Fact → Request
+request_of s c m number past = record {
+  serial = forward_count past + 1;
+  conn = c;
+  place = message_count c past;
+  space = space_of m;
+  number = number;
+  message = m;
+  deadline = deadline_of (now past) s.time_limit;
+}
+
+-- a client that uses an id is its holder from then on: an id that nobody held is adopted
+abbrev pub grant_if : Bool → ℕ → List ℕ → List Fact → List Fact
+grant_if true c m past = Granted c (used_service m) (used_client m) ∷ past
+grant_if false c m past = past
+
+-- the verdict Forward comes with a number
+abbrev pub forward : Setup → ℕ → List ℕ → Option ℕ → List Fact → List Fact
+forward s c m None past = past
+forward s c m (Some number) past = grant_if (uses_id m) c m (Forwarded (request_of s c m number past) ∷ past)
+
+-- the message with its verdict; what is forwarded queues nothing for the client
+abbrev pub judge : Setup → ℕ → List ℕ → Option ℕ → Verdict → List Fact → List Fact
+judge s c m number Forward past = forward s c m number (Judged c (message_count c past + 1) m Forward ∷ past)
+judge s c m number verdict past = note s.device (Judged c (message_count c past + 1) m verdict) past
+
+abbrev pub hear_client : Setup → ℕ → List ℕ → List Fact → List Fact
+hear_client s c m past = judge s c m (number_for m past) (verdict_on s c m past) past

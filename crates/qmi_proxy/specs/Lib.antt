@@ -1,0 +1,10 @@
+pub mod Errors
+pub mod Setup
+pub mod Spaces
+pub mod Messages
+pub mod OwnReplies
+pub mod Text
+pub mod Clients
+pub mod FromModem
+pub mod History
+pub mod Laws

@@ -1,0 +1,33 @@
+-- The replies that a client's own view decides: no other client and nothing of the modem has a say in them. A view has the newest entry first.
+-- Source of the reply to a Proxy Open: `process_internal_proxy_open` in libqmi's src/libqmi-glib/qmi-proxy.c. The refusals are this proxy's own.
+use Rattle.std.specs.Prelude.{ℕ, Bool, false, not, ◌&&◌, ◌||◌, if◌then◌else◌, List, [], ◌∷◌, Option, Some, None}
+use Rattle.proxy_history.specs.Facts.{Verdict, Own}
+use Rattle.proxy_history.specs.View.{Entry, Sent}
+use Rattle.qmi_proxy.specs.Errors.{no_error, malformed_message, internal, invalid_client_id}
+use Rattle.qmi_proxy.specs.Messages.{is_sync, is_proxy_open, opens, is_malformed, has_bad_id}
+
+-- the error of the reply, 0 for success, from whether the client has opened the device; None where what all clients share decides
+abbrev pub own_reply_of : List ℕ → Bool → List ℕ → Option ℕ
+own_reply_of device opened m =
+    if is_malformed m then Some malformed_message
+    else if opens device m then Some no_error
+    else if is_proxy_open m then Some internal
+    else if not opened then Some internal
+    else if is_sync m then Some no_error
+    else if has_bad_id m then Some invalid_client_id
+    else None
+
+-- the message opened the device
+abbrev pub is_opening : List ℕ → List ℕ → Verdict → Bool
+is_opening device m Own = not (is_malformed m) && opens device m
+is_opening device m _ = false
+
+-- the client has opened the device
+unfoldable pub is_open : List ℕ → List Entry → Bool
+is_open device [] = false
+is_open device (Sent m verdict ∷ entries) = is_opening device m verdict || is_open device entries
+is_open device (_ ∷ entries) = is_open device entries
+
+-- the reply to a message that follows these entries
+abbrev pub own_reply : List ℕ → List Entry → List ℕ → Option ℕ
+own_reply device entries m = own_reply_of device (is_open device entries) m

@@ -1,0 +1,35 @@
+ghost use Rattle.qmi_proxy.specs.Laws.{HistoriesAreSound, NumbersInUseDiffer, WaitingArePresent, HoldersArePresent, FewArePresent, FewAreInUse, NothingFollowsAnEnd, EndsAreLast, AwayAgrees};
+
+/// The law that each fact of a proxy's history may follow those before it.
+pub fn histories_are_sound()
+    ensures { HistoriesAreSound }
+{}
+
+/// The law that two requests in use in one number space have different transaction numbers.
+pub fn numbers_in_use_differ()
+    ensures { NumbersInUseDiffer }
+{}
+
+/// The law that whoever waits for an answer or holds a client id is there, or is the proxy itself.
+pub fn parties_are_present()
+    ensures waiting { WaitingArePresent }
+    ensures holders { HoldersArePresent }
+{}
+
+/// The law that no more connections are there, and no more numbers of a space in use, than may be.
+pub fn limits_are_kept()
+    ensures present { FewArePresent }
+    ensures in_use { FewAreInUse }
+{}
+
+/// The law that nothing is added to the view of a connection that ended, and that an entry for its
+/// end is the last.
+pub fn nothing_follows_an_end()
+    ensures nothing { NothingFollowsAnEnd }
+    ensures last { EndsAreLast }
+{}
+
+/// The law that the facts say that the modem is away exactly while its stream says so.
+pub fn the_modem_is_away_in_both()
+    ensures { AwayAgrees }
+{}
