@@ -8,4 +8,6 @@ mod cutting;
 #[cfg(test)]
 mod heads;
 #[cfg(test)]
+mod texts;
+#[cfg(test)]
 mod tlvs;

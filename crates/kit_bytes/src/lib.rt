@@ -3,13 +3,25 @@
 #![tactic(auto)]
 
 mod buffer;
+mod kind;
+mod laws;
 mod numbers;
 mod octets;
+mod short;
 mod span;
 mod text;
+mod utf16;
+mod uuids;
 
 pub use buffer::append;
+pub use kind::Kind;
+pub use laws::{all_takes_singles_in, bytes_are_given_back, characters_are_given_back};
 pub use numbers::{u16_at, u16_bytes, u32_at, u64_at};
 pub use octets::Octets;
+pub use short::{
+    LONGEST_PATH, LONGEST_SHORT_OCTETS, LONGEST_SHORT_TEXT, PathText, ShortOctets, ShortText,
+};
 pub use span::{Cut, Span};
 pub use text::Text;
+pub use utf16::{Utf16Fault, text_from_utf16, utf16_from_text};
+pub use uuids::uuid_at;
