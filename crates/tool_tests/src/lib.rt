@@ -2,6 +2,8 @@
 #![tactic(auto)]
 
 #[cfg(test)]
+mod hubs;
+#[cfg(test)]
 mod links;
 #[cfg(test)]
 mod sinks;

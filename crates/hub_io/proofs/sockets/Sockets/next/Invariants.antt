@@ -1,0 +1,5 @@
+use Rattle.std.proofs.Common.{◌≡◌, length}
+use Rattle.hub_io.proofs.sockets.Sockets.next.Given as goal
+
+abbrev pub invariant-loop : goal.invariant-loop
+invariant-loop g l = (l.self.greatest ≡ l.initial.self.greatest) × (length l.buf ≡ 16384)

@@ -1,0 +1,275 @@
+ghost use Rattle.std.specs.Prelude.{◌≡◌, ℕ, ◌<◌, ◌≤◌, [], Some, length, IfSome, IfOk};
+ghost use Rattle.std.specs.Option.{option_copied, option_map};
+ghost use Rattle.kit_io.specs.Record.{Notes};
+ghost use Rattle.link_io.specs.Target.{path_of};
+ghost use Rattle.hub_io.specs.Record.{Records, Opened};
+ghost use Rattle.hub_io.specs.Clients.{fault_of};
+ghost use Rattle.hub_io.specs.Hub.{FitsBuffer, NamesRise, event_call};
+ghost use Rattle.hub_io.specs.Notes.{size_of, call_as, calls_of};
+
+use crate::clients::ConnFaults;
+use crate::{Hub, HubEvent};
+use kit_io::{Failed, Faults, Log};
+use link_io::Target;
+use std::alloc::{AllocError, Global};
+
+/// What a hub in memory answers to one `next`.
+#[derive(Debug, Drop)]
+pub enum HubTurn {
+    /// It tells an event that brings no bytes.
+    Tells(HubEvent),
+    /// It gives bytes of a client, as many as fit.
+    Gives(u64, Vec<u8>),
+    /// It gives bytes of the modem, as many as fit.
+    ModemGives(Vec<u8>),
+    /// The call fails.
+    Fails,
+}
+
+/// What a hub in memory answers to one opening, send or reopening.
+#[derive(Clone, Copy, Debug, PartialEq, Eq)]
+pub enum HubAnswer {
+    /// The call does what it is to do; a send takes at most so many bytes.
+    Takes(usize),
+    /// The call fails.
+    Fails,
+}
+
+/// A call that was made on a hub in memory. Its bytes stand beside it: the path, or what was given
+/// or handed over.
+#[derive(Clone, Copy, Debug, PartialEq, Eq)]
+pub enum HubCall {
+    Opened { ok: bool },
+    /// No call of its own: the path of the device that the opening before it named.
+    ToDevice,
+    Told(HubEvent),
+    NextFailed,
+    Sent { conn: u64, taken: usize },
+    SendFailed { conn: u64 },
+    SentModem { taken: usize },
+    SendModemFailed,
+    Reopened,
+    ReopenFailed,
+    HungUp { conn: u64 },
+}
+
+/// A hub in memory. It follows two scripts, one of what `next` answers and one of what the openings,
+/// sends and reopenings answer, in the order of the calls. Behind the end of the first it tells
+/// `Stop`, and behind the end of the second each call does all that it is to do.
+///
+/// A `next` also fails where its turn can't be told: the name of who joins doesn't rise, or a piece
+/// has no bytes.
+#[derive(Debug, Drop)]
+pub struct MemHub {
+    // What is still to come of each script, the next one last.
+    turns: Vec<HubTurn>,
+    answers: Vec<HubAnswer>,
+    log: Log<HubCall>,
+    faults: Faults,
+    conn_faults: ConnFaults,
+    modem_faults: Faults,
+    greatest: u64,
+}
+
+impl MemHub {
+    /// A hub that follows these scripts, with room to tell of so many calls, and of so many bytes of
+    /// theirs in all. An opening of a device takes the room of two.
+    pub fn new(
+        alloc: Global,
+        mut turns: Vec<HubTurn>,
+        mut answers: Vec<HubAnswer>,
+        room: usize,
+        bytes_room: usize,
+    ) -> Result<Self, AllocError>
+        ensures told { IfOk result (λ hub. hub.log.told ≡ Some []) }
+        ensures room { IfOk result (λ hub. room ≤ hub.log.room) }
+        ensures bytes_room { IfOk result (λ hub. bytes_room ≤ hub.log.bytes_room) }
+    {
+        turns.reverse();
+        answers.reverse();
+        Ok(MemHub {
+            turns,
+            answers,
+            log: Log::new(alloc, room, bytes_room)?,
+            faults: Faults::none(),
+            conn_faults: ConnFaults::none(alloc)?,
+            modem_faults: Faults::none(),
+            greatest: 0,
+        })
+    }
+
+    /// The calls so far, the oldest first.
+    pub fn log(&self) -> &Log<HubCall>
+        ensures { result.now ≡ self.now.log }
+    {
+        &self.log
+    }
+}
+
+// The answer that is next in the script.
+fn next_answer(answers: &mut Vec<HubAnswer>) -> HubAnswer {
+    answers.pop().unwrap_or(HubAnswer::Takes(usize::MAX))
+}
+
+// Puts bytes at the front of a buffer, as many as fit, where there are some.
+fn give(bytes: &[u8], buf: &mut [u8]) -> Option<usize>
+    ensures fits { IfSome result (λ count. (0 < count) × (count ≤ length buf.new)) }
+    ensures len { length buf.new ≡ length buf.old }
+{
+    let count = bytes.len().min(buf.len());
+    buf[..count].copy_from_slice(&bytes[..count]);
+    (count > 0).then_some(count)
+}
+
+// What an event that brings no bytes tells, where it can be told.
+fn told(event: HubEvent, greatest: &mut u64) -> Option<HubEvent>
+    ensures fits { (room : ℕ) → IfSome result (λ event. FitsBuffer event room) }
+    ensures names { NamesRise result greatest.old greatest.new }
+{
+    match event {
+        HubEvent::Joined(name) if *greatest < name => *greatest = name,
+        HubEvent::Joined(_) | HubEvent::Piece(_, _) | HubEvent::ModemPiece(_) => return None,
+        _ => {}
+    }
+    Some(event)
+}
+
+// Takes a turn, where it can be taken.
+fn take_turn(turn: HubTurn, greatest: &mut u64, buf: &mut [u8]) -> Option<HubEvent>
+    ensures fits { IfSome result (λ event. FitsBuffer event (length buf.new)) }
+    ensures len { length buf.new ≡ length buf.old }
+    ensures names { NamesRise result greatest.old greatest.new }
+{
+    match turn {
+        HubTurn::Tells(event) => told(event, greatest),
+        HubTurn::Gives(conn, bytes) => {
+            let count = give(&bytes, buf)?;
+            Some(HubEvent::Piece(conn, count))
+        }
+        HubTurn::ModemGives(bytes) => {
+            let count = give(&bytes, buf)?;
+            Some(HubEvent::ModemPiece(count))
+        }
+        HubTurn::Fails => None,
+    }
+}
+
+// How many bytes an event brings.
+fn size(event: HubEvent) -> usize
+    ensures { result ≡ size_of event }
+{
+    match event {
+        HubEvent::Piece(_, size) | HubEvent::ModemPiece(size) => size,
+        _ => 0,
+    }
+}
+
+// Notes a call.
+fn note(log: &mut Log<HubCall>, call: HubCall, bytes: &[u8])
+    ensures notes { Notes log.old (record { kind = call; bytes = bytes.now }) log.new }
+    ensures calls { IfSome (call_as call bytes.now) (λ made. Records (calls_of log.old.told) made (calls_of log.new.told)) }
+{
+    log.note(call, bytes);
+}
+
+// Notes an event, whose bytes stand at the buffer's front.
+fn note_event(log: &mut Log<HubCall>, event: HubEvent, buf: &[u8])
+    requires { FitsBuffer event (length buf.now) }
+    ensures { Records (calls_of log.old.told) (event_call event buf.now) (calls_of log.new.told) }
+{
+    note(log, HubCall::Told(event), &buf[..size(event)]);
+}
+
+// Notes an opening, and the device that it named.
+fn note_opening(log: &mut Log<HubCall>, socket: &str, device: Option<&Target>, ok: bool)
+    ensures { Records (calls_of log.old.told) (Opened socket.now (option_map path_of (option_copied device.entry)) ok) (calls_of log.new.told) }
+{
+    note(log, HubCall::Opened { ok }, socket.as_bytes());
+    if let Some(Target::Socket(path)) = device {
+        note(log, HubCall::ToDevice, path.as_str().as_bytes());
+    }
+}
+
+impl Hub for MemHub {
+    ghost calls = { λ s. calls_of s.log.told };
+
+    ghost faults = { λ s. s.faults };
+
+    ghost conn_faults = { λ s conn. fault_of s.conn_faults conn };
+
+    ghost modem_faults = { λ s. s.modem_faults };
+
+    ghost greatest = { λ s. s.greatest };
+
+    fn open(&mut self, socket: &str, device: Option<&Target>) -> Result<(), Failed> {
+        match next_answer(&mut self.answers) {
+            HubAnswer::Takes(_) => {
+                note_opening(&mut self.log, socket, device, true);
+                Ok(())
+            }
+            HubAnswer::Fails => {
+                note_opening(&mut self.log, socket, device, false);
+                Err(self.faults.fail())
+            }
+        }
+    }
+
+    fn next(&mut self, buf: &mut [u8]) -> Result<HubEvent, Failed> {
+        let turn = self.turns.pop().unwrap_or(HubTurn::Tells(HubEvent::Stop));
+        match take_turn(turn, &mut self.greatest, buf) {
+            Some(event) => {
+                note_event(&mut self.log, event, buf);
+                Ok(event)
+            }
+            None => {
+                note(&mut self.log, HubCall::NextFailed, &[]);
+                Err(self.faults.fail())
+            }
+        }
+    }
+
+    fn send(&mut self, conn: u64, bytes: &[u8]) -> Result<usize, Failed> {
+        match next_answer(&mut self.answers) {
+            HubAnswer::Takes(most) => {
+                let taken = bytes.len().min(most);
+                note(&mut self.log, HubCall::Sent { conn, taken }, bytes);
+                Ok(taken)
+            }
+            HubAnswer::Fails => {
+                note(&mut self.log, HubCall::SendFailed { conn }, bytes);
+                Err(self.conn_faults.fail(conn))
+            }
+        }
+    }
+
+    fn send_modem(&mut self, bytes: &[u8]) -> Result<usize, Failed> {
+        match next_answer(&mut self.answers) {
+            HubAnswer::Takes(most) => {
+                let taken = bytes.len().min(most);
+                note(&mut self.log, HubCall::SentModem { taken }, bytes);
+                Ok(taken)
+            }
+            HubAnswer::Fails => {
+                note(&mut self.log, HubCall::SendModemFailed, bytes);
+                Err(self.modem_faults.fail())
+            }
+        }
+    }
+
+    fn reopen_modem(&mut self) -> Result<(), Failed> {
+        match next_answer(&mut self.answers) {
+            HubAnswer::Takes(_) => {
+                note(&mut self.log, HubCall::Reopened, &[]);
+                Ok(())
+            }
+            HubAnswer::Fails => {
+                note(&mut self.log, HubCall::ReopenFailed, &[]);
+                Err(self.modem_faults.fail())
+            }
+        }
+    }
+
+    fn hang_up(&mut self, conn: u64) {
+        note(&mut self.log, HubCall::HungUp { conn }, &[]);
+    }
+}

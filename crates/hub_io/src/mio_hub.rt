@@ -1,0 +1,93 @@
+ghost use Rattle.std.specs.Prelude.{None};
+ghost use Rattle.hub_io.specs.Clients.{fault_of};
+
+use crate::clients::ConnFaults;
+use crate::sockets::Sockets;
+use crate::{Hub, HubEvent};
+use kit_io::{Failed, Faults};
+use link_io::Target;
+use std::alloc::Global;
+use std::fs::Files;
+use std::io;
+use std::net::Net;
+use std::rt::Clock;
+
+/// A hub over Unix sockets. It tells no content, and is trusted with it.
+///
+/// Its socket is its owner's alone: an opening removes a file that stands at the path, and has the
+/// rights of the new one at `0600`. In the moment between, the process's own mask holds. At most 128
+/// clients are there at a time, and others wait. `next` tells the time at least every 100 ms, and
+/// never `Stop`.
+///
+/// What `send_modem` took is written at the last of the events that one wait found. A modem that is
+/// lost before then is told by `next`.
+#[derive(Drop)]
+pub struct MioHub<'a, R> {
+    sockets: Sockets<'a, R>,
+    faults: Faults,
+    conn_faults: ConnFaults,
+    modem_faults: Faults,
+}
+
+impl<'a, R: Net + Clock + Files> MioHub<'a, R> {
+    /// A hub that isn't open. It takes the memory of its tables here.
+    pub fn new(rt: &'a R, alloc: Global) -> io::Result<Self> {
+        Ok(MioHub {
+            sockets: Sockets::new(rt, alloc)?,
+            faults: Faults::none(),
+            conn_faults: ConnFaults::none(alloc)?,
+            modem_faults: Faults::none(),
+        })
+    }
+}
+
+impl<R: Net + Clock + Files> Hub for MioHub<'_, R> {
+    ghost calls = { λ _. None };
+
+    ghost faults = { λ s. s.faults };
+
+    ghost conn_faults = { λ s conn. fault_of s.conn_faults conn };
+
+    ghost modem_faults = { λ s. s.modem_faults };
+
+    ghost greatest = { λ s. s.sockets.greatest };
+
+    fn open(&mut self, socket: &str, device: Option<&Target>) -> Result<(), Failed> {
+        match self.sockets.open(socket, device) {
+            Ok(()) => Ok(()),
+            Err(_) => Err(self.faults.fail()),
+        }
+    }
+
+    fn next(&mut self, buf: &mut [u8]) -> Result<HubEvent, Failed> {
+        match self.sockets.next(buf) {
+            Ok(event) => Ok(event),
+            Err(_) => Err(self.faults.fail()),
+        }
+    }
+
+    fn send(&mut self, conn: u64, bytes: &[u8]) -> Result<usize, Failed> {
+        match self.sockets.send(conn, bytes) {
+            Ok(count) => Ok(count),
+            Err(_) => Err(self.conn_faults.fail(conn)),
+        }
+    }
+
+    fn send_modem(&mut self, bytes: &[u8]) -> Result<usize, Failed> {
+        match self.sockets.send_modem(bytes) {
+            Ok(count) => Ok(count),
+            Err(_) => Err(self.modem_faults.fail()),
+        }
+    }
+
+    fn reopen_modem(&mut self) -> Result<(), Failed> {
+        match self.sockets.open_device() {
+            Ok(()) => Ok(()),
+            Err(_) => Err(self.modem_faults.fail()),
+        }
+    }
+
+    fn hang_up(&mut self, conn: u64) {
+        self.sockets.hang_up(conn);
+    }
+}

@@ -1,0 +1,34 @@
+use kit_bytes::Text;
+
+/// The limits that one proxy is opened with.
+#[derive(Clone, Copy, Debug, PartialEq, Eq)]
+pub struct Limits {
+    /// How long a request waits for its answer, in milliseconds.
+    pub time: u64,
+}
+
+/// How a proxy is served.
+#[derive(Debug, Drop)]
+pub struct Settings {
+    /// The path of the device, by which clients open it.
+    pub device: Text,
+    /// How long a request waits for its answer, in milliseconds.
+    pub time: u64,
+    /// The serving ends once nobody has been connected for so many milliseconds.
+    pub empty: Option<u64>,
+    /// The serving ends after so many events.
+    pub turns: u64,
+}
+
+/// Why the serving ended.
+#[derive(Clone, Copy, Debug, PartialEq, Eq)]
+pub enum ServeEnd {
+    /// The hub said so.
+    Stopped,
+    /// Nobody was connected for long enough.
+    Empty,
+    /// The hub failed.
+    HubFault,
+    TurnsSpent,
+    OutOfMemory,
+}

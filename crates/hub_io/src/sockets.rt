@@ -1,0 +1,329 @@
+//! The sockets of a hub, and what is told of them. No clause says what a socket gives or takes.
+ghost use Rattle.std.specs.Prelude.{◌≡◌, ◌<◌, ◌≤◌, length, IfSome, IfOk};
+ghost use Rattle.std.specs.Option.{option_map};
+ghost use Rattle.std.specs.Result.{result_ok};
+ghost use Rattle.hub_io.specs.Hub.{FitsBuffer, NamesRise};
+ghost use Rattle.hub_io.specs.declared.hub.HubEvent.TheVariants.{Joined};
+
+use crate::clients::{PLACES, name_after, place_of};
+use crate::modem::Modem;
+use crate::peer::{Gave, Peer};
+use crate::ticker::Ticker;
+use crate::{HubEvent, NEXT_ROOM};
+use kit_bytes::Text;
+use link_io::Target;
+use mio::event::Event;
+use mio::net::{UnixListener, UnixStream};
+use mio::{Events, Interest, Poll, Token};
+use slab::Slab;
+use std::alloc::Global;
+use std::fs::{Files, Permissions};
+use std::io::ErrorKind;
+use std::net::Net;
+use std::os::unix::fs::PermissionsExt;
+use std::rt::Clock;
+use std::{fs, io};
+
+const LISTENER: Token = Token(0);
+
+const MODEM: Token = Token(usize::MAX);
+
+#[derive(Drop)]
+struct Client {
+    name: u64,
+    peer: Peer,
+}
+
+/// The sockets of a hub. One wait finds many events, which are then told one by one.
+#[derive(Drop)]
+pub(crate) struct Sockets<'a, R> {
+    rt: &'a R,
+    alloc: Global,
+    poll: Poll,
+    events: Events,
+    /// Which of the events is told next.
+    at: usize,
+    ticker: Ticker,
+    listener: Option<UnixListener>,
+    /// A client may wait that wasn't let in.
+    is_crowded: bool,
+    /// By the places of their names.
+    clients: Slab<Client>,
+    /// The greatest name that was told.
+    pub(crate) greatest: u64,
+    device: Option<Text>,
+    modem: Option<Modem>,
+    /// The modem was lost, which isn't told yet.
+    lost_modem: bool,
+}
+
+impl<'a, R: Net + Clock + Files> Sockets<'a, R> {
+    /// Sockets that aren't open. They take the memory of their tables here.
+    pub(crate) fn new(rt: &'a R, alloc: Global) -> io::Result<Self> {
+        Ok(Sockets {
+            rt,
+            alloc,
+            poll: Poll::new(rt)?,
+            events: Events::with_capacity(alloc, PLACES)?,
+            at: 0,
+            ticker: Ticker::start(rt)?,
+            listener: None,
+            is_crowded: false,
+            clients: Slab::with_capacity(alloc, PLACES)?,
+            greatest: 0,
+            device: None,
+            modem: None,
+            lost_modem: false,
+        })
+    }
+
+    /// Listens on a socket of its owner alone, and opens the device where one is named.
+    pub(crate) fn open(&mut self, socket: &str, device: Option<&Target>) -> io::Result<()>
+        ensures names { self.new.greatest ≡ self.old.greatest }
+    {
+        let _none_stood_there = fs::remove_file(self.rt, socket);
+        let mut listener = UnixListener::bind(self.rt, socket)?;
+        fs::set_permissions(self.rt, socket, Permissions::from_mode(0o600))?;
+        let registry = self.poll.registry();
+        registry.register(&mut listener, LISTENER, Interest::READABLE)?;
+        self.listener = Some(listener);
+        if let Some(Target::Socket(path)) = device {
+            self.device = Some(Text::from_str(self.alloc, path.as_str())?);
+            self.open_device()?;
+        }
+        self.ticker = Ticker::start(self.rt)?;
+        Ok(())
+    }
+
+    /// Connects to the device that was named at the opening.
+    pub(crate) fn open_device(&mut self) -> io::Result<()>
+        ensures names { self.new.greatest ≡ self.old.greatest }
+    {
+        let Some(path) = &self.device else {
+            return Err(ErrorKind::NotFound.into());
+        };
+        let stream = UnixStream::connect(self.rt, path.as_str())?;
+        let peer = Peer::new(self.poll.registry(), stream, MODEM)?;
+        self.modem = Some(Modem::new(self.alloc, peer)?);
+        self.lost_modem = false;
+        Ok(())
+    }
+
+    /// Waits for the next event.
+    pub(crate) fn next(&mut self, buf: &mut [u8]) -> io::Result<HubEvent>
+        requires { length buf.old ≡ NEXT_ROOM }
+        ensures fits { IfOk result (λ event. FitsBuffer event NEXT_ROOM) }
+        ensures names { NamesRise (result_ok result) self.old.greatest self.new.greatest }
+    {
+        for _ in 0..u64::MAX {
+            if let Some(time) = self.ticker.tell() {
+                return Ok(HubEvent::Now(time));
+            }
+            if self.lost_modem {
+                self.lost_modem = false;
+                return Ok(HubEvent::ModemGone);
+            }
+            let Some(event) = self.events.iter().nth(self.at) else {
+                self.wait()?;
+                continue;
+            };
+            let event = *event;
+            if let Some(told) = self.tell(event, buf) {
+                return Ok(told);
+            }
+        }
+        Err(ErrorKind::Other.into())
+    }
+
+    /// Waits for events, at most until the time is to be told.
+    fn wait(&mut self) -> io::Result<()>
+        ensures names { self.new.greatest ≡ self.old.greatest }
+    {
+        self.at = 0;
+        self.write_to_modem();
+        let left = self.ticker.left();
+        self.poll.poll(&mut self.events, Some(left))?;
+        self.ticker.read(self.rt)
+    }
+
+    /// What there is to tell of an event. It is asked again until it is done with.
+    fn tell(&mut self, event: Event, buf: &mut [u8]) -> Option<HubEvent>
+        requires { length buf.old ≡ NEXT_ROOM }
+        ensures fits { IfSome result (λ event. FitsBuffer event NEXT_ROOM) }
+        ensures len { length buf.new ≡ length buf.old }
+        ensures names { NamesRise result self.old.greatest self.new.greatest }
+    {
+        match event.token() {
+            LISTENER => self.accept().map(HubEvent::Joined),
+            MODEM => self.tell_modem(event, buf),
+            Token(name) => self.tell_client(name as u64, event, buf),
+        }
+    }
+
+    /// The event at hand has told all.
+    fn done(&mut self)
+        ensures names { self.new.greatest ≡ self.old.greatest }
+    {
+        self.at = self.at.saturating_add(1);
+    }
+
+    /// Lets the next client in, and tells its name. One that can't be let in is closed, or waits.
+    fn accept(&mut self) -> Option<u64>
+        ensures names { NamesRise (option_map Joined result) self.old.greatest self.new.greatest }
+    {
+        let place = self.clients.vacant_key();
+        if place >= PLACES {
+            self.is_crowded = true;
+            self.done();
+            return None;
+        }
+        let Some(stream) = self.take_waiting() else {
+            self.done();
+            return None;
+        };
+        let name = name_after(self.greatest, place)?;
+        let peer = Peer::new(self.poll.registry(), stream, Token(name as usize)).ok()?;
+        self.clients.insert(Client { name, peer }).ok()?;
+        self.greatest = name;
+        Some(name)
+    }
+
+    /// The stream of the client that waits first.
+    fn take_waiting(&mut self) -> Option<UnixStream>
+        ensures names { self.new.greatest ≡ self.old.greatest }
+    {
+        match self.listener.as_ref()?.accept() {
+            Ok((stream, _)) => Some(stream),
+            Err(error) => {
+                // out of descriptors, for one
+                self.is_crowded = self.is_crowded || error.kind() != ErrorKind::WouldBlock;
+                None
+            }
+        }
+    }
+
+    fn tell_modem(&mut self, event: Event, buf: &mut [u8]) -> Option<HubEvent>
+        requires { length buf.old ≡ NEXT_ROOM }
+        ensures fits { IfSome result (λ event. FitsBuffer event NEXT_ROOM) }
+        ensures len { length buf.new ≡ length buf.old }
+        ensures names { NamesRise result self.old.greatest self.new.greatest }
+    {
+        let Some(modem) = &mut self.modem else {
+            self.done();
+            return None;
+        };
+        match modem.finds_room(&event) {
+            Ok(true) => return Some(HubEvent::ModemRoom),
+            Ok(false) => {}
+            Err(_) => {
+                self.modem = None;
+                return Some(HubEvent::ModemGone);
+            }
+        }
+        let reading = modem.read(self.poll.registry(), &event, buf);
+        if reading.is_last {
+            self.done();
+        }
+        match reading.gave {
+            Gave::Bytes(count) => Some(HubEvent::ModemPiece(count)),
+            Gave::Nothing => None,
+            Gave::End => {
+                self.modem = None;
+                Some(HubEvent::ModemGone)
+            }
+        }
+    }
+
+    fn tell_client(&mut self, name: u64, event: Event, buf: &mut [u8]) -> Option<HubEvent>
+        requires { length buf.old ≡ NEXT_ROOM }
+        ensures fits { IfSome result (λ event. FitsBuffer event NEXT_ROOM) }
+        ensures len { length buf.new ≡ length buf.old }
+        ensures names { NamesRise result self.old.greatest self.new.greatest }
+    {
+        let Some(peer) = peer_of(&mut self.clients, name) else {
+            self.done();
+            return None;
+        };
+        if peer.finds_room(&event) {
+            return Some(HubEvent::Room(name));
+        }
+        let reading = peer.read(self.poll.registry(), &event, buf);
+        if reading.is_last {
+            self.done();
+        }
+        match reading.gave {
+            Gave::Bytes(count) => Some(HubEvent::Piece(name, count)),
+            Gave::Nothing => None,
+            Gave::End => {
+                self.hang_up(name);
+                Some(HubEvent::Left(name))
+            }
+        }
+    }
+
+    /// Writes to a client's socket.
+    pub(crate) fn send(&mut self, name: u64, bytes: &[u8]) -> io::Result<usize>
+        ensures within { IfOk result (λ count. count ≤ length bytes.now) }
+        ensures names { self.new.greatest ≡ self.old.greatest }
+    {
+        match peer_of(&mut self.clients, name) {
+            Some(peer) => peer.write(bytes),
+            None => Err(ErrorKind::NotConnected.into()),
+        }
+    }
+
+    /// Takes bytes for the modem. One that fails is closed.
+    pub(crate) fn send_modem(&mut self, bytes: &[u8]) -> io::Result<usize>
+        ensures within { IfOk result (λ count. count ≤ length bytes.now) }
+        ensures names { self.new.greatest ≡ self.old.greatest }
+    {
+        let is_last = self.at >= self.events.iter().len();
+        let sent = match &mut self.modem {
+            Some(modem) => modem.take(bytes, is_last),
+            None => Err(ErrorKind::NotConnected.into()),
+        };
+        if sent.is_err() {
+            self.modem = None;
+        }
+        sent
+    }
+
+    /// Writes what was gathered for the modem.
+    fn write_to_modem(&mut self)
+        ensures names { self.new.greatest ≡ self.old.greatest }
+    {
+        if let Some(modem) = &mut self.modem
+            && modem.write_gathered().is_err()
+        {
+            self.modem = None;
+            self.lost_modem = true;
+        }
+    }
+
+    /// Closes a client's socket, and asks again for clients that wait.
+    pub(crate) fn hang_up(&mut self, name: u64)
+        ensures names { self.new.greatest ≡ self.old.greatest }
+    {
+        if peer_of(&mut self.clients, name).is_none() {
+            return;
+        }
+        self.clients.try_remove(place_of(name));
+        if let Some(listener) = &mut self.listener
+            && self.is_crowded
+        {
+            self.is_crowded = false;
+            let registry = self.poll.registry();
+            let _ = registry.reregister(listener, LISTENER, Interest::READABLE);
+        }
+    }
+}
+
+/// The socket of the client of this name.
+fn peer_of(clients: &mut Slab<Client>, name: u64) -> Option<&mut Peer> {
+    let client = clients.get_mut(place_of(name))?;
+    if client.name == name {
+        Some(&mut client.peer)
+    } else {
+        None
+    }
+}

@@ -1,0 +1,11 @@
+pub mod Hearing
+pub mod Lists
+pub mod Names
+pub mod Finds
+pub mod Updates
+pub mod Transitions
+pub mod Accounts
+pub mod Keeping
+pub mod Pieces
+pub mod Steps
+pub mod Queues

@@ -1,0 +1,15 @@
+use Rattle.std.proofs.Common.{◌≡◌, length}
+use Rattle.framing.specs.Cutting.{cut}
+use Rattle.qmux_frame.specs.Frame.{size_of}
+use Rattle.qmi_core.specs.Core.{hears}
+use Rattle.qmi_core.proofs.connection.hear_all.Given as goal
+
+-- what is left to hear, heard, is what there was to hear, heard
+abbrev pub invariant-loop-span : goal.invariant-loop-span
+invariant-loop-span l = record {
+  hears : hears l.device (cut size_of l.cutter.rest).messages l.client ≡ hears l.device (cut size_of l.initial.cutter.rest).messages l.initial.client;
+  rest : (cut size_of l.cutter.rest).rest ≡ (cut size_of l.initial.cutter.rest).rest;
+}
+
+abbrev pub decreases-loop-span : goal.decreases-loop-span
+decreases-loop-span l = length l.cutter.rest

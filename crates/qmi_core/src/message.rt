@@ -1,0 +1,174 @@
+ghost use Rattle.std.specs.Prelude.{◌≡◌, ◌≤◌, ◌==◌, ◌||◌, length, drop, option_copied};
+ghost use Rattle.qmux_frame.specs.Head.{head_length};
+ghost use Rattle.qmux_frame.specs.Reply.{result_reply};
+ghost use Rattle.tlv_codec.specs.Tlv.{tlvs_of};
+ghost use Rattle.qmi_proxy.specs.Messages.{value_in, value_of, has_length, byte_of, is_command, is_malformed, opens, has_bad_id};
+ghost use Rattle.qmi_proxy.specs.OwnReplies.{own_reply_of, is_opening};
+ghost use Rattle.proxy_history.specs.Facts.{Own};
+
+use qmux_frame::{Head, Reply};
+use std::marker::Model;
+use tlv_codec::{First, first_of};
+
+// The messages of service 0 that a proxy knows.
+const ALLOCATE: u16 = 0x0022;
+
+const RELEASE: u16 = 0x0023;
+
+const SYNC: u16 = 0x0027;
+
+const PROXY_OPEN: u16 = 0xff00;
+
+// The errors of `QmiProtocolError` that the proxy answers with, and 0 for none.
+const NO_ERROR: u16 = 0;
+
+const MALFORMED_MESSAGE: u16 = 1;
+
+pub const INTERNAL: u16 = 3;
+
+const INVALID_CLIENT_ID: u16 = 7;
+
+/// A whole message of a client, with what the proxy reads of it.
+#[derive(Drop)]
+pub struct Message<'a> {
+    bytes: &'a [u8],
+    head: Head,
+    // the value of the first TLV 0x01
+    value: Option<&'a [u8]>,
+}
+
+impl<'a> Model for Message<'a> {
+    ghost use Rattle.std.specs.Prelude.{ℕ, List};
+    ghost use Rattle.qmi_core.specs.Message.{bytes_of, IsRead};
+
+    ghost Value = { List ℕ };
+
+    ghost view = { bytes_of };
+
+    ghost invariant = { IsRead };
+}
+
+impl<'a> Message<'a> {
+    /// Reads a whole message, which has at least 12 bytes.
+    pub fn read(bytes: &'a [u8]) -> Self
+        requires { 12 ≤ length bytes.now }
+        ensures { result ≡ bytes.now }
+    {
+        Message {
+            bytes,
+            head: Head::read(bytes),
+            value: first_value(tlvs(bytes)),
+        }
+    }
+
+    /// The error of the reply that the client's own view decides, 0 for success.
+    pub fn own_reply(&self, device: &[u8], opened: bool) -> Option<u16>
+        ensures { result ≡ own_reply_of device.now opened self.now }
+    {
+        if self.is_malformed() {
+            Some(MALFORMED_MESSAGE)
+        } else if self.opens(device) {
+            Some(NO_ERROR)
+        } else if self.is_command(PROXY_OPEN) || !opened {
+            Some(INTERNAL)
+        } else if self.is_command(SYNC) {
+            Some(NO_ERROR)
+        } else if self.has_bad_id() {
+            Some(INVALID_CLIENT_ID)
+        } else {
+            None
+        }
+    }
+
+    /// Whether it opens the device of this path.
+    pub fn is_opening(&self, device: &[u8]) -> bool
+        ensures { result ≡ is_opening device.now self.now Own }
+    {
+        !self.is_malformed() && self.opens(device)
+    }
+
+    // Whether it names the device of this path, well formed or not.
+    fn opens(&self, device: &[u8]) -> bool
+        ensures { result ≡ opens device.now self.now }
+    {
+        self.is_command(PROXY_OPEN) && self.value.is_some_and(|value| value == device)
+    }
+
+    /// The reply to it with this error alone.
+    pub fn reply(&self, error: u16) -> Reply
+        ensures { result ≡ result_reply self.now error }
+    {
+        qmux_frame::result_reply(&self.head, error)
+    }
+
+    fn is_malformed(&self) -> bool
+        ensures { result ≡ is_malformed self.now }
+    {
+        !self.head.framed
+            || self.head.flags != 0
+            || (self.head.service == 0 && self.head.client != 0)
+            || (self.is_command(PROXY_OPEN) && self.value.is_none())
+            || (self.is_command(ALLOCATE) && !self.has_length(1))
+            || (self.is_command(RELEASE) && !self.has_length(2))
+    }
+
+    // Whether the client id that it uses is one that no client has.
+    fn has_bad_id(&self) -> bool
+        ensures { result ≡ has_bad_id self.now }
+    {
+        if self.head.service != 0 {
+            is_nobodys(self.head.client)
+        } else {
+            self.is_command(RELEASE) && (self.byte(0) == 0 || is_nobodys(self.byte(1)))
+        }
+    }
+
+    fn is_command(&self, id: u16) -> bool
+        ensures { result ≡ is_command id self.now }
+    {
+        self.head.service == 0 && self.head.message == id
+    }
+
+    // Whether its TLV 0x01 has a value of so many bytes.
+    fn has_length(&self, count: usize) -> bool
+        ensures { result ≡ has_length count (value_of 0x01 self.now) }
+    {
+        self.value.is_some_and(|value| value.len() == count)
+    }
+
+    // A byte of the value of its TLV 0x01, 0 where there is none.
+    fn byte(&self, at: usize) -> u8
+        ensures { result ≡ byte_of at (value_of 0x01 self.now) }
+    {
+        match self.value {
+            Some(value) if at < value.len() => value[at],
+            _ => 0,
+        }
+    }
+}
+
+// No client has this id: 0 is service 0's, and 255 is everybody's.
+fn is_nobodys(client: u8) -> bool
+    ensures { result ≡ (client == 0 || client == 255) }
+{
+    client == 0 || client == 255
+}
+
+// The bytes behind the head of a message.
+fn tlvs(message: &[u8]) -> &[u8]
+    requires { 12 ≤ length message.now }
+    ensures { result.now ≡ drop (head_length message.now) message.now }
+{
+    let head_length = if message[4] == 0 { 12 } else { 13 };
+    &message[head_length.min(message.len())..]
+}
+
+// The value of the first TLV 0x01, where these bytes are TLVs and one of them has it.
+fn first_value(tlvs: &[u8]) -> Option<&[u8]>
+    ensures { option_copied result ≡ value_in 0x01 (tlvs_of tlvs.now) }
+{
+    match first_of(tlvs, 0x01) {
+        First::Found(tlv) => Some(&tlvs[tlv.start..tlv.end]),
+        First::Missing | First::Unread => None,
+    }
+}
