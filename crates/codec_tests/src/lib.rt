@@ -8,6 +8,10 @@ mod cutting;
 #[cfg(test)]
 mod heads;
 #[cfg(test)]
+mod tables;
+#[cfg(test)]
 mod texts;
 #[cfg(test)]
 mod tlvs;
+#[cfg(test)]
+mod values;

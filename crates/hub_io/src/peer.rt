@@ -7,6 +7,9 @@ use mio::net::UnixStream;
 use mio::{Interest, Registry, Token};
 use std::io::{self, ErrorKind, Read, Write};
 
+/// How often a writing is tried that signals interrupt.
+const ATTEMPTS: u32 = 16;
+
 /// What a reading gave.
 #[derive(Clone, Copy)]
 pub(crate) enum Gave {
@@ -103,16 +106,27 @@ impl Peer {
     pub(crate) fn write(&mut self, bytes: &[u8]) -> io::Result<usize>
         ensures within { IfOk result (λ count. count ≤ length bytes.now) }
     {
-        match self.stream.write(bytes) {
+        match self.write_through(bytes) {
             Ok(count) if count > 0 => Ok(count),
             Ok(_) => Err(ErrorKind::WriteZero.into()),
-            Err(error) => match error.kind() {
-                ErrorKind::WouldBlock | ErrorKind::Interrupted => {
-                    self.is_full = true;
-                    Ok(0)
-                }
-                _ => Err(error),
-            },
+            Err(error) if error.kind() == ErrorKind::WouldBlock => {
+                self.is_full = true;
+                Ok(0)
+            }
+            Err(error) => Err(error),
         }
+    }
+
+    // Writes, and again where a signal came between.
+    fn write_through(&mut self, bytes: &[u8]) -> io::Result<usize>
+        ensures within { IfOk result (λ count. count ≤ length bytes.now) }
+    {
+        for _ in 0..ATTEMPTS {
+            match self.stream.write(bytes) {
+                Err(error) if error.kind() == ErrorKind::Interrupted => {}
+                written => return written,
+            }
+        }
+        Err(ErrorKind::Interrupted.into())
     }
 }

@@ -142,7 +142,12 @@ impl<'a, R: Net + Clock + Files> Sockets<'a, R> {
         self.at = 0;
         self.write_to_modem();
         let left = self.ticker.left();
-        self.poll.poll(&mut self.events, Some(left))?;
+        match self.poll.poll(&mut self.events, Some(left)) {
+            Ok(()) => {}
+            // a signal came: nothing was found
+            Err(error) if error.kind() == ErrorKind::Interrupted => self.events.clear(),
+            Err(error) => return Err(error),
+        }
         self.ticker.read(self.rt)
     }
 

@@ -1,10 +1,11 @@
 //! The program: its words come from the command line, its text goes to the standard streams, and
-//! its link is a Unix socket. What it does with them is `program`'s.
+//! its link and its hub are Unix sockets. What it does with them is `program`'s.
 #![tactic(auto)]
 
+use hub_io::MioHub;
 use kit_io::StdSink;
 use link_io::UnixLink;
-use program::{refuse, run_tool};
+use program::{give_up, refuse, run};
 use std::process::ExitCode;
 use std::{env, io};
 
@@ -12,8 +13,11 @@ fn main(rt: HostRuntime) -> ExitCode {
     let mut out = StdSink::new(rt.stdout());
     let mut err = StdSink::new(rt.stderr());
     let mut link = UnixLink::new(&rt);
+    let Ok(mut hub) = MioHub::new(&rt, rt.alloc()) else {
+        return ExitCode::from(give_up(&mut err).code());
+    };
     let status = match read_words(&rt) {
-        Ok(words) => run_tool(rt.alloc(), &words, &mut out, &mut err, &mut link),
+        Ok(words) => run(rt.alloc(), &words, &mut out, &mut err, &mut link, &mut hub),
         Err(_) => refuse(&mut err),
     };
     ExitCode::from(status.code())

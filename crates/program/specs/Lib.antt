@@ -4,3 +4,4 @@ pub mod Versions
 pub mod Run
 pub mod Status
 pub mod Outcome
+pub mod Serving

@@ -54,7 +54,7 @@ Asks path before after out status.LinkFault printed = EndsWithout path before af
 Asks path before after out status.LinkEnd printed = EndsWithout path before after out Ended printed
 Asks path before after out status.TimedOut printed = EndsWithout path before after out Silent printed
 Asks path before after out status.OutOfMemory printed = PrintsAnswer path before after out status.OutOfMemory printed ⊎ StaysShut before after out printed
-Asks path before after out (status.Usage why) printed = ⊥
+Asks path before after out _ printed = ⊥
 
 -- a count of the link's faults has risen
 abbrev pub HasFailed : {L : Type 0} → (L → ℕ) → (L → ℕ) → L → L → Type 0

@@ -1,9 +1,9 @@
--- The words of a command line: `qmicli -d PATH --get-service-version-info`.
+-- The words of the tool: `qmicli -d PATH --get-service-version-info`.
 use Rattle.std.specs.Prelude.{ℕ, Bool, not, ◌&&◌, ◌==◌, nat_eq, nat_le, List, [], length, slice_index_or, Result, Ok, Err, codes, if◌then◌else◌}
 use Rattle.std.specs.Str.{bytes_eq}
 use Rattle.std.specs.List.{starts_with}
-use Rattle.program.specs.declared.status.UsageKind.{UsageKind}
-use Rattle.program.specs.declared.status.UsageKind.TheVariants.{NoTool, UnknownTool, Words, Value}
+use Rattle.tool_words.specs.declared.fault.UsageKind.{UsageKind}
+use Rattle.tool_words.specs.declared.fault.UsageKind.TheVariants.{NoTool, UnknownTool, Words, Value}
 
 -- a path of 1 to 4,096 bytes that isn't a device node's
 abbrev pub is_socket_path : List ℕ → Bool
@@ -24,3 +24,9 @@ path_in words =
     else if not (is_command words) then Err Words
     else if not (is_socket_path (word words 2)) then Err Value
     else Ok (word words 2)
+
+-- ---- the words of a proxy ----
+
+-- the first word says so; what the others ask is read by `tool_words`
+abbrev pub is_proxy : List (List ℕ) → Bool
+is_proxy words = not (length words == 0) && bytes_eq (word words 0) (codes "qmi-proxy")

@@ -2,13 +2,17 @@
 #![tactic(auto)]
 
 mod answer;
+mod dispatch;
+mod proxy;
 mod report;
 mod session;
 mod status;
 mod tool;
 mod words;
 
-pub use report::refuse;
+pub use dispatch::run;
+pub use proxy::run_proxy;
+pub use report::{give_up, refuse};
 pub use session::SessionFault;
-pub use status::{Status, UsageKind};
+pub use status::Status;
 pub use tool::run_tool;

@@ -3,9 +3,11 @@ ghost use Rattle.kit_io.specs.Causes.{Rose, HasCause};
 ghost use Rattle.kit_io.specs.Told.{Grows};
 ghost use Rattle.program.specs.Status.{error_line, line_of};
 
-use crate::{Status, UsageKind};
+use crate::Status;
+use crate::status::kind_word;
 use itoa::Buffer;
 use kit_io::{Sink, WriteFault, write_all_to};
+use tool_words::UsageKind;
 
 /// Refuses words that couldn't be read.
 pub fn refuse<E: Sink>(err: &mut E) -> Status
@@ -17,6 +19,15 @@ pub fn refuse<E: Sink>(err: &mut E) -> Status
     };
     report(status, err);
     status
+}
+
+/// Says that no memory was there to begin with.
+pub fn give_up<E: Sink>(err: &mut E) -> Status
+    ensures status { result ≡ Status.OutOfMemory }
+    ensures line { ¬ Rose (E.faults err.old) (E.faults err.new) → Grows (E.taken err.old) (line_of result) (E.taken err.new) }
+{
+    report(Status::OutOfMemory, err);
+    Status::OutOfMemory
 }
 
 /// Writes the line that tells how a run ended. A fault of the sink changes nothing.
@@ -33,7 +44,7 @@ fn write_line<E: Sink>(status: Status, err: &mut E) -> Result<(), WriteFault>
 {
     match status {
         Status::Done => Ok(()),
-        Status::Usage { kind } => write_error(b"usage: ", kind.word().as_bytes(), err),
+        Status::Usage { kind } => write_error(b"usage: ", kind_word(kind).as_bytes(), err),
         Status::LinkFault => write_error(b"link fault", b"", err),
         Status::LinkEnd => write_error(b"link ended", b"", err),
         Status::TimedOut => write_error(b"timed out", b"", err),
@@ -41,6 +52,8 @@ fn write_line<E: Sink>(status: Status, err: &mut E) -> Result<(), WriteFault>
             write_error(b"broken at ", Buffer::new().format(place).as_bytes(), err)
         }
         Status::WriteFault => write_error(b"write fault", b"", err),
+        Status::HubFault => write_error(b"hub fault", b"", err),
+        Status::TurnsSpent => write_error(b"turns spent", b"", err),
         Status::OutOfMemory => write_error(b"out of memory", b"", err),
     }
 }

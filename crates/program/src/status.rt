@@ -1,19 +1,9 @@
 ghost use Rattle.std.specs.Prelude.{◌≡◌};
+ghost use Rattle.program.specs.Status.{kind_word};
 
 use crate::SessionFault;
-
-/// Why words are refused.
-#[derive(Clone, Copy, Debug, PartialEq, Eq)]
-pub enum UsageKind {
-    /// There is no word.
-    NoTool,
-    /// The first word names no tool.
-    UnknownTool,
-    /// The words don't have the form that the tool's words have.
-    Words,
-    /// A value is outside its range.
-    Value,
-}
+use hub_io::ServeEnd;
+use tool_words::UsageKind;
 
 /// How a run of the program ended.
 #[derive(Clone, Copy, Debug, PartialEq, Eq)]
@@ -31,22 +21,25 @@ pub enum Status {
     Broken { place: u64 },
     /// The text couldn't be written.
     WriteFault,
+    /// A call on the hub failed.
+    HubFault,
+    /// All the turns were taken.
+    TurnsSpent,
     OutOfMemory,
 }
 
-impl UsageKind {
-    ghost use Rattle.program.specs.Status.{kind_word};
-
-    /// The word for it in the line that tells of it.
-    pub fn word(self) -> &'static str
-        ensures { result.now ≡ kind_word self }
-    {
-        match self {
-            UsageKind::NoTool => "no tool",
-            UsageKind::UnknownTool => "unknown tool",
-            UsageKind::Words => "words",
-            UsageKind::Value => "value",
-        }
+// The word for a reason in the line that tells of it.
+pub fn kind_word(kind: UsageKind) -> &'static str
+    ensures { result.now ≡ kind_word kind }
+{
+    match kind {
+        UsageKind::NoTool => "no tool",
+        UsageKind::UnknownTool => "unknown tool",
+        UsageKind::Words => "words",
+        UsageKind::NoDevice => "no device",
+        UsageKind::NoCommand => "no command",
+        UsageKind::ManyCommands => "many commands",
+        UsageKind::Value => "value",
     }
 }
 
@@ -65,6 +58,8 @@ impl Status {
             Status::TimedOut => 5,
             Status::Broken { .. } => 6,
             Status::WriteFault => 8,
+            Status::HubFault => 13,
+            Status::TurnsSpent => 14,
             Status::OutOfMemory => 70,
         }
     }
@@ -81,6 +76,21 @@ impl From<SessionFault> for Status {
             SessionFault::LinkEnd => Status::LinkEnd,
             SessionFault::TimedOut => Status::TimedOut,
             SessionFault::Broken { place } => Status::Broken { place },
+        }
+    }
+}
+
+impl From<ServeEnd> for Status {
+    ghost use Rattle.program.specs.Status.{status_of_end};
+
+    ghost from_gives = { λ end status. status ≡ status_of_end end };
+
+    fn from(end: ServeEnd) -> Self {
+        match end {
+            ServeEnd::Stopped | ServeEnd::Empty => Status::Done,
+            ServeEnd::HubFault => Status::HubFault,
+            ServeEnd::TurnsSpent => Status::TurnsSpent,
+            ServeEnd::OutOfMemory => Status::OutOfMemory,
         }
     }
 }

@@ -1,10 +1,10 @@
 ghost use Rattle.std.specs.Prelude.{◌≡◌, ◌≤◌, ℕ, List, [], length, map, string_bytes, Ok, Err};
 ghost use Rattle.kit_io.specs.Causes.{Rose};
 ghost use Rattle.kit_io.specs.Told.{Grows};
-ghost use Rattle.program.specs.declared.status.UsageKind.{UsageKind};
+ghost use Rattle.tool_words.specs.declared.fault.UsageKind.{UsageKind};
 ghost use Rattle.program.specs.Words.{path_in};
 ghost use Rattle.program.specs.Run.{Asks, HasFailed, Prints};
-ghost use Rattle.program.specs.Status.{line_of};
+ghost use Rattle.program.specs.Status.{line_of, IsOfTool};
 
 use crate::answer::answer_text;
 use crate::report::report;
@@ -34,6 +34,7 @@ pub fn run_tool<O: Sink, E: Sink, L: Link>(
         Asks path (L.calls link.old) (L.calls link.new) (O.taken out.old) result (O.taken out.new) }
 
     // It doesn't give up by itself.
+    ensures own { IsOfTool result }
     ensures link_fault { result ≡ Status.LinkFault → HasFailed L.faults L.open_faults link.old link.new }
     ensures write_fault { result ≡ Status.WriteFault → Rose (O.faults out.old) (O.faults out.new) }
 
@@ -51,6 +52,7 @@ pub fn run_tool<O: Sink, E: Sink, L: Link>(
 // Asks the modem at this path, and prints its answer.
 fn ask<O: Sink, L: Link>(alloc: Global, path: &str, out: &mut O, link: &mut L) -> Status
     ensures asks { Asks path.now (L.calls link.old) (L.calls link.new) (O.taken out.old) result (O.taken out.new) }
+    ensures own { IsOfTool result }
     ensures link_fault { result ≡ Status.LinkFault → HasFailed L.faults L.open_faults link.old link.new }
     ensures write_fault { result ≡ Status.WriteFault → Rose (O.faults out.old) (O.faults out.new) }
 {
@@ -70,6 +72,7 @@ fn ask<O: Sink, L: Link>(alloc: Global, path: &str, out: &mut O, link: &mut L) -
 fn print_answer<O: Sink>(alloc: Global, message: &[u8], out: &mut O) -> Status
     requires { 12 ≤ length message.now }
     ensures prints { Prints message.now (O.taken out.old) result (O.taken out.new) }
+    ensures own { IsOfTool result }
     ensures write_fault { result ≡ Status.WriteFault → Rose (O.faults out.old) (O.faults out.new) }
 {
     match answer_text(alloc, message) {

@@ -1,7 +1,7 @@
 ghost use Rattle.std.specs.Prelude.{◌≡◌, map, string_bytes, MatchResult};
-ghost use Rattle.program.specs.Words.{is_command, is_socket_path, path_in};
+ghost use Rattle.program.specs.Words.{is_command, is_socket_path, path_in, is_proxy};
 
-use crate::UsageKind;
+use tool_words::UsageKind;
 
 /// How many bytes a path has at most.
 const LONGEST_PATH: usize = 4_096;
@@ -40,4 +40,11 @@ pub fn read_words(words: &[String]) -> Result<&str, UsageKind>
         return Err(UsageKind::Value);
     }
     Ok(path)
+}
+
+/// Whether the words are a proxy's.
+pub fn is_proxy(words: &[String]) -> bool
+    ensures { result ≡ is_proxy (map string_bytes words.now) }
+{
+    !words.is_empty() && words[0].as_str() == "qmi-proxy"
 }

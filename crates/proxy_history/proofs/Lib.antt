@@ -7,3 +7,4 @@ pub mod Away
 pub mod Sound
 pub mod SoundLaws
 pub mod Few
+pub mod Growing

@@ -1,5 +1,5 @@
 -- The bytes for one client, made from its view alone. A view has the newest entry first; bytes have the oldest first.
-use Rattle.std.specs.Prelude.{ℕ, ◌+◌, Bool, false, ◌||◌, nat_lt, if◌then◌else◌, List, [], ◌∷◌, ◌++◌, length, drop}
+use Rattle.std.specs.Prelude.{◌≡◌, ℕ, ◌+◌, Bool, false, ◌||◌, nat_lt, if◌then◌else◌, List, [], ◌∷◌, ◌++◌, length, drop}
 use Rattle.proxy_history.specs.Limits.{outbox_limit}
 use Rattle.proxy_history.specs.View.{Entry, Sent, Response, Refused, Indication, Collected, End}
 
@@ -10,6 +10,10 @@ pub record Rendering : Type 0 where
   pub waiting : List ℕ
   -- an entry's bytes didn't fit the outbox: neither they nor any later ones were written
   pub is_over : Bool
+
+-- no bytes so far
+abbrev pub empty : Rendering
+empty = record { bytes = []; waiting = []; is_over = false }
 
 abbrev pub put_unless : Bool → List ℕ → Rendering → Rendering
 put_unless over new r = record {
@@ -30,10 +34,18 @@ EntryText = List Entry → Entry → List ℕ
 
 -- `text entries entry`: the bytes of an entry that follows these entries
 unfoldable pub render : EntryText → List Entry → Rendering
-render text [] = record { bytes = []; waiting = []; is_over = false }
+render text [] = empty
 render text (Collected count ∷ entries) = collect count (render text entries)
 render text (Sent message verdict ∷ entries) = put (text entries (Sent message verdict)) (render text entries)
 render text (Response place message ∷ entries) = put (text entries (Response place message)) (render text entries)
 render text (Refused place cause ∷ entries) = put (text entries (Refused place cause)) (render text entries)
 render text (Indication message ∷ entries) = put (text entries (Indication message)) (render text entries)
 render text (End why ∷ entries) = render text entries
+
+-- ---- what becomes of the bytes for a client ----
+
+-- all that was there, and perhaps more behind it, which waits
+pub record Grows (before after : Rendering) : Type 0 where
+  pub more : List ℕ
+  pub bytes : after.bytes ≡ before.bytes ++ more
+  pub waiting : after.waiting ≡ before.waiting ++ more

@@ -1,5 +1,9 @@
-//! Tests of the proxies: worked stories on running cores.
+//! Tests of the tables that a proxy's core keeps.
 #![tactic(auto)]
 
 #[cfg(test)]
-mod qmi;
+mod grants;
+#[cfg(test)]
+mod numbers;
+#[cfg(test)]
+mod outboxes;

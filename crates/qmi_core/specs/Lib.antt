@@ -1,3 +1,4 @@
 pub mod Message
+pub mod Board
 pub mod Core
 pub mod Lending

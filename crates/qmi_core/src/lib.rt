@@ -1,14 +1,15 @@
-//! The core of the QMI proxy: it is told what happens, and keeps what each client is to get.
-//!
-//! So far the modem is away from the opening on: a message that the client's own view doesn't
-//! decide is refused, and nothing goes to the modem.
+//! The core of the QMI proxy: it is told what happens, and keeps what each client and the modem are
+//! to get.
 #![tactic(auto)]
 
 mod client;
 mod connection;
+mod desk;
 mod dropped;
+mod errors;
 mod message;
-mod outbox;
 mod proxy;
+mod switchboard;
+mod terms;
 
 pub use proxy::QmiCore;

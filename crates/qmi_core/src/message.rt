@@ -1,12 +1,16 @@
-ghost use Rattle.std.specs.Prelude.{◌≡◌, ◌≤◌, ◌==◌, ◌||◌, length, drop, option_copied};
-ghost use Rattle.qmux_frame.specs.Head.{head_length};
-ghost use Rattle.qmux_frame.specs.Reply.{result_reply};
+ghost use Rattle.std.specs.Prelude.{◌≡◌, ◌≤◌, ◌==◌, ◌||◌, ◌++◌, true, length, take, drop, option_copied};
+ghost use Rattle.qmux_frame.specs.Head.{head_length, is_control, service_of, client_of, number_of, is_framed};
+ghost use Rattle.qmux_frame.specs.Reply.{result_reply, with_number};
 ghost use Rattle.tlv_codec.specs.Tlv.{tlvs_of};
-ghost use Rattle.qmi_proxy.specs.Messages.{value_in, value_of, has_length, byte_of, is_command, is_malformed, opens, has_bad_id};
+ghost use Rattle.qmi_proxy.specs.Messages.{value_in, value_of, has_length, byte_of, is_command, is_malformed, opens, has_bad_id, is_sync, uses_id, used_service, used_client, is_success};
+ghost use Rattle.qmi_state.specs.Asked.{asked_of};
+ghost use Rattle.qmi_core.specs.Message.{has_response_bit, has_indication_bit, tells_id};
 ghost use Rattle.qmi_proxy.specs.OwnReplies.{own_reply_of, is_opening};
 ghost use Rattle.proxy_history.specs.Facts.{Own};
 
-use qmux_frame::{Head, Reply};
+use crate::errors::{INTERNAL, INVALID_CLIENT_ID, MALFORMED_MESSAGE, NO_ERROR};
+use qmi_state::Asked;
+use qmux_frame::{Head, Reply, set_number};
 use std::marker::Model;
 use tlv_codec::{First, first_of};
 
@@ -19,16 +23,7 @@ const SYNC: u16 = 0x0027;
 
 const PROXY_OPEN: u16 = 0xff00;
 
-// The errors of `QmiProtocolError` that the proxy answers with, and 0 for none.
-const NO_ERROR: u16 = 0;
-
-const MALFORMED_MESSAGE: u16 = 1;
-
-pub const INTERNAL: u16 = 3;
-
-const INVALID_CLIENT_ID: u16 = 7;
-
-/// A whole message of a client, with what the proxy reads of it.
+/// A whole message, with what the proxy reads of it.
 #[derive(Drop)]
 pub struct Message<'a> {
     bytes: &'a [u8],
@@ -57,7 +52,7 @@ impl<'a> Message<'a> {
         Message {
             bytes,
             head: Head::read(bytes),
-            value: first_value(tlvs(bytes)),
+            value: first_value(tlvs(bytes), 0x01),
         }
     }
 
@@ -101,6 +96,142 @@ impl<'a> Message<'a> {
         qmux_frame::result_reply(&self.head, error)
     }
 
+    /// What is kept of it once it went to the modem.
+    #[tactic(auto, unfolding(qmi_state::specs::Asked::asked_of))]
+    pub fn asked(&self) -> Asked
+        ensures { result ≡ asked_of self.now }
+    {
+        Asked {
+            head: first_bytes(self.bytes),
+            service: self.used_service(),
+            client: self.used_client(),
+        }
+    }
+
+    /// Its first bytes with this number in place of its own; `rest` has the others.
+    pub fn numbered(&self, number: u16) -> [u8; 12]
+        requires { is_control self.now ≡ true → number ≤ 255 }
+        ensures { result ++ drop 12 self.now ≡ with_number number self.now }
+    {
+        let mut head = first_bytes(self.bytes);
+        set_number(&mut head, number);
+        head
+    }
+
+    /// The bytes behind its first 12.
+    pub fn rest(&self) -> &'a [u8]
+        ensures rest { result.now ≡ drop 12 self.now }
+        ensures long { 12 ≤ length self.now }
+    {
+        &self.bytes[12..]
+    }
+
+    pub fn bytes(&self) -> &'a [u8]
+        ensures { result.now ≡ self.now }
+    {
+        self.bytes
+    }
+
+    pub fn is_control(&self) -> bool
+        ensures { result ≡ is_control self.now }
+    {
+        self.head.service == 0
+    }
+
+    pub fn service(&self) -> u8
+        ensures { result ≡ service_of self.now }
+    {
+        self.head.service
+    }
+
+    pub fn client(&self) -> u8
+        ensures { result ≡ client_of self.now }
+    {
+        self.head.client
+    }
+
+    pub fn number(&self) -> u16
+        ensures { result ≡ number_of self.now }
+    {
+        self.head.number
+    }
+
+    pub fn is_framed(&self) -> bool
+        ensures { result ≡ is_framed self.now }
+    {
+        self.head.framed
+    }
+
+    pub fn is_response(&self) -> bool
+        ensures { result ≡ has_response_bit self.now }
+    {
+        if self.head.service == 0 {
+            self.head.flags % 2 == 1
+        } else {
+            self.head.flags / 2 % 2 == 1
+        }
+    }
+
+    pub fn is_indication(&self) -> bool
+        ensures { result ≡ has_indication_bit self.now }
+    {
+        if self.head.service == 0 {
+            self.head.flags / 2 % 2 == 1
+        } else {
+            self.head.flags / 4 % 2 == 1
+        }
+    }
+
+    pub fn is_sync(&self) -> bool
+        ensures { result ≡ is_sync self.now }
+    {
+        self.is_command(SYNC)
+    }
+
+    /// Whether it uses a client id.
+    pub fn uses_id(&self) -> bool
+        ensures { result ≡ uses_id self.now }
+    {
+        self.head.service != 0 || self.is_command(RELEASE)
+    }
+
+    pub fn used_service(&self) -> u8
+        ensures { result ≡ used_service self.now }
+    {
+        if self.head.service == 0 {
+            self.byte(0)
+        } else {
+            self.head.service
+        }
+    }
+
+    pub fn used_client(&self) -> u8
+        ensures { result ≡ used_client self.now }
+    {
+        if self.head.service == 0 {
+            self.byte(1)
+        } else {
+            self.head.client
+        }
+    }
+
+    /// Whether its Result TLV says success.
+    pub fn is_success(&self) -> bool
+        ensures { result ≡ is_success self.now }
+    {
+        first_value(tlvs(self.bytes), 0x02).is_some_and(|value| value.len() == 4
+            && value[0] == 0
+            && value[1] == 0)
+    }
+
+    /// Whether it says success and brings a client id: the service in byte 0 of TLV 0x01, the id in
+    /// byte 1.
+    pub fn tells_id(&self) -> bool
+        ensures { result ≡ tells_id self.now }
+    {
+        self.is_success() && self.has_length(2) && self.byte(0) != 0 && !is_nobodys(self.byte(1))
+    }
+
     fn is_malformed(&self) -> bool
         ensures { result ≡ is_malformed self.now }
     {
@@ -136,8 +267,8 @@ impl<'a> Message<'a> {
         self.value.is_some_and(|value| value.len() == count)
     }
 
-    // A byte of the value of its TLV 0x01, 0 where there is none.
-    fn byte(&self, at: usize) -> u8
+    /// A byte of the value of its TLV 0x01, 0 where there is none.
+    pub fn byte(&self, at: usize) -> u8
         ensures { result ≡ byte_of at (value_of 0x01 self.now) }
     {
         match self.value {
@@ -163,12 +294,21 @@ fn tlvs(message: &[u8]) -> &[u8]
     &message[head_length.min(message.len())..]
 }
 
-// The value of the first TLV 0x01, where these bytes are TLVs and one of them has it.
-fn first_value(tlvs: &[u8]) -> Option<&[u8]>
-    ensures { option_copied result ≡ value_in 0x01 (tlvs_of tlvs.now) }
+// The value of the first TLV of this type, where these bytes are TLVs and one of them has it.
+fn first_value(tlvs: &[u8], kind: u8) -> Option<&[u8]>
+    ensures { option_copied result ≡ value_in kind (tlvs_of tlvs.now) }
 {
-    match first_of(tlvs, 0x01) {
+    match first_of(tlvs, kind) {
         First::Found(tlv) => Some(&tlvs[tlv.start..tlv.end]),
         First::Missing | First::Unread => None,
     }
+}
+
+fn first_bytes(message: &[u8]) -> [u8; 12]
+    requires { 12 ≤ length message.now }
+    ensures { result ≡ take 12 message.now }
+{
+    let mut head = [0; 12];
+    head.copy_from_slice(&message[..12]);
+    head
 }

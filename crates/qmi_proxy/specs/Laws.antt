@@ -1,19 +1,20 @@
 -- What holds of the history of every QMI proxy, whatever its events. Lists of events and of facts have the newest first.
-use Rattle.std.specs.Prelude.{◌≡◌, ◌≢◌, ◌≤◌, ℕ, false, List, ◌∷◌, ◌++◌, length, All, AllPairs, is_none}
+use Rattle.std.specs.Prelude.{◌≡◌, ◌≢◌, ◌≤◌, ◌==◌, ℕ, Bool, true, false, List, ◌∷◌, ◌++◌, length, All, AllPairs, is_none}
 use Rattle.qmux_frame.specs.Frame.{size_of}
 use Rattle.proxy_history.specs.Limits.{connection_limit}
-use Rattle.proxy_history.specs.Events.{Event}
+use Rattle.proxy_history.specs.Events.{Event, Joined, Took}
 use Rattle.proxy_history.specs.Streams.{modem_stream}
 use Rattle.proxy_history.specs.Facts.{Fact, Why, Ended}
-use Rattle.proxy_history.specs.Connections.{present}
+use Rattle.proxy_history.specs.Connections.{present, is_present}
 use Rattle.proxy_history.specs.Requests.{in_use, pending, numbers_in_use}
 use Rattle.proxy_history.specs.ClientIds.{held}
 use Rattle.proxy_history.specs.Modem.{is_away}
+use Rattle.proxy_history.specs.Rendering.{empty, collect, Grows}
 use Rattle.proxy_history.specs.Sound.{IsSound, IsParty, Differ, begins_anew, EndsWithItsEnd}
 use Rattle.qmi_proxy.specs.Setup.{Setup}
 use Rattle.qmi_proxy.specs.Spaces.{limit_of, top_of}
 use Rattle.qmi_proxy.specs.Text.{view_of}
-use Rattle.qmi_proxy.specs.History.{history}
+use Rattle.qmi_proxy.specs.History.{history, text_for}
 
 -- each fact may follow those before it
 abbrev pub HistoriesAreSound : Type 0
@@ -50,3 +51,29 @@ EndsAreLast = (s : Setup) (events : List Event) (c : ℕ) → c ≢ 0 → EndsWi
 -- the facts say that the modem is away exactly while its stream says so
 abbrev pub AwayAgrees : Type 0
 AwayAgrees = (s : Setup) (events : List Event) → is_away s.starts_away (history s events) ≡ is_none (modem_stream size_of s.starts_away events)
+
+-- ---- the bytes for a client, from one event to the next ----
+
+abbrev pub joins_or_takes : ℕ → Event → Bool
+joins_or_takes c (Joined d) = d == c
+joins_or_takes c (Took d count) = d == c
+joins_or_takes c _ = false
+
+-- where the client doesn't join and its socket takes nothing, its bytes stay, and more may come behind them
+abbrev pub BytesOnlyGrow : Type 0
+BytesOnlyGrow = (s : Setup) (c : ℕ) (event : Event) (events : List Event)
+    → joins_or_takes c event ≡ false → Grows (text_for s c events) (text_for s c (event ∷ events))
+
+-- a client that joins has none yet, whether it is let in or refused
+abbrev pub JoiningStartsWithNone : Type 0
+JoiningStartsWithNone = (s : Setup) (c : ℕ) (events : List Event) → text_for s c (Joined c ∷ events) ≡ empty
+
+-- a taking takes the first of those that wait
+abbrev pub TakingTakesTheFirst : Type 0
+TakingTakesTheFirst = (s : Setup) (c count : ℕ) (events : List Event)
+    → is_present c (history s events) ≡ true → text_for s c (Took c count ∷ events) ≡ collect count (text_for s c events)
+
+-- a taking of a connection that isn't there takes none
+abbrev pub TakingOfTheAbsentTakesNone : Type 0
+TakingOfTheAbsentTakesNone = (s : Setup) (c count : ℕ) (events : List Event)
+    → is_present c (history s events) ≡ false → text_for s c (Took c count ∷ events) ≡ text_for s c events

@@ -1,4 +1,4 @@
-ghost use Rattle.qmi_proxy.specs.Laws.{HistoriesAreSound, NumbersInUseDiffer, WaitingArePresent, HoldersArePresent, FewArePresent, FewAreInUse, NothingFollowsAnEnd, EndsAreLast, AwayAgrees};
+ghost use Rattle.qmi_proxy.specs.Laws.{HistoriesAreSound, NumbersInUseDiffer, WaitingArePresent, HoldersArePresent, FewArePresent, FewAreInUse, NothingFollowsAnEnd, EndsAreLast, AwayAgrees, BytesOnlyGrow, JoiningStartsWithNone, TakingTakesTheFirst, TakingOfTheAbsentTakesNone};
 
 /// The law that each fact of a proxy's history may follow those before it.
 pub fn histories_are_sound()
@@ -32,4 +32,14 @@ pub fn nothing_follows_an_end()
 /// The law that the facts say that the modem is away exactly while its stream says so.
 pub fn the_modem_is_away_in_both()
     ensures { AwayAgrees }
+{}
+
+/// The law that the bytes for a client only grow: there are none yet where it joins, its socket
+/// takes the first of those that wait, and every other event leaves them as they are, perhaps with
+/// more behind them.
+pub fn bytes_only_grow()
+    ensures grow { BytesOnlyGrow }
+    ensures joining { JoiningStartsWithNone }
+    ensures taking { TakingTakesTheFirst }
+    ensures absent { TakingOfTheAbsentTakesNone }
 {}

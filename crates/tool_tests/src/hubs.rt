@@ -9,6 +9,7 @@ use std::net::Net;
 use std::os::unix::net::{UnixListener, UnixStream};
 use std::process::Abort;
 use std::test::Fail;
+use std::time::{SystemTime, UNIX_EPOCH};
 
 const CLIENTS: usize = 64;
 
@@ -174,10 +175,19 @@ fn message(alloc: Global, number: usize) -> Result<Vec<u8>, Fail> {
     Ok(message)
 }
 
-/// The first, second or last part of a message. Each client's is cut elsewhere.
-fn part_of(message: &[u8], number: usize, part: usize) -> &[u8] {
-    let first = number.wrapping_mul(37) % 50;
-    let second = first + number.wrapping_mul(11) % 50;
+/// A number that looks random, made from a seed and a place (Steele and others' SplitMix64).
+fn random(seed: u64, place: u64) -> u64 {
+    let mut number = seed.wrapping_add(place.wrapping_mul(0x9E37_79B9_7F4A_7C15));
+    number = (number ^ (number >> 30)).wrapping_mul(0xBF58_476D_1CE4_E5B9);
+    number = (number ^ (number >> 27)).wrapping_mul(0x94D0_49BB_1331_11EB);
+    number ^ (number >> 31)
+}
+
+/// The first, second or last part of a message. Each client's is cut at two places of its own.
+fn part_of(message: &[u8], seed: u64, number: usize, part: usize) -> &[u8] {
+    let place = (number as u64).wrapping_mul(2);
+    let first = (random(seed, place) % 50) as usize;
+    let second = first + (random(seed, place.wrapping_add(1)) % 50) as usize;
     let piece = match part {
         0 => message.get(..first),
         1 => message.get(first..second),
@@ -187,11 +197,16 @@ fn part_of(message: &[u8], number: usize, part: usize) -> &[u8] {
 }
 
 /// Has each client send one part of its message. How many bytes these have in all.
-fn send_parts(clients: &mut [UnixStream], alloc: Global, part: usize) -> Result<usize, Fail> {
+fn send_parts(
+    clients: &mut [UnixStream],
+    alloc: Global,
+    seed: u64,
+    part: usize,
+) -> Result<usize, Fail> {
     let mut sent = 0usize;
     for (number, client) in clients.iter_mut().enumerate() {
         let message = message(alloc, number)?;
-        let piece = part_of(&message, number, part);
+        let piece = part_of(&message, seed, number, part);
         client.write_all(piece)?;
         sent = sent.saturating_add(piece.len());
     }
@@ -218,6 +233,7 @@ fn serve_many<H: Hub, R: Abort + Net + Files>(
     hub: &mut H,
     rt: &R,
     alloc: Global,
+    seed: u64,
 ) -> Result<(), Fail> {
     assert!(rt; hub.open("many.sock", None).is_ok());
     let mut clients = Vec::new(alloc);
@@ -225,14 +241,18 @@ fn serve_many<H: Hub, R: Abort + Net + Files>(
         clients.push(UnixStream::connect(rt, "many.sock")?)?;
     }
     for part in 0..3 {
-        let sent = send_parts(&mut clients, alloc, part)?;
+        let sent = send_parts(&mut clients, alloc, seed, part)?;
         assert!(rt; send_back(hub, sent).is_ok());
     }
     for (number, client) in clients.iter_mut().enumerate() {
         let message = message(alloc, number)?;
         let mut got = Vec::from_elem(alloc, 0u8, message.len())?;
         client.read_exact(&mut got)?;
-        assert_eq!(rt; got.as_slice(), message.as_slice(), "client {number}");
+        assert_eq!(rt;
+            got.as_slice(),
+            message.as_slice(),
+            "client {number}, seed {seed}"
+        );
     }
     fs::remove_file(rt, "many.sock")?;
     Ok(())
@@ -240,5 +260,10 @@ fn serve_many<H: Hub, R: Abort + Net + Files>(
 
 #[test]
 fn many_clients_get_their_own_bytes_back(rt: HostRuntime) -> Result<(), Fail> {
-    serve_many(&mut MioHub::new(&rt, rt.alloc())?, &rt, rt.alloc())
+    let seed = u64::from(
+        SystemTime::now(&rt)?
+            .duration_since(UNIX_EPOCH)?
+            .subsec_nanos(),
+    );
+    serve_many(&mut MioHub::new(&rt, rt.alloc())?, &rt, rt.alloc(), seed)
 }

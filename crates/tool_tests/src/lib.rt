@@ -6,6 +6,10 @@ mod hubs;
 #[cfg(test)]
 mod links;
 #[cfg(test)]
+mod proxies;
+#[cfg(test)]
 mod sinks;
 #[cfg(test)]
 mod versions;
+#[cfg(test)]
+mod words;

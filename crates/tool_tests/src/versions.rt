@@ -1,8 +1,9 @@
 use kit_io::{MemSink, SinkAnswer};
 use link_io::{LinkAnswer, Made, MemLink};
-use program::{Status, UsageKind, refuse, run_tool};
+use program::{Status, refuse, run_tool};
 use std::alloc::{AllocError, Global};
 use std::test::Fail;
+use tool_words::UsageKind;
 
 const COMMAND: [&str; 4] = ["qmicli", "-d", "m.sock", "--get-service-version-info"];
 

@@ -1,13 +1,13 @@
 use Rattle.std.proofs.Common.{◌≡◌, length}
 use Rattle.framing.specs.Cutting.{cut}
 use Rattle.qmux_frame.specs.Frame.{size_of}
-use Rattle.qmi_core.specs.Core.{hears}
+use Rattle.qmi_state.specs.Transitions.{hears}
 use Rattle.qmi_core.proofs.connection.hear_all.Given as goal
 
 -- what is left to hear, heard, is what there was to hear, heard
 abbrev pub invariant-loop-span : goal.invariant-loop-span
 invariant-loop-span l = record {
-  hears : hears l.device (cut size_of l.cutter.rest).messages l.client ≡ hears l.device (cut size_of l.initial.cutter.rest).messages l.initial.client;
+  hears : hears l.terms.device.now l.terms.away l.terms.deadline l.name (cut size_of l.cutter.rest).messages l.client l.desk ≡ hears l.terms.device.now l.terms.away l.terms.deadline l.name (cut size_of l.initial.cutter.rest).messages l.initial.client l.initial.desk;
   rest : (cut size_of l.cutter.rest).rest ≡ (cut size_of l.initial.cutter.rest).rest;
 }
 

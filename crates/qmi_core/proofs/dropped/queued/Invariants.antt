@@ -1,5 +1,5 @@
 use Rattle.std.proofs.Common.{◌≡◌, drop}
-use Rattle.qmi_core.specs.Core.{left_for}
+use Rattle.qmi_state.specs.Core.{left_for}
 use Rattle.qmi_core.proofs.dropped.queued.Given as goal
 
 abbrev pub invariant-loop-dropped : goal.invariant-loop-dropped

@@ -1,23 +1,65 @@
-use Rattle.std.proofs.Common.{◌≡◌, ℕ, ◌++◌, List, ap, sym, ◌∙◌, Option, unwrap_or, length, nat_lt, ◌+◌, false}
+use Rattle.std.proofs.Common.{◌≡◌, ℕ, Bool, false, not, List, Some, None, ap, sym, ◌∙◌}
 use Rattle.qmux_frame.specs.Reply.{result_reply}
-use Rattle.proxy_history.specs.Limits.{outbox_limit}
 use Rattle.proxy_history.specs.Facts.{Own}
 use Rattle.qmi_proxy.specs.OwnReplies.{own_reply_of, is_opening}
-use Rattle.qmi_core.specs.Core.{reply_to}
-use Rattle.qmi_core.proofs.Hearing.{heard_is}
+use Rattle.qmi_state.specs.Desk.{Desk}
+use Rattle.qmi_state.specs.Core.{Account}
+use Rattle.qmi_state.specs.Transitions.{Hearing, lacks_room, shared_of, refusal_of, forwards_as}
+use Rattle.qmi_core.specs.Board.{replied}
+use Rattle.qmi_core.proofs.Forwards.{heard_own, heard_refused, heard_forwarded}
 use Rattle.qmi_core.proofs.client.Client.hear.Goals as goal
 
-pub returns-clause-heard : goal.returns-clause-heard
-returns-clause-heard c =
-    let device : List ℕ = c.args.device.now in
+pub returns-in-Some : goal.returns-in-Some
+returns-in-Some c =
+    let device : List ℕ = c.args.terms.now.device.now in
     let m : List ℕ = c.args.message.now in
-    let own : c.own_reply-own.result ≡ own_reply_of device c.self.inside.opened m =
-    c.own_reply-own.ensures ∙ ap (own_reply_of device c.self.inside.opened) c.read-message.ensures in
-    let error : c.unwrap_or.result ≡ unwrap_or (own_reply_of device c.self.inside.opened m) 3 =
-    c.unwrap_or.ensures ∙ ap (λ (o : Option ℕ). unwrap_or o 3) own in
-    let reply : c.reply-reply.result ≡ reply_to device c.self.inside.opened m =
-    c.reply-reply.ensures ∙ ap (λ (l : List ℕ). result_reply l c.unwrap_or.result) c.read-message.ensures ∙ ap (result_reply m) error in
-    let room : nat_lt outbox_limit (length c.self.inside.outbox + length c.bytes.result.now) ≡ false = sym c.lacks_room.ensures ∙ c.if-lacks_room.false in
-    let opening : c.is_opening.result ≡ is_opening device m Own = c.is_opening.ensures ∙ ap (λ (l : List ℕ). is_opening device l Own) c.read-message.ensures in
-    rw (← c.self.view_is) (heard_is device m c.self.inside.opened c.self.inside.outbox c.bytes.result.now (c.bytes.ensures ∙ reply) room c.is_opening.result opening c.put.new.self
-    (c.put.ensures ∙ ap (λ (l : List ℕ). c.self.inside.outbox ++ l) (c.bytes-2.ensures ∙ sym c.bytes.ensures)))
+    let a : Account = c.args.self.now in
+    let error : ℕ = c.in-Some.error in
+    let own : Some error ≡ own_reply_of device a.opened m =
+    c.in-Some.ensures ∙ ap (own_reply_of device c.self.inside.opened) c.read-message.ensures ∙ ap (λ (b : Account). own_reply_of device b.opened m) c.self.view_is in
+    let heard = heard_own device c.args.terms.now.away c.args.terms.now.deadline c.args.name m a c.args.desk.now error own in
+    let opens : c.is_opening-opens.result ≡ is_opening device m Own = c.is_opening-opens.ensures ∙ ap (λ (l : List ℕ). is_opening device l Own) c.read-message.ensures in
+    record {
+      room = c.reply.ensures.room ∙ ap (λ (l : List ℕ). not (lacks_room (result_reply l error) a)) c.read-message.ensures ∙ sym (ap (λ (h : Hearing). h.has_room) heard);
+      account =
+          c.reply.ensures.account ∙ ap (λ (l : List ℕ). replied (result_reply l error) c.is_opening-opens.result a) c.read-message.ensures
+          ∙ ap (λ (t : Bool). replied (result_reply m error) t a) opens ∙ sym (ap (λ (h : Hearing). h.account) heard);
+      desk = sym (ap (λ (h : Hearing). h.desk) heard);
+    }
+
+pub returns-in-Some-forward : goal.returns-in-Some-forward
+returns-in-Some-forward c =
+    let device : List ℕ = c.args.terms.now.device.now in
+    let away : Bool = c.args.terms.now.away in
+    let name : ℕ = c.args.name in
+    let m : List ℕ = c.args.message.now in
+    let a : Account = c.args.self.now in
+    let desk : Desk = c.args.desk.now in
+    let error : ℕ = c.in-Some-forward.error in
+    let own : None ≡ own_reply_of device a.opened m =
+    c.in_default.ensures ∙ ap (own_reply_of device c.self.inside.opened) c.read-message.ensures ∙ ap (λ (b : Account). own_reply_of device b.opened m) c.self.view_is in
+    let refused : Some error ≡ refusal_of (shared_of away name m desk) = c.in-Some-forward.ensures.refusal ∙ ap (λ (l : List ℕ). refusal_of (shared_of away name l desk)) c.read-message.ensures in
+    let heard = heard_refused device away c.args.terms.now.deadline name m a desk own error refused in
+    record {
+      room = c.reply-in-Some-forward.ensures.room ∙ ap (λ (l : List ℕ). not (lacks_room (result_reply l error) a)) c.read-message.ensures ∙ sym (ap (λ (h : Hearing). h.has_room) heard);
+      account = c.reply-in-Some-forward.ensures.account ∙ ap (λ (l : List ℕ). replied (result_reply l error) false a) c.read-message.ensures ∙ sym (ap (λ (h : Hearing). h.account) heard);
+      desk = c.in-Some-forward.ensures.forwarded ∙ ap (λ (l : List ℕ). forwards_as (shared_of away name l desk) c.args.terms.now.deadline name l desk) c.read-message.ensures ∙ sym (ap (λ (h : Hearing). h.desk) heard);
+    }
+
+pub returns-in-None : goal.returns-in-None
+returns-in-None c =
+    let device : List ℕ = c.args.terms.now.device.now in
+    let away : Bool = c.args.terms.now.away in
+    let name : ℕ = c.args.name in
+    let m : List ℕ = c.args.message.now in
+    let a : Account = c.args.self.now in
+    let desk : Desk = c.args.desk.now in
+    let own : None ≡ own_reply_of device a.opened m =
+    c.in_default.ensures ∙ ap (own_reply_of device c.self.inside.opened) c.read-message.ensures ∙ ap (λ (b : Account). own_reply_of device b.opened m) c.self.view_is in
+    let refused : None ≡ refusal_of (shared_of away name m desk) = c.in-None.ensures.refusal ∙ ap (λ (l : List ℕ). refusal_of (shared_of away name l desk)) c.read-message.ensures in
+    let heard = heard_forwarded device away c.args.terms.now.deadline name m a desk own refused in
+    record {
+      room = sym (ap (λ (h : Hearing). h.has_room) heard);
+      account = sym (ap (λ (h : Hearing). h.account) heard);
+      desk = c.in-None.ensures.forwarded ∙ ap (λ (l : List ℕ). forwards_as (shared_of away name l desk) c.args.terms.now.deadline name l desk) c.read-message.ensures ∙ sym (ap (λ (h : Hearing). h.desk) heard);
+    }

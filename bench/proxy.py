@@ -1,0 +1,115 @@
+"""Runs the load on both proxies, and prints what they took. `proxy.sh` starts it."""
+import os
+import re
+import signal
+import subprocess
+import sys
+import time
+
+folder, program, peer, requests = sys.argv[1], sys.argv[2], sys.argv[3], int(sys.argv[4])
+TICKS = os.sysconf("SC_CLK_TCK")
+
+
+def wait_for(path):
+    for _ in range(400):
+        if os.path.exists(path):
+            return
+        time.sleep(0.02)
+    sys.exit(f"{path} doesn't come")
+
+
+class Proxy:
+    """A proxy with its modem, both started anew."""
+
+    def __init__(self, ours, under=()):
+        where = f"{folder}/{'modem.sock' if ours else 'modem.tty'}"
+        if os.path.lexists(where):
+            os.unlink(where)
+        self.modem = subprocess.Popen([f"{folder}/modem", "unix" if ours else "pty", where])
+        wait_for(where)
+        self.device = where if ours else os.readlink(where)
+        self.socket = f"{folder}/proxy.sock" if ours else "@qmi-proxy"
+        if ours and os.path.exists(self.socket):
+            os.unlink(self.socket)
+        words = [program, "qmi-proxy", "-d", where, "--socket", self.socket, "--turns", "1000000000000"] if ours else [peer, "--no-exit"]
+        self.process = subprocess.Popen([*under, *words], stderr=subprocess.DEVNULL, stdout=subprocess.DEVNULL)
+        if ours:
+            wait_for(self.socket)
+        else:
+            time.sleep(0.5 if not under else 2)
+
+    def pid(self):
+        """Of the proxy itself, where it runs under another program."""
+        children = open(f"/proc/{self.process.pid}/task/{self.process.pid}/children").read().split()
+        return int(children[0]) if children else self.process.pid
+
+    def load(self, clients, in_flight, count, silent=0):
+        words = [f"{folder}/load", self.socket, self.device, str(clients), str(in_flight), str(count), str(silent)]
+        done = subprocess.run(words, capture_output=True, text=True, timeout=600)
+        if done.returncode:
+            sys.exit(f"the load fails: {done.stderr}")
+        return float(done.stdout)
+
+    def times(self):
+        fields = open(f"/proc/{self.process.pid}/stat").read().rsplit(")", 1)[1].split()
+        return int(fields[11]) / TICKS, int(fields[12]) / TICKS
+
+    def peak(self):
+        status = open(f"/proc/{self.process.pid}/status").read()
+        return int(re.search(r"VmHWM:\s+(\d+)", status)[1]) / 1024
+
+    def end(self):
+        os.kill(self.pid(), signal.SIGTERM)
+        self.process.wait()
+        self.modem.kill()
+        self.modem.wait()
+
+
+def rate(ours, clients, in_flight, silent=0):
+    """The best of three: requests a second, and processor time a request in microseconds."""
+    best = None
+    for _ in range(3):
+        proxy = Proxy(ours)
+        before = proxy.times()
+        speed = proxy.load(clients, in_flight, requests, silent)
+        after = proxy.times()
+        spent = [(b - a) / requests * 1e6 for a, b in zip(before, after)]
+        found = (speed, sum(spent), spent[0] / max(sum(spent), 1e-9), proxy.peak())
+        best = found if best is None or found[0] > best[0] else best
+        proxy.end()
+    return best
+
+
+def calls(ours, clients, in_flight):
+    """System calls a request."""
+    counts = []
+    for count in (1000, 1000 + 10000):
+        table = f"{folder}/calls"
+        proxy = Proxy(ours, ["strace", "-f", "-c", "-o", table])
+        proxy.load(clients, in_flight, count)
+        proxy.end()
+        counts.append(int(re.search(r"(\d+)\s+(?:\d+\s+)?total", open(table).read())[1]))
+    return (counts[1] - counts[0]) / 10000
+
+
+def instructions(clients, in_flight):
+    """Our user instructions a request."""
+    counts = []
+    for count in (1600, 1600 + 16000):
+        out = f"{folder}/grind"
+        proxy = Proxy(True, ["valgrind", "--tool=callgrind", f"--callgrind-out-file={out}"])
+        proxy.load(clients, in_flight, count)
+        proxy.end()
+        counts.append(int(re.search(r"^(?:summary|totals): (\d+)", open(out).read(), re.M)[1]))
+    return (counts[1] - counts[0]) / 16000
+
+
+print("clients, in flight | ours: a second, us, MB | libqmi's: a second, us, MB | rate, processor time")
+for clients, in_flight in ((1, 1), (16, 8), (64, 1)):
+    ours, theirs = rate(True, clients, in_flight), rate(False, clients, in_flight)
+    print(f"{clients:2}, {in_flight} | {ours[0]:9,.0f} {ours[1]:6.2f} {ours[3]:5.1f} | {theirs[0]:9,.0f} {theirs[1]:6.2f} {theirs[3]:5.1f} | "
+          f"{ours[0] / theirs[0]:.2f}, {ours[1] / theirs[1]:.2f} (of ours {100 * ours[2]:.0f} % in user mode)", flush=True)
+print(f"system calls a request at 1, 1: ours {calls(True, 1, 1):.2f}, libqmi's {calls(False, 1, 1):.2f}", flush=True)
+print(f"user instructions a request: {instructions(1, 1):,.0f} at 1, 1; {instructions(16, 8):,.0f} at 16, 8; {instructions(64, 1):,.0f} at 64, 1", flush=True)
+quiet, crowded = rate(True, 1, 8), rate(True, 1, 8, 48)
+print(f"beside 48 clients that say nothing: {crowded[1]:.2f} us a request, alone {quiet[1]:.2f}")

@@ -1,0 +1,4 @@
+pub mod Order
+pub mod Places
+pub mod Sets
+pub mod Since

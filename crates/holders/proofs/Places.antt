@@ -1,0 +1,194 @@
+-- Where an id stands in a list of grants that is in order, or would stand.
+use Rattle.std.proofs.Common.{◌≡◌, ℕ, zero, suc, ◌+◌, ◌<◌, ◌≤◌, Bool, true, false, not, List, [], ◌∷◌, ◌++◌, length, take, drop, filter, get_or, refl, ap, sym, ◌∙◌, arith, Option, Some, None, ⊎_elim, ◌⊎◌, ◌||◌, ◌&&◌, ◌==◌, nat_lt, subst}
+use Rattle.std.proofs.lemmas.List.{get_or_default}
+use Rattle.std.proofs.lemmas.Bool.{eqb-true}
+use Rattle.std.specs.List.{AllByRecursion, AllWithin, list_any}
+use Rattle.std.specs.List.Sorted.{IsPartitionedBy}
+use Rattle.proxy_history.specs.ClientIds.{Grant, is_of, holder_in, holds_some, is_other}
+use Rattle.holders.specs.Grants.{is_before, is_behind, is_of_service, AreInOrder, AreBytes, IsFoundAt, IsPlaceOf, granted, grants, grants_if, is_taken}
+use Rattle.holders.proofs.Order.{of_not_before, of_not_behind, before_not_of, before_not_behind, behind_not_of, behind_not_before, behind_else, before_of_behind, before_before, behind_both, behind_behind, is_of-is, all_at, all_weaker, all_insert, kept_all, kept_none, few_ids}
+
+-- ---- what a binary search finds ----
+
+pub in_order_at : (grants : List Grant) (j k : ℕ) (d : Grant) → AreInOrder grants → j < k → k < length grants → is_behind (get_or grants j d).service (get_or grants j d).client (get_or grants k d) ≡ true
+unfolding AreInOrder
+in_order_at [] j k d ordered less within = absurd (omega arith)
+in_order_at (g ∷ grants) j zero d ordered less within = absurd (omega arith)
+in_order_at (g ∷ grants) zero (suc k) d ordered less within = all_at (λ h. is_behind g.service g.client h ≡ true) grants k d ordered.0 (omega arith)
+in_order_at (g ∷ grants) (suc j) (suc k) d ordered less within = in_order_at grants j k d ordered.1 (omega arith) (omega arith)
+
+pub partitioned : (s i : ℕ) (grants : List Grant) → AreInOrder grants → IsPartitionedBy (is_before s i) grants
+partitioned s i grants ordered = λ j k d le within before. both j k d le within before
+  where
+    below : (j k : ℕ) → j ≤ k → (j ≡ k) ⊎ (j < k)
+    below j k le = grind arith
+
+    both : (j k : ℕ) (d : Grant) → j ≤ k → k < length grants → is_before s i (get_or grants k d) ≡ true → is_before s i (get_or grants j d) ≡ true
+    both j k d le within before =
+        ⊎_elim
+        (λ (same : j ≡ k). ap (λ (n : ℕ). is_before s i (get_or grants n d)) same ∙ before)
+        (λ (less : j < k). before_before s i (get_or grants j d) (get_or grants k d) (in_order_at grants j k d ordered less within) before)
+        (below j k le)
+
+-- no grant that isn't before is of the id
+pub place_none : (s i place : ℕ) (grants : List Grant) → place ≡ length grants → AllWithin (λ g. is_before s i g ≡ true) grants 0 place → IsPlaceOf s i grants place
+place_none s i place grants all before = record {
+  within = omega arith;
+  before = before;
+  behind = λ k d low high. absurd (omega arith);
+}
+
+pub place_other : (s i place : ℕ) (grants : List Grant) (row : Grant) → AreInOrder grants → place < length grants → row ≡ get_or grants place row → is_of s i row ≡ false → AllWithin (λ g. is_before s i g ≡ true) grants 0 place
+    → AllWithin (λ g. is_before s i g ≡ false) grants place (length grants) → IsPlaceOf s i grants place
+place_other s i place grants row ordered within is other before rest = record {
+  within = omega arith;
+  before = before;
+  behind = λ k d low high. ⊎_elim
+      (λ (same : place ≡ k). ap (λ (n : ℕ). is_behind s i (get_or grants n d)) (sym same) ∙ here d)
+      (λ (less : place < k). behind_behind s i (get_or grants place d) (get_or grants k d) (here d) (in_order_at grants place k d ordered less high))
+      (below place k low);
+}
+  where
+    below : (j k : ℕ) → j ≤ k → (j ≡ k) ⊎ (j < k)
+    below j k le = grind arith
+
+    row_at : (d : Grant) → get_or grants place d ≡ row
+    row_at d = get_or_default grants place d row within ∙ sym is
+
+    here : (d : Grant) → is_behind s i (get_or grants place d) ≡ true
+    here d = behind_else s i (get_or grants place d) (rest place d (omega arith) within) (ap (is_of s i) (row_at d) ∙ other)
+
+-- ---- the parts of a list behind its first grant ----
+
+found_behind : (s i place : ℕ) (g : Grant) (grants : List Grant) → IsFoundAt s i (g ∷ grants) (suc place) → IsFoundAt s i grants place
+found_behind s i place g grants found = record { within = omega (arith, found.within); is = found.is }
+
+-- one that stands before a grant of the id
+stands_before : (s i place : ℕ) (g : Grant) (grants : List Grant) → AreInOrder (g ∷ grants) → IsFoundAt s i (g ∷ grants) (suc place) → is_before s i g ≡ true
+unfolding AreInOrder
+stands_before s i place g grants ordered found =
+    before_of_behind s i g (get_or grants place g) (all_at (λ h. is_behind g.service g.client h ≡ true) grants place g ordered.0 (omega (arith, found.within))) (found.is g)
+
+place_behind : (s i place : ℕ) (g : Grant) (grants : List Grant) → IsPlaceOf s i (g ∷ grants) (suc place) → IsPlaceOf s i grants place
+place_behind s i place g grants at = record {
+  within = omega (arith, at.within);
+  before = λ k d low high. at.before (suc k) d (omega arith) (omega arith);
+  behind = λ k d low high. at.behind (suc k) d (omega arith) (omega arith);
+}
+
+place_first : (s i : ℕ) (g : Grant) (grants : List Grant) → IsPlaceOf s i (g ∷ grants) 0 → IsPlaceOf s i grants 0
+place_first s i g grants at = record {
+  within = omega arith;
+  before = λ k d low high. absurd (omega arith);
+  behind = λ k d low high. at.behind (suc k) d (omega arith) (omega arith);
+}
+
+-- ---- the holder ----
+
+pub found_holder : (s i place : ℕ) (grants : List Grant) (d : Grant) → AreInOrder grants → IsFoundAt s i grants place → holder_in s i grants ≡ Some (get_or grants place d).conn
+unfolding AreInOrder
+found_holder s i place [] d ordered found = absurd (omega (arith, found.within))
+found_holder s i zero (g ∷ grants) d ordered found = rw (found.is d) refl
+found_holder s i (suc place) (g ∷ grants) d ordered found =
+    rw (before_not_of s i g (stands_before s i place g grants ordered found)) (found_holder s i place grants d ordered.1 (found_behind s i place g grants found))
+
+pub absent_holder : (s i place : ℕ) (grants : List Grant) → IsPlaceOf s i grants place → holder_in s i grants ≡ None
+absent_holder s i place [] at = refl
+absent_holder s i zero (g ∷ grants) at = rw (behind_not_of s i g (at.behind 0 g (omega arith) (omega arith))) (absent_holder s i zero grants (place_first s i g grants at))
+absent_holder s i (suc place) (g ∷ grants) at = rw (before_not_of s i g (at.before 0 g (omega arith) (omega arith))) (absent_holder s i place grants (place_behind s i place g grants at))
+
+-- ---- granting ----
+
+all_behind : (s i : ℕ) (grants : List Grant) → IsPlaceOf s i grants 0 → AllByRecursion (λ h. is_behind s i h ≡ true) grants
+all_behind s i [] at = tt
+all_behind s i (g ∷ grants) at = (at.behind 0 g (omega arith) (omega arith), all_behind s i grants (place_first s i g grants at))
+
+grant_is : (conn s i : ℕ) (g : Grant) → g.conn ≡ conn → g.service ≡ s → g.client ≡ i → record { conn = conn; service = s; client = i } ≡ g
+grant_is conn s i g a b c =
+    let one : record { conn = conn; service = s; client = i } ≡ record { conn = g.conn; service = s; client = i } = ap (λ (x : ℕ). record { conn = x; service = s; client = i }) (sym a) in
+    let two : record { conn = g.conn; service = s; client = i } ≡ record { conn = g.conn; service = g.service; client = i } = ap (λ (x : ℕ). record { conn = g.conn; service = x; client = i }) (sym b) in
+    let three : record { conn = g.conn; service = g.service; client = i } ≡ g = ap (λ (x : ℕ). record { conn = g.conn; service = g.service; client = x }) (sym c) in
+    one ∙ two ∙ three
+
+pub found_granted : (conn s i place : ℕ) (grants : List Grant) (d : Grant) → AreInOrder grants → IsFoundAt s i grants place → (get_or grants place d).conn ≡ conn → granted conn s i grants ≡ grants
+unfolding AreInOrder
+found_granted conn s i place [] d ordered found same = absurd (omega (arith, found.within))
+found_granted conn s i zero (g ∷ grants) d ordered found same =
+    let of : is_of s i g ≡ true = found.is d in
+    let behind = all_weaker (λ h. is_behind g.service g.client h ≡ true) (λ h. is_behind s i h ≡ true) (λ h behind. behind_both s i g h of behind) grants ordered.0 in
+    let none : filter (is_before s i) grants ≡ [] = kept_none (is_before s i) grants (all_weaker (λ h. is_behind s i h ≡ true) (λ h. is_before s i h ≡ false) (λ h later. behind_not_before s i h later) grants behind) in
+    let all : filter (is_behind s i) grants ≡ grants = kept_all (is_behind s i) grants behind in
+    rw (of_not_before s i g of, of_not_behind s i g of, none, all) (ap (λ (h : Grant). h ∷ grants) (grant_is conn s i g same (is_of-is s i g of).0 (is_of-is s i g of).1))
+found_granted conn s i (suc place) (g ∷ grants) d ordered found same =
+    let before = stands_before s i place g grants ordered found in
+    rw (before, before_not_behind s i g before) (ap (λ t. g ∷ t) (found_granted conn s i place grants d ordered.1 (found_behind s i place g grants found) same))
+
+pub absent_granted : (conn s i place : ℕ) (grants : List Grant) → IsPlaceOf s i grants place → granted conn s i grants ≡ take place grants ++ record { conn = conn; service = s; client = i } ∷ drop place grants
+absent_granted conn s i zero [] at = refl
+absent_granted conn s i (suc place) [] at = refl
+absent_granted conn s i zero (g ∷ grants) at =
+    let behind = all_behind s i (g ∷ grants) at in
+    let none : filter (is_before s i) (g ∷ grants) ≡ [] = kept_none (is_before s i) (g ∷ grants) (all_weaker (λ h. is_behind s i h ≡ true) (λ h. is_before s i h ≡ false) (λ h later. behind_not_before s i h later) (g ∷ grants) behind) in
+    let all : filter (is_behind s i) (g ∷ grants) ≡ g ∷ grants = kept_all (is_behind s i) (g ∷ grants) behind in
+    ap (λ (l : List Grant). l ++ record { conn = conn; service = s; client = i } ∷ filter (is_behind s i) (g ∷ grants)) none ∙ ap (λ (l : List Grant). record { conn = conn; service = s; client = i } ∷ l) all
+absent_granted conn s i (suc place) (g ∷ grants) at =
+    let before = at.before 0 g (omega arith) (omega arith) in
+    rw (before, before_not_behind s i g before) (ap (λ t. g ∷ t) (absent_granted conn s i place grants (place_behind s i place g grants at)))
+
+pub in_order_insert : (s i place : ℕ) (grants : List Grant) (new : Grant) → new.service ≡ s → new.client ≡ i → AreInOrder grants → IsPlaceOf s i grants place → AreInOrder (take place grants ++ new ∷ drop place grants)
+unfolding AreInOrder
+in_order_insert s i zero grants new service client ordered at =
+    (subst (λ (t : ℕ). AllByRecursion (λ h. is_behind t new.client h ≡ true) grants) (sym service) (subst (λ (u : ℕ). AllByRecursion (λ h. is_behind s u h ≡ true) grants) (sym client) (all_behind s i grants at)), ordered)
+in_order_insert s i (suc place) [] new service client ordered at = (tt, tt)
+in_order_insert s i (suc place) (g ∷ grants) new service client ordered at =
+    let before : is_before s i g ≡ true = at.before 0 g (omega arith) (omega arith) in
+    let behind : is_behind g.service g.client new ≡ true =
+    ap (λ (t : ℕ). nat_lt g.service t || (g.service == t && nat_lt g.client new.client)) service ∙ ap (λ (u : ℕ). nat_lt g.service s || (g.service == s && nat_lt g.client u)) client ∙ before
+    in
+    (all_insert (λ h. is_behind g.service g.client h ≡ true) grants place new ordered.0 behind, in_order_insert s i place grants new service client ordered.1 (place_behind s i place g grants at))
+
+-- ---- what granting makes of a list ----
+
+not_not : (b : Bool) → not (not b) ≡ b
+not_not true = refl
+not_not false = refl
+
+pub found_free : (conn s i place : ℕ) (rows : List Grant) (d : Grant) → AreInOrder rows → IsFoundAt s i rows place → ((get_or rows place d).conn == conn) ≡ not (is_taken conn s i rows)
+found_free conn s i place rows d ordered found =
+    sym (ap (λ (h : Option ℕ). not (is_other conn h)) (found_holder s i place rows d ordered found) ∙ not_not ((get_or rows place d).conn == conn))
+
+pub found_grants : (conn s i place : ℕ) (rows : List Grant) (d : Grant) → AreInOrder rows → IsFoundAt s i rows place → rows ≡ grants conn s i rows
+found_grants conn s i place rows d ordered found =
+    let either : (b : Bool) → ((get_or rows place d).conn == conn) ≡ b → rows ≡ grants_if b conn s i rows =
+    λ b. elim b as (λ b. ((get_or rows place d).conn == conn) ≡ b → rows ≡ grants_if b conn s i rows) [
+      | true ↦ λ e. sym (found_granted conn s i place rows d ordered found (eqb-true (get_or rows place d).conn conn e))
+      | false ↦ λ e. refl
+    ]
+    in
+    either ((get_or rows place d).conn == conn) refl ∙ ap (λ b. grants_if b conn s i rows) (found_free conn s i place rows d ordered found)
+
+pub absent_free : (conn s i place : ℕ) (rows : List Grant) → IsPlaceOf s i rows place → true ≡ not (is_taken conn s i rows)
+absent_free conn s i place rows at = sym (ap (λ (h : Option ℕ). not (is_other conn h)) (absent_holder s i place rows at))
+
+pub absent_grants : (conn s i place : ℕ) (rows : List Grant) → IsPlaceOf s i rows place → take place rows ++ record { conn = conn; service = s; client = i } ∷ drop place rows ≡ grants conn s i rows
+absent_grants conn s i place rows at = sym (absent_granted conn s i place rows at) ∙ ap (λ b. grants_if b conn s i rows) (absent_free conn s i place rows at)
+
+pub bytes_insert : (place : ℕ) (rows : List Grant) (new : Grant) → AreBytes rows → new.service < 256 → new.client < 256 → AreBytes (take place rows ++ new ∷ drop place rows)
+bytes_insert place rows new bytes service client = all_insert (λ g. (g.service < 256) × (g.client < 256)) rows place new bytes (service, client)
+
+length-insert : (place : ℕ) (rows : List Grant) (new : Grant) → length (take place rows ++ new ∷ drop place rows) ≡ length rows + 1
+length-insert zero rows new = omega arith
+length-insert (suc place) [] new = omega arith
+length-insert (suc place) (g ∷ rows) new = omega (arith, length-insert place rows new)
+
+-- an id that isn't there leaves room for itself
+pub absent_room : (s i place : ℕ) (rows : List Grant) → AreInOrder rows → AreBytes rows → s < 256 → i < 256 → IsPlaceOf s i rows place → length rows < 65536
+absent_room s i place rows ordered bytes service client at =
+    let new : Grant = record { conn = 0; service = s; client = i } in
+    omega (arith, length-insert place rows new, few_ids (take place rows ++ new ∷ drop place rows) (in_order_insert s i place rows new refl refl ordered at) (bytes_insert place rows new bytes service client))
+
+-- ---- some id of a service ----
+
+pub list_any-holds_some : (conn s : ℕ) (grants : List Grant) → list_any (is_of_service conn s) grants ≡ holds_some conn s grants
+list_any-holds_some conn s [] = refl
+list_any-holds_some conn s (g ∷ grants) = ap (λ b. is_of_service conn s g || b) (list_any-holds_some conn s grants)

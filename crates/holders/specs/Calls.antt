@@ -1,0 +1,41 @@
+-- Holders stand for the calls that were made on them. A list of calls has the newest first; the grants that it
+-- makes have the oldest first, as those that the history of a proxy makes.
+use Rattle.std.specs.Prelude.{◌≡◌, ◌↔◌, ℕ, Bool, true, false, not, List, [], ◌∷◌, ◌++◌, filter, Contains}
+use Rattle.std.specs.List.{AllByRecursion}
+use Rattle.proxy_history.specs.ClientIds.{Grant, is_of}
+use Rattle.holders.specs.Grants.{is_taken, releases, leaves}
+
+pub data Call : Type 0 where
+  Grants : (conn : ℕ) → (service : ℕ) → (client : ℕ) → Call
+  Releases : (conn : ℕ) → (service : ℕ) → (client : ℕ) → Call
+  Leaves : (conn : ℕ) → Call
+  Clears : Call
+
+-- the newest grant is the last
+abbrev pub granted_last : ℕ → ℕ → ℕ → List Grant → List Grant
+granted_last conn service client held = filter (λ g. not (is_of service client g)) held ++ record { conn = conn; service = service; client = client } ∷ []
+
+abbrev pub granted_last_unless : Bool → ℕ → ℕ → ℕ → List Grant → List Grant
+granted_last_unless true conn service client held = held
+granted_last_unless false conn service client held = granted_last conn service client held
+
+-- the ids that are held after these calls, in the order of granting
+abbrev pub held_after : List Call → List Grant
+held_after [] = []
+held_after (Grants conn service client ∷ past) = granted_last_unless (is_taken conn service client (held_after past)) conn service client (held_after past)
+held_after (Releases conn service client ∷ past) = releases conn service client (held_after past)
+held_after (Leaves conn ∷ past) = leaves conn (held_after past)
+held_after (Clears ∷ past) = []
+
+-- no id twice
+unfoldable pub IsOnce : List Grant → Type 0
+IsOnce [] = Unit {0}
+IsOnce (grant ∷ grants) = AllByRecursion (λ other. is_of grant.service grant.client other ≡ false) grants × IsOnce grants
+
+-- the same ids with the same holders, in whichever order
+pub record TellTheSame (held grants : List Grant) : Type 0 where
+  pub same : (grant : Grant) → Contains held grant ↔ Contains grants grant
+  pub once : IsOnce held
+
+abbrev pub StandsFor : List Call → List Grant → Type 0
+StandsFor calls grants = TellTheSame (held_after calls) grants

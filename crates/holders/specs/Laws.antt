@@ -1,0 +1,24 @@
+-- What holds of every list of calls. A list of calls has the newest first.
+use Rattle.std.specs.Prelude.{◌≡◌, ◌↔◌, ℕ, Bool, true, false, ◌==◌, List, ◌∷◌, ◌++◌, Some, All}
+use Rattle.proxy_history.specs.ClientIds.{Grant, holder_in}
+use Rattle.holders.specs.Grants.{is_of_both, is_taken}
+use Rattle.holders.specs.Calls.{Call, Grants, Releases, Leaves, Clears, held_after}
+
+-- its connection gives the id up, or leaves, or all ids are given up
+abbrev pub ends : Grant → Call → Bool
+ends grant (Releases conn service client) = is_of_both conn service client grant
+ends grant (Leaves conn) = conn == grant.conn
+ends grant Clears = true
+ends grant _ = false
+
+-- the id was granted to the connection, which no other held then, and no later call ends that
+pub record IsGrantedAndNotEnded (grant : Grant) (calls : List Call) : Type 0 where
+  pub later : List Call
+  pub earlier : List Call
+  pub whole : calls ≡ later ++ Grants grant.conn grant.service grant.client ∷ earlier
+  pub free : is_taken grant.conn grant.service grant.client (held_after earlier) ≡ false
+  pub none : All (λ call. ends grant call ≡ false) later
+
+abbrev pub HeldUntilEnded : Type 0
+HeldUntilEnded = (calls : List Call) (conn service client : ℕ)
+    → (holder_in service client (held_after calls) ≡ Some conn) ↔ IsGrantedAndNotEnded (record { conn = conn; service = service; client = client }) calls

@@ -1,0 +1,10 @@
+pub mod Lists
+pub mod Lines
+pub mod Weights
+pub mod Depths
+pub mod FormLaws
+pub mod Continued
+pub mod Keys
+pub mod Describing
+pub mod Soundness
+pub mod SoundTables

@@ -1,0 +1,27 @@
+//! Tables of QMI messages, read from descriptions in the form of libqmi's `data/qmi-service-*.json`.
+#![tactic(auto)]
+
+mod comments;
+mod copies;
+mod definitions;
+mod digits;
+mod fault;
+mod format;
+mod laws;
+mod members;
+mod message;
+mod nesting;
+mod objects;
+mod read;
+mod shapes;
+mod sizes;
+mod tables;
+mod tlv;
+mod tlvs;
+
+pub use fault::{MemberName, TableFault};
+pub use laws::{forms_are_by_their_members, lines_are_the_text};
+pub use message::Message;
+pub use read::read_tables;
+pub use tables::Tables;
+pub use tlv::{TlvShape, TlvShapes};

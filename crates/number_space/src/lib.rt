@@ -1,0 +1,9 @@
+//! Transaction numbers: each is given to one request at a time, and stays in use until its answer.
+#![tactic(auto)]
+
+mod laws;
+mod rows;
+mod space;
+
+pub use laws::numbers_are_in_use_until_freed;
+pub use space::{Found, Row, Space};

@@ -1,0 +1,185 @@
+ghost use Rattle.std.specs.Prelude.{◌≡◌, ◌↔◌, ◌≤◌, ℕ, List, ◌∷◌, length, option_map, IfOk, IfSome, IsNone};
+ghost use Rattle.proxy_history.specs.Requests.{following};
+ghost use Rattle.proxy_history.specs.Laws.{IsFirstFree};
+ghost use Rattle.number_space.specs.Table.{opened, numbers, row_of, next_number, gives, found, answers, first_due, expires, orphans, resets, IsSound};
+ghost use Rattle.number_space.specs.Calls.{Call, Give, Answer, Expire, Orphan, Reset, StandsFor};
+
+use crate::rows;
+use std::alloc::{AllocError, Global};
+use std::collections::VecDeque;
+use std::marker::Model;
+
+/// A number in use.
+#[derive(Clone, Copy, Debug, PartialEq, Eq)]
+pub struct Row<T> {
+    pub number: u32,
+    /// The connection that it was given to.
+    pub conn: u64,
+    /// What that connection is to get back.
+    pub note: T,
+    /// The time from which on the number expires.
+    pub deadline: u64,
+    /// Whether somebody still waits for the answer.
+    pub pending: bool,
+}
+
+/// What an answer with some number finds.
+#[derive(Clone, Copy, Debug, PartialEq, Eq)]
+pub enum Found<T> {
+    /// The connection and the note that wait for it.
+    Pending(u64, T),
+    /// The number is in use, and nobody waits any more.
+    Late,
+    /// The number isn't in use.
+    Stray,
+}
+
+/// Numbers from 1 to a top, of which no more than a limit are in use at a time.
+///
+/// A number that was given is in use until its answer or a reset. One that expired, or whose
+/// connection left, stays in use, so that its late answer finds nobody else.
+#[derive(Drop)]
+pub struct Space<T> {
+    rows: VecDeque<Row<T>>,
+    last: u32,
+    limit: u32,
+    top: u32,
+    // no number in use is above `last` and no greater than this one
+    free_through: u32,
+    // no pending number is due before this time
+    earliest: u64,
+}
+
+impl<T> Model for Space<T> {
+    ghost use Rattle.std.specs.Prelude.{◌≤◌};
+    ghost use Rattle.std.specs.VecDeque.{deque_capacity};
+    ghost use Rattle.number_space.specs.Table.{Table, IsSound, NoneIsDueBefore, IsFreeThrough};
+
+    ghost Value = { Table T };
+
+    ghost view = { λ s. record { rows = s.rows.items; last = s.last; limit = s.limit; top = s.top } };
+
+    ghost invariant = { λ s. record {
+      sound : IsSound (record { rows = s.rows.items; last = s.last; limit = s.limit; top = s.top });
+      room : s.limit ≤ deque_capacity s.rows;
+      free : IsFreeThrough s.last s.free_through s.rows.items;
+      within : s.free_through ≤ s.top;
+      none_due : NoneIsDueBefore s.earliest s.rows.items;
+    } };
+}
+
+impl<T: Copy> Space<T> {
+    /// A space that nothing was given from. This takes all the memory that it will ever need.
+    pub fn open(alloc: Global, limit: u32, top: u32) -> Result<Self, AllocError>
+        requires some { 1 ≤ limit }
+        requires within { limit ≤ top }
+        ensures { IfOk result (λ space. space ≡ opened limit top) }
+    {
+        Ok(Space {
+            rows: VecDeque::with_capacity(alloc, limit as usize)?,
+            last: 0,
+            limit,
+            top,
+            free_through: top,
+            earliest: u64::MAX,
+        })
+    }
+
+    /// Gives the first number after the last one given, cyclic from 1 to the top, that isn't in
+    /// use; none where as many as may be are in use.
+    pub fn give(&mut self, conn: u64, note: T, deadline: u64) -> Option<u32>
+        ensures number { result ≡ next_number self.old }
+        ensures table { self.new ≡ gives conn note deadline self.old }
+        ensures first_free { IfSome result (IsFirstFree self.old.top (following self.old.top self.old.last) (numbers self.old.rows)) }
+        ensures full { IsNone result ↔ (self.old.limit ≤ length self.old.rows) }
+        ensures sound { IsSound self.new }
+        ensures stands { (limit top : ℕ) (calls : List (Call T)) → StandsFor limit top calls self.old → StandsFor limit top (Give conn note deadline ∷ calls) self.new }
+    {
+        if self.rows.len() >= self.limit as usize {
+            return None;
+        }
+        let (number, free_through) = rows::next_free(
+            &self.rows,
+            self.top,
+            self.last,
+            self.free_through,
+        );
+        self.rows.push_back_reserved(Row {
+            number,
+            conn,
+            note,
+            deadline,
+            pending: true,
+        });
+        self.last = number;
+        self.free_through = free_through;
+        self.earliest = self.earliest.min(deadline);
+        Some(number)
+    }
+
+    /// The connection, the note and whether somebody still waits, of a number in use.
+    pub fn look(&self, number: u32) -> Option<(u64, T, bool)>
+        ensures row { result ≡ option_map (λ r. (r.conn, r.note, r.pending)) (row_of number self.now.rows) }
+        ensures sound { IsSound self.now }
+    {
+        let index = rows::index_of(&self.rows, self.top, self.last, number)?;
+        let row = &self.rows[index];
+        Some((row.conn, row.note, row.pending))
+    }
+
+    /// Meets an answer with this number, and frees the number.
+    pub fn answer(&mut self, number: u32) -> Found<T>
+        ensures found { result ≡ found (row_of number self.old.rows) }
+        ensures table { self.new ≡ answers number self.old }
+        ensures stands { (limit top : ℕ) (calls : List (Call T)) → StandsFor limit top calls self.old → StandsFor limit top (Answer number ∷ calls) self.new }
+    {
+        let Some(index) = rows::index_of(&self.rows, self.top, self.last, number) else {
+            return Found::Stray;
+        };
+        let Some(row) = self.rows.remove(index) else {
+            return Found::Stray;
+        };
+        if row.pending {
+            Found::Pending(row.conn, row.note)
+        } else {
+            Found::Late
+        }
+    }
+
+    /// Takes the pending number that was given first among those whose deadline came: it stays in
+    /// use, and nobody waits for it any more. None where no pending number is due.
+    pub fn expire(&mut self, now: u64) -> Option<(u64, T)>
+        ensures due { result ≡ option_map (λ r. (r.conn, r.note)) (first_due now self.old.rows) }
+        ensures table { self.new ≡ expires now self.old }
+        ensures stands { (limit top : ℕ) (calls : List (Call T)) → StandsFor limit top calls self.old → StandsFor limit top (Expire now ∷ calls) self.new }
+    {
+        if now < self.earliest {
+            return None;
+        }
+        let Some(index) = rows::first_due(&self.rows, now) else {
+            self.earliest = rows::earliest_deadline(&self.rows);
+            return None;
+        };
+        let row = &mut self.rows[index];
+        row.pending = false;
+        Some((row.conn, row.note))
+    }
+
+    /// Keeps the numbers of this connection in use, and nobody waits for them any more.
+    pub fn orphan(&mut self, conn: u64)
+        ensures table { self.new ≡ orphans conn self.old }
+        ensures stands { (limit top : ℕ) (calls : List (Call T)) → StandsFor limit top calls self.old → StandsFor limit top (Orphan conn ∷ calls) self.new }
+    {
+        rows::orphan(&mut self.rows, conn);
+    }
+
+    /// Frees all numbers. The last one given is remembered.
+    pub fn reset(&mut self)
+        ensures table { self.new ≡ resets self.old }
+        ensures stands { (limit top : ℕ) (calls : List (Call T)) → StandsFor limit top calls self.old → StandsFor limit top (Reset ∷ calls) self.new }
+    {
+        self.rows.clear();
+        self.free_through = self.top;
+        self.earliest = u64::MAX;
+    }
+}

@@ -1,0 +1,60 @@
+ghost use Rattle.std.specs.Prelude.{◌≡◌, ◌⊎◌, ℕ, List, Option, true, false, map, string_bytes, Ok, Err};
+ghost use Rattle.kit_io.specs.Causes.{Rose};
+ghost use Rattle.kit_io.specs.Told.{Grows};
+ghost use Rattle.hub_io.specs.Record.{Since};
+ghost use Rattle.tool_words.specs.declared.fault.UsageKind.{UsageKind};
+ghost use Rattle.program.specs.Run.{Asks, HasFailed};
+ghost use Rattle.program.specs.Serving.{ServesProxy, asked_in};
+ghost use Rattle.kit_bytes.specs.declared.Kind.{Kind};
+ghost use Rattle.tool_words.specs.Command.{command_in};
+ghost use Rattle.tool_words.specs.declared.command.ToolCommand.TheVariants.{Proxy};
+ghost use Rattle.program.specs.Status.{line_of};
+ghost use Rattle.program.specs.Words as asked;
+
+use crate::proxy::run_proxy;
+use crate::status::Status;
+use crate::tool::run_tool;
+use crate::words::is_proxy;
+use hub_io::Hub;
+use kit_io::Sink;
+use link_io::Link;
+use std::alloc::Global;
+
+/// Does all that the program does: what the words ask, as a tool or as a proxy.
+pub fn run<O: Sink, E: Sink, L: Link, H: Hub>(
+    alloc: Global,
+    words: &[String],
+    out: &mut O,
+    err: &mut E,
+    link: &mut L,
+    hub: &mut H,
+) -> Status
+    // With a proxy's words nothing is asked or printed, and else nothing is served.
+    ensures proxy_alone { asked.is_proxy (map string_bytes words.now) ≡ true → (link.new ≡ link.old) × (out.new ≡ out.old) }
+    ensures tool_alone { asked.is_proxy (map string_bytes words.now) ≡ false → hub.new ≡ hub.old }
+
+    // A proxy's words.
+    ensures proxy_usage { asked.is_proxy (map string_bytes words.now) ≡ true → (kind : UsageKind) → command_in (map string_bytes words.now) ≡ Err kind →
+        ((result ≡ Status.Usage kind) ⊎ (result ≡ Status.OutOfMemory)) × (hub.new ≡ hub.old) }
+    ensures proxy_serves { asked.is_proxy (map string_bytes words.now) ≡ true → (kind : Kind) (device socket bridge : List ℕ) (empty : Option ℕ) (time turns : ℕ) →
+        command_in (map string_bytes words.now) ≡ Ok (Proxy kind device socket bridge empty time turns) →
+        Since (H.calls hub.old) (H.calls hub.new) (ServesProxy (asked_in device socket empty time turns) result) }
+    ensures hub_fault { result ≡ Status.HubFault → Rose (H.faults hub.old) (H.faults hub.new) }
+
+    // Any other words.
+    ensures tool_usage { asked.is_proxy (map string_bytes words.now) ≡ false → (kind : UsageKind) → asked.path_in (map string_bytes words.now) ≡ Err kind →
+        (result ≡ Status.Usage kind) × (link.new ≡ link.old) × (out.new ≡ out.old) }
+    ensures tool_asks { asked.is_proxy (map string_bytes words.now) ≡ false → (path : List ℕ) → asked.path_in (map string_bytes words.now) ≡ Ok path →
+        Asks path (L.calls link.old) (L.calls link.new) (O.taken out.old) result (O.taken out.new) }
+    ensures link_fault { result ≡ Status.LinkFault → HasFailed L.faults L.open_faults link.old link.new }
+    ensures write_fault { result ≡ Status.WriteFault → Rose (O.faults out.old) (O.faults out.new) }
+
+    // A line tells of an error, unless it can't be written.
+    ensures line { ¬ Rose (E.faults err.old) (E.faults err.new) → Grows (E.taken err.old) (line_of result) (E.taken err.new) }
+{
+    if is_proxy(words) {
+        run_proxy(alloc, words, err, hub)
+    } else {
+        run_tool(alloc, words, out, err, link)
+    }
+}

@@ -1,0 +1,178 @@
+-- What serving a proxy over a hub comes to, read off the hub's record. Lists of calls and of events have the newest first.
+use Rattle.std.specs.Prelude.{◌≤◌, ◌≡◌, ◌⊎◌, ℕ, zero, suc, ◌+◌, ◌<◌, Bool, true, false, ◌&&◌, ◌==◌, nat_le, if◌then◌else◌, List, [], ◌∷◌, ◌++◌, length, take, reverse, Option, Some, None}
+use Rattle.std.specs.List.{AllByRecursion}
+use Rattle.proxy_history.specs.Events.{Event, Joined, ModemGone, ModemBack, Now}
+use Rattle.hub_io.specs.Record.{Call, Told, ToldRoom, ToldModemRoom, ToldStop, NextFailed, Sent, SendFailed, SentModem, SendModemFailed, Reopened, ReopenFailed, HungUp, events}
+
+-- what a proxy's definitions say of the events that it met
+pub record Proxy : Type 0 where
+  -- all bytes for a client since it joined
+  pub text : ℕ → List Event → List ℕ
+  -- those that wait for it
+  pub waiting : ℕ → List Event → List ℕ
+  -- the bytes that wait for the modem
+  pub waiting_for_modem : List Event → List ℕ
+  pub is_away : List Event → Bool
+  -- the connections that are there, in order of joining
+  pub present : List Event → List ℕ
+  -- the connections that the last event ended, but those that went by themselves
+  pub dropped : List Event → List ℕ
+  -- the clock, in milliseconds
+  pub time : List Event → ℕ
+
+-- ---- bytes ----
+
+-- bytes were handed over that stand at the front of a queue, one at least
+pub record IsFront (bytes queue : List ℕ) : Type 0 where
+  pub some : 0 < length bytes
+  pub rest : List ℕ
+  pub whole : queue ≡ bytes ++ rest
+
+-- each sending was handed a front, not empty, of what waited
+abbrev pub SendsWhatWaits : Proxy → List Call → Type 0
+SendsWhatWaits p [] = Unit {0}
+SendsWhatWaits p (Sent c bytes taken ∷ calls) = IsFront bytes (p.waiting c (events calls)) × SendsWhatWaits p calls
+SendsWhatWaits p (SendFailed c bytes ∷ calls) = IsFront bytes (p.waiting c (events calls)) × SendsWhatWaits p calls
+SendsWhatWaits p (SentModem bytes taken ∷ calls) = IsFront bytes (p.waiting_for_modem (events calls)) × SendsWhatWaits p calls
+SendsWhatWaits p (SendModemFailed bytes ∷ calls) = IsFront bytes (p.waiting_for_modem (events calls)) × SendsWhatWaits p calls
+SendsWhatWaits p (_ ∷ calls) = SendsWhatWaits p calls
+
+-- the bytes that a client's socket took since the client joined
+unfoldable pub taken_by : ℕ → List Call → List ℕ
+taken_by c [] = []
+taken_by c (Told (Joined d) ∷ calls) = if d == c then [] else taken_by c calls
+taken_by c (Sent d bytes taken ∷ calls) = if d == c then taken_by c calls ++ take taken bytes else taken_by c calls
+taken_by c (_ ∷ calls) = taken_by c calls
+
+-- the bytes that a client's socket took are the first of all bytes for it, and the others wait
+abbrev pub TakesTheFirst : Proxy → List Call → Type 0
+TakesTheFirst p calls = (c : ℕ) → p.text c (events calls) ≡ taken_by c calls ++ p.waiting c (events calls)
+
+-- ---- offering ----
+
+-- the client's last sending took nothing, and no room was told for it since
+unfoldable pub is_blocked : ℕ → List Call → Bool
+is_blocked c [] = false
+is_blocked c (Sent d bytes zero ∷ calls) = if d == c then true else is_blocked c calls
+is_blocked c (Sent d bytes (suc taken) ∷ calls) = if d == c then false else is_blocked c calls
+is_blocked c (ToldRoom d ∷ calls) = if d == c then false else is_blocked c calls
+is_blocked c (_ ∷ calls) = is_blocked c calls
+
+-- the same of the modem, which also takes bytes once it was opened again
+unfoldable pub is_modem_blocked : List Call → Bool
+is_modem_blocked [] = false
+is_modem_blocked (SentModem bytes zero ∷ calls) = true
+is_modem_blocked (SentModem bytes (suc taken) ∷ calls) = false
+is_modem_blocked (ToldModemRoom ∷ calls) = false
+is_modem_blocked (Reopened ∷ calls) = false
+is_modem_blocked (_ ∷ calls) = is_modem_blocked calls
+
+-- whatever waits for a client was offered to its socket, which takes nothing now
+abbrev pub IsOffered : Proxy → List Call → ℕ → Type 0
+IsOffered p calls c = (p.waiting c (events calls) ≡ []) ⊎ (is_blocked c calls ≡ true)
+
+-- the same of the modem, while it isn't away
+abbrev pub IsModemOffered : Proxy → List Call → Type 0
+IsModemOffered p calls = (p.is_away (events calls) ≡ true) ⊎ (p.waiting_for_modem (events calls) ≡ []) ⊎ (is_modem_blocked calls ≡ true)
+
+pub record AllIsOffered (p : Proxy) (calls : List Call) : Type 0 where
+  pub clients : AllByRecursion (IsOffered p calls) (p.present (events calls))
+  pub modem : IsModemOffered p calls
+
+-- each time that the hub was asked for what comes next, all that waited had been offered
+abbrev pub OffersBeforeEachNext : Proxy → List Call → Type 0
+OffersBeforeEachNext p [] = Unit {0}
+OffersBeforeEachNext p (Told event ∷ calls) = AllIsOffered p calls × OffersBeforeEachNext p calls
+OffersBeforeEachNext p (ToldRoom c ∷ calls) = AllIsOffered p calls × OffersBeforeEachNext p calls
+OffersBeforeEachNext p (ToldModemRoom ∷ calls) = AllIsOffered p calls × OffersBeforeEachNext p calls
+OffersBeforeEachNext p (ToldStop ∷ calls) = AllIsOffered p calls × OffersBeforeEachNext p calls
+OffersBeforeEachNext p (NextFailed ∷ calls) = AllIsOffered p calls × OffersBeforeEachNext p calls
+OffersBeforeEachNext p (_ ∷ calls) = OffersBeforeEachNext p calls
+
+-- ---- hanging up ----
+
+-- the connections that are to be hung up: those that the proxy ended, and those whose sending failed
+unfoldable pub due_hang_ups : Proxy → List Call → List ℕ
+due_hang_ups p [] = []
+due_hang_ups p (Told event ∷ calls) = reverse (p.dropped (event ∷ events calls)) ++ due_hang_ups p calls
+due_hang_ups p (SendFailed c bytes ∷ calls) = c ∷ due_hang_ups p calls
+due_hang_ups p (SendModemFailed bytes ∷ calls) = reverse (p.dropped (ModemGone ∷ events calls)) ++ due_hang_ups p calls
+due_hang_ups p (Reopened ∷ calls) = reverse (p.dropped (ModemBack ∷ events calls)) ++ due_hang_ups p calls
+due_hang_ups p (_ ∷ calls) = due_hang_ups p calls
+
+-- the connections that were hung up
+unfoldable pub hang_ups : List Call → List ℕ
+hang_ups [] = []
+hang_ups (HungUp c ∷ calls) = c ∷ hang_ups calls
+hang_ups (_ ∷ calls) = hang_ups calls
+
+-- ---- reopening ----
+
+-- how often the modem was opened again, or tried to be, since the hub was last asked for what comes next
+unfoldable pub reopenings : List Call → ℕ
+reopenings [] = 0
+reopenings (Reopened ∷ calls) = reopenings calls + 1
+reopenings (ReopenFailed ∷ calls) = reopenings calls + 1
+reopenings (Told event ∷ calls) = 0
+reopenings (ToldRoom c ∷ calls) = 0
+reopenings (ToldModemRoom ∷ calls) = 0
+reopenings (_ ∷ calls) = reopenings calls
+
+-- how often it is to be: once where the clock was told while the modem is away
+unfoldable pub due_reopenings : Proxy → List Call → ℕ
+due_reopenings p [] = 0
+due_reopenings p (Told (Now time) ∷ calls) = if p.is_away (Now time ∷ events calls) then 1 else 0
+due_reopenings p (Told event ∷ calls) = 0
+due_reopenings p (ToldRoom c ∷ calls) = 0
+due_reopenings p (ToldModemRoom ∷ calls) = 0
+due_reopenings p (_ ∷ calls) = due_reopenings p calls
+
+-- each time that the hub was asked for what comes next, the modem had been opened again as often as it was to be
+abbrev pub ReopensBeforeEachNext : Proxy → List Call → Type 0
+ReopensBeforeEachNext p [] = Unit {0}
+ReopensBeforeEachNext p (Told event ∷ calls) = (reopenings calls ≡ due_reopenings p calls) × ReopensBeforeEachNext p calls
+ReopensBeforeEachNext p (ToldRoom c ∷ calls) = (reopenings calls ≡ due_reopenings p calls) × ReopensBeforeEachNext p calls
+ReopensBeforeEachNext p (ToldModemRoom ∷ calls) = (reopenings calls ≡ due_reopenings p calls) × ReopensBeforeEachNext p calls
+ReopensBeforeEachNext p (ToldStop ∷ calls) = (reopenings calls ≡ due_reopenings p calls) × ReopensBeforeEachNext p calls
+ReopensBeforeEachNext p (NextFailed ∷ calls) = (reopenings calls ≡ due_reopenings p calls) × ReopensBeforeEachNext p calls
+ReopensBeforeEachNext p (_ ∷ calls) = ReopensBeforeEachNext p calls
+
+-- and never more often
+pub record Reopens (p : Proxy) (calls : List Call) : Type 0 where
+  pub before_next : ReopensBeforeEachNext p calls
+  pub no_more : reopenings calls ≤ due_reopenings p calls
+
+-- ---- ends ----
+
+-- how often the hub told something
+unfoldable pub turns_in : List Call → ℕ
+turns_in [] = 0
+turns_in (Told event ∷ calls) = turns_in calls + 1
+turns_in (ToldRoom c ∷ calls) = turns_in calls + 1
+turns_in (ToldModemRoom ∷ calls) = turns_in calls + 1
+turns_in (_ ∷ calls) = turns_in calls
+
+abbrev pub is_nobody : List ℕ → Bool
+is_nobody names = length names == 0
+
+-- when the last connection went, 0 where none joined
+unfoldable pub emptied_at : Proxy → List Event → ℕ
+emptied_at p [] = 0
+emptied_at p (event ∷ past) = if is_nobody (p.present past) then emptied_at p past else p.time (event ∷ past)
+
+-- nobody has been there for so long
+abbrev pub is_idle : Proxy → Option ℕ → List Event → Bool
+is_idle p None past = false
+is_idle p (Some limit) past = is_nobody (p.present past) && nat_le (emptied_at p past + limit) (p.time past)
+
+-- whenever the clock was told, somebody was there, or hadn't been gone for so long
+abbrev pub NeverIdle : Proxy → Option ℕ → List Call → Type 0
+NeverIdle p limit [] = Unit {0}
+NeverIdle p limit (Told (Now time) ∷ calls) = (is_idle p limit (Now time ∷ events calls) ≡ false) × NeverIdle p limit calls
+NeverIdle p limit (_ ∷ calls) = NeverIdle p limit calls
+
+-- the same of all that was before the hub told the newest event
+abbrev pub AwakeBefore : Proxy → Option ℕ → List Call → Type 0
+AwakeBefore p limit [] = Unit {0}
+AwakeBefore p limit (Told event ∷ calls) = NeverIdle p limit calls
+AwakeBefore p limit (_ ∷ calls) = AwakeBefore p limit calls

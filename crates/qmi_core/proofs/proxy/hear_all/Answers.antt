@@ -1,0 +1,45 @@
+use Rattle.std.proofs.Common.{◌≡◌, ℕ, true, false, not, List, [], ap, sym, ◌∙◌}
+use Rattle.framing.specs.Cutting.{Cutting, cut}
+use Rattle.framing.proofs.Standing.{part_is}
+use Rattle.framing.proofs.Cuts.{cut-partial, cut-bad}
+use Rattle.qmux_frame.specs.Frame.{size_of}
+use Rattle.qmux_frame.specs.Framing.{size_of-kept}
+use Rattle.proxy_history.specs.Streams.{is_invalid}
+use Rattle.qmi_core.proofs.Messages.{Begins, rest_one, partial_is}
+use Rattle.qmi_core.proofs.Proxies.{modem_heard_one, modem_heard_none}
+use Rattle.qmi_core.proofs.proxy.hear_all.Goals as goal
+
+pub loop-span-preserved : goal.loop-span-preserved
+loop-span-preserved c =
+    let found = c.in-Whole.ensures.next in
+    let begins : Begins c.loop-span.cutter.rest c.next.new.self.rest c.bytes.result.now =
+    record { count = found.count; message = c.bytes.ensures ∙ part_is size_of found.gives; after_it = found.gives.rest; whole = found.message } in
+    record {
+      heard = modem_heard_one begins c.loop-span.board c.hear_modem.new.self c.hear_modem.ensures ∙ c.loop-span.invariant.heard;
+      rest = rest_one begins ∙ c.loop-span.invariant.rest;
+    }
+
+pub returns-in-NeedMore : goal.returns-in-NeedMore
+returns-in-NeedMore c =
+    let part : cut size_of c.loop-span.cutter.rest ≡ record { messages = []; rest = c.loop-span.cutter.rest } = cut-partial size_of size_of-kept c.loop-span.cutter.rest c.in-NeedMore.ensures.next.0 in
+    let rest : c.loop-span.cutter.rest ≡ (cut size_of c.args.cutter.now.rest).rest = sym (ap (λ (k : Cutting). k.rest) part) ∙ c.loop-span.invariant.rest in
+    let good : is_invalid (size_of (cut size_of c.args.cutter.now.rest).rest) ≡ false = sym (ap (λ (l : List ℕ). is_invalid (size_of l)) rest) ∙ partial_is _ _ c.in-NeedMore.ensures.next.0 in
+    record {
+      good = sym (ap not good);
+      heard = modem_heard_none c.loop-span.cutter.rest c.loop-span.board part ∙ c.loop-span.invariant.heard;
+      rest = λ _. (ap (λ r. r.rest) c.in-NeedMore.ensures.next.1 ∙ rest, rw c.in-NeedMore.ensures.next.1 c.in-NeedMore.ensures.next.0);
+    }
+
+pub returns-in-Bad : goal.returns-in-Bad
+returns-in-Bad c =
+    let part : cut size_of c.loop-span.cutter.rest ≡ record { messages = []; rest = c.loop-span.cutter.rest } = cut-bad size_of size_of-kept c.loop-span.cutter.rest c.in-Bad.ensures.next.0 in
+    let rest : c.loop-span.cutter.rest ≡ (cut size_of c.args.cutter.now.rest).rest = sym (ap (λ (k : Cutting). k.rest) part) ∙ c.loop-span.invariant.rest in
+    let bad : is_invalid (size_of (cut size_of c.args.cutter.now.rest).rest) ≡ true = sym (ap (λ (l : List ℕ). is_invalid (size_of l)) rest) ∙ ap is_invalid c.in-Bad.ensures.next.0 in
+    record {
+      good = sym (ap not bad);
+      heard = modem_heard_none c.loop-span.cutter.rest c.loop-span.board part ∙ c.loop-span.invariant.heard;
+      rest = λ e. absurd (clash e);
+    }
+  where
+    clash : false ≡ true → ⊥
+    clash e = cc

@@ -1,0 +1,75 @@
+use Rattle.std.proofs.Common.{◌≡◌, ℕ, List, ◌++◌, Bool, true, false, Result, Ok, ap, sym, subst, ◌∙◌, Option}
+use Rattle.std.specs.declared.alloc.AllocError.{AllocError}
+use Rattle.std.proofs.lemmas.Result.{err_from_is_err_and}
+use Rattle.hub_io.specs.Record.{Call, Since}
+use Rattle.proxy_serving.specs.Carrying.{Carries}
+use Rattle.proxy_serving.proofs.Carrying.{Carries-none, Carries-then, Carries-with}
+use Rattle.qmi_proxy.specs.Setup.{Setup}
+use Rattle.qmi_serving.specs.Progress.{OffersClients, HasOffered, IsServing, IsReady, AfterModem, AreHangUps, hanging_up}
+use Rattle.qmi_serving.specs.declared.server.Server.{Server}
+use Rattle.qmi_serving.proofs.Modem.{modem-away}
+use Rattle.qmi_serving.proofs.Turns.{offered-hangs}
+use Rattle.qmi_serving.proofs.offer.offer_all.Goals as goal
+
+-- the modem is there as before, or it isn't
+modem_as : {before : List Call → Type 0} {old new : Option (List Call)} (s : Setup) (limit : Option ℕ) (turns : ℕ) (now : Server) (b came : Bool) → b ≡ came
+    → Carries old before new (AfterModem (Ok b) s limit turns now) → Carries old before new (AfterModem (Ok came) s limit turns now)
+modem_as {before = before} {old = old} {new = new} s limit turns now b came is carries =
+    let P : Bool → Type 0 = λ o. Carries old before new (AfterModem (Ok o) s limit turns now) in subst P is carries
+
+-- those that were dropped with the modem are hung up
+hung_up_then : (s : Setup) (limit : Option ℕ) (turns : ℕ) (server now : Server) (calls : List Call)
+    → ((earlier : List Call) × (later : List Call) × (calls ≡ later ++ earlier) × AreHangUps later × HasOffered s limit turns 0 server earlier × IsServing s limit turns now calls)
+    → HasOffered s limit turns 0 now calls
+hung_up_then s limit turns server now calls all =
+    let whole : calls ≡ hanging_up all.3.0 ++ all.0 = all.2 ∙ ap (λ (l : List Call). l ++ all.0) all.3.1 in
+    let Serving : List Call → Type 0 = IsServing s limit turns now in
+    let Offered : List Call → Type 0 = HasOffered s limit turns 0 now in
+    subst Offered (sym whole) (offered-hangs all.3.0 all.4 (subst Serving whole all.5))
+
+pub returns-in_err-offer_clients-clause-carries : goal.returns-in_err-offer_clients-clause-carries
+returns-in_err-offer_clients-clause-carries g c = λ s limit turns.
+    let p = err_from_is_err_and c.from_residual.result c.from_residual.ensures.1 in
+    rw (p.1, p.2) (c.in_err-offer_clients.ensures.carries s limit turns)
+
+pub returns-in_err-offer_modem-clause-carries : goal.returns-in_err-offer_modem-clause-carries
+returns-in_err-offer_modem-clause-carries g c = λ s limit turns.
+    let p = err_from_is_err_and c.from_residual-in_err-offer_modem.result c.from_residual-in_err-offer_modem.ensures.1 in
+    rw (p.1, p.2) (Carries-then (c.in_ok-offer_clients.ensures.carries s limit turns) (c.in_err-offer_modem.ensures.carries s limit turns))
+
+pub returns-then-branch-clause-carries : goal.returns-then-branch-clause-carries
+returns-then-branch-clause-carries g c = λ s limit turns.
+    Carries-then (c.in_ok-offer_clients.ensures.carries s limit turns)
+    (modem_as s limit turns c.offer_modem.new.server c.in_ok-offer_modem.field-0 true c.if-branch.true (c.in_ok-offer_modem.ensures.carries s limit turns))
+
+-- the modem is gone, and those that were dropped with it are hung up
+gone : {start mid new : Option (List Call)} {before : List Call → Type 0} (s : Setup) (limit : Option ℕ) (turns : ℕ) (server now : Server) (there : Bool) → there ≡ false
+    → Carries start before mid (AfterModem (Ok there) s limit turns server) → Since mid new AreHangUps → Carries mid (IsServing s limit turns server) new (IsServing s limit turns now)
+    → Carries start before new (HasOffered s limit turns 0 now)
+gone s limit turns server now there is first only hangs =
+    let Gone : List Call → Type 0 = HasOffered s limit turns 0 server in
+    let Serving : List Call → Type 0 = IsServing s limit turns server in
+    Carries-then (modem_as s limit turns server there false is first)
+    (Carries-then (Carries-with AreHangUps _ _ only (Carries-then (Carries-none Gone Serving _ (λ calls so. so.serving)) hangs))
+    (Carries-none _ _ _ (λ calls all. hung_up_then s limit turns server now calls all)))
+
+pub returns-in_err-offer_clients-2-clause-carries : goal.returns-in_err-offer_clients-2-clause-carries
+returns-in_err-offer_clients-2-clause-carries g c = λ s limit turns.
+    let p = err_from_is_err_and c.from_residual-in_err-offer_clients-2.result c.from_residual-in_err-offer_clients-2.ensures.1 in
+    rw (p.1, p.2)
+    (Carries-then
+    (gone s limit turns c.offer_modem.new.server c.hang_up_dropped.new.server c.in_ok-offer_modem.field-0 c.if-branch.false
+    (Carries-then (c.in_ok-offer_clients.ensures.carries s limit turns) (c.in_ok-offer_modem.ensures.carries s limit turns)) c.hang_up_dropped.ensures.only (c.hang_up_dropped.ensures.carries s limit turns))
+    (c.in_err-offer_clients-2.ensures.carries s limit turns))
+
+pub returns-clause-carries : goal.returns-clause-carries
+returns-clause-carries g c = λ s limit turns.
+    let away = c.offer_clients-2.ensures.away ∙ c.hang_up_dropped.ensures.away ∙ c.in_ok-offer_modem.ensures.away (ap (λ (b : Bool). let o : Result Bool AllocError = Ok b in o) c.if-branch.false) in
+    let Clients : List Call → Type 0 = OffersClients s limit turns c.offer_clients-2.new.server in
+    let Ready : List Call → Type 0 = IsReady s limit turns c.offer_clients-2.new.server in
+    Carries-then
+    (Carries-then
+    (gone s limit turns c.offer_modem.new.server c.hang_up_dropped.new.server c.in_ok-offer_modem.field-0 c.if-branch.false
+    (Carries-then (c.in_ok-offer_clients.ensures.carries s limit turns) (c.in_ok-offer_modem.ensures.carries s limit turns)) c.hang_up_dropped.ensures.only (c.hang_up_dropped.ensures.carries s limit turns))
+    (c.in_ok-offer_clients-2.ensures.carries s limit turns))
+    (Carries-none Clients Ready _ (λ calls all. modem-away all away))

@@ -1,0 +1,45 @@
+use Rattle.std.proofs.Common.{List, Some, None, ◌+◌, map, refl, ap, inl}
+use Rattle.std.proofs.lemmas.Result.{err_from_is_err_and}
+use Rattle.hub_io.specs.Record.{Call}
+use Rattle.proxy_serving.proofs.Carrying.{Carries-none, Carries-call, Carries-then}
+use Rattle.qmi_core.specs.Core.{Leftover}
+use Rattle.qmi_serving.specs.Progress.{call_of}
+use Rattle.proxy_serving.specs.Ends.{GoesOn, RanOut}
+use Rattle.qmi_serving.specs.Serving.{proxy_of}
+use Rattle.qmi_serving.proofs.Turns.{told-failed, tells, meets}
+use Rattle.qmi_serving.proofs.serve.turn.Goals as goal
+
+pub returns-in-Err-clause-carries : goal.returns-in-Err-clause-carries
+returns-in-Err-clause-carries g c = λ s turns.
+    let none = ap (map (λ (d : Leftover). d.name)) c.requires.asked in
+    Carries-call _ _ _ _ _ c.in-Err.ensures.calls (λ calls ready. told-failed none (record { earlier = calls; whole = refl; ready = ready }))
+
+pub returns-in_err-end-clause-carries : goal.returns-in_err-end-clause-carries
+returns-in_err-end-clause-carries g c = λ s turns.
+    let p = err_from_is_err_and c.from_residual.result c.from_residual.ensures.1 in
+    rw (p.1, p.2)
+    (Carries-then (tells s c.args.limit turns c.args.server.now (call_of c.read-next.result) _ _ _ c.read-next.ensures.call c.in-Ok.ensures.calls)
+    (c.in_err-end.ensures.carries s turns))
+
+pub returns-in-Some-clause-carries : goal.returns-in-Some-clause-carries
+returns-in-Some-clause-carries g c = λ s turns.
+    Carries-then (tells s c.args.limit turns c.args.server.now (call_of c.read-next.result) _ _ _ c.read-next.ensures.call c.in-Ok.ensures.calls)
+    (meets s c.args.limit turns _ c.meet_next.new.server _ _ c.in_ok-end.field-0 (Some c.in-Some.end) c.in-Some.is (c.in_ok-end.ensures.carries s turns))
+
+pub returns-in_err-offer_all-clause-carries : goal.returns-in_err-offer_all-clause-carries
+returns-in_err-offer_all-clause-carries g c = λ s turns.
+    let limit = c.args.limit in
+    let p = err_from_is_err_and c.from_residual-in_err-offer_all.result c.from_residual-in_err-offer_all.ensures.1 in
+    let RunsOut : List Call → Type 0 = RanOut (proxy_of s) limit (turns + 1) in
+    rw (p.1, p.2)
+    (Carries-then
+    (Carries-then (tells s limit turns c.args.server.now (call_of c.read-next.result) _ _ _ c.read-next.ensures.call c.in-Ok.ensures.calls)
+    (meets s limit turns _ c.meet_next.new.server _ _ c.in_ok-end.field-0 None c.in_default.is (c.in_ok-end.ensures.carries s turns)))
+    (Carries-then (c.in_err-offer_all.ensures.carries s limit (turns + 1)) (Carries-none (GoesOn (proxy_of s) limit (turns + 1)) RunsOut _ (λ calls on. inl on))))
+
+pub returns-clause-carries : goal.returns-clause-carries
+returns-clause-carries g c = λ s turns.
+    Carries-then
+    (Carries-then (tells s c.args.limit turns c.args.server.now (call_of c.read-next.result) _ _ _ c.read-next.ensures.call c.in-Ok.ensures.calls)
+    (meets s c.args.limit turns _ c.meet_next.new.server _ _ c.in_ok-end.field-0 None c.in_default.is (c.in_ok-end.ensures.carries s turns)))
+    (c.in_ok-offer_all.ensures.carries s c.args.limit (turns + 1))

@@ -1,0 +1,73 @@
+ghost use Rattle.std.specs.Prelude.{◌≡◌, ◌≤◌, ◌==◌, ◌&&◌, true, length};
+ghost use Rattle.framing.specs.Framing.{AreBytes};
+ghost use Rattle.qmux_frame.specs.Head.{head_of, is_control, service_of, client_of, number_of};
+ghost use Rattle.qmux_frame.specs.Reply.{result_reply};
+ghost use Rattle.qmi_proxy.specs.Messages.{is_allocate, is_release};
+
+use qmux_frame::{Head, Reply};
+
+// The messages of service 0 that change who holds a client id.
+const ALLOCATE: u16 = 0x0022;
+
+const RELEASE: u16 = 0x0023;
+
+/// What is kept of a request that went to the modem: as much of the sender's message as its answer
+/// needs.
+#[derive(Clone, Copy, Debug, PartialEq, Eq)]
+pub struct Asked {
+    /// The first bytes of the message: service, client id, number and message id are among them.
+    pub head: [u8; 12],
+    /// The client id that the message uses, with its service.
+    pub service: u8,
+    pub client: u8,
+}
+
+impl Asked {
+    /// The sender's own transaction number.
+    pub fn number(&self) -> u16
+        ensures number { result ≡ number_of self.now.head }
+        ensures small { is_control self.now.head ≡ true → result ≤ 255 }
+    {
+        read(&self.head).number
+    }
+
+    /// The response to the request that tells this error alone.
+    pub fn reply(&self, error: u16) -> Reply
+        ensures { result ≡ result_reply self.now.head error }
+    {
+        qmux_frame::result_reply(&read(&self.head), error)
+    }
+
+    /// Whether a response with this service and client id may answer it.
+    pub fn fits(&self, service: u8, client: u8) -> bool
+        ensures { result ≡ (service_of self.now.head == service && (client_of self.now.head == client)) }
+    {
+        self.head[4] == service && self.head[5] == client
+    }
+
+    /// Whether it asks for a client id.
+    pub fn is_allocate(&self) -> bool
+        ensures { result ≡ is_allocate self.now.head }
+    {
+        let head = read(&self.head);
+        head.service == 0 && head.message == ALLOCATE
+    }
+
+    /// Whether it gives a client id back.
+    pub fn is_release(&self) -> bool
+        ensures { result ≡ is_release self.now.head }
+    {
+        let head = read(&self.head);
+        head.service == 0 && head.message == RELEASE
+    }
+}
+
+// The head of a message, from its first bytes.
+fn read(head: &[u8]) -> Head
+    requires { 12 ≤ length head.now }
+    ensures head { result ≡ head_of head.now }
+    ensures bytes { AreBytes head.now }
+    ensures small { is_control head.now ≡ true → result.number ≤ 255 }
+{
+    Head::read(head)
+}

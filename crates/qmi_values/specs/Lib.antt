@@ -1,0 +1,9 @@
+pub mod Value
+pub mod View
+pub mod Numbers
+pub mod Spelling
+pub mod Breaking
+pub mod Laws
+pub mod Reading
+pub mod Decoding
+pub mod Writing

@@ -1,0 +1,23 @@
+use Rattle.std.proofs.Common.{refl}
+use Rattle.tool_words.specs.Proxy.{proxy_values}
+use Rattle.tool_words.proofs.proxy.values.Goals as goal
+
+pub returns : goal.returns
+unfolding proxy_values
+returns c =
+    rw (
+      ← c.value_given.ensures,
+      c.in_ok-device.ensures,
+      ← c.value_given-socket.ensures,
+      c.in_ok-socket.ensures,
+      ← c.value_given-bridge.ensures,
+      c.in_ok-bridge.ensures,
+      ← c.value_given-seconds.ensures,
+      c.in_ok-seconds.ensures.value,
+      ← c.value_given-time.ensures,
+      c.in_ok-time.ensures.value,
+      ← c.value_given-turns.ensures,
+      c.in_ok-turns.ensures.value,
+      ← c.is_given-stays.ensures,
+      ← c.empty_time.ensures,
+    ) refl

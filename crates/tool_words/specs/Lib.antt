@@ -1,0 +1,11 @@
+pub mod Spelling
+pub mod Reading
+pub mod Given
+pub mod Sole
+pub mod Keys
+pub mod Values
+pub mod Answers
+pub mod Proxy
+pub mod QmiCommands
+pub mod Qmicli
+pub mod Command

@@ -1,0 +1,60 @@
+-- The words of qmi-proxy.
+use Rattle.std.specs.Prelude.{ℕ, ◌*◌, ◌^◌, ◌==◌, ◌||◌, Bool, true, List, [], ◌∷◌, Option, Some, None, Result, Err, codes, if◌then◌else◌, option_and_then}
+use Rattle.clap.specs.Simple.{App}
+use Rattle.clap.specs.Walk.{Row, Text}
+use Rattle.kit_bytes.specs.declared.Kind.TheVariants.{Qmi}
+use Rattle.tool_words.specs.Answers.{or_value, read_by}
+use Rattle.tool_words.specs.Given.{is_given, value_given}
+use Rattle.tool_words.specs.Reading.{with_options, without_options}
+use Rattle.tool_words.specs.Spelling.{Spelling, flag, or_letter, valued}
+use Rattle.tool_words.specs.Values.{◌>>=◌, device_in, number_or, path_or}
+use Rattle.tool_words.specs.declared.command.ToolCommand.{ToolCommand}
+use Rattle.tool_words.specs.declared.command.ToolCommand.TheVariants.{Proxy}
+use Rattle.tool_words.specs.declared.fault.UsageKind.{UsageKind}
+use Rattle.tool_words.specs.declared.fault.UsageKind.TheVariants as kind
+use Rattle.tool_words.specs.declared.proxy.ProxyOption.{ProxyOption}
+use Rattle.tool_words.specs.declared.proxy.ProxyOption.TheVariants as option
+
+-- ---- the options ----
+
+-- --device PATH, or -d PATH, --socket PATH, --bridge PATH, --no-exit, --empty-timeout SECONDS, --time MS, --turns N
+abbrev pub proxy_spelling : ProxyOption → Spelling
+proxy_spelling option.Device = or_letter 100 (valued (codes "device"))
+proxy_spelling option.Socket = valued (codes "socket")
+proxy_spelling option.Bridge = valued (codes "bridge")
+proxy_spelling option.NoExit = flag (codes "no-exit")
+proxy_spelling option.EmptyTimeout = valued (codes "empty-timeout")
+proxy_spelling option.Time = valued (codes "time")
+proxy_spelling option.Turns = valued (codes "turns")
+
+unfoldable pub proxy_options : List ProxyOption
+proxy_options = option.Device ∷ option.Socket ∷ option.Bridge ∷ option.NoExit ∷ option.EmptyTimeout ∷ option.Time ∷ option.Turns ∷ []
+
+unfoldable pub proxy_app : App
+proxy_app = with_options proxy_spelling (without_options (codes "qmi-proxy")) proxy_options
+
+-- ---- their values ----
+
+-- after how many milliseconds without a client the proxy ends: never, where it is to stay or the seconds are 0
+abbrev pub empty_time : Bool → ℕ → Option ℕ
+empty_time stays seconds = if stays || seconds == 0 then None else Some (seconds * 1000)
+
+-- the proxy that these values describe, if each of them reads
+unfoldable pub proxy_values : List Row → Option ToolCommand
+proxy_values rows = do
+  device ← option_and_then (device_in true) (value_given proxy_spelling rows option.Device)
+  socket ← path_or (codes "/tmp/qmi-proxy.sock") (value_given proxy_spelling rows option.Socket)
+  bridge ← path_or (codes "/tmp/modemkit.bridge") (value_given proxy_spelling rows option.Bridge)
+  seconds ← number_or 30 0 86400 (value_given proxy_spelling rows option.EmptyTimeout)
+  time ← number_or 30000 1 86400000 (value_given proxy_spelling rows option.Time)
+  turns ← number_or (10 ^ 12) 0 (10 ^ 12) (value_given proxy_spelling rows option.Turns)
+  Some (Proxy Qmi device socket bridge (empty_time (is_given proxy_spelling rows option.NoExit) seconds) time turns)
+
+-- ---- what the words ask for ----
+
+-- a device must be named, and then each value must read
+unfoldable pub proxy_asked : List Row → Result ToolCommand UsageKind
+proxy_asked rows = if is_given proxy_spelling rows option.Device then or_value (proxy_values rows) else Err kind.NoDevice
+
+unfoldable pub proxy_in : List Text → Result ToolCommand UsageKind
+proxy_in words = read_by proxy_app proxy_asked words

@@ -1,0 +1,79 @@
+-- The values of options.
+use Rattle.std.specs.Prelude.{◌≡◌, ℕ, ◌==◌, ◌&&◌, ◌||◌, ◌^◌, Bool, false, not, nat_eq, nat_lt, nat_le, codes, List, length, slice_index, Option, Some, None, Result, Ok, Err, if◌then◌else◌, option_and_then, option_map, unwrap_or}
+use Rattle.std.specs.Char.{is_ascii_digit}
+use Rattle.hex.specs.Hex.{decode_of}
+use Rattle.std.specs.List.{list_all, starts_with}
+use Rattle.std.specs.Result.{result_ok}
+use Rattle.std.specs.Str.{chars}
+use Rattle.std.specs.Str.Parse.{digits_value}
+use Rattle.tool_words.specs.declared.fault.UsageKind.TheVariants.{Value}
+use Rattle.tool_words.specs.declared.fault.WordFault.{WordFault}
+use Rattle.tool_words.specs.declared.fault.WordFault.TheVariants as fault
+
+-- values one after another, each of which has to read
+infixl 10 ◌>>=◌
+abbrev pub ◌>>=◌ : {A B : Type 0} → Option A → (A → Option B) → Option B
+value >>= next = option_and_then next value
+
+-- ---- numbers ----
+
+-- digits alone, and no zero before another digit
+abbrev pub is_decimal : List ℕ → Bool
+is_decimal text = if length text == 0 || (not (length text == 1) && slice_index text 0 == 48) then false else list_all is_ascii_digit text
+
+-- the number of 64 bits that the text spells
+unfoldable pub number_in : List ℕ → Option ℕ
+number_in text = if is_decimal text && nat_lt (digits_value 10 text) (2 ^ 64) then Some (digits_value 10 text) else None
+
+abbrev pub if_within : ℕ → ℕ → ℕ → Option ℕ
+if_within least most number = if nat_le least number && nat_le number most then Some number else None
+
+-- the same, if it is within these limits
+unfoldable pub number_within : ℕ → ℕ → List ℕ → Option ℕ
+number_within least most text = option_and_then (if_within least most) (number_in text)
+
+-- the same, or the default where there is no text
+unfoldable pub number_or : ℕ → ℕ → ℕ → Option (List ℕ) → Option ℕ
+number_or default least most (Some text) = number_within least most text
+number_or default least most None = Some default
+
+-- ---- texts ----
+
+-- the characters of a path, which has 1 to 4,096 bytes
+unfoldable pub path_in : List ℕ → Option (List ℕ)
+path_in text = if nat_le 1 (length text) && nat_le (length text) 4096 then Some (chars text) else None
+
+-- the same, or that of the default where there is no text
+unfoldable pub path_or : List ℕ → Option (List ℕ) → Option (List ℕ)
+path_or default text = path_in (unwrap_or text default)
+
+-- the path of a device. One that begins with /dev/ would be a device node's: the program can't open these
+-- itself yet
+unfoldable pub device_in : Bool → List ℕ → Option (List ℕ)
+device_in opens text = if opens && starts_with nat_eq text (codes "/dev/") then None else path_in text
+
+-- the characters of a text in a request, which has at most 1,000 bytes
+unfoldable pub short_in : List ℕ → Option (List ℕ)
+short_in text = if nat_le (length text) 1000 then Some (chars text) else None
+
+-- a value that needn't be there
+abbrev pub optional : {A : Type 0} → (List ℕ → Option A) → Option (List ℕ) → Option (Option A)
+optional read None = Some None
+optional read (Some text) = option_map (λ value. Some value) (read text)
+
+-- ---- bytes ----
+
+abbrev pub if_short : List ℕ → Option (List ℕ)
+if_short octets = if nat_le (length octets) 255 then Some octets else None
+
+-- the bytes of pairs of hexadecimal digits, of either case, at most 255 of them
+unfoldable pub octets_in : List ℕ → Option (List ℕ)
+octets_in text = option_and_then if_short (result_ok (decode_of text))
+
+-- ---- what a reader of values answers ----
+
+-- the value, or where there is none the fault that says so; want of memory is free
+abbrev pub Gives : {T : Type 0} → Option T → Result T WordFault → Type 0
+Gives expected (Ok value) = expected ≡ Some value
+Gives expected (Err (fault.Usage kind)) = (expected ≡ None) × (kind ≡ Value)
+Gives expected (Err fault.OutOfMemory) = Unit {0}

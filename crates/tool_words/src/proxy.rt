@@ -1,0 +1,142 @@
+ghost use Rattle.std.specs.Prelude.{◌≡◌, ◌≤◌, true, IfOk, map, string_bytes, option_and_then, option_map};
+ghost use Rattle.clap.specs.Words.{app_of, found_of, rows_of};
+ghost use Rattle.tool_words.specs.Answers.{Answers};
+ghost use Rattle.tool_words.specs.Proxy.{empty_time, proxy_app, proxy_asked, proxy_in, proxy_options, proxy_spelling, proxy_values};
+ghost use Rattle.tool_words.specs.Values.{Gives, device_in};
+
+use crate::given::{is_given, value_given};
+use crate::options::ToolOption;
+use crate::reader::{add_options, read_words, without_options};
+use crate::values::{device, number_or, path_or};
+use crate::{ToolCommand, UsageKind, WordFault};
+use clap::{ArgMatches, Command};
+use kit_bytes::{Kind, PathText};
+use std::alloc::{AllocError, Global};
+
+/// An option of `qmi-proxy`.
+#[derive(Clone, Copy, Debug, PartialEq, Eq)]
+pub enum ProxyOption {
+    Device,
+    Socket,
+    Bridge,
+    NoExit,
+    EmptyTimeout,
+    Time,
+    Turns,
+}
+
+impl ToolOption for ProxyOption {
+    ghost spelling = { proxy_spelling };
+
+    fn name(self) -> &'static str {
+        match self {
+            ProxyOption::Device => "device",
+            ProxyOption::Socket => "socket",
+            ProxyOption::Bridge => "bridge",
+            ProxyOption::NoExit => "no-exit",
+            ProxyOption::EmptyTimeout => "empty-timeout",
+            ProxyOption::Time => "time",
+            ProxyOption::Turns => "turns",
+        }
+    }
+
+    fn letter(self) -> Option<char> {
+        match self {
+            ProxyOption::Device => Some('d'),
+            _ => None,
+        }
+    }
+
+    fn takes_value(self) -> bool {
+        !matches!(self, ProxyOption::NoExit)
+    }
+}
+
+static PROXY_OPTIONS: [ProxyOption; 7] = [
+    ProxyOption::Device,
+    ProxyOption::Socket,
+    ProxyOption::Bridge,
+    ProxyOption::NoExit,
+    ProxyOption::EmptyTimeout,
+    ProxyOption::Time,
+    ProxyOption::Turns,
+];
+
+#[tactic(auto, unfolding(crate::specs::Proxy::proxy_options))]
+fn options() -> &'static [ProxyOption]
+    ensures { result.now ≡ proxy_options }
+{
+    PROXY_OPTIONS.as_slice()
+}
+
+fn proxy_reader<'a>(alloc: Global) -> Result<Command<'a>, AllocError>
+    ensures { IfOk result (λ command. app_of command ≡ proxy_app) }
+{
+    let command = add_options(alloc, without_options(alloc, "qmi-proxy"), options())?;
+    Ok(command)
+}
+
+fn modem(alloc: Global, text: Option<&str>) -> Result<PathText, WordFault>
+    ensures { Gives (option_and_then (device_in true) (option_map (λ t. t.now) text.entry)) result }
+{
+    let Some(text) = text else {
+        return Err(WordFault::Usage(UsageKind::Value));
+    };
+    device(alloc, true, text)
+}
+
+fn empty_time(stays: bool, seconds: u64) -> Option<u64>
+    requires { seconds ≤ 86400 }
+    ensures { result ≡ empty_time stays seconds }
+{
+    if stays || seconds == 0 {
+        None
+    } else {
+        Some(seconds * 1_000)
+    }
+}
+
+#[tactic(auto, unfolding(crate::specs::Proxy::proxy_values))]
+fn values(alloc: Global, matches: &ArgMatches<'_>) -> Result<ToolCommand, WordFault>
+    ensures { Gives (proxy_values (rows_of (found_of matches.now))) result }
+{
+    let device = modem(alloc, value_given(matches, ProxyOption::Device))?;
+    let socket = value_given(matches, ProxyOption::Socket);
+    let socket = path_or(alloc, "/tmp/qmi-proxy.sock", socket)?;
+    let bridge = value_given(matches, ProxyOption::Bridge);
+    let bridge = path_or(alloc, "/tmp/modemkit.bridge", bridge)?;
+    let stays = is_given(matches, ProxyOption::NoExit);
+    let seconds = value_given(matches, ProxyOption::EmptyTimeout);
+    let seconds = number_or(30, 0, 86_400, seconds)?;
+    let time = value_given(matches, ProxyOption::Time);
+    let time = number_or(30_000, 1, 86_400_000, time)?;
+    let turns = value_given(matches, ProxyOption::Turns);
+    let turns = number_or(1_000_000_000_000, 0, 1_000_000_000_000, turns)?;
+    Ok(ToolCommand::Proxy {
+        kind: Kind::Qmi,
+        device,
+        socket,
+        bridge,
+        empty: empty_time(stays, seconds),
+        time,
+        turns,
+    })
+}
+
+#[tactic(auto, unfolding(crate::specs::Proxy::proxy_asked))]
+fn asked(alloc: Global, matches: &ArgMatches<'_>) -> Result<ToolCommand, WordFault>
+    ensures { Answers (proxy_asked (rows_of (found_of matches.now))) result }
+{
+    if !is_given(matches, ProxyOption::Device) {
+        return Err(WordFault::Usage(UsageKind::NoDevice));
+    }
+    values(alloc, matches)
+}
+
+/// The proxy that the words of `qmi-proxy` ask for.
+pub fn proxy_command(alloc: Global, words: &[String]) -> Result<ToolCommand, WordFault>
+    ensures { Answers (proxy_in (map string_bytes words.now)) result }
+{
+    let matches = read_words(proxy_reader(alloc)?, words)?;
+    asked(alloc, &matches)
+}

@@ -1,0 +1,68 @@
+ghost use Rattle.std.specs.Prelude.{◌≡◌, IfOk, map, true, false, string_bytes};
+ghost use Rattle.clap.specs.Words.{app_of, rule_of};
+ghost use Rattle.clap.specs.Faults.{is_simple_and_free};
+ghost use Rattle.tool_words.specs.Reading.{Reads, option_rule, with_options, without_options};
+
+use crate::options::ToolOption;
+use crate::{UsageKind, WordFault};
+use clap::error::ErrorKind;
+use clap::{Arg, ArgAction, ArgMatches, Command};
+use std::alloc::{AllocError, Global};
+
+/// A tool without options. It has no flag for help and none for its version either, since neither
+/// text is printed.
+pub fn without_options<'a>(alloc: Global, tool: &'a str) -> Command<'a>
+    ensures { app_of result ≡ without_options tool.entry.now }
+{
+    Command::new(alloc, tool).disable_help_flag(true)
+}
+
+/// The tool with these options besides.
+pub fn add_options<'a, O: ToolOption>(
+    alloc: Global,
+    command: Command<'a>,
+    options: &[O],
+) -> Result<Command<'a>, AllocError>
+    ensures { IfOk result (λ added. app_of added ≡ with_options O.spelling (app_of command.entry) options.now) }
+{
+    let mut command = command;
+    for option in options {
+        let name: &'a str = option.name();
+        let arg = option_arg(alloc, name, option.letter(), option.takes_value());
+        command = command.arg(arg)?;
+    }
+    Ok(command)
+}
+
+fn option_arg<'a>(alloc: Global, name: &'a str, letter: Option<char>, takes_value: bool) -> Arg<'a>
+    ensures rule { rule_of result ≡ option_rule (record { name = name.entry.now; letter = letter; takes_value = takes_value }) }
+    ensures own { result.global ≡ false }
+{
+    let action = if takes_value {
+        ArgAction::Set
+    } else {
+        ArgAction::SetTrue
+    };
+    let arg = Arg::new(alloc, name).long(name).action(action);
+    match letter {
+        Some(letter) => arg.short(letter),
+        None => arg,
+    }
+}
+
+/// What the words give to a tool's options. The first word is the tool's name.
+pub fn read_words<'a>(
+    command: Command<'a>,
+    words: &'a [String],
+) -> Result<ArgMatches<'a>, WordFault>
+    requires { is_simple_and_free (app_of command) ≡ true }
+    ensures { Reads (app_of command.entry) (map string_bytes words.entry.now) result }
+{
+    match command.try_get_matches_from(words) {
+        Ok(matches) => Ok(matches),
+        Err(error) => match error.kind() {
+            ErrorKind::OutOfMemory => Err(WordFault::OutOfMemory),
+            _ => Err(WordFault::Usage(UsageKind::Words)),
+        },
+    }
+}
