@@ -116,20 +116,20 @@ impl<'a, R: Net + Clock + Files> Sockets<'a, R> {
         ensures names { NamesRise (result_ok result) self.old.greatest self.new.greatest }
     {
         for _ in 0..u64::MAX {
-            if let Some(time) = self.ticker.tell() {
-                return Ok(HubEvent::Now(time));
-            }
             if self.lost_modem {
                 self.lost_modem = false;
                 return Ok(HubEvent::ModemGone);
             }
-            let Some(event) = self.events.iter().nth(self.at) else {
+            if let Some(event) = self.events.iter().nth(self.at) {
+                let event = *event;
+                if let Some(told) = self.tell(event, buf) {
+                    return Ok(told);
+                }
+            } else if let Some(time) = self.ticker.tell() {
+                // behind all that came before the clock was read
+                return Ok(HubEvent::Now(time));
+            } else {
                 self.wait()?;
-                continue;
-            };
-            let event = *event;
-            if let Some(told) = self.tell(event, buf) {
-                return Ok(told);
             }
         }
         Err(ErrorKind::Other.into())

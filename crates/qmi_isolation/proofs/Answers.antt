@@ -1,0 +1,285 @@
+-- Who gets the answers and the indications of the modem.
+use Rattle.std.proofs.Common.{◌≡◌, ◌≢◌, ℕ, zero, ◌≤◌, Bool, true, false, not, ◌&&◌, ◌||◌, ◌==◌, if◌then◌else◌, List, [], ◌∷◌, length, filter, refl, ap, sym, ◌∙◌, subst, ⊎_elim, arith, All, Contains, Option, Some, None}
+use Rattle.std.proofs.lemmas.Bool.{eqb-true, eq-eqb}
+use Rattle.std.proofs.lemmas.List.Elements.{All-contains, All-from_recursion}
+use Rattle.qmux_frame.specs.Head.{service_of, is_control, client_of, flags_of, number_of, is_framed}
+use Rattle.qmux_frame.specs.Reply.{with_number, result_reply}
+use Rattle.proxy_history.specs.Events.{Event}
+use Rattle.proxy_history.specs.Facts.{Fact, Request, Answered, IdHeld, Late, Indicated, Stray, Granted, Freed, Ended, NoRoom, EventBegan}
+use Rattle.proxy_history.specs.Connections.{contains, present, dropped, is_present}
+use Rattle.proxy_history.specs.Requests.{in_use, pending, has_request, without_request, is_pending}
+use Rattle.proxy_history.specs.ClientIds.{held, holder, is_holder, is_other, holds_some}
+use Rattle.proxy_history.specs.View.{Entry, Response, Refused, Indication, HeldId, entry_if, view}
+use Rattle.proxy_history.specs.Rendering.{render, put}
+use Rattle.proxy_history.specs.Noting.{end_overfull, receivers_of}
+use Rattle.proxy_history.proofs.Lists.{Contains-cons, Contains-cons_cases, Contains-nil}
+use Rattle.proxy_history.proofs.Sound.{in_use_from_pending, forwarded_from_in_use, waits}
+use Rattle.qmi_proxy.specs.Setup.{Setup}
+use Rattle.qmi_proxy.specs.Errors.{client_ids_exhausted}
+use Rattle.qmi_proxy.specs.Spaces.{limit_of, top_of, control_space, service_space, space_of}
+use Rattle.qmi_proxy.specs.Messages.{IsResponse, IsIndication, IsNeither, kind_of, is_bit_set, response_bit, indication_bit, is_release, is_success, byte_of, value_of, used_service, used_client}
+use Rattle.qmi_proxy.specs.Text.{note, text, blank, view_of, rendering}
+use Rattle.qmi_proxy.specs.FromModem.{NoChange, Frees, id_change, granted_unless, brings_id, holder_of_brought, is_answered_by, first_answered_by, answer, answer_or_late, respond, hear_as, hear_modem, open_ones, receivers, tell}
+use Rattle.qmi_proxy.specs.History.{history}
+use Rattle.qmi_state.specs.Regular.{IsPlaced, IsAsked, Regular}
+use Rattle.qmi_state.specs.Core.{Core, Stands, greatest_name, rests_of}
+use Rattle.qmi_state.proofs.Heads.{framed_long, number_last}
+use Rattle.qmi_state.proofs.Apart.{apart_in_use}
+use Rattle.qmi_state.proofs.Regulars.{regular_began}
+use Rattle.qmi_state.proofs.Keeping.{exchange, sessions_same}
+use Rattle.qmi_state.proofs.Modem.{kept_heard_all}
+use Rattle.qmi_state.proofs.Answering.{asked_of_pending}
+use Rattle.qmi_state.specs.Desk.{asks, ids}
+use Rattle.proxy_history.specs.Requests.{last_number}
+use Rattle.proxy_history.specs.Modem.{to_modem, modem_drained}
+use Rattle.qmi_isolation.specs.Laws.{facts_before, IsDelivered}
+use Rattle.qmi_isolation.proofs.Views.{noted_same}
+
+-- ---- the facts before a message of the modem ----
+
+regular_before : (s : Setup) (events : List Event) (core : Core) (earlier : List (List ℕ)) → Stands s events core → Regular (facts_before s events earlier)
+unfolding present dropped view asks last_number ids to_modem modem_drained
+regular_before s events core earlier S =
+    let begun : List Fact = EventBegan ∷ history s events in
+    (kept_heard_all s.device (greatest_name events) (rests_of events) s refl earlier begun (exchange core.sessions [] core.desk)
+    (record {
+      sessions = S.sessions ∙ sessions_same s.device (greatest_name events) (rests_of events) begun (history s events) (λ d. refl) (present (history s events));
+      leftovers = refl;
+      desk = S.desk;
+      names = S.names;
+      apart = tt;
+      regular = regular_began (history s events) S.regular;
+    })).regular
+
+-- ---- which request is answered ----
+
+eqb_parts : (a b : Bool) → (a && b) ≡ true → (a ≡ true) × (b ≡ true)
+eqb_parts true b e = (refl, e)
+eqb_parts false b e = absurd (cc)
+
+-- two requests in use that a message answers are one
+one_is_answered : (past : List Fact) (m : List ℕ) (q r : Request) → Regular past → Contains (in_use past) q → Contains (in_use past) r
+    → is_answered_by m q ≡ true → is_answered_by m r ≡ true → q ≡ r
+one_is_answered past m q r R at_q at_r answers_q answers_r =
+    let parts_q = eqb_parts (service_of q.message == service_of m && (client_of q.message == client_of m)) (q.number == number_of m) answers_q in
+    let parts_r = eqb_parts (service_of r.message == service_of m && (client_of r.message == client_of m)) (r.number == number_of m) answers_r in
+    let service_q : service_of q.message ≡ service_of m = eqb-true _ _ (eqb_parts (service_of q.message == service_of m) (client_of q.message == client_of m) parts_q.0).0 in
+    let service_r : service_of r.message ≡ service_of m = eqb-true _ _ (eqb_parts (service_of r.message == service_of m) (client_of r.message == client_of m) parts_r.0).0 in
+    let placed : (p : Request) → Contains (in_use past) p → p.space ≡ space_of p.message = λ p at. (All-contains IsPlaced (in_use past) p (All-from_recursion IsPlaced (in_use past) R.placed) at).0 in
+    let space_as : (p : Request) → p.space ≡ space_of p.message → service_of p.message ≡ service_of m → p.space ≡ space_of m =
+    λ p here same. here ∙ ap (λ (n : ℕ). if n == 0 then control_space else service_space) same in
+    let space : r.space ≡ q.space = space_as r (placed r at_r) service_r ∙ sym (space_as q (placed q at_q) service_q) in
+    let number : r.number ≡ q.number = eqb-true r.number (number_of m) parts_r.1 ∙ sym (eqb-true q.number (number_of m) parts_q.1) in
+    (apart_in_use past q r R.sound at_q at_r).number (eq-eqb r.space q.space space) (eq-eqb r.number q.number number)
+
+-- the first request that is answered is the one that is
+first_is : (m : List ℕ) (list : List Request) (r : Request) → ((q : Request) → Contains list q → is_answered_by m q ≡ true → q ≡ r) → Contains list r → is_answered_by m r ≡ true → first_answered_by m list ≡ Some r
+first_is m [] r one at answers = absurd (Contains-nil r at)
+first_is m (q ∷ list) r one at answers =
+    let step : (b : Bool) → is_answered_by m q ≡ b → (if b then Some q else first_answered_by m list) ≡ Some r =
+    λ b. elim b as (λ b. is_answered_by m q ≡ b → (if b then Some q else first_answered_by m list) ≡ Some r) [
+      | true ↦ λ is. ap (λ (x : Request). Some x) (one q (zero, omega arith, refl) is)
+      | false ↦ λ isnt. first_is m list r (λ p at_p is. one p (Contains-cons p q list at_p) is) (⊎_elim (λ (same : q ≡ r). absurd (not_both isnt (ap (is_answered_by m) same ∙ answers))) (λ (later : Contains list r). later) (Contains-cons_cases r q list at)) answers
+    ]
+    in step (is_answered_by m q) refl
+  where
+    not_both : {b : Bool} → b ≡ false → b ≡ true → ⊥
+    not_both e f = cc
+
+-- a request that is found is one of them, and is answered
+found_is : (m : List ℕ) (list : List Request) (r : Request) → first_answered_by m list ≡ Some r → Contains list r × (is_answered_by m r ≡ true)
+found_is m [] r e = absurd (cc)
+found_is m (q ∷ list) r e =
+    let step : (b : Bool) → is_answered_by m q ≡ b → (if b then Some q else first_answered_by m list) ≡ Some r → Contains (q ∷ list) r × (is_answered_by m r ≡ true) =
+    λ b. elim b as (λ b. is_answered_by m q ≡ b → (if b then Some q else first_answered_by m list) ≡ Some r → Contains (q ∷ list) r × (is_answered_by m r ≡ true)) [
+      | true ↦ λ is same. subst (λ (x : Request). Contains (q ∷ list) x × (is_answered_by m x ≡ true)) (some_is same) ((zero, omega arith, refl), is)
+      | false ↦ λ isnt same. let rest = found_is m list r same in (Contains-cons r q list rest.0, rest.1)
+    ]
+    in step (is_answered_by m q) refl e
+  where
+    some_is : {x y : Request} → Some x ≡ Some y → x ≡ y
+    some_is e = cc
+
+contained_has : (list : List Request) (r : Request) → Contains list r → has_request r list ≡ true
+contained_has [] r at = absurd (Contains-nil r at)
+contained_has (q ∷ list) r at =
+    ⊎_elim
+    (λ (same : q ≡ r). ap (λ (b : Bool). b || has_request r list) (eq-eqb r.serial q.serial (ap (λ (x : Request). x.serial) (sym same))))
+    (λ (later : Contains list r). ap (λ (b : Bool). (r.serial == q.serial) || b) (contained_has list r later) ∙ or_true (r.serial == q.serial))
+    (Contains-cons_cases r q list at)
+  where
+    or_true : (b : Bool) → (b || true) ≡ true
+    or_true true = refl
+    or_true false = refl
+
+-- ---- what comes of an answer ----
+
+none_left : (r : Request) (list : List Request) → has_request r (without_request r list) ≡ false
+none_left r [] = refl
+none_left r (q ∷ list) =
+    let step : (b : Bool) → (r.serial == q.serial) ≡ b → has_request r (if not b then q ∷ without_request r list else without_request r list) ≡ false =
+    λ b. elim b as (λ b. (r.serial == q.serial) ≡ b → has_request r (if not b then q ∷ without_request r list else without_request r list) ≡ false) [
+      | true ↦ λ e. none_left r list
+      | false ↦ λ e. ap (λ (t : Bool). t || has_request r (without_request r list)) e ∙ none_left r list
+    ]
+    in step (r.serial == q.serial) refl
+
+-- a response is whole
+response_long : (m : List ℕ) → kind_of m ≡ IsResponse → 12 ≤ length m
+response_long m e = framed_long m (by_tests (is_framed m) (is_bit_set (flags_of m) (response_bit m)) (is_bit_set (flags_of m) (indication_bit m)) e)
+  where
+    by_tests : (framed response indication : Bool) → (if not framed then IsNeither else if response then IsResponse else if indication then IsIndication else IsNeither) ≡ IsResponse → framed ≡ true
+    by_tests true response indication e = refl
+    by_tests false response indication e = absurd (cc)
+
+module _ (device : List ℕ) where
+  ended_in_use : (cs : List ℕ) (past : List Fact) → in_use (end_overfull blank (text device) cs past) ≡ in_use past
+  unfolding end_overfull in_use
+  ended_in_use [] past = refl
+  ended_in_use (c ∷ cs) past =
+      ended_in_use cs _
+      ∙ elim (is_present c past && (rendering device c past).is_over) as (λ b. in_use (if b then Ended c NoRoom ∷ past else past) ≡ in_use past) [ true ↦ refl | false ↦ refl ]
+
+  module _ (r : Request) (m : List ℕ) (past : List Fact) (long : 12 ≤ length m) (asked : IsAsked past r) where
+    -- the bytes that the sender gets behind these facts, which have its view as it was
+    abbrev Delivers : List ℕ → List Fact → Type 0
+    Delivers bytes after = (rendering device r.conn after ≡ put bytes (rendering device r.conn past))
+        × ((c : ℕ) → c ≢ r.conn → rendering device c after ≡ rendering device c past)
+        × (has_request r (in_use after) ≡ false)
+
+    other_is : (c : ℕ) → c ≢ r.conn → (r.conn == c) ≡ false
+    other_is c differs = false_where (r.conn == c) (λ e. differs (sym (eqb-true r.conn c e)))
+      where
+        false_where : (b : Bool) → (b ≡ true → ⊥) → b ≡ false
+        false_where true h = absurd (h refl)
+        false_where false h = refl
+
+    answered : (before : List Fact) → ((c : ℕ) → view_of c before ≡ view_of c past) → Delivers (with_number (number_of r.message) m) (note device (Answered r m) before)
+    unfolding view in_use render
+    answered before same = (
+      ap (render (text device)) (noted_same device r.conn (Answered r m) before)
+          ∙ ap (λ (b : Bool). render (text device) (entry_if b (Response r.place (blank m)) (view_of r.conn before))) (eq-eqb r.conn r.conn refl)
+          ∙ ap (λ (v : List Entry). render (text device) (Response r.place (blank m) ∷ v)) (same r.conn)
+          ∙ ap (λ (l : List ℕ). put (with_number (number_of l) (blank m)) (rendering device r.conn past)) asked.2
+          ∙ ap (λ (l : List ℕ). put l (rendering device r.conn past)) (number_last (number_of r.message) m long),
+      λ c differs.
+          ap (render (text device)) (noted_same device c (Answered r m) before)
+          ∙ ap (λ (b : Bool). render (text device) (entry_if b (Response r.place (blank m)) (view_of c before))) (other_is c differs)
+          ∙ ap (render (text device)) (same c),
+      ap (has_request r) (ended_in_use (receivers_of (Answered r m)) (Answered r m ∷ before)) ∙ none_left r (in_use before),
+    )
+
+    refused : Delivers (result_reply r.message client_ids_exhausted) (note device (IdHeld r) past)
+    unfolding view in_use render
+    refused = (
+      ap (render (text device)) (noted_same device r.conn (IdHeld r) past)
+          ∙ ap (λ (b : Bool). render (text device) (entry_if b (Refused r.place HeldId) (view_of r.conn past))) (eq-eqb r.conn r.conn refl)
+          ∙ ap (λ (l : List ℕ). put (result_reply l client_ids_exhausted) (rendering device r.conn past)) asked.2,
+      λ c differs.
+          ap (render (text device)) (noted_same device c (IdHeld r) past)
+          ∙ ap (λ (b : Bool). render (text device) (entry_if b (Refused r.place HeldId) (view_of c past))) (other_is c differs),
+      ap (has_request r) (ended_in_use (receivers_of (IdHeld r)) (IdHeld r ∷ past)) ∙ none_left r (in_use past),
+    )
+
+    -- the change of the client ids decides
+    abbrev bytes_by : Bool → List ℕ
+    bytes_by refuses = if refuses then result_reply r.message client_ids_exhausted else with_number (number_of r.message) m
+
+    delivered_by : (brings other frees : Bool) (service client service' client' : ℕ)
+        → Delivers (bytes_by (brings && other)) (answer device r m (if brings then granted_unless other service client else if frees then Frees service' client' else NoChange) past)
+    unfolding view
+    delivered_by true true frees service client service' client' = refused
+    delivered_by true false frees service client service' client' = answered (Granted r.conn service client ∷ past) (λ c. refl)
+    delivered_by false other true service client service' client' = answered (Freed r.conn service' client' ∷ past) (λ c. refl)
+    delivered_by false other false service client service' client' = answered past (λ c. refl)
+
+    delivered : IsDelivered device r m past (answer device r m (id_change r.conn r.message m (holder_of_brought m past)) past)
+    delivered =
+        let all = delivered_by (brings_id r.message m) (is_other r.conn (holder_of_brought m past)) (is_release r.message && is_success m)
+        (byte_of 0 (value_of 0x01 m)) (byte_of 1 (value_of 0x01 m)) (used_service r.message) (used_client r.message) in
+        record { sender = all.0; others = all.1; once = all.2 }
+
+module _ (s : Setup) (events : List Event) (core : Core) (earlier : List (List ℕ)) (m : List ℕ) (S : Stands s events core) (response : kind_of m ≡ IsResponse) where
+  abbrev past : List Fact
+  past = facts_before s events earlier
+
+  regular : Regular past
+  regular = regular_before s events core earlier S
+
+  heard : hear_modem s.device m past ≡ respond s.device (first_answered_by m (in_use past)) m past
+  heard = ap (λ kind. hear_as kind s.device m past) response
+
+  pub answers_have_one_receiver : (r : Request) → Contains (pending past) r → is_answered_by m r ≡ true → IsDelivered s.device r m past (hear_modem s.device m past)
+  answers_have_one_receiver r at answers =
+      let used : Contains (in_use past) r = in_use_from_pending past r at in
+      let found : first_answered_by m (in_use past) ≡ Some r = first_is m (in_use past) r (λ q at_q is. one_is_answered past m q r regular at_q used is answers) used answers in
+      let waiting : is_pending r past ≡ true = contained_has (pending past) r at in
+      subst (IsDelivered s.device r m past)
+      (sym (heard ∙ ap (λ (o : Option Request). respond s.device o m past) found ∙ ap (λ (b : Bool). answer_or_late s.device b r m past) waiting))
+      (delivered s.device r m past (response_long m response) (asked_of_pending past r regular at))
+
+  pub other_answers_have_none : (c : ℕ) → All (λ r. is_answered_by m r ≡ false) (pending past) → rendering s.device c (hear_modem s.device m past) ≡ rendering s.device c past
+  unfolding view
+  other_answers_have_none c none =
+      let step : (o : Option Request) → first_answered_by m (in_use past) ≡ o → rendering s.device c (respond s.device o m past) ≡ rendering s.device c past =
+      λ o. elim o as (λ o. first_answered_by m (in_use past) ≡ o → rendering s.device c (respond s.device o m past) ≡ rendering s.device c past) [
+        | None ↦ λ e. stray
+        | Some r ↦ λ e.
+            let found = found_is m (in_use past) r e in
+            let idle : is_pending r past ≡ false = waits_not r found.0 found.1 (is_pending r past) refl in
+            ap (λ (b : Bool). rendering s.device c (answer_or_late s.device b r m past)) idle ∙ late r
+      ]
+      in ap (rendering s.device c) heard ∙ step (first_answered_by m (in_use past)) refl
+    where
+      stray : rendering s.device c (Stray ∷ past) ≡ rendering s.device c past
+      stray = refl
+
+      late : (r : Request) → rendering s.device c (Late r ∷ past) ≡ rendering s.device c past
+      late r = refl
+
+      waits_not : (r : Request) → Contains (in_use past) r → is_answered_by m r ≡ true → (b : Bool) → is_pending r past ≡ b → b ≡ false
+      waits_not r at answers true is =
+          let isnt : is_answered_by m r ≡ false = All-contains (λ (q : Request). is_answered_by m q ≡ false) (pending past) r none (waits limit_of top_of past r regular.sound (forwarded_from_in_use past r at) is) in
+          absurd (cc)
+      waits_not r at answers false is = refl
+
+-- ---- indications ----
+
+pub indications_reach_their_receivers : (device m : List ℕ) (past : List Fact) (c : ℕ)
+    → rendering device c (tell device m past) ≡ (if contains c (receivers device m past) then put m (rendering device c past) else rendering device c past)
+unfolding view render
+indications_reach_their_receivers device m past c =
+    ap (render (text device)) (noted_same device c (Indicated m (receivers device m past)) past)
+    ∙ elim (contains c (receivers device m past)) as (λ b. render (text device) (entry_if b (Indication m) (view_of c past)) ≡ (if b then put m (rendering device c past) else rendering device c past)) [ true ↦ refl | false ↦ refl ]
+
+contained_passes : (test : ℕ → Bool) (cs : List ℕ) (c : ℕ) → contains c (filter test cs) ≡ true → test c ≡ true
+contained_passes test [] c e = absurd (cc)
+contained_passes test (d ∷ cs) c e =
+    let step : (b : Bool) → test d ≡ b → contains c (if b then d ∷ filter test cs else filter test cs) ≡ true → test c ≡ true =
+    λ b. elim b as (λ b. test d ≡ b → contains c (if b then d ∷ filter test cs else filter test cs) ≡ true → test c ≡ true) [
+      | true ↦ λ is at.
+          let here : (same : Bool) → (c == d) ≡ same → (same || contains c (filter test cs)) ≡ true → test c ≡ true =
+          λ same. elim same as (λ same. (c == d) ≡ same → (same || contains c (filter test cs)) ≡ true → test c ≡ true) [
+            | true ↦ λ it all. ap test (eqb-true c d it) ∙ is
+            | false ↦ λ it all. contained_passes test cs c all
+          ]
+          in here (c == d) refl at
+      | false ↦ λ isnt at. contained_passes test cs c at
+    ]
+    in step (test d) refl e
+
+pub holders_alone_are_told : (device m : List ℕ) (past : List Fact) (c : ℕ) → is_control m ≡ false → (client_of m == 255) ≡ false → contains c (receivers device m past) ≡ true
+    → holder (service_of m) (client_of m) past ≡ Some c
+holders_alone_are_told device m past c service id at =
+    held_by (holder (service_of m) (client_of m) past)
+    (contained_passes (λ (d : ℕ). is_holder d (holder (service_of m) (client_of m) past)) (present past) c
+    (sym (ap (λ (l : List ℕ). contains c l) (receivers_are service id)) ∙ at))
+  where
+    receivers_are : is_control m ≡ false → (client_of m == 255) ≡ false → receivers device m past ≡ filter (λ (d : ℕ). is_holder d (holder (service_of m) (client_of m) past)) (present past)
+    receivers_are service id =
+        ap (λ (b : Bool). let l : List ℕ = if b then open_ones device past else if client_of m == 255 then filter (λ (d : ℕ). holds_some d (service_of m) (held past)) (present past) else filter (λ (d : ℕ). is_holder d (holder (service_of m) (client_of m) past)) (present past) in l) service
+        ∙ ap (λ (b : Bool). let l : List ℕ = if b then filter (λ (d : ℕ). holds_some d (service_of m) (held past)) (present past) else filter (λ (d : ℕ). is_holder d (holder (service_of m) (client_of m) past)) (present past) in l) id
+
+    held_by : (o : Option ℕ) → is_holder c o ≡ true → o ≡ Some c
+    held_by None e = absurd (cc)
+    held_by (Some d) e = ap (λ (x : ℕ). Some x) (eqb-true d c e)

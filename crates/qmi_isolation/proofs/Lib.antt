@@ -1,0 +1,5 @@
+pub mod Views
+pub mod Others
+pub mod Answers
+pub mod Numbers
+pub mod Refusals

@@ -1,0 +1,100 @@
+-- What the clients of a QMI proxy have of each other: nothing. What others do leaves a client's bytes as they are, and an answer of the modem has one receiver.
+-- Lists of events and of facts have the newest first.
+use Rattle.std.specs.Prelude.{◌≡◌, ◌≢◌, ℕ, Bool, true, false, not, ◌&&◌, ◌==◌, if◌then◌else◌, List, ◌∷◌, ◌++◌, map, Some, All, Contains}
+use Rattle.qmux_frame.specs.Head.{service_of, is_control, client_of, number_of}
+use Rattle.qmux_frame.specs.Reply.{with_number, result_reply}
+use Rattle.proxy_history.specs.Events.{Event, Joined, Piece, Left, Took}
+use Rattle.proxy_history.specs.Items.{ModemSays}
+use Rattle.proxy_history.specs.Facts.{Fact, Request, EventBegan, Forwarded}
+use Rattle.proxy_history.specs.Connections.{contains}
+use Rattle.proxy_history.specs.Requests.{in_use, pending, has_request, numbers_in_use}
+use Rattle.proxy_history.specs.ClientIds.{holder, is_other}
+use Rattle.proxy_history.specs.Rendering.{put}
+use Rattle.qmi_proxy.specs.Setup.{Setup}
+use Rattle.qmi_proxy.specs.Errors.{client_ids_exhausted}
+use Rattle.qmi_proxy.specs.Messages.{IsResponse, kind_of}
+use Rattle.qmi_proxy.specs.Text.{rendering}
+use Rattle.qmi_proxy.specs.FromModem.{is_answered_by, brings_id, holder_of_brought, hear_modem, receivers, tell, tick, abort_all, lose}
+use Rattle.qmi_proxy.specs.History.{add_all, history, text_for}
+use Rattle.qmi_state.specs.Core.{Core, Stands}
+
+-- ---- what other clients do ----
+
+-- another client joins, sends, leaves or takes
+abbrev pub is_anothers : ℕ → Event → Bool
+is_anothers c (Joined d) = not (d == c)
+is_anothers c (Piece d bytes) = not (d == c)
+is_anothers c (Left d) = not (d == c)
+is_anothers c (Took d count) = not (d == c)
+is_anothers c _ = false
+
+-- whatever it is, the client's bytes stay as they are
+abbrev pub OthersChangeNothing : Type 0
+OthersChangeNothing = (s : Setup) (c : ℕ) (event : Event) (events : List Event)
+    → is_anothers c event ≡ true → text_for s c (event ∷ events) ≡ text_for s c events
+
+-- ---- what the modem answers ----
+
+-- the history just before a message of the modem, behind those that came before it in one piece
+abbrev pub facts_before : Setup → List Event → List (List ℕ) → List Fact
+facts_before s events earlier = add_all s (map (λ m. ModemSays m) earlier) (EventBegan ∷ history s events)
+
+-- what the sender of a request gets for this answer: the answer under its own number, or a refusal where it brings a client id that another client holds
+abbrev pub due : Request → List ℕ → List Fact → List ℕ
+due r m past =
+    if brings_id r.message m && is_other r.conn (holder_of_brought m past) then result_reply r.message client_ids_exhausted
+    else with_number (number_of r.message) m
+
+-- the sender gets it where it finds room, nobody else gets anything, and no later message answers the request
+pub record IsDelivered (device : List ℕ) (r : Request) (m : List ℕ) (past after : List Fact) : Type 0 where
+  pub sender : rendering device r.conn after ≡ put (due r m past) (rendering device r.conn past)
+  pub others : (c : ℕ) → c ≢ r.conn → rendering device c after ≡ rendering device c past
+  pub once : has_request r (in_use after) ≡ false
+
+-- `core` met these events, and `m` is the modem's answer to a request whose sender waits
+abbrev pub AnswersHaveOneReceiver : Type 0
+AnswersHaveOneReceiver = (s : Setup) (events : List Event) (core : Core) (earlier : List (List ℕ)) (m : List ℕ) (r : Request)
+    → Stands s events core → kind_of m ≡ IsResponse
+    → Contains (pending (facts_before s events earlier)) r → is_answered_by m r ≡ true
+    → IsDelivered s.device r m (facts_before s events earlier) (hear_modem s.device m (facts_before s events earlier))
+
+-- a late answer, or one to nothing: no sender waits for it, and nobody gets it
+abbrev pub OtherAnswersHaveNone : Type 0
+OtherAnswersHaveNone = (s : Setup) (events : List Event) (core : Core) (earlier : List (List ℕ)) (m : List ℕ) (c : ℕ)
+    → Stands s events core → kind_of m ≡ IsResponse
+    → All (λ r. is_answered_by m r ≡ false) (pending (facts_before s events earlier))
+    → rendering s.device c (hear_modem s.device m (facts_before s events earlier)) ≡ rendering s.device c (facts_before s events earlier)
+
+-- ---- what the modem tells by itself ----
+
+-- an indication is for its receivers, each once
+abbrev pub IndicationsReachTheirReceivers : Type 0
+IndicationsReachTheirReceivers = (device m : List ℕ) (past : List Fact) (c : ℕ)
+    → rendering device c (tell device m past) ≡ (if contains c (receivers device m past) then put m (rendering device c past) else rendering device c past)
+
+-- one for a client id is for its holder alone
+abbrev pub HoldersAloneAreTold : Type 0
+HoldersAloneAreTold = (device m : List ℕ) (past : List Fact) (c : ℕ)
+    → is_control m ≡ false → (client_of m == 255) ≡ false → contains c (receivers device m past) ≡ true
+    → holder (service_of m) (client_of m) past ≡ Some c
+
+-- ---- refusals in place of answers ----
+
+-- the client waits for no answer
+abbrev pub IsIdle : ℕ → List Fact → Type 0
+IsIdle c past = All (λ r. r.conn ≢ c) (pending past)
+
+-- the clock, a modem that began anew and one that is lost bring refusals, and those who wait for nothing get none
+abbrev pub TheIdleAreNotRefused : Type 0
+TheIdleAreNotRefused = (device : List ℕ) (past : List Fact) (c : ℕ) → IsIdle c past
+    → ((time : ℕ) → rendering device c (tick device time past) ≡ rendering device c past)
+    × (rendering device c (abort_all device past) ≡ rendering device c past)
+    × (rendering device c (lose device past) ≡ rendering device c past)
+
+-- ---- the numbers that the modem sees ----
+
+-- a number that is given is one that no request of its space has in use, not even one whose time is over
+abbrev pub NumbersAreFreeWhenGiven : Type 0
+NumbersAreFreeWhenGiven = (s : Setup) (events : List Event) (later past : List Fact) (r : Request)
+    → history s events ≡ later ++ Forwarded r ∷ past
+    → contains r.number (numbers_in_use r.space past) ≡ false

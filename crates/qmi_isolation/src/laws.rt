@@ -1,0 +1,34 @@
+ghost use Rattle.qmi_isolation.specs.Laws.{OthersChangeNothing, AnswersHaveOneReceiver, OtherAnswersHaveNone, IndicationsReachTheirReceivers, HoldersAloneAreTold, TheIdleAreNotRefused, NumbersAreFreeWhenGiven};
+
+/// The law that what other clients do, whatever it is, leaves a client's bytes as they are.
+pub fn others_change_nothing()
+    ensures { OthersChangeNothing }
+{}
+
+/// The law that an answer of the modem to a request whose sender waits comes to this sender alone,
+/// once, under its own number, with two exceptions: where it brings a client id that another client
+/// holds, the sender gets a refusal in its place, and where the sender's queue has no room it gets
+/// nothing more. An answer that nobody waits for reaches nobody.
+pub fn answers_have_one_receiver()
+    ensures one { AnswersHaveOneReceiver }
+    ensures none { OtherAnswersHaveNone }
+{}
+
+/// The law that an indication reaches its receivers, each once, and nobody else. The only receiver of
+/// one for a client id is the holder of that id.
+pub fn indications_reach_their_receivers()
+    ensures receivers { IndicationsReachTheirReceivers }
+    ensures holders { HoldersAloneAreTold }
+{}
+
+/// The law that the clock, a modem that begins anew and the loss of the modem bring nothing to a client
+/// that waits for no answer.
+pub fn the_idle_are_not_refused()
+    ensures { TheIdleAreNotRefused }
+{}
+
+/// The law that a transaction number is given while no request in use has it. A request whose time
+/// is over stays in use until its answer comes, the modem begins anew, or the modem is lost.
+pub fn numbers_are_free_when_given()
+    ensures { NumbersAreFreeWhenGiven }
+{}

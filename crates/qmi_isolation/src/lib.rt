@@ -1,0 +1,11 @@
+//! What the clients of the QMI proxy have of each other: laws of its history.
+//!
+//! `qmi_core` keeps what the history says, so they hold of each client's bytes in a running proxy.
+#![tactic(auto)]
+
+mod laws;
+
+pub use laws::{
+    answers_have_one_receiver, indications_reach_their_receivers, numbers_are_free_when_given,
+    others_change_nothing, the_idle_are_not_refused,
+};
