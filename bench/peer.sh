@@ -1,36 +1,134 @@
 #!/bin/sh
-# libqmi's real qmicli reads the modem's model through our proxy. It connects to the abstract socket
-# `@qmi-proxy`, from which a relay leads to our socket, and wants a character device at the path where our
-# proxy finds the modem's Unix socket: so it sees a device node there, in a mount namespace of its own.
+# libqmi's real qmicli, command by command, through our proxy and through libqmi's own, over the same stand-in
+# modem, while 32 other connections ask all the time. A line for each command: its exit status, and whether that
+# and all that was printed on both streams is the same through both. Fails where anything differs, or where a
+# command doesn't end as it should. The last line is our own qmicli at the modem itself.
+# The real qmicli asks the abstract socket `@qmi-proxy`. There libqmi's proxy listens by itself, and a relay leads
+# from there to ours. The modem has one path for all: where our proxy finds a Unix socket, libqmi's finds a
+# pseudo terminal and qmicli a device node, each in a mount namespace of its own.
+# MODEMKIT names a program that is built already. SHOW=1 shows what was printed.
 top=$(CDPATH= cd -- "$(dirname -- "$0")/.." && pwd) || exit 70
+peer=${QMI_PROXY:-/usr/libexec/qmi-proxy}
 missing=
-for tool in cc qmicli socat mknod timeout unshare mount; do
+for tool in cc qmicli socat mknod timeout unshare mount "$peer"; do
     command -v "$tool" >/dev/null 2>&1 || missing="$missing $tool"
 done
-[ -z "$missing" ] || { echo "missing:$missing (Debian: gcc, libqmi-utils, socat); nothing was tried"; exit 0; }
+[ -z "$missing" ] || { echo "missing:$missing (Debian: gcc, libqmi-utils, libqmi-proxy, socat); nothing was tried"; exit 0; }
+is_taken() { grep -q ' @qmi-proxy$' /proc/net/unix; }
+is_free() { ! is_taken; }
+is_free || { echo "another program has the socket @qmi-proxy; nothing was tried"; exit 0; }
 folder=$(mktemp -d) || exit 70
 started=
-clean() { [ -z "$started" ] || kill $started 2>/dev/null; rm -rf "$folder"; }
-trap clean EXIT
+stop() { [ -z "$started" ] || { kill $started; wait $started; } 2>/dev/null; started=; }
+trap 'stop; rm -rf "$folder"' EXIT
 trap 'exit 130' INT TERM
 mknod "$folder/node" c 1 3 2>/dev/null || { echo "a device node can't be made here (root is wanted); nothing was tried"; exit 0; }
-program=$("$top/bench/build.sh") || exit 70
-cc -O2 -o "$folder/answering" "$top/bench/answering_modem.c" || exit 70
+program=${MODEMKIT:-$("$top/bench/build.sh")} || exit 70
+cc -O2 -o "$folder/answering" "$top/bench/answering_modem.c" && cc -O2 -o "$folder/load" "$top/bench/load.c" || exit 70
 
-wait_for() {
+# The status that each command ends with, and its words. N is the client id that was kept last; the last line uses
+# it once it was released. The modem doesn't know an MSISDN.
+cat >"$folder/commands" <<'C'
+0 --get-service-version-info
+0 --dms-get-model
+0 --dms-get-manufacturer
+0 --dms-get-revision
+0 --dms-get-ids
+0 --dms-get-capabilities
+0 --dms-get-operating-mode
+1 --dms-get-msisdn
+0 --nas-get-signal-strength
+0 --nas-get-serving-system
+0 --nas-get-home-network
+0 --wds-get-packet-service-status
+0 --dms-noop --client-no-release-cid
+0 --dms-get-model --client-cid=N --client-no-release-cid
+0 --dms-get-revision --client-cid=N
+1 --dms-get-revision --client-cid=N
+C
+
+# wait_until CONDITION WORD..
+wait_until() {
     tries=0
-    while [ ! -S "$1" ]; do
+    until "$@" 2>/dev/null; do
         tries=$((tries + 1))
-        [ "$tries" -le 100 ] || { echo "$1 doesn't come" >&2; exit 70; }
+        [ "$tries" -le 200 ] || { echo "waited in vain: $*" >&2; cat "$folder/log" >&2; exit 70; }
         sleep 0.05
     done
 }
+# Of the load: three streams, what it waits with, and 32 connections.
+all_ask() { [ "$(ls "/proc/$load/fd" | wc -l)" -ge 36 ]; }
+
+# over DEVICE COMMAND..: runs it where the device stands at the modem's path
+over() {
+    device=$1; shift
+    exec unshare -m sh -c 'mount --bind "$1" "$2" && shift 2 && exec "$@"' sh "$device" "$folder/modem" "$@"
+}
+
+# ask_all SOCKET: runs each command while the load asks at the proxy's socket, and ends all that was started
+ask_all() {
+    "$folder/load" "$1" "$folder/modem" 32 1 2000000000 2>>"$folder/log" & load=$!
+    started="$started $load"
+    wait_until all_ask
+    sleep 0.5
+    row=0
+    while read -r status words; do
+        row=$((row + 1))
+        # the relay hangs up a moment after the command before, which is to leave the id to this one
+        case $words in *=N*) sleep 0.1 ;; esac
+        words=$(echo "$words" | sed "s/=N/=$id/")
+        (over "$folder/node" timeout 30 qmicli -p -d "$folder/modem" --device-open-qmi $words) </dev/null >"$side.$row.out" 2>"$folder/said"
+        echo "$?" >"$side.$row.status"
+        sed 's/^\[[^]]* [0-9:]*\] //' "$folder/said" >"$side.$row.err" # without the time of day
+        case $words in *-noop*) id=$(sed -n "s/.*CID: '\([0-9]*\)'.*/\1/p" "$side.$row.out") ;; esac
+    done <"$folder/commands"
+    kill -0 "$load" 2>/dev/null || { echo "the load failed:" >&2; cat "$folder/log" >&2; exit 1; }
+    stop
+}
+
+side=$folder/ours
 "$folder/answering" unix "$folder/modem" & started=$!
-wait_for "$folder/modem"
-"$program" qmi-proxy -d "$folder/modem" --socket "$folder/proxy.sock" & started="$started $!"
-wait_for "$folder/proxy.sock"
-socat ABSTRACT-LISTEN:qmi-proxy,fork "UNIX-CONNECT:$folder/proxy.sock" & started="$started $!"
-sleep 0.5
-unshare -m sh -c 'mount --bind "$1/node" "$1/modem" && exec timeout 10 qmicli -p -d "$1/modem" --device-open-qmi --dms-get-model' sh "$folder" >"$folder/said" 2>&1
-cat "$folder/said"
-grep -q "Model: 'EM7455'" "$folder/said" || { echo "this isn't what was to come" >&2; exit 1; }
+wait_until test -S "$folder/modem"
+"$program" qmi-proxy -d "$folder/modem" --socket "$folder/proxy.sock" >>"$folder/log" 2>&1 & started="$started $!"
+wait_until test -S "$folder/proxy.sock"
+socat ABSTRACT-LISTEN:qmi-proxy,fork "UNIX-CONNECT:$folder/proxy.sock" 2>>"$folder/log" & started="$started $!"
+wait_until is_taken
+ask_all "$folder/proxy.sock"
+
+side=$folder/theirs
+wait_until is_free
+rm -f "$folder/modem"
+: >"$folder/modem"
+"$folder/answering" pty "$folder/terminal" & started=$!
+wait_until test -e "$folder/terminal"
+over "$(readlink "$folder/terminal")" "$peer" --no-exit >>"$folder/log" 2>&1 & started="$started $!"
+wait_until is_taken
+ask_all @qmi-proxy
+
+failed=0
+# line WORDS STATUS WANTED OURS THEIRS: the two are files
+line() {
+    found=same
+    diff "$4" "$5" >"$folder/diff" || found=differs
+    [ "$found$2" = "same$3" ] || failed=1
+    printf '%-58s %3s  %s\n' "$1" "$2" "$found"
+    [ -z "$SHOW" ] || cat "$4"
+    cat "$folder/diff" >&2
+}
+row=0
+while read -r status words; do
+    row=$((row + 1))
+    for side in "$folder/ours" "$folder/theirs"; do
+        cat "$side.$row.out" "$side.$row.err" "$side.$row.status" >"$side"
+    done
+    line "$words" "$(cat "$folder/ours.$row.status")" "$status" "$folder/ours" "$folder/theirs"
+done <"$folder/commands"
+
+"$folder/answering" unix "$folder/alone" & started=$!
+wait_until test -S "$folder/alone"
+"$program" qmicli -d "$folder/alone" --get-service-version-info >"$folder/said"
+status=$?
+awk '$1 == "Service:" { name = $3 } $1 == "Major:" { major = $2 } $1 == "Minor:" { print name, major "." $2 }' "$folder/said" | tr -d '()' >"$folder/ours"
+sed -n 's/^\t\(.*\) (\(.*\))$/\1 \2/p' "$folder/theirs.1.out" >"$folder/theirs"
+line "modemkit qmicli --get-service-version-info" "$status" 0 "$folder/ours" "$folder/theirs"
+exit "$failed"

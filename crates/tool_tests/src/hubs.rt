@@ -6,6 +6,7 @@ use std::alloc::Global;
 use std::fs::{self, Files};
 use std::io::{Read, Write};
 use std::net::Net;
+use std::os::unix::fs::PermissionsExt;
 use std::os::unix::net::{UnixListener, UnixStream};
 use std::process::Abort;
 use std::test::Fail;
@@ -164,6 +165,47 @@ fn reopen<H: Hub, R: Abort + Net + Files>(hub: &mut H, rt: &R, alloc: Global) ->
 #[test]
 fn a_modem_is_lost_and_opened_again(rt: HostRuntime) -> Result<(), Fail> {
     reopen(&mut MioHub::new(&rt, rt.alloc())?, &rt, rt.alloc())
+}
+
+/// Sends until the socket takes nothing more. How many bytes it took.
+fn fill<H: Hub>(hub: &mut H) -> Result<usize, Failed> {
+    let mut sent = 0usize;
+    for _ in 0..10_000 {
+        match hub.send(1, &[7; 4_096])? {
+            0 => break,
+            count => sent = sent.saturating_add(count),
+        }
+    }
+    Ok(sent)
+}
+
+/// A client doesn't read, and then does. The socket's file is for its owner alone.
+fn wait_for_room<H: Hub, R: Abort + Net + Files>(
+    hub: &mut H,
+    rt: &R,
+    alloc: Global,
+) -> Result<(), Fail> {
+    assert!(rt; hub.open("room.sock", None).is_ok());
+    let rights = fs::metadata(rt, "room.sock")?.permissions().mode() % 0o1000;
+    assert_eq!(rt; rights, 0o600);
+    let mut client = UnixStream::connect(rt, "room.sock")?;
+    let joined = [Ok(HubEvent::Joined(1))];
+    assert_eq!(rt; answers(hub, alloc, 1)?.as_slice(), joined.as_slice());
+    let sent = fill(hub).unwrap_or(0);
+    assert!(rt; sent > 0);
+    assert_eq!(rt; hub.send(1, &[7]), Ok(0));
+    let mut got = Vec::from_elem(alloc, 0u8, sent)?;
+    client.read_exact(&mut got)?;
+    let room = [Ok(HubEvent::Room(1))];
+    assert_eq!(rt; answers(hub, alloc, 1)?.as_slice(), room.as_slice());
+    assert_eq!(rt; hub.send(1, &[7]), Ok(1));
+    fs::remove_file(rt, "room.sock")?;
+    Ok(())
+}
+
+#[test]
+fn a_full_socket_tells_of_room(rt: HostRuntime) -> Result<(), Fail> {
+    wait_for_room(&mut MioHub::new(&rt, rt.alloc())?, &rt, rt.alloc())
 }
 
 /// What a client says, each something else.
