@@ -1,0 +1,7 @@
+pub mod Table
+pub mod Requests
+pub mod View
+pub mod Answers
+pub mod BuiltIn
+pub mod Inputs
+pub mod Laws

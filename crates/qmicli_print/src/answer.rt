@@ -1,0 +1,59 @@
+ghost use Rattle.std.specs.Prelude.{◌≡◌, ◌++◌, decimal, map, IfOk, OnOk};
+ghost use Rattle.std.specs.List.{flat_map};
+ghost use Rattle.qmi_services.specs.Answers.{field_view};
+ghost use Rattle.qmicli_print.specs.Answer.{answer_text, field_text, kept_line};
+
+use crate::print_field;
+use itoa::Buffer;
+use kit_bytes::Octets;
+use qmi_services::{Field, QmiAnswer};
+use std::alloc::{AllocError, Global};
+
+/// What is printed of an answer, and of the service and the client id that are kept.
+pub fn qmi_text(
+    alloc: Global,
+    answer: &QmiAnswer,
+    kept: Option<(u8, u8)>,
+) -> Result<Octets, AllocError>
+    ensures { IfOk result (λ text. text ≡ answer_text answer.now kept) }
+{
+    let QmiAnswer::Success(fields) = answer else {
+        return Ok(Octets::new(alloc));
+    };
+    let mut text = fields_text(alloc, fields.as_slice())?;
+    if text.as_slice().is_empty() {
+        text.extend_from_slice(b"ok\n")?;
+    }
+    if let Some((service, id)) = kept {
+        push_kept(&mut text, service, id)?;
+    }
+    Ok(text)
+}
+
+// The texts of an answer's fields.
+fn fields_text(alloc: Global, fields: &[Field]) -> Result<Octets, AllocError>
+    ensures { IfOk result (λ text. text ≡ flat_map field_text (map field_view fields.now)) }
+{
+    let mut text = Octets::new(alloc);
+    for field in fields {
+        print_field(alloc, &mut text, 0, &field.name, &field.shape, &field.val)?;
+    }
+    Ok(text)
+}
+
+// Adds the line on what is kept.
+#[tactic(auto, unfolding(crate::specs::Answer::kept_line))]
+fn push_kept(text: &mut Octets, service: u8, id: u8) -> Result<(), AllocError>
+    ensures { OnOk result (text.new ≡ text.old ++ kept_line service id) }
+{
+    push_number(text, "client id kept: service ", service)?;
+    push_number(text, ", id ", id)?;
+    text.extend_from_slice(b"\n")?;
+    Ok(())
+}
+
+fn push_number(text: &mut Octets, front: &str, number: u8) -> Result<(), AllocError>
+    ensures { OnOk result (text.new ≡ text.old ++ front.now ++ decimal number) }
+{
+    text.extend_from_slices(front.as_bytes(), Buffer::new().format(number).as_bytes())
+}

@@ -1,0 +1,10 @@
+//! The text in which values of QMI messages are printed.
+#![tactic(auto)]
+
+mod answer;
+mod print;
+mod shown;
+mod texts;
+
+pub use answer::qmi_text;
+pub use print::print_field;
