@@ -1,4 +1,4 @@
-//! Tests of the tables that a proxy's core keeps.
+//! Tests of a proxy's core, and of the tables that it keeps.
 #![tactic(auto)]
 
 #[cfg(test)]
@@ -7,3 +7,5 @@ mod grants;
 mod numbers;
 #[cfg(test)]
 mod outboxes;
+#[cfg(test)]
+mod qmi;
