@@ -1,0 +1,113 @@
+-- The look for the next mark goes on and ends.
+use Rattle.std.proofs.Common.{◌≡◌, inl, inr, ℕ, List, [], ◌∷◌, ◌++◌, Option, refl, sym, ◌∙◌, ap}
+use Rattle.std.proofs.lemmas.List.{append-nil}
+use Rattle.kit_io.specs.Told.{Grows}
+use Rattle.kit_io.proofs.Told.{Grows-none, Grows-append}
+use Rattle.framing.specs.Reading.{Reading}
+use Rattle.link_io.specs.Calls.{Call, Took, WasQuiet, WasEnd, TakeFailed}
+use Rattle.device_core.specs.Marks.{Mark, Message, Bad, Quiet, End, Failed, piece_marks, take_marks, bytes_in}
+use Rattle.device_core.specs.Waiting.{Heard, Brings, AreNeeded, marks_with}
+use Rattle.device_core.specs.Hearing.{Stands, IsFirst, Looks, found_in}
+use Rattle.device_core.specs.declared.incoming.Found.{Found}
+use Rattle.device_core.specs.declared.mark.Mark.TheVariants as mark
+use Rattle.device_core.proofs.Takes.{Brings-none, Brings-append}
+
+-- takes were made that bring no mark but those that are left
+pub record Looked (heard : Heard) (cutter : Reading) (before calls : Option (List Call)) : Type 0 where
+  pub takes : List Call
+  pub now : Heard
+  pub brings : Brings heard takes [] now
+  pub needed : AreNeeded heard takes []
+  pub stands : Stands cutter now
+  pub grows : Grows before takes calls
+
+pub Looked-none : {heard : Heard} {cutter : Reading} (calls : Option (List Call)) → Stands cutter heard → Looked heard cutter calls calls
+Looked-none {heard = heard} calls stands = record { takes = []; now = heard; brings = Brings-none heard; needed = inl refl; stands = stands; grows = Grows-none calls }
+
+Brings-took : (heard : Heard) (piece : List ℕ) → heard.left ≡ [] → Brings heard (Took piece ∷ []) [] (record { taken = heard.taken ++ piece; left = piece_marks heard.taken piece })
+unfolding take_marks bytes_in
+Brings-took heard piece none = record {
+  marks = ap (λ (l : List Mark). l ++ (piece_marks heard.taken piece ++ [])) none ∙ append-nil (piece_marks heard.taken piece);
+  taken = ap (λ (l : List ℕ). heard.taken ++ l) (sym (append-nil piece));
+}
+
+Brings-quiet : (heard : Heard) → heard.left ≡ [] → Brings heard (WasQuiet ∷ []) (Quiet ∷ []) heard
+unfolding take_marks bytes_in
+Brings-quiet heard none = record { marks = ap (λ (l : List Mark). l ++ Quiet ∷ []) none ∙ ap (λ (l : List Mark). Quiet ∷ l) (sym none); taken = sym (append-nil heard.taken) }
+
+Brings-end : (heard : Heard) → heard.left ≡ [] → Brings heard (WasEnd ∷ []) (End ∷ []) heard
+unfolding take_marks bytes_in
+Brings-end heard none = record { marks = ap (λ (l : List Mark). l ++ End ∷ []) none ∙ ap (λ (l : List Mark). End ∷ l) (sym none); taken = sym (append-nil heard.taken) }
+
+Brings-failed : (heard : Heard) → heard.left ≡ [] → Brings heard (TakeFailed ∷ []) (Failed ∷ []) heard
+unfolding take_marks bytes_in
+Brings-failed heard none = record { marks = ap (λ (l : List Mark). l ++ Failed ∷ []) none ∙ ap (λ (l : List Mark). Failed ∷ l) (sym none); taken = sym (append-nil heard.taken) }
+
+module _ {heard : Heard} {cutter : Reading} {before calls : Option (List Call)} (looked : Looked heard cutter before calls) where
+  -- what was taken holds a mark
+  pub Looks-message : {new : Reading} (found : Found) → IsFirst looked.now.left (Message found.place (found_in new found)) looked.now.taken new → Looks heard (mark.Message found) new before calls
+  Looks-message found first = record {
+    takes = looked.takes;
+    later = record { taken = looked.now.taken; left = first.later };
+    brings = record { marks = looked.brings.marks ∙ first.are; taken = looked.brings.taken };
+    needed = looked.needed;
+    stands = first.stands;
+    grows = looked.grows;
+  }
+
+  pub Looks-bad : {new : Reading} (place : ℕ) → looked.now.left ≡ Bad place ∷ [] → Looks heard (mark.Bad place) new before calls
+  Looks-bad place bad = record {
+    takes = looked.takes;
+    later = record { taken = looked.now.taken; left = [] };
+    brings = record { marks = looked.brings.marks ∙ bad; taken = looked.brings.taken };
+    needed = looked.needed;
+    stands = tt;
+    grows = looked.grows;
+  }
+
+  -- it holds none, and one take more is needed
+  module _ (none : looked.now.left ≡ []) where
+    more_needed : (last : Call) → AreNeeded heard (looked.takes ++ last ∷ []) []
+    more_needed last = inr (looked.takes, last, [], refl, sym (append-nil (marks_with heard looked.takes) ∙ looked.brings.marks ∙ none))
+
+    pub Looked-more : {new : Reading} {after : Option (List Call)} (piece : List ℕ) → Stands new (record { taken = looked.now.taken ++ piece; left = piece_marks looked.now.taken piece })
+        → Grows calls (Took piece ∷ []) after → Looked heard new before after
+    Looked-more piece stands grows = record {
+      takes = looked.takes ++ Took piece ∷ [];
+      now = record { taken = looked.now.taken ++ piece; left = piece_marks looked.now.taken piece };
+      brings = Brings-append looked.brings (Brings-took looked.now piece none);
+      needed = more_needed (Took piece);
+      stands = stands;
+      grows = Grows-append looked.grows grows;
+    }
+
+    module _ {new : Reading} {after : Option (List Call)} (stands : Stands new looked.now) where
+      pub Looks-quiet : Grows calls (WasQuiet ∷ []) after → Looks heard mark.Quiet new before after
+      Looks-quiet grows = record {
+        takes = looked.takes ++ WasQuiet ∷ [];
+        later = looked.now;
+        brings = Brings-append looked.brings (Brings-quiet looked.now none);
+        needed = more_needed WasQuiet;
+        stands = stands;
+        grows = Grows-append looked.grows grows;
+      }
+
+      pub Looks-end : Grows calls (WasEnd ∷ []) after → Looks heard mark.End new before after
+      Looks-end grows = record {
+        takes = looked.takes ++ WasEnd ∷ [];
+        later = looked.now;
+        brings = Brings-append looked.brings (Brings-end looked.now none);
+        needed = more_needed WasEnd;
+        stands = stands;
+        grows = Grows-append looked.grows grows;
+      }
+
+      pub Looks-failed : Grows calls (TakeFailed ∷ []) after → Looks heard mark.Failed new before after
+      Looks-failed grows = record {
+        takes = looked.takes ++ TakeFailed ∷ [];
+        later = looked.now;
+        brings = Brings-append looked.brings (Brings-failed looked.now none);
+        needed = more_needed TakeFailed;
+        stands = stands;
+        grows = Grows-append looked.grows grows;
+      }

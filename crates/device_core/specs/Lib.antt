@@ -1,0 +1,5 @@
+pub mod Requests
+pub mod Marks
+pub mod Waiting
+pub mod Session
+pub mod Hearing

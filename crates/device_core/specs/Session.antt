@@ -1,0 +1,152 @@
+-- A tool's whole session: the requests of a plan, each behind the answer to the one before, and how it ends.
+-- Source: the order in which libqmi's qmi_device_open and qmi_device_allocate_client (src/libqmi-glib/qmi-device.c) and qmicli ask.
+use Rattle.std.specs.Prelude.{◌≡◌, ◌≢◌, ◌⊎◌, ℕ, ◌+◌, true, false, ◌==◌, if◌then◌else◌, List, [], ◌∷◌, ◌++◌, drop, slice_get, option_and_then, Option, Some, None, Result, Ok, Err}
+use Rattle.kit_io.specs.Told.{Grows}
+use Rattle.qmux_frame.specs.Head.{head_length, is_framed}
+use Rattle.link_io.specs.Calls.{Call, Sent}
+use Rattle.qmi_requests.specs.declared.QmiRequest.{QmiRequest}
+use Rattle.qmi_requests.specs.declared.QmiRequest.TheVariants.{ProxyOpen, Allocate, Release}
+use Rattle.qmi_services.specs.declared.answers.QmiAnswer.{QmiAnswer}
+use Rattle.qmi_services.specs.declared.answers.QmiAnswer.TheVariants.{Success, Failure}
+use Rattle.qmi_services.specs.declared.answers.AnswerFault.TheVariants.{Unread}
+use Rattle.qmi_services.specs.Requests.{row_of}
+use Rattle.qmi_services.specs.Answers.{Answers, tlv_value}
+use Rattle.device_core.specs.declared.fault.SessionFault.{SessionFault}
+use Rattle.device_core.specs.declared.fault.SessionFault.TheVariants as fault
+use Rattle.device_core.specs.declared.plan.QmiPlan.{QmiPlan}
+use Rattle.device_core.specs.declared.plan.QmiEnd.{QmiEnd}
+use Rattle.device_core.specs.Requests.{Request, message_of, wanted_by}
+use Rattle.device_core.specs.Waiting.{Heard, Outcome, Answered, Fails, Waits}
+
+-- ---- one request ----
+
+-- a request is sent, and its answer is waited for
+pub data Asks (request : Request) (heard : Heard) (calls : List Call) (outcome : Outcome) (later : Heard) : Type 0 where
+  -- there is no memory for its message
+  unmade : calls ≡ [] → outcome ≡ Fails fault.OutOfMemory → Asks request heard calls outcome later
+  unsent : (front rest : List ℕ) → message_of request ≡ front ++ rest → calls ≡ Sent front false ∷ [] → outcome ≡ Fails fault.LinkFault → Asks request heard calls outcome later
+  sent : (takes : List Call) → calls ≡ Sent (message_of request) true ∷ takes → Waits (wanted_by request) heard takes outcome later → Asks request heard calls outcome later
+
+abbrev pub tlvs_in : List ℕ → List ℕ
+tlvs_in message = drop (head_length message) message
+
+-- what an answer says to a request: one that isn't framed or doesn't read breaks the session where it begins
+abbrev pub Reads : QmiRequest → ℕ → List ℕ → Result QmiAnswer SessionFault → Type 0
+Reads body place message (Ok answer) = (is_framed message ≡ true) × Answers (row_of body).output (tlvs_in message) (Ok answer)
+Reads body place message (Err (fault.Broken at)) = (at ≡ place) × ((is_framed message ≡ false) ⊎ Answers (row_of body).output (tlvs_in message) (Err Unread))
+Reads body place message (Err fault.OutOfMemory) = Unit {0}
+Reads body place message (Err _) = ⊥
+
+-- ---- what follows ----
+
+-- the session ends so, and nothing more is called
+abbrev pub Stops : Result QmiEnd SessionFault → List Call → Result QmiEnd SessionFault → Type 0
+Stops end calls result = (calls ≡ []) × (result ≡ end)
+
+abbrev pub AfterOutcome : Outcome → List Call → Result QmiEnd SessionFault → (ℕ → List ℕ → Type 0) → Type 0
+AfterOutcome (Answered place message) calls result Then = Then place message
+AfterOutcome (Fails why) calls result Then = Stops (Err why) calls result
+
+-- a request, and what follows where it is answered
+pub record Step (request : Request) (heard : Heard) (calls : List Call) (result : Result QmiEnd SessionFault) (Then : ℕ → List ℕ → Heard → List Call → Type 0) : Type 0 where
+  pub own : List Call
+  pub more : List Call
+  pub outcome : Outcome
+  pub later : Heard
+  pub are : calls ≡ own ++ more
+  pub asks : Asks request heard own outcome later
+  pub follows : AfterOutcome outcome more result (λ place message. Then place message later more)
+
+abbrev pub AfterReading : Result QmiAnswer SessionFault → List Call → Result QmiEnd SessionFault → (QmiAnswer → Type 0) → Type 0
+AfterReading (Ok answer) calls result Then = Then answer
+AfterReading (Err why) calls result Then = Stops (Err why) calls result
+
+-- an answer is read, and what follows where it reads
+pub record ReadsThen (body : QmiRequest) (place : ℕ) (message : List ℕ) (calls : List Call) (result : Result QmiEnd SessionFault) (Then : QmiAnswer → Type 0) : Type 0 where
+  pub read : Result QmiAnswer SessionFault
+  pub reads : Reads body place message read
+  pub follows : AfterReading read calls result Then
+
+-- the end with this failure before the command
+abbrev pub failed : ℕ → QmiEnd
+failed error = record { answer = Failure error; kept = None }
+
+-- a failure before the command ends the session as the answer
+abbrev pub OnSuccess : QmiAnswer → List Call → Result QmiEnd SessionFault → Type 0 → Type 0
+OnSuccess (Success fields) calls result Then = Then
+OnSuccess (Failure error) calls result Then = Stops (Ok (failed error)) calls result
+
+-- ---- the requests of a plan, the last one first; the requests to service 0 are numbered from 1 ----
+
+abbrev pub service : QmiPlan → ℕ
+service plan = (row_of plan.request).service
+
+-- the session ends with this answer
+abbrev pub end_with : QmiAnswer → Option (ℕ × ℕ) → Result QmiEnd SessionFault
+end_with answer kept = Ok (record { answer = answer; kept = kept })
+
+abbrev pub release : QmiPlan → ℕ → ℕ → Request
+release plan client number = record { body = Release (service plan) client; client = 0; number = number }
+
+-- the answer to Release must be framed, and isn't read
+abbrev pub released : ℕ → List ℕ → QmiAnswer → Result QmiEnd SessionFault
+released place message answer = if is_framed message then end_with answer None else Err (fault.Broken place)
+
+-- what becomes of the client id
+pub data Finishes (plan : QmiPlan) (client number : ℕ) (answer : QmiAnswer) (heard : Heard) (calls : List Call) (result : Result QmiEnd SessionFault) : Type 0 where
+  without : service plan ≡ 0 → Stops (end_with answer None) calls result → Finishes plan client number answer heard calls result
+  keeping : service plan ≢ 0 → plan.keep ≡ true → Stops (end_with answer (Some (service plan, client))) calls result → Finishes plan client number answer heard calls result
+  releasing : service plan ≢ 0 → plan.keep ≡ false
+      → Step (release plan client number) heard calls result (λ place message later more. Stops (released place message answer) more result)
+      → Finishes plan client number answer heard calls result
+
+abbrev pub command : QmiPlan → ℕ → ℕ → Request
+command plan client number = record { body = plan.request; client = client; number = if service plan == 0 then number else 1 }
+
+-- the command, from the number of the next request to service 0 on
+abbrev pub Commands : QmiPlan → ℕ → ℕ → Heard → List Call → Result QmiEnd SessionFault → Type 0
+Commands plan client number heard calls result =
+    Step (command plan client number) heard calls result (λ place message later more.
+    ReadsThen plan.request place message more result (λ answer. Finishes plan client number answer later more result))
+
+-- the second number of the first Allocation, which is a service and a client id of one byte each
+-- Source: the message `Allocate CID` in libqmi's data/qmi-service-ctl.json.
+abbrev pub allocated_in : List ℕ → Option ℕ
+allocated_in tlvs = option_and_then (λ value. slice_get value 1) (tlv_value 0x01 tlvs)
+
+abbrev pub CommandsAs : QmiPlan → List ℕ → ℕ → Heard → List Call → Result QmiEnd SessionFault → Type 0
+CommandsAs plan message number heard calls result =
+    (client : ℕ) × (allocated_in (tlvs_in message) ≡ Some client) × Commands plan client number heard calls result
+
+abbrev pub allocate : QmiPlan → ℕ → Request
+allocate plan number = record { body = Allocate (service plan); client = 0; number = number }
+
+-- whose client id the command has
+pub data Chooses (plan : QmiPlan) (number : ℕ) (heard : Heard) (calls : List Call) (result : Result QmiEnd SessionFault) : Type 0 where
+  control : service plan ≡ 0 → Commands plan 0 number heard calls result → Chooses plan number heard calls result
+  given : (client : ℕ) → service plan ≢ 0 → plan.cid ≡ Some client → Commands plan client number heard calls result → Chooses plan number heard calls result
+  allocating : service plan ≢ 0 → plan.cid ≡ None
+      → Step (allocate plan number) heard calls result (λ place message later more.
+      ReadsThen (Allocate (service plan)) place message more result (λ answer. OnSuccess answer more result (CommandsAs plan message (number + 1) later more result)))
+      → Chooses plan number heard calls result
+
+abbrev pub proxy_open : QmiPlan → Request
+proxy_open plan = record { body = ProxyOpen plan.device; client = 0; number = 1 }
+
+abbrev pub nothing_heard : Heard
+nothing_heard = record { taken = []; left = [] }
+
+-- the session, with all its calls
+pub data Session (plan : QmiPlan) (calls : List Call) (result : Result QmiEnd SessionFault) : Type 0 where
+  no_memory : Stops (Err fault.OutOfMemory) calls result → Session plan calls result
+  direct : plan.proxied ≡ false → Chooses plan 1 nothing_heard calls result → Session plan calls result
+  proxied : plan.proxied ≡ true
+      → Step (proxy_open plan) nothing_heard calls result (λ place message later more.
+      ReadsThen (ProxyOpen plan.device) place message more result (λ answer. OnSuccess answer more result (Chooses plan 2 later more result)))
+      → Session plan calls result
+
+-- a link's calls have grown by some like this
+pub record Makes (Like : List Call → Type 0) (before after : Option (List Call)) : Type 0 where
+  pub calls : List Call
+  pub are : Like calls
+  pub grows : Grows before calls after

@@ -1,0 +1,65 @@
+ghost use Rattle.std.specs.Prelude.{◌≡◌, true, IsSome, Some};
+ghost use Rattle.framing.specs.Framing.{IsMessage};
+ghost use Rattle.qmux_frame.specs.Frame.{size_of};
+ghost use Rattle.qmux_frame.specs.Head.{is_framed};
+ghost use Rattle.device_core.specs.Session.{Reads, allocated_in, tlvs_in};
+
+use crate::fault::SessionFault;
+use qmi_requests::QmiRequest;
+use qmi_services::{AnswerFault, QmiAnswer, answer};
+use qmux_frame::Head;
+use std::alloc::Global;
+use tlv_codec::{First, first_of};
+
+/// The type of the TLV of Allocate CID's answer that holds a service and a client id.
+const ALLOCATION: u8 = 0x01;
+
+/// What the whole message that begins at this place says to a request.
+pub(crate) fn read(
+    alloc: Global,
+    body: &QmiRequest,
+    place: u64,
+    message: &[u8],
+) -> Result<QmiAnswer, SessionFault>
+    requires { IsMessage size_of message.now }
+    ensures { Reads body.now place message.now result }
+{
+    if !Head::read(message).framed {
+        return Err(SessionFault::Broken { place });
+    }
+    match answer(alloc, body, tlvs_of(message)) {
+        Ok(answer) => Ok(answer),
+        Err(AnswerFault::Unread) => Err(SessionFault::Broken { place }),
+        Err(AnswerFault::OutOfMemory) => Err(SessionFault::OutOfMemory),
+    }
+}
+
+/// The TLVs of a message whose head is whole.
+pub(crate) fn tlvs_of(message: &[u8]) -> &[u8]
+    requires { is_framed message.now ≡ true }
+    ensures { result.now ≡ tlvs_in message.now }
+{
+    if message[4] == 0 {
+        &message[12..]
+    } else {
+        &message[13..]
+    }
+}
+
+/// The client id that these TLVs allocate.
+pub(crate) fn allocated(tlvs: &[u8]) -> u8
+    requires { IsSome (allocated_in tlvs.now) }
+    ensures { allocated_in tlvs.now ≡ Some result }
+{
+    allocation(tlvs).unwrap()
+}
+
+// The second number of the first Allocation, if there is one.
+fn allocation(tlvs: &[u8]) -> Option<u8>
+    ensures { result ≡ allocated_in tlvs.now }
+{
+    match first_of(tlvs, ALLOCATION) {
+        First::Found(tlv) => tlvs[tlv.start..tlv.end].get(1).copied(),
+        First::Missing | First::Unread => None,
+    }
+}

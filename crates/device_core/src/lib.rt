@@ -1,0 +1,18 @@
+//! A tool's session with a modem, over a link that is open.
+#![tactic(auto)]
+
+mod answer;
+mod control;
+mod exchange;
+mod fault;
+mod incoming;
+mod mark;
+mod message;
+mod plan;
+mod session;
+mod waiting;
+
+pub use fault::SessionFault;
+pub use message::request_message;
+pub use plan::{QmiEnd, QmiPlan};
+pub use session::qmi_session;

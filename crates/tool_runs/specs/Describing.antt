@@ -1,0 +1,80 @@
+-- What a command that describes the messages of a file does to its files, and what it prints.
+use Rattle.std.specs.Prelude.{◌≡◌, ℕ, ◌/◌, ◌%◌, ◌==◌, Bool, List, [], ◌∷◌, ◌++◌, length, slice_index, Option, Result, Ok, Err, codes, decimal, if◌then◌else◌}
+use Rattle.std.specs.List.{flat_map}
+use Rattle.std.specs.Str.{encode_utf8_all}
+use Rattle.kit_io.specs.Told.{Grows, GrowsByFront}
+use Rattle.file_io.specs.Calls.{Call}
+use Rattle.file_io.specs.Reading.{GrowsByFile}
+use Rattle.file_io.specs.declared.reading.FileFault.{FileFault}
+use Rattle.file_io.specs.declared.reading.FileFault.TheVariants as file
+use Rattle.message_tables.specs.declared.fault.TableFault.{TableFault}
+use Rattle.message_tables.specs.declared.fault.TableFault.TheVariants as table
+use Rattle.message_tables.specs.Messages.{MessageForm}
+use Rattle.message_tables.specs.Tables.{tables_in}
+use Rattle.qmicli_print.specs.Answer.{or_ok}
+use Rattle.tool_runs.specs.declared.run_end.RunEnd.{RunEnd}
+use Rattle.tool_runs.specs.declared.run_end.RunEnd.TheVariants as run
+
+-- ---- the text ----
+
+-- the services whose messages are kept
+abbrev pub service_word : ℕ → List ℕ
+service_word service =
+    if service == 0 then codes "ctl"
+    else if service == 1 then codes "wds"
+    else if service == 2 then codes "dms"
+    else if service == 3 then codes "nas"
+    else if service == 5 then codes "wms"
+    else []
+
+abbrev pub kind_word : Bool → List ℕ
+kind_word indication = if indication then codes " indication 0x" else codes " message 0x"
+
+abbrev pub digit : ℕ → ℕ
+digit n = slice_index (codes "0123456789ABCDEF") (n % 16)
+
+-- an id in four digits
+abbrev pub id_digits : ℕ → List ℕ
+id_digits id = digit (id / 4096) ∷ digit (id / 256) ∷ digit (id / 16) ∷ digit (id / 1) ∷ []
+
+unfoldable pub count_text : List ℕ → ℕ → List ℕ → List ℕ
+count_text front count back = front ++ decimal count ++ back
+
+-- service, kind, id, name, and how many TLVs it has
+unfoldable pub message_line : MessageForm → List ℕ
+message_line m =
+    service_word m.service ++ kind_word m.indication ++ id_digits m.id ++ codes " " ++ encode_utf8_all m.name
+    ++ count_text (codes ": ") (length m.input) (codes " in") ++ count_text (codes ", ") (length m.output) (codes " out\n")
+
+abbrev pub tables_text : List MessageForm → List ℕ
+tables_text messages = or_ok (flat_map message_line messages)
+
+-- ---- what is printed ----
+
+-- the descriptions are a text whose messages have these lines, or have this fault
+abbrev pub PrintsTables : List ℕ → Option (List ℕ) → RunEnd → Option (List ℕ) → Type 0
+PrintsTables text before run.Done after = (messages : List MessageForm) × (tables_in text ≡ Ok messages) × Grows before (tables_text messages) after
+PrintsTables text before run.WriteFault after = (messages : List MessageForm) × (tables_in text ≡ Ok messages) × GrowsByFront before (tables_text messages) after
+PrintsTables text before (run.Tables fault) after = (tables_in text ≡ Err fault) × Grows before [] after
+PrintsTables text before run.OutOfMemory after = Grows before [] after
+PrintsTables text before _ after = ⊥
+
+-- how a command ends whose file isn't read
+abbrev pub end_of_file : FileFault → RunEnd
+end_of_file file.ReadFault = run.ReadFault
+end_of_file file.Long = run.LongTables
+end_of_file file.OutOfMemory = run.OutOfMemory
+
+abbrev pub end_of_tables : TableFault → RunEnd
+end_of_tables table.OutOfMemory = run.OutOfMemory
+end_of_tables fault = run.Tables fault
+
+abbrev pub SaysTables : Result (List ℕ) FileFault → Option (List ℕ) → RunEnd → Option (List ℕ) → Type 0
+SaysTables (Ok text) before ends after = PrintsTables text before ends after
+SaysTables (Err why) before ends after = (ends ≡ end_of_file why) × Grows before [] after
+
+-- the file at this path was read, and what it describes was printed
+pub record Describes (path : List ℕ) (before after : Option (List Call)) (out : Option (List ℕ)) (ends : RunEnd) (printed : Option (List ℕ)) : Type 0 where
+  pub read : Result (List ℕ) FileFault
+  pub reads : GrowsByFile path before read after
+  pub says : SaysTables read out ends printed

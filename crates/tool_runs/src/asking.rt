@@ -1,0 +1,86 @@
+ghost use Rattle.std.specs.Prelude.{◌≡◌, Err};
+ghost use Rattle.std.specs.Str.{encode_utf8_all};
+ghost use Rattle.kit_io.specs.Causes.{Rose};
+ghost use Rattle.link_io.specs.Target.{path_of};
+ghost use Rattle.qmicli_print.specs.Answer.{answer_text};
+ghost use Rattle.tool_runs.specs.Asking.{Asks, Exchanges, HasFailed, Prints, PrintsText};
+
+use crate::run_end::RunEnd;
+use device_core::{QmiEnd, QmiPlan, SessionFault, qmi_session};
+use kit_bytes::{PathText, Text};
+use kit_io::{Failed, Sink, WriteFault, write_all_to};
+use link_io::{Link, Target};
+use qmi_services::QmiAnswer;
+use qmicli_print::qmi_text;
+use std::alloc::{AllocError, Global};
+
+/// Opens the link at a path, has the session of a plan over it, closes it, and prints the answer.
+pub fn ask<O: Sink, L: Link>(
+    alloc: Global,
+    path: &PathText,
+    plan: &QmiPlan,
+    out: &mut O,
+    link: &mut L,
+) -> RunEnd
+    ensures asks { Asks (encode_utf8_all path.now) plan.now (L.calls link.old) (L.calls link.new) (O.taken out.old) result (O.taken out.new) }
+    // It doesn't give up by itself.
+    ensures link_fault { result ≡ RunEnd.LinkFault → HasFailed L.faults L.open_faults link.old link.new }
+    ensures write_fault { result ≡ RunEnd.WriteFault → Rose (O.faults out.old) (O.faults out.new) }
+{
+    let Ok(path) = Text::from_str(alloc, path.value().as_str()) else {
+        return RunEnd::OutOfMemory;
+    };
+    match exchange(alloc, &Target::Socket(path), plan, link) {
+        Ok(end) => print_end(alloc, &end, out),
+        Err(fault) => RunEnd::from(fault),
+    }
+}
+
+// Opens the link, has the session over it, and closes it.
+fn exchange<L: Link>(
+    alloc: Global,
+    target: &Target,
+    plan: &QmiPlan,
+    link: &mut L,
+) -> Result<QmiEnd, SessionFault>
+    ensures exchanges { Exchanges (path_of target.now) plan.now (L.calls link.old) result (L.calls link.new) }
+    ensures link_fault { result ≡ Err SessionFault.LinkFault → HasFailed L.faults L.open_faults link.old link.new }
+{
+    if let Err(Failed) = link.open(target) {
+        return Err(SessionFault::LinkFault);
+    }
+    let end = qmi_session(alloc, link, plan);
+    link.close();
+    end
+}
+
+// Prints the text of a session's end, where the modem refused nothing.
+fn print_end<O: Sink>(alloc: Global, end: &QmiEnd, out: &mut O) -> RunEnd
+    ensures prints { Prints end.now (O.taken out.old) result (O.taken out.new) }
+    ensures write_fault { result ≡ RunEnd.WriteFault → Rose (O.faults out.old) (O.faults out.new) }
+    ensures link_fault { ¬ (result ≡ RunEnd.LinkFault) }
+{
+    match &end.answer {
+        QmiAnswer::Failure(error) => RunEnd::Denied { error: *error },
+        QmiAnswer::Success(_) => print_answer(alloc, &end.answer, end.kept, out),
+    }
+}
+
+fn print_answer<O: Sink>(
+    alloc: Global,
+    answer: &QmiAnswer,
+    kept: Option<(u8, u8)>,
+    out: &mut O,
+) -> RunEnd
+    ensures prints { PrintsText (answer_text answer.now kept) (O.taken out.old) result (O.taken out.new) }
+    ensures write_fault { result ≡ RunEnd.WriteFault → Rose (O.faults out.old) (O.faults out.new) }
+    ensures link_fault { ¬ (result ≡ RunEnd.LinkFault) }
+{
+    match qmi_text(alloc, answer, kept) {
+        Err(AllocError) => RunEnd::OutOfMemory,
+        Ok(text) => match write_all_to(out, text.as_slice()) {
+            Ok(()) => RunEnd::Done,
+            Err(WriteFault) => RunEnd::WriteFault,
+        },
+    }
+}

@@ -1,0 +1,78 @@
+ghost use Rattle.std.specs.Prelude.{◌≡◌};
+
+use device_core::SessionFault;
+use file_io::FileFault;
+use message_tables::TableFault;
+
+/// How a command ended.
+#[derive(Clone, Copy, Debug, PartialEq, Eq)]
+pub enum RunEnd {
+    /// Its text was printed.
+    Done,
+    /// The modem refused the request, or the one that gets a client id or opens a proxy's device, with
+    /// this error of QMI.
+    Denied { error: u16 },
+    /// A call on the link failed.
+    LinkFault,
+    /// The modem ended the link before its answer.
+    LinkEnd,
+    /// The modem was quiet for too long.
+    TimedOut,
+    /// From this place of the modem's stream on comes what isn't an answer.
+    Broken { place: u64 },
+    /// Too many messages came without the answer.
+    Flooded,
+    /// The descriptions of messages aren't read, for this reason.
+    Tables { fault: TableFault },
+    /// They are too long.
+    LongTables,
+    /// Their file couldn't be read.
+    ReadFault,
+    /// The text couldn't be written.
+    WriteFault,
+    OutOfMemory,
+}
+
+impl From<SessionFault> for RunEnd {
+    ghost use Rattle.tool_runs.specs.Asking.{end_of};
+
+    ghost from_gives = { λ fault end. end ≡ end_of fault };
+
+    fn from(fault: SessionFault) -> Self {
+        match fault {
+            SessionFault::LinkFault => RunEnd::LinkFault,
+            SessionFault::LinkEnd => RunEnd::LinkEnd,
+            SessionFault::TimedOut => RunEnd::TimedOut,
+            SessionFault::Broken { place } => RunEnd::Broken { place },
+            SessionFault::Flooded => RunEnd::Flooded,
+            SessionFault::OutOfMemory => RunEnd::OutOfMemory,
+        }
+    }
+}
+
+impl From<FileFault> for RunEnd {
+    ghost use Rattle.tool_runs.specs.Describing.{end_of_file};
+
+    ghost from_gives = { λ fault end. end ≡ end_of_file fault };
+
+    fn from(fault: FileFault) -> Self {
+        match fault {
+            FileFault::ReadFault => RunEnd::ReadFault,
+            FileFault::Long => RunEnd::LongTables,
+            FileFault::OutOfMemory => RunEnd::OutOfMemory,
+        }
+    }
+}
+
+impl From<TableFault> for RunEnd {
+    ghost use Rattle.tool_runs.specs.Describing.{end_of_tables};
+
+    ghost from_gives = { λ fault end. end ≡ end_of_tables fault };
+
+    fn from(fault: TableFault) -> Self {
+        match fault {
+            TableFault::OutOfMemory => RunEnd::OutOfMemory,
+            fault => RunEnd::Tables { fault },
+        }
+    }
+}
