@@ -2,6 +2,7 @@
 //! its link and its hub are Unix sockets. What it does with them is `program`'s.
 #![tactic(auto)]
 
+use file_io::StdFiles;
 use hub_io::MioHub;
 use kit_io::StdSink;
 use link_io::UnixLink;
@@ -13,11 +14,20 @@ fn main(rt: HostRuntime) -> ExitCode {
     let mut out = StdSink::new(rt.stdout());
     let mut err = StdSink::new(rt.stderr());
     let mut link = UnixLink::new(&rt);
+    let mut files = StdFiles::new(&rt);
     let Ok(mut hub) = MioHub::new(&rt, rt.alloc()) else {
         return ExitCode::from(give_up(&mut err).code());
     };
     let status = match read_words(&rt) {
-        Ok(words) => run(rt.alloc(), &words, &mut out, &mut err, &mut link, &mut hub),
+        Ok(words) => run(
+            rt.alloc(),
+            &words,
+            &mut out,
+            &mut err,
+            &mut link,
+            &mut hub,
+            &mut files,
+        ),
         Err(_) => refuse(&mut err),
     };
     ExitCode::from(status.code())

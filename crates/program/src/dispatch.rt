@@ -3,7 +3,9 @@ ghost use Rattle.kit_io.specs.Causes.{Rose};
 ghost use Rattle.kit_io.specs.Told.{Grows};
 ghost use Rattle.hub_io.specs.Record.{Since};
 ghost use Rattle.tool_words.specs.declared.fault.UsageKind.{UsageKind};
-ghost use Rattle.program.specs.Run.{Asks, HasFailed};
+ghost use Rattle.tool_runs.specs.Asking.{HasFailed};
+ghost use Rattle.tool_words.specs.declared.command.ToolCommand.{ToolCommand};
+ghost use Rattle.program.specs.Tool.{RunsTool};
 ghost use Rattle.program.specs.Serving.{ServesProxy, asked_in};
 ghost use Rattle.kit_bytes.specs.declared.Kind.{Kind};
 ghost use Rattle.tool_words.specs.Command.{command_in};
@@ -15,22 +17,24 @@ use crate::proxy::run_proxy;
 use crate::status::Status;
 use crate::tool::run_tool;
 use crate::words::is_proxy;
+use file_io::Files;
 use hub_io::Hub;
 use kit_io::Sink;
 use link_io::Link;
 use std::alloc::Global;
 
 /// Does all that the program does: what the words ask, as a tool or as a proxy.
-pub fn run<O: Sink, E: Sink, L: Link, H: Hub>(
+pub fn run<O: Sink, E: Sink, L: Link, H: Hub, F: Files>(
     alloc: Global,
     words: &[String],
     out: &mut O,
     err: &mut E,
     link: &mut L,
     hub: &mut H,
+    files: &mut F,
 ) -> Status
     // With a proxy's words nothing is asked or printed, and else nothing is served.
-    ensures proxy_alone { asked.is_proxy (map string_bytes words.now) ≡ true → (link.new ≡ link.old) × (out.new ≡ out.old) }
+    ensures proxy_alone { asked.is_proxy (map string_bytes words.now) ≡ true → (link.new ≡ link.old) × (files.new ≡ files.old) × (out.new ≡ out.old) }
     ensures tool_alone { asked.is_proxy (map string_bytes words.now) ≡ false → hub.new ≡ hub.old }
 
     // A proxy's words.
@@ -42,11 +46,15 @@ pub fn run<O: Sink, E: Sink, L: Link, H: Hub>(
     ensures hub_fault { result ≡ Status.HubFault → Rose (H.faults hub.old) (H.faults hub.new) }
 
     // Any other words.
-    ensures tool_usage { asked.is_proxy (map string_bytes words.now) ≡ false → (kind : UsageKind) → asked.path_in (map string_bytes words.now) ≡ Err kind →
-        (result ≡ Status.Usage kind) × (link.new ≡ link.old) × (out.new ≡ out.old) }
-    ensures tool_asks { asked.is_proxy (map string_bytes words.now) ≡ false → (path : List ℕ) → asked.path_in (map string_bytes words.now) ≡ Ok path →
-        Asks path (L.calls link.old) (L.calls link.new) (O.taken out.old) result (O.taken out.new) }
+    ensures tool_usage { asked.is_proxy (map string_bytes words.now) ≡ false → (kind : UsageKind) → command_in (map string_bytes words.now) ≡ Err kind →
+        ((result ≡ Status.Usage kind) ⊎ (result ≡ Status.OutOfMemory)) × (link.new ≡ link.old) × (files.new ≡ files.old) × (out.new ≡ out.old) }
+    ensures tool_runs { asked.is_proxy (map string_bytes words.now) ≡ false → (command : ToolCommand) → command_in (map string_bytes words.now) ≡ Ok command →
+        RunsTool command
+        (record { link = L.calls link.old; files = F.calls files.old; out = O.taken out.old })
+        (record { link = L.calls link.new; files = F.calls files.new; out = O.taken out.new })
+        result }
     ensures link_fault { result ≡ Status.LinkFault → HasFailed L.faults L.open_faults link.old link.new }
+    ensures read_fault { result ≡ Status.ReadFault → Rose (F.read_faults files.old) (F.read_faults files.new) }
     ensures write_fault { result ≡ Status.WriteFault → Rose (O.faults out.old) (O.faults out.new) }
 
     // A line tells of an error, unless it can't be written.
@@ -55,6 +63,6 @@ pub fn run<O: Sink, E: Sink, L: Link, H: Hub>(
     if is_proxy(words) {
         run_proxy(alloc, words, err, hub)
     } else {
-        run_tool(alloc, words, out, err, link)
+        run_tool(alloc, words, out, err, link, files)
     }
 }

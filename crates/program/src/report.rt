@@ -1,12 +1,13 @@
 ghost use Rattle.std.specs.Prelude.{◌≡◌, OnOk};
 ghost use Rattle.kit_io.specs.Causes.{Rose, HasCause};
 ghost use Rattle.kit_io.specs.Told.{Grows};
-ghost use Rattle.program.specs.Status.{error_line, line_of};
+ghost use Rattle.program.specs.Status.{error_line, line_of, object_line, tables_line};
 
 use crate::Status;
 use crate::status::kind_word;
 use itoa::Buffer;
 use kit_io::{Sink, WriteFault, write_all_to};
+use message_tables::TableFault;
 use tool_words::UsageKind;
 
 /// Refuses words that couldn't be read.
@@ -44,6 +45,9 @@ fn write_line<E: Sink>(status: Status, err: &mut E) -> Result<(), WriteFault>
 {
     match status {
         Status::Done => Ok(()),
+        Status::Denied { error } => {
+            write_error(b"denied ", Buffer::new().format(error).as_bytes(), err)
+        }
         Status::Usage { kind } => write_error(b"usage: ", kind_word(kind).as_bytes(), err),
         Status::LinkFault => write_error(b"link fault", b"", err),
         Status::LinkEnd => write_error(b"link ended", b"", err),
@@ -51,7 +55,11 @@ fn write_line<E: Sink>(status: Status, err: &mut E) -> Result<(), WriteFault>
         Status::Broken { place } => {
             write_error(b"broken at ", Buffer::new().format(place).as_bytes(), err)
         }
+        Status::Flooded => write_error(b"flooded", b"", err),
         Status::WriteFault => write_error(b"write fault", b"", err),
+        Status::Tables { fault } => write_fault_of_tables(fault, err),
+        Status::LongTables => write_error(b"tables: long", b"", err),
+        Status::ReadFault => write_error(b"read fault", b"", err),
         Status::HubFault => write_error(b"hub fault", b"", err),
         Status::TurnsSpent => write_error(b"turns spent", b"", err),
         Status::OutOfMemory => write_error(b"out of memory", b"", err),
@@ -65,6 +73,54 @@ fn write_error<E: Sink>(what: &[u8], which: &[u8], err: &mut E) -> Result<(), Wr
     write_all_to(err, b"error: ")?;
     write_all_to(err, what)?;
     write_all_to(err, which)?;
+    write_all_to(err, b"\n")?;
+    Ok(())
+}
+
+#[tactic(auto, using(kit_io::proofs::Told::growing))]
+fn write_fault_of_tables<E: Sink>(fault: TableFault, err: &mut E) -> Result<(), WriteFault>
+    ensures line { OnOk result (Grows (E.taken err.old) (tables_line fault) (E.taken err.new)) }
+    ensures cause { HasCause (E.faults err.old) (E.faults err.new) result }
+{
+    let mut number = Buffer::new();
+    match fault {
+        TableFault::Json => write_error(b"tables: json", b"", err),
+        TableFault::Member { object, name } => {
+            let object = number.format(object).as_bytes();
+            write_object(b"tables: member ", name.as_str().as_bytes(), object, err)
+        }
+        TableFault::Format { object } => {
+            write_object(
+                b"tables: format",
+                b"",
+                number.format(object).as_bytes(),
+                err,
+            )
+        }
+        TableFault::Twice { object } => {
+            write_object(b"tables: twice", b"", number.format(object).as_bytes(), err)
+        }
+        TableFault::Deep { object } => {
+            write_object(b"tables: deep", b"", number.format(object).as_bytes(), err)
+        }
+        TableFault::OutOfMemory => write_error(b"out of memory", b"", err),
+    }
+}
+
+fn write_object<E: Sink>(
+    what: &[u8],
+    which: &[u8],
+    number: &[u8],
+    err: &mut E,
+) -> Result<(), WriteFault>
+    ensures line { OnOk result (Grows (E.taken err.old) (object_line what.now which.now number.now) (E.taken err.new)) }
+    ensures cause { HasCause (E.faults err.old) (E.faults err.new) result }
+{
+    write_all_to(err, b"error: ")?;
+    write_all_to(err, what)?;
+    write_all_to(err, which)?;
+    write_all_to(err, b" in ")?;
+    write_all_to(err, number)?;
     write_all_to(err, b"\n")?;
     Ok(())
 }

@@ -1,14 +1,17 @@
 ghost use Rattle.std.specs.Prelude.{◌≡◌};
 ghost use Rattle.program.specs.Status.{kind_word};
 
-use crate::SessionFault;
 use hub_io::ServeEnd;
+use message_tables::TableFault;
+use tool_runs::RunEnd;
 use tool_words::UsageKind;
 
 /// How a run of the program ended.
 #[derive(Clone, Copy, Debug, PartialEq, Eq)]
 pub enum Status {
     Done,
+    /// The modem refused the request, with this error of QMI.
+    Denied { error: u16 },
     /// The words are refused.
     Usage { kind: UsageKind },
     /// A call on the link failed.
@@ -19,8 +22,16 @@ pub enum Status {
     TimedOut,
     /// What came from the modem isn't its answer, from this place of its stream on.
     Broken { place: u64 },
+    /// Too many messages came without the answer.
+    Flooded,
     /// The text couldn't be written.
     WriteFault,
+    /// The descriptions of messages aren't read, for this reason.
+    Tables { fault: TableFault },
+    /// They are too long.
+    LongTables,
+    /// A file couldn't be read.
+    ReadFault,
     /// A call on the hub failed.
     HubFault,
     /// All the turns were taken.
@@ -52,12 +63,16 @@ impl Status {
     {
         match self {
             Status::Done => 0,
+            Status::Denied { .. } => 1,
             Status::Usage { .. } => 2,
             Status::LinkFault => 3,
             Status::LinkEnd => 4,
             Status::TimedOut => 5,
             Status::Broken { .. } => 6,
+            Status::Flooded => 7,
             Status::WriteFault => 8,
+            Status::Tables { .. } | Status::LongTables => 9,
+            Status::ReadFault => 10,
             Status::HubFault => 13,
             Status::TurnsSpent => 14,
             Status::OutOfMemory => 70,
@@ -65,17 +80,25 @@ impl Status {
     }
 }
 
-impl From<SessionFault> for Status {
+impl From<RunEnd> for Status {
     ghost use Rattle.program.specs.Status.{status_of};
 
-    ghost from_gives = { λ fault status. status ≡ status_of fault };
+    ghost from_gives = { λ end status. status ≡ status_of end };
 
-    fn from(fault: SessionFault) -> Self {
-        match fault {
-            SessionFault::LinkFault => Status::LinkFault,
-            SessionFault::LinkEnd => Status::LinkEnd,
-            SessionFault::TimedOut => Status::TimedOut,
-            SessionFault::Broken { place } => Status::Broken { place },
+    fn from(end: RunEnd) -> Self {
+        match end {
+            RunEnd::Done => Status::Done,
+            RunEnd::Denied { error } => Status::Denied { error },
+            RunEnd::LinkFault => Status::LinkFault,
+            RunEnd::LinkEnd => Status::LinkEnd,
+            RunEnd::TimedOut => Status::TimedOut,
+            RunEnd::Broken { place } => Status::Broken { place },
+            RunEnd::Flooded => Status::Flooded,
+            RunEnd::Tables { fault } => Status::Tables { fault },
+            RunEnd::LongTables => Status::LongTables,
+            RunEnd::ReadFault => Status::ReadFault,
+            RunEnd::WriteFault => Status::WriteFault,
+            RunEnd::OutOfMemory => Status::OutOfMemory,
         }
     }
 }
