@@ -25,9 +25,9 @@ use Rattle.qmi_state.specs.Regular.{IsPlaced, IsAsked, Regular}
 use Rattle.qmi_state.specs.Core.{Core, Stands, greatest_name, rests_of}
 use Rattle.qmi_state.proofs.Heads.{framed_long, number_last}
 use Rattle.qmi_state.proofs.Apart.{apart_in_use}
-use Rattle.qmi_state.proofs.Regulars.{regular_began}
-use Rattle.qmi_state.proofs.Keeping.{exchange, sessions_same}
-use Rattle.qmi_state.proofs.Modem.{kept_heard_all}
+use Rattle.qmi_state.proofs.Keeping.{exchange}
+use Rattle.qmi_state.proofs.Modem.{responses_framed, kept_heard_all}
+use Rattle.qmi_state.proofs.Steps.{keeps_read}
 use Rattle.qmi_state.proofs.Answering.{asked_of_pending}
 use Rattle.qmi_state.specs.Desk.{asks, ids}
 use Rattle.proxy_history.specs.Requests.{last_number}
@@ -38,18 +38,8 @@ use Rattle.qmi_isolation.proofs.Views.{noted_same}
 -- ---- the facts before a message of the modem ----
 
 regular_before : (s : Setup) (events : List Event) (core : Core) (earlier : List (List ℕ)) → Stands s events core → Regular (facts_before s events earlier)
-unfolding present dropped view asks last_number ids to_modem modem_drained
 regular_before s events core earlier S =
-    let begun : List Fact = EventBegan ∷ history s events in
-    (kept_heard_all s.device (greatest_name events) (rests_of events) s refl earlier begun (exchange core.sessions [] core.desk)
-    (record {
-      sessions = S.sessions ∙ sessions_same s.device (greatest_name events) (rests_of events) begun (history s events) (λ d. refl) (present (history s events));
-      leftovers = refl;
-      desk = S.desk;
-      names = S.names;
-      apart = tt;
-      regular = regular_began (history s events) S.regular;
-    })).regular
+    (kept_heard_all s.device (greatest_name events) (rests_of events) s refl earlier (EventBegan ∷ history s events) (exchange core.sessions [] core.desk) (keeps_read s events core S)).regular
 
 -- ---- which request is answered ----
 
@@ -123,14 +113,6 @@ none_left r (q ∷ list) =
       | false ↦ λ e. ap (λ (t : Bool). t || has_request r (without_request r list)) e ∙ none_left r list
     ]
     in step (r.serial == q.serial) refl
-
--- a response is whole
-response_long : (m : List ℕ) → kind_of m ≡ IsResponse → 12 ≤ length m
-response_long m e = framed_long m (by_tests (is_framed m) (is_bit_set (flags_of m) (response_bit m)) (is_bit_set (flags_of m) (indication_bit m)) e)
-  where
-    by_tests : (framed response indication : Bool) → (if not framed then IsNeither else if response then IsResponse else if indication then IsIndication else IsNeither) ≡ IsResponse → framed ≡ true
-    by_tests true response indication e = refl
-    by_tests false response indication e = absurd (cc)
 
 module _ (device : List ℕ) where
   ended_in_use : (cs : List ℕ) (past : List Fact) → in_use (end_overfull blank (text device) cs past) ≡ in_use past
@@ -216,7 +198,7 @@ module _ (s : Setup) (events : List Event) (core : Core) (earlier : List (List �
       let waiting : is_pending r past ≡ true = contained_has (pending past) r at in
       subst (IsDelivered s.device r m past)
       (sym (heard ∙ ap (λ (o : Option Request). respond s.device o m past) found ∙ ap (λ (b : Bool). answer_or_late s.device b r m past) waiting))
-      (delivered s.device r m past (response_long m response) (asked_of_pending past r regular at))
+      (delivered s.device r m past (framed_long m (responses_framed m response)) (asked_of_pending past r regular at))
 
   pub other_answers_have_none : (c : ℕ) → All (λ r. is_answered_by m r ≡ false) (pending past) → rendering s.device c (hear_modem s.device m past) ≡ rendering s.device c past
   unfolding view

@@ -1,11 +1,12 @@
 //! The QMI proxy: several clients share one modem.
 //!
-//! So far its definitions: what each client and the modem get. `docs/MODEL.md` tells them in plain words.
+//! Its definitions, which say what each client and the modem get, and the laws that follow from them.
+//! `docs/MODEL.md` tells them in plain words.
 #![tactic(auto)]
 
 mod laws;
 
 pub use laws::{
-    histories_are_sound, limits_are_kept, nothing_follows_an_end, numbers_in_use_differ,
-    parties_are_present, the_modem_is_away_in_both,
+    bytes_only_grow, histories_are_sound, limits_are_kept, nothing_follows_an_end,
+    numbers_in_use_differ, parties_are_present, the_modem_is_away_in_both,
 };

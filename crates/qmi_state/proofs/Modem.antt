@@ -24,7 +24,7 @@ use Rattle.qmi_state.proofs.Expired.{kept_expires, kept_aborts}
 use Rattle.qmi_state.proofs.Indicating.{kept_indicated}
 
 -- a response is framed
-responses_framed : (m : List ℕ) → kind_of m ≡ IsResponse → is_framed m ≡ true
+pub responses_framed : (m : List ℕ) → kind_of m ≡ IsResponse → is_framed m ≡ true
 responses_framed m e = by_tests (is_framed m) (is_bit_set (flags_of m) (response_bit m)) (is_bit_set (flags_of m) (indication_bit m)) e
   where
     by_tests : (framed response indication : Bool) → (if not framed then IsNeither else if response then IsResponse else if indication then IsIndication else IsNeither) ≡ IsResponse → framed ≡ true

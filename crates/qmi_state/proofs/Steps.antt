@@ -25,7 +25,7 @@ use Rattle.qmi_state.specs.Core.{Leftover, Core, rests_of, rest_in, modem_rest, 
 use Rattle.qmi_state.specs.Transitions.{exchange_in, with_exchange, joins, joins_if, leaves, leaves_if, takes, brings, hears_all, loses, loses_if, hears_cut, modem_brings, goes, returns, modem_takes, ticks, expires, step}
 use Rattle.qmi_state.proofs.Names.{above_absent}
 use Rattle.qmi_state.proofs.Regulars.{regular_began}
-use Rattle.qmi_state.proofs.Keeping.{Keeps, sessions_same}
+use Rattle.qmi_state.proofs.Keeping.{Keeps, exchange, sessions_same}
 use Rattle.qmi_state.proofs.Clock.{time_then, time_agrees}
 use Rattle.qmi_state.proofs.Modem.{kept_heard_all, kept_lost, kept_ticked, kept_returned, kept_modem_drained}
 use Rattle.qmi_state.proofs.Pieces.{add_all-append}
@@ -39,16 +39,20 @@ module _ (s : Setup) (events : List Event) where
   abbrev pub KeepsBegun : Core → Type 0
   KeepsBegun core = Keeps s.device (greatest_name events) (rests_of events) begun (exchange_in core)
 
-  keeps_begun : (core : Core) → core.dropped ≡ [] → Stands s events core → KeepsBegun core
+  -- once what was dropped is read
+  pub keeps_read : (core : Core) → Stands s events core → Keeps s.device (greatest_name events) (rests_of events) begun (exchange core.sessions [] core.desk)
   unfolding present dropped view asks last_number ids to_modem modem_drained
-  keeps_begun core none S = record {
+  keeps_read core S = record {
     sessions = S.sessions ∙ sessions_same s.device (greatest_name events) (rests_of events) begun (history s events) (λ d. refl) (present (history s events));
-    leftovers = none;
+    leftovers = refl;
     desk = S.desk;
     names = S.names;
     apart = tt;
     regular = regular_began (history s events) S.regular;
   }
+
+  keeps_begun : (core : Core) → core.dropped ≡ [] → Stands s events core → KeepsBegun core
+  keeps_begun core none S = subst (λ (ds : List Leftover). Keeps s.device (greatest_name events) (rests_of events) begun (exchange core.sessions ds core.desk)) (sym none) (keeps_read core S)
 
   -- none is dropped when an event begins
   none_dropped : dropped begun ≡ []
