@@ -17,7 +17,7 @@ use Rattle.qmi_services.specs.declared.answers.QmiAnswer.{QmiAnswer}
 use Rattle.qmi_services.specs.declared.answers.QmiAnswer.TheVariants.{Success, Failure}
 use Rattle.device_core.specs.declared.exchange.Reply.{Reply}
 use Rattle.device_core.specs.declared.incoming.Found.{Found}
-use Rattle.device_core.specs.declared.plan.QmiEnd.{QmiEnd}
+use Rattle.qmi_services.specs.declared.answers.QmiEnd.{QmiEnd}
 use Rattle.device_core.specs.declared.waiting.Wanted.{Wanted}
 use Rattle.device_core.specs.Requests.{Request, message_of, message_with, wanted_by}
 use Rattle.device_core.specs.Waiting.{Heard, Outcome, Answered, Fails, Waits}

@@ -14,7 +14,7 @@ use Rattle.qmi_services.specs.Answers.{Answers, tlv_value}
 use Rattle.device_core.specs.declared.fault.SessionFault.{SessionFault}
 use Rattle.device_core.specs.declared.fault.SessionFault.TheVariants as fault
 use Rattle.device_core.specs.declared.plan.QmiPlan.{QmiPlan}
-use Rattle.device_core.specs.declared.plan.QmiEnd.{QmiEnd}
+use Rattle.qmi_services.specs.declared.answers.QmiEnd.{QmiEnd}
 use Rattle.device_core.specs.Requests.{Request, message_of, wanted_by}
 use Rattle.device_core.specs.Waiting.{Heard, Outcome, Answered, Fails, Waits}
 

@@ -14,5 +14,5 @@ mod waiting;
 
 pub use fault::SessionFault;
 pub use message::request_message;
-pub use plan::{QmiEnd, QmiPlan};
+pub use plan::QmiPlan;
 pub use session::qmi_session;

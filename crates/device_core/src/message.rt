@@ -1,9 +1,7 @@
-ghost use Rattle.std.specs.Prelude.{◌≡◌, ℕ, ◌+◌, ◌≤◌, ◌++◌, IfOk, length};
-ghost use Rattle.tlv_codec.specs.Tlv.{tlv_text};
-ghost use Rattle.qmi_services.specs.Requests.{inputs_of, text_given};
+ghost use Rattle.std.specs.Prelude.{◌≡◌, ◌+◌, ◌≤◌, ◌++◌, IfOk, length};
 ghost use Rattle.device_core.specs.Requests.{Request, in_frame, message_of, message_with};
 
-use kit_bytes::{Octets, ShortText, u16_bytes};
+use kit_bytes::{Octets, u16_bytes};
 use qmi_requests::QmiRequest;
 use qmi_services::{message_of, request, service_of};
 use std::alloc::{AllocError, Global};
@@ -19,7 +17,6 @@ pub fn request_message(
     ensures { IfOk result (λ message. message ≡ message_of (record { body = body.now; client = client; number = number })) }
 {
     let tlvs = request(alloc, body)?;
-    has_few_tlvs(body);
     with_head(
         alloc,
         service_of(body),
@@ -28,40 +25,6 @@ pub fn request_message(
         message_of(body),
         tlvs.as_slice(),
     )
-}
-
-// The TLVs of a request fit a message, since its texts and bytes are short.
-fn has_few_tlvs(body: &QmiRequest)
-    ensures { length (tlv_text (inputs_of body.now)) ≤ 5000 }
-{
-    match body {
-        QmiRequest::ProxyOpen(path) => {
-            let _path = path.value();
-        }
-        QmiRequest::WdsStartNetwork {
-            apn,
-            username,
-            password,
-            ..
-        } => {
-            is_short(apn);
-            is_short(username);
-            is_short(password);
-        }
-        QmiRequest::WmsRawSend(pdu) => {
-            let _pdu = pdu.value();
-        }
-        _ => {}
-    }
-}
-
-// The TLV of a text that is given is short.
-fn is_short(text: &Option<ShortText>)
-    ensures { (kind : ℕ) → length (tlv_text (text_given kind text.now)) ≤ 1003 }
-{
-    if let Some(text) = text {
-        let _text = text.value();
-    }
 }
 
 // A whole message from the host with these TLVs.

@@ -1,6 +1,5 @@
 use kit_bytes::PathText;
 use qmi_requests::QmiRequest;
-use qmi_services::QmiAnswer;
 
 /// What a session with a QMI modem is to do.
 #[derive(Debug, Drop)]
@@ -15,13 +14,4 @@ pub struct QmiPlan {
     pub keep: bool,
     /// The command.
     pub request: QmiRequest,
-}
-
-/// How a session with a QMI modem ended.
-#[derive(Debug, Drop)]
-pub struct QmiEnd {
-    /// The command's answer, or the failure before it.
-    pub answer: QmiAnswer,
-    /// The service and the client id that are kept.
-    pub kept: Option<(u8, u8)>,
 }

@@ -11,10 +11,10 @@ use crate::control::{allocate, open_proxy, release};
 use crate::exchange::ask;
 use crate::fault::SessionFault;
 use crate::incoming::{Found, Incoming};
-use crate::plan::{QmiEnd, QmiPlan};
+use crate::plan::QmiPlan;
 use link_io::Link;
 use qmi_requests::QmiRequest;
-use qmi_services::{QmiAnswer, service_of};
+use qmi_services::{QmiAnswer, QmiEnd, service_of};
 use qmux_frame::Head;
 use std::alloc::Global;
 

@@ -36,18 +36,16 @@ path_to false device socket = encode_utf8_all device
 abbrev pub plan_of : List ℕ → Bool → Option ℕ → Bool → QmiRequest → QmiPlan
 plan_of device proxied cid keep request = record { device = device; proxied = proxied; cid = cid; keep = keep; request = request }
 
--- a modem was asked, and no file was touched
+-- a modem was asked
 pub record AsksModem (path : List ℕ) (plan : QmiPlan) (before after : Told) (result : Status) : Type 0 where
   pub ends : RunEnd
   pub asks : Asks path plan before.link after.link before.out ends after.out
-  pub files : Grows before.files [] after.files
   pub status : result ≡ status_of ends
 
--- a file's descriptions were read, and no link was touched
+-- a file's descriptions were read
 pub record DescribesFile (path : List ℕ) (before after : Told) (result : Status) : Type 0 where
   pub ends : RunEnd
   pub describes : Describes path before.files after.files before.out ends after.out
-  pub link : Grows before.link [] after.link
   pub status : result ≡ status_of ends
 
 -- what a command does; one of a proxy asks nothing of a tool
@@ -55,6 +53,12 @@ abbrev pub RunsCommand : ToolCommand → Told → Told → Status → Type 0
 RunsCommand (Qmicli device proxied cid keep request socket bridge) before after result = AsksModem (path_to proxied device socket) (plan_of device proxied cid keep request) before after result
 RunsCommand (Describe path) before after result = DescribesFile (encode_utf8_all path) before after result
 RunsCommand (Proxy kind device socket bridge empty time turns) before after result = (result ≡ status.Usage UnknownTool) × Untouched before after
+
+-- what a command has no use for is left as it was: the files by one that asks a modem, and the link by one that describes a file
+abbrev pub LeavesAlone : {L F : Type 0} → ToolCommand → L → L → F → F → Type 0
+LeavesAlone (Qmicli device proxied cid keep request socket bridge) link link_after files files_after = files_after ≡ files
+LeavesAlone (Describe path) link link_after files files_after = link_after ≡ link
+LeavesAlone (Proxy kind device socket bridge empty time turns) link link_after files files_after = (link_after ≡ link) × (files_after ≡ files)
 
 -- the command that the words ask for, unless there was no memory to read them
 abbrev pub RunsTool : ToolCommand → Told → Told → Status → Type 0

@@ -5,7 +5,7 @@ ghost use Rattle.hub_io.specs.Record.{Since};
 ghost use Rattle.tool_words.specs.declared.fault.UsageKind.{UsageKind};
 ghost use Rattle.tool_runs.specs.Asking.{HasFailed};
 ghost use Rattle.tool_words.specs.declared.command.ToolCommand.{ToolCommand};
-ghost use Rattle.program.specs.Tool.{RunsTool};
+ghost use Rattle.program.specs.Tool.{LeavesAlone, RunsTool};
 ghost use Rattle.program.specs.Serving.{ServesProxy, asked_in};
 ghost use Rattle.kit_bytes.specs.declared.Kind.{Kind};
 ghost use Rattle.tool_words.specs.Command.{command_in};
@@ -53,6 +53,7 @@ pub fn run<O: Sink, E: Sink, L: Link, H: Hub, F: Files>(
         (record { link = L.calls link.old; files = F.calls files.old; out = O.taken out.old })
         (record { link = L.calls link.new; files = F.calls files.new; out = O.taken out.new })
         result }
+    ensures tool_apart { asked.is_proxy (map string_bytes words.now) ≡ false → (command : ToolCommand) → command_in (map string_bytes words.now) ≡ Ok command → LeavesAlone command link.old link.new files.old files.new }
     ensures link_fault { result ≡ Status.LinkFault → HasFailed L.faults L.open_faults link.old link.new }
     ensures read_fault { result ≡ Status.ReadFault → Rose (F.read_faults files.old) (F.read_faults files.new) }
     ensures write_fault { result ≡ Status.WriteFault → Rose (O.faults out.old) (O.faults out.new) }

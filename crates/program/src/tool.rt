@@ -6,7 +6,7 @@ ghost use Rattle.tool_runs.specs.Asking.{HasFailed};
 ghost use Rattle.tool_words.specs.Command.{command_in};
 ghost use Rattle.tool_words.specs.declared.command.ToolCommand.{ToolCommand};
 ghost use Rattle.tool_words.specs.declared.fault.UsageKind.{UsageKind};
-ghost use Rattle.program.specs.Tool.{AsksModem, DescribesFile, RunsCommand, RunsTool, path_to};
+ghost use Rattle.program.specs.Tool.{AsksModem, DescribesFile, LeavesAlone, RunsCommand, RunsTool, path_to};
 ghost use Rattle.program.specs.Status.{line_of, IsOfTool};
 
 use crate::report::report;
@@ -39,6 +39,7 @@ pub fn run_tool<O: Sink, E: Sink, L: Link, F: Files>(
         (record { link = L.calls link.old; files = F.calls files.old; out = O.taken out.old })
         (record { link = L.calls link.new; files = F.calls files.new; out = O.taken out.new })
         result }
+    ensures apart { (command : ToolCommand) → command_in (map string_bytes words.now) ≡ Ok command → LeavesAlone command link.old link.new files.old files.new }
 
     // It doesn't give up by itself.
     ensures own { IsOfTool result }
@@ -70,6 +71,7 @@ fn run_command<O: Sink, L: Link, F: Files>(
         (record { link = L.calls link.old; files = F.calls files.old; out = O.taken out.old })
         (record { link = L.calls link.new; files = F.calls files.new; out = O.taken out.new })
         result }
+    ensures apart { LeavesAlone command link.old link.new files.old files.new }
     ensures own { IsOfTool result }
     ensures link_fault { result ≡ Status.LinkFault → HasFailed L.faults L.open_faults link.old link.new }
     ensures read_fault { result ≡ Status.ReadFault → Rose (F.read_faults files.old) (F.read_faults files.new) }

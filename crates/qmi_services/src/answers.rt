@@ -64,6 +64,15 @@ pub enum QmiAnswer {
     Failure(u16),
 }
 
+/// How a session with a QMI modem ended.
+#[derive(Debug, Drop)]
+pub struct QmiEnd {
+    /// The command's answer, or the failure before it.
+    pub answer: QmiAnswer,
+    /// The service and the client id that are kept.
+    pub kept: Option<(u8, u8)>,
+}
+
 /// Why the TLVs of an answer aren't read.
 #[derive(Clone, Copy, Debug, PartialEq, Eq, Error)]
 pub enum AnswerFault {

@@ -8,7 +8,7 @@ mod requests;
 mod table;
 mod tables;
 
-pub use answers::{AnswerFault, Field, Fields, QmiAnswer, answer};
+pub use answers::{AnswerFault, Field, Fields, QmiAnswer, QmiEnd, answer};
 pub use laws::{answers_read_one_way, inputs_are_spelled};
 pub use requests::{message_of, request, service_of};
 pub use tables::built_in;

@@ -1,4 +1,4 @@
-ghost use Rattle.std.specs.Prelude.{◌≡◌, [], ◌∷◌, ◌++◌, ◌≤◌, length, IfOk, OnOk};
+ghost use Rattle.std.specs.Prelude.{◌≡◌, ◌+◌, [], ◌∷◌, ◌++◌, ◌≤◌, length, IfOk, OnOk};
 ghost use Rattle.std.specs.Str.{encode_utf8_all};
 ghost use Rattle.tlv_codec.specs.Tlv.{tlv_text};
 ghost use Rattle.qmi_services.specs.Requests.{byte_given, inputs_of, point_to_point, row_of, text_given, tlv, u16_bytes, u32_bytes};
@@ -19,7 +19,9 @@ const POINT_TO_POINT: u8 = 6;
 
 /// The TLVs of a request's message.
 pub fn request(alloc: Global, body: &QmiRequest) -> Result<Octets, AllocError>
-    ensures { IfOk result (λ octets. octets ≡ tlv_text (inputs_of body.now)) }
+    ensures tlvs { IfOk result (λ octets. octets ≡ tlv_text (inputs_of body.now)) }
+    // Its texts and bytes are short, so a message has room for them.
+    ensures short { IfOk result (λ octets. length octets ≤ 5000) }
 {
     let mut out = Octets::new(alloc);
     write_inputs(alloc, &mut out, body)?;
@@ -28,7 +30,8 @@ pub fn request(alloc: Global, body: &QmiRequest) -> Result<Octets, AllocError>
 
 // Adds the TLVs of a request's message.
 fn write_inputs(alloc: Global, out: &mut Octets, body: &QmiRequest) -> Result<(), AllocError>
-    ensures { OnOk result (out.new ≡ out.old ++ tlv_text (inputs_of body.now)) }
+    ensures tlvs { OnOk result (out.new ≡ out.old ++ tlv_text (inputs_of body.now)) }
+    ensures short { OnOk result (length out.new ≤ length out.old + 5000) }
 {
     match body {
         QmiRequest::DmsSetOperatingMode(mode) => write_value(out, 0x01, &[*mode]),
@@ -77,7 +80,8 @@ fn write_inputs(alloc: Global, out: &mut Octets, body: &QmiRequest) -> Result<()
 
 // The message in the format of 3GPP's point-to-point messages, behind its length.
 fn write_raw_send(alloc: Global, out: &mut Octets, pdu: &ShortOctets) -> Result<(), AllocError>
-    ensures { OnOk result (out.new ≡ out.old ++ tlv_text (tlv 1 (point_to_point ∷ u16_bytes (length pdu.now) ++ pdu.now))) }
+    ensures tlvs { OnOk result (out.new ≡ out.old ++ tlv_text (tlv 1 (point_to_point ∷ u16_bytes (length pdu.now) ++ pdu.now))) }
+    ensures short { OnOk result (length out.new ≤ length out.old + 1000) }
 {
     let pdu = pdu.value().as_slice();
     let [low, high] = u16_bytes(pdu.len() as u16);
@@ -94,14 +98,16 @@ fn u32_bytes(number: u32) -> [u8; 4]
 
 fn write_value(out: &mut Octets, kind: u8, value: &[u8]) -> Result<(), AllocError>
     requires { length value.now ≤ 65535 }
-    ensures { OnOk result (out.new ≡ out.old ++ tlv_text (tlv kind value.now)) }
+    ensures tlvs { OnOk result (out.new ≡ out.old ++ tlv_text (tlv kind value.now)) }
+    ensures length { OnOk result (length out.new ≡ length out.old + 3 + length value.now) }
 {
     write_tlv(out, kind, value)
 }
 
 // A text's TLV, where the text is given.
 fn write_text(out: &mut Octets, kind: u8, text: &Option<ShortText>) -> Result<(), AllocError>
-    ensures { OnOk result (out.new ≡ out.old ++ tlv_text (text_given kind text.now)) }
+    ensures tlvs { OnOk result (out.new ≡ out.old ++ tlv_text (text_given kind text.now)) }
+    ensures short { OnOk result (length out.new ≤ length out.old + 1003) }
 {
     match text {
         Some(text) => write_value(out, kind, text.value().as_str().as_bytes()),
@@ -111,7 +117,8 @@ fn write_text(out: &mut Octets, kind: u8, text: &Option<ShortText>) -> Result<()
 
 // A byte's TLV, where the byte is given.
 fn write_byte(out: &mut Octets, kind: u8, byte: &Option<u8>) -> Result<(), AllocError>
-    ensures { OnOk result (out.new ≡ out.old ++ tlv_text (byte_given kind byte.now)) }
+    ensures tlvs { OnOk result (out.new ≡ out.old ++ tlv_text (byte_given kind byte.now)) }
+    ensures short { OnOk result (length out.new ≤ length out.old + 4) }
 {
     match byte {
         Some(byte) => write_value(out, kind, &[*byte]),

@@ -1,30 +1,26 @@
 ghost use Rattle.std.specs.Prelude.{◌≡◌, ◌++◌, decimal, map, IfOk, OnOk};
 ghost use Rattle.std.specs.List.{flat_map};
 ghost use Rattle.qmi_services.specs.Answers.{field_view};
-ghost use Rattle.qmicli_print.specs.Answer.{answer_text, field_text, kept_line};
+ghost use Rattle.qmicli_print.specs.Answer.{end_text, field_text, kept_line};
 
 use crate::print_field;
 use itoa::Buffer;
 use kit_bytes::Octets;
-use qmi_services::{Field, QmiAnswer};
+use qmi_services::{Field, QmiAnswer, QmiEnd};
 use std::alloc::{AllocError, Global};
 
-/// What is printed of an answer, and of the service and the client id that are kept.
-pub fn qmi_text(
-    alloc: Global,
-    answer: &QmiAnswer,
-    kept: Option<(u8, u8)>,
-) -> Result<Octets, AllocError>
-    ensures { IfOk result (λ text. text ≡ answer_text answer.now kept) }
+/// What is printed of a session's end: the fields of a success, and what is kept.
+pub fn qmi_text(alloc: Global, end: &QmiEnd) -> Result<Octets, AllocError>
+    ensures { IfOk result (λ text. text ≡ end_text end.now) }
 {
-    let QmiAnswer::Success(fields) = answer else {
+    let QmiAnswer::Success(fields) = &end.answer else {
         return Ok(Octets::new(alloc));
     };
     let mut text = fields_text(alloc, fields.as_slice())?;
     if text.as_slice().is_empty() {
         text.extend_from_slice(b"ok\n")?;
     }
-    if let Some((service, id)) = kept {
+    if let Some((service, id)) = end.kept {
         push_kept(&mut text, service, id)?;
     }
     Ok(text)

@@ -8,3 +8,5 @@ mod texts;
 
 pub use answer::qmi_text;
 pub use print::print_field;
+pub use shown::service_word;
+pub use texts::hex_pair;

@@ -52,6 +52,13 @@ pub fn shown_for(name: &str) -> Shown
     }
 }
 
+/// The word for a service, where it has one.
+pub fn service_word(service: u8) -> Option<&'static str>
+    ensures { option_copied result ≡ word_of Shown.Service service }
+{
+    word(Shown::Service, u64::from(service))
+}
+
 /// The word for a number that is shown so, where it has one.
 pub fn word(shown: Shown, number: u64) -> Option<&'static str>
     ensures { option_copied result ≡ word_of shown number }

@@ -129,8 +129,8 @@ fn push_hex(text: &mut Octets, val: &Val) -> Result<(), AllocError>
     Ok(())
 }
 
-// A byte as two digits.
-fn hex_pair(byte: u8) -> [u8; 2]
+/// A byte as two hexadecimal digits in upper case.
+pub fn hex_pair(byte: u8) -> [u8; 2]
     ensures { result ≡ hex_pair byte }
 {
     let high = HEX_DIGITS[usize::from(byte / 16)];

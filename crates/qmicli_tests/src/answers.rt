@@ -1,5 +1,5 @@
 use kit_bytes::{Octets, Text};
-use qmi_services::{Field, Fields, QmiAnswer};
+use qmi_services::{Field, Fields, QmiAnswer, QmiEnd};
 use qmi_shapes::{Prefix, Shape};
 use qmi_values::Val;
 use qmicli_print::qmi_text;
@@ -21,7 +21,7 @@ fn printed(
         })?;
     }
     let answer = QmiAnswer::Success(Fields::from(fields));
-    Ok(qmi_text(alloc, &answer, kept)?.into_vec())
+    Ok(qmi_text(alloc, &QmiEnd { answer, kept })?.into_vec())
 }
 
 #[test]
@@ -37,7 +37,11 @@ fn answers_print_their_fields(rt: HostRuntime) -> Result<(), Fail> {
         let text = printed(rt.alloc(), fields, kept)?;
         assert_eq!(rt; text.as_slice(), wanted.as_bytes(), "{wanted}");
     }
-    let failure = qmi_text(rt.alloc(), &QmiAnswer::Failure(5), Some((2, 17)))?;
+    let refused = QmiEnd {
+        answer: QmiAnswer::Failure(5),
+        kept: Some((2, 17)),
+    };
+    let failure = qmi_text(rt.alloc(), &refused)?;
     assert_eq!(rt; failure.as_slice(), [].as_slice());
     Ok(())
 }

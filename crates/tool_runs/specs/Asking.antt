@@ -8,9 +8,9 @@ use Rattle.qmi_services.specs.declared.answers.QmiAnswer.TheVariants.{Success, F
 use Rattle.device_core.specs.declared.fault.SessionFault.{SessionFault}
 use Rattle.device_core.specs.declared.fault.SessionFault.TheVariants as fault
 use Rattle.device_core.specs.declared.plan.QmiPlan.{QmiPlan}
-use Rattle.device_core.specs.declared.plan.QmiEnd.{QmiEnd}
+use Rattle.qmi_services.specs.declared.answers.QmiEnd.{QmiEnd}
 use Rattle.device_core.specs.Session.{Session}
-use Rattle.qmicli_print.specs.Answer.{answer_text}
+use Rattle.qmicli_print.specs.Answer.{end_text}
 use Rattle.tool_runs.specs.declared.run_end.RunEnd.{RunEnd}
 use Rattle.tool_runs.specs.declared.run_end.RunEnd.TheVariants as run
 
@@ -41,12 +41,12 @@ PrintsText text before run.OutOfMemory after = Grows before [] after
 PrintsText text before _ after = ⊥
 
 -- nothing is printed of a refusal
-abbrev pub PrintsAnswer : QmiAnswer → Option (ℕ × ℕ) → Option (List ℕ) → RunEnd → Option (List ℕ) → Type 0
-PrintsAnswer (Failure error) kept before ends after = (ends ≡ run.Denied error) × Grows before [] after
-PrintsAnswer (Success fields) kept before ends after = PrintsText (answer_text (Success fields) kept) before ends after
+abbrev pub PrintsAnswer : QmiAnswer → List ℕ → Option (List ℕ) → RunEnd → Option (List ℕ) → Type 0
+PrintsAnswer (Failure error) text before ends after = (ends ≡ run.Denied error) × Grows before [] after
+PrintsAnswer (Success fields) text before ends after = PrintsText text before ends after
 
 abbrev pub Prints : QmiEnd → Option (List ℕ) → RunEnd → Option (List ℕ) → Type 0
-Prints end before ends after = PrintsAnswer end.answer end.kept before ends after
+Prints end before ends after = PrintsAnswer end.answer (end_text end) before ends after
 
 -- how a command ends whose session has no end of its own
 abbrev pub end_of : SessionFault → RunEnd

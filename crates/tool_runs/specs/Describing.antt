@@ -1,5 +1,5 @@
 -- What a command that describes the messages of a file does to its files, and what it prints.
-use Rattle.std.specs.Prelude.{◌≡◌, ℕ, ◌/◌, ◌%◌, ◌==◌, Bool, List, [], ◌∷◌, ◌++◌, length, slice_index, Option, Result, Ok, Err, codes, decimal, if◌then◌else◌}
+use Rattle.std.specs.Prelude.{◌≡◌, ℕ, ◌/◌, ◌%◌, Bool, List, [], ◌++◌, length, Option, Some, None, Result, Ok, Err, codes, decimal, if◌then◌else◌}
 use Rattle.std.specs.List.{flat_map}
 use Rattle.std.specs.Str.{encode_utf8_all}
 use Rattle.kit_io.specs.Told.{Grows, GrowsByFront}
@@ -11,31 +11,26 @@ use Rattle.message_tables.specs.declared.fault.TableFault.{TableFault}
 use Rattle.message_tables.specs.declared.fault.TableFault.TheVariants as table
 use Rattle.message_tables.specs.Messages.{MessageForm}
 use Rattle.message_tables.specs.Tables.{tables_in}
+use Rattle.qmicli_print.specs.declared.shown.Shown.TheVariants.{Service}
+use Rattle.qmicli_print.specs.Words.{word_of}
+use Rattle.qmicli_print.specs.Texts.{hex_pair}
 use Rattle.qmicli_print.specs.Answer.{or_ok}
 use Rattle.tool_runs.specs.declared.run_end.RunEnd.{RunEnd}
 use Rattle.tool_runs.specs.declared.run_end.RunEnd.TheVariants as run
 
 -- ---- the text ----
 
--- the services whose messages are kept
-abbrev pub service_word : ℕ → List ℕ
-service_word service =
-    if service == 0 then codes "ctl"
-    else if service == 1 then codes "wds"
-    else if service == 2 then codes "dms"
-    else if service == 3 then codes "nas"
-    else if service == 5 then codes "wms"
-    else []
+-- nothing where there is no word
+abbrev pub word_if : Option (List ℕ) → List ℕ
+word_if None = []
+word_if (Some word) = word
 
 abbrev pub kind_word : Bool → List ℕ
 kind_word indication = if indication then codes " indication 0x" else codes " message 0x"
 
-abbrev pub digit : ℕ → ℕ
-digit n = slice_index (codes "0123456789ABCDEF") (n % 16)
-
 -- an id in four digits
 abbrev pub id_digits : ℕ → List ℕ
-id_digits id = digit (id / 4096) ∷ digit (id / 256) ∷ digit (id / 16) ∷ digit (id / 1) ∷ []
+id_digits id = hex_pair (id / 256) ++ hex_pair (id % 256)
 
 unfoldable pub count_text : List ℕ → ℕ → List ℕ → List ℕ
 count_text front count back = front ++ decimal count ++ back
@@ -43,7 +38,7 @@ count_text front count back = front ++ decimal count ++ back
 -- service, kind, id, name, and how many TLVs it has
 unfoldable pub message_line : MessageForm → List ℕ
 message_line m =
-    service_word m.service ++ kind_word m.indication ++ id_digits m.id ++ codes " " ++ encode_utf8_all m.name
+    word_if (word_of Service m.service) ++ kind_word m.indication ++ id_digits m.id ++ codes " " ++ encode_utf8_all m.name
     ++ count_text (codes ": ") (length m.input) (codes " in") ++ count_text (codes ", ") (length m.output) (codes " out\n")
 
 abbrev pub tables_text : List MessageForm → List ℕ

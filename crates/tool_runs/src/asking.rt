@@ -2,15 +2,15 @@ ghost use Rattle.std.specs.Prelude.{◌≡◌, Err};
 ghost use Rattle.std.specs.Str.{encode_utf8_all};
 ghost use Rattle.kit_io.specs.Causes.{Rose};
 ghost use Rattle.link_io.specs.Target.{path_of};
-ghost use Rattle.qmicli_print.specs.Answer.{answer_text};
+ghost use Rattle.qmicli_print.specs.Answer.{end_text};
 ghost use Rattle.tool_runs.specs.Asking.{Asks, Exchanges, HasFailed, Prints, PrintsText};
 
 use crate::run_end::RunEnd;
-use device_core::{QmiEnd, QmiPlan, SessionFault, qmi_session};
+use device_core::{QmiPlan, SessionFault, qmi_session};
 use kit_bytes::{PathText, Text};
 use kit_io::{Failed, Sink, WriteFault, write_all_to};
 use link_io::{Link, Target};
-use qmi_services::QmiAnswer;
+use qmi_services::{QmiAnswer, QmiEnd};
 use qmicli_print::qmi_text;
 use std::alloc::{AllocError, Global};
 
@@ -62,21 +62,16 @@ fn print_end<O: Sink>(alloc: Global, end: &QmiEnd, out: &mut O) -> RunEnd
 {
     match &end.answer {
         QmiAnswer::Failure(error) => RunEnd::Denied { error: *error },
-        QmiAnswer::Success(_) => print_answer(alloc, &end.answer, end.kept, out),
+        QmiAnswer::Success(_) => print_text(alloc, end, out),
     }
 }
 
-fn print_answer<O: Sink>(
-    alloc: Global,
-    answer: &QmiAnswer,
-    kept: Option<(u8, u8)>,
-    out: &mut O,
-) -> RunEnd
-    ensures prints { PrintsText (answer_text answer.now kept) (O.taken out.old) result (O.taken out.new) }
+fn print_text<O: Sink>(alloc: Global, end: &QmiEnd, out: &mut O) -> RunEnd
+    ensures prints { PrintsText (end_text end.now) (O.taken out.old) result (O.taken out.new) }
     ensures write_fault { result ≡ RunEnd.WriteFault → Rose (O.faults out.old) (O.faults out.new) }
     ensures link_fault { ¬ (result ≡ RunEnd.LinkFault) }
 {
-    match qmi_text(alloc, answer, kept) {
+    match qmi_text(alloc, end) {
         Err(AllocError) => RunEnd::OutOfMemory,
         Ok(text) => match write_all_to(out, text.as_slice()) {
             Ok(()) => RunEnd::Done,

@@ -2,7 +2,9 @@ ghost use Rattle.std.specs.Prelude.{◌≡◌, ◌≤◌, ◌++◌, decimal, len
 ghost use Rattle.std.specs.Str.{encode_utf8_all};
 ghost use Rattle.kit_io.specs.Causes.{Rose};
 ghost use Rattle.message_tables.specs.View.{message_view, messages_in};
-ghost use Rattle.tool_runs.specs.Describing.{Describes, PrintsTables, count_text, id_digits, kind_word, message_line, service_word, tables_text};
+ghost use Rattle.qmicli_print.specs.declared.shown.Shown.{Shown};
+ghost use Rattle.qmicli_print.specs.Words.{word_of};
+ghost use Rattle.tool_runs.specs.Describing.{Describes, PrintsTables, count_text, id_digits, kind_word, message_line, tables_text, word_if};
 
 use crate::run_end::RunEnd;
 use file_io::{Files, read_file};
@@ -10,9 +12,8 @@ use itoa::Buffer;
 use kit_bytes::{Octets, PathText};
 use kit_io::{Sink, WriteFault, write_all_to};
 use message_tables::{Message, Tables, read_tables};
+use qmicli_print::{hex_pair, service_word};
 use std::alloc::{AllocError, Global};
-
-const HEX_DIGITS: &[u8; 16] = b"0123456789ABCDEF";
 
 /// Reads the descriptions in the file at a path, and prints a line for each message.
 pub fn describe<O: Sink, F: Files>(
@@ -70,13 +71,29 @@ fn tables_text(alloc: Global, tables: &Tables) -> Result<Octets, AllocError>
 fn push_message(text: &mut Octets, message: &Message) -> Result<(), AllocError>
     ensures { OnOk result (text.new ≡ text.old ++ message_line (message_view message.now)) }
 {
-    text.extend_from_slice(service_word(message.service).as_bytes())?;
+    push_service(text, message.service)?;
     text.extend_from_slice(kind_word(message.indication).as_bytes())?;
-    text.extend_from_slice(&id_digits(message.id))?;
+    push_id(text, message.id)?;
     text.extend_from_slices(b" ", message.name.as_str().as_bytes())?;
     push_count(text, ": ", message.input.as_slice().len(), " in")?;
     push_count(text, ", ", message.output.as_slice().len(), " out\n")?;
     Ok(())
+}
+
+fn push_service(text: &mut Octets, service: u8) -> Result<(), AllocError>
+    ensures { OnOk result (text.new ≡ text.old ++ word_if (word_of Shown.Service service)) }
+{
+    if let Some(word) = service_word(service) {
+        text.extend_from_slice(word.as_bytes())?;
+    }
+    Ok(())
+}
+
+// Adds an id in four digits.
+fn push_id(text: &mut Octets, id: u16) -> Result<(), AllocError>
+    ensures { OnOk result (text.new ≡ text.old ++ id_digits id) }
+{
+    text.extend_from_slices(&hex_pair((id / 256) as u8), &hex_pair((id % 256) as u8))
 }
 
 #[tactic(auto, unfolding(crate::specs::Describing::count_text))]
@@ -88,19 +105,6 @@ fn push_count(text: &mut Octets, front: &str, count: usize, back: &str) -> Resul
     Ok(())
 }
 
-fn service_word(service: u8) -> &'static str
-    ensures { result.now ≡ service_word service }
-{
-    match service {
-        0 => "ctl",
-        1 => "wds",
-        2 => "dms",
-        3 => "nas",
-        5 => "wms",
-        _ => "",
-    }
-}
-
 fn kind_word(indication: bool) -> &'static str
     ensures { result.now ≡ kind_word indication }
 {
@@ -109,12 +113,4 @@ fn kind_word(indication: bool) -> &'static str
     } else {
         " message 0x"
     }
-}
-
-// An id in four digits.
-fn id_digits(id: u16) -> [u8; 4]
-    ensures { result ≡ id_digits id }
-{
-    let digit = |place: u16| HEX_DIGITS[usize::from(id / place % 16)];
-    [digit(4096), digit(256), digit(16), digit(1)]
 }

@@ -1,6 +1,6 @@
 use Rattle.std.proofs.Common.{◌≡◌, None, sym, ◌∙◌, ap, Ok, rules}
 use Rattle.std.proofs.lemmas.Result.{err_from_is_err_and}
-use Rattle.device_core.specs.declared.plan.QmiEnd.{QmiEnd}
+use Rattle.qmi_services.specs.declared.answers.QmiEnd.{QmiEnd}
 use Rattle.device_core.specs.Hearing.{failure_in, found_in}
 use Rattle.device_core.specs.Session.{allocating, control, given}
 use Rattle.device_core.proofs.Allocation.{allocated-some}

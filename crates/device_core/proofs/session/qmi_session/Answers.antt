@@ -1,6 +1,6 @@
 use Rattle.std.proofs.Common.{refl, ap, Ok}
 use Rattle.std.proofs.lemmas.Result.{err_from_is_err_and}
-use Rattle.device_core.specs.declared.plan.QmiEnd.{QmiEnd}
+use Rattle.qmi_services.specs.declared.answers.QmiEnd.{QmiEnd}
 use Rattle.device_core.specs.Session.{direct, nothing_heard, proxied}
 use Rattle.device_core.proofs.Hearing.{Stands-start}
 use Rattle.device_core.proofs.Steps.{Makes-map, Makes-none, Replies-as, Step-read, Step-unread}
