@@ -1,19 +1,18 @@
 #!/bin/sh
 # libqmi's real qmicli, command by command, through our proxy and through libqmi's own, over the same stand-in
-# modem, while 32 other connections ask all the time. A line for each command: its exit status, and whether that
-# and all that was printed on both streams is the same through both. Fails where anything differs, or where a
-# command doesn't end as it should. The last line is our own qmicli at the modem itself.
+# modem, while 32 other connections ask all the time; and then our own qmicli in the same way. A line for each
+# command: its exit status, and whether that and all that was printed on both streams is the same through both
+# proxies. Fails where anything differs, or where a command doesn't end as it should. The last line is our own
+# qmicli at the modem itself.
 # The real qmicli asks the abstract socket `@qmi-proxy`. There libqmi's proxy listens by itself, and a relay leads
-# from there to ours. The modem has one path for all: where our proxy finds a Unix socket, libqmi's finds a
-# pseudo terminal and qmicli a device node, each in a mount namespace of its own.
+# from there to ours. Our qmicli asks a socket that has a path: our proxy's, or one from which a relay leads to
+# libqmi's. The modem has one path for all: where our proxy finds a Unix socket, libqmi's finds a pseudo terminal
+# and the real qmicli a device node, each in a mount namespace of its own.
 # MODEMKIT names a program that is built already. SHOW=1 shows what was printed.
 top=$(CDPATH= cd -- "$(dirname -- "$0")/.." && pwd) || exit 70
 peer=${QMI_PROXY:-/usr/libexec/qmi-proxy}
-missing=
-for tool in cc qmicli socat mknod timeout unshare mount "$peer"; do
-    command -v "$tool" >/dev/null 2>&1 || missing="$missing $tool"
-done
-[ -z "$missing" ] || { echo "missing:$missing (Debian: gcc, libqmi-utils, libqmi-proxy, socat); nothing was tried"; exit 0; }
+. "$top/bench/needs.sh"
+needs "Debian: gcc, libqmi-utils, libqmi-proxy, socat" cc qmicli socat mknod timeout unshare mount "$peer"
 is_taken() { grep -q ' @qmi-proxy$' /proc/net/unix; }
 is_free() { ! is_taken; }
 is_free || { echo "another program has the socket @qmi-proxy; nothing was tried"; exit 0; }
@@ -46,6 +45,8 @@ cat >"$folder/commands" <<'C'
 0 --dms-get-revision --client-cid=N
 1 --dms-get-revision --client-cid=N
 C
+# Our qmicli has the same words, but for this one.
+sed 's/--dms-noop/--dms-get-model/' "$folder/commands" >"$folder/own"
 
 # wait_until CONDITION WORD..
 wait_until() {
@@ -65,23 +66,34 @@ over() {
     exec unshare -m sh -c 'mount --bind "$1" "$2" && shift 2 && exec "$@"' sh "$device" "$folder/modem" "$@"
 }
 
-# ask_all SOCKET: runs each command while the load asks at the proxy's socket, and ends all that was started
-ask_all() {
-    "$folder/load" "$1" "$folder/modem" 32 1 2000000000 2>>"$folder/log" & load=$!
-    started="$started $load"
-    wait_until all_ask
-    sleep 0.5
+# ask TOOL LIST SOCKET: runs each command of the list with the real qmicli, or with ours at this socket
+ask() {
     row=0
     while read -r status words; do
         row=$((row + 1))
         # the relay hangs up a moment after the command before, which is to leave the id to this one
         case $words in *=N*) sleep 0.1 ;; esac
         words=$(echo "$words" | sed "s/=N/=$id/")
-        (over "$folder/node" timeout 30 qmicli -p -d "$folder/modem" --device-open-qmi $words) </dev/null >"$side.$row.out" 2>"$folder/said"
-        echo "$?" >"$side.$row.status"
-        sed 's/^\[[^]]* [0-9:]*\] //' "$folder/said" >"$side.$row.err" # without the time of day
-        case $words in *-noop*) id=$(sed -n "s/.*CID: '\([0-9]*\)'.*/\1/p" "$side.$row.out") ;; esac
-    done <"$folder/commands"
+        case $1 in
+        real) (over "$folder/node" timeout 30 qmicli -p -d "$folder/modem" --device-open-qmi $words) ;;
+        own) timeout 30 "$program" qmicli -p --socket "$3" -d "$folder/modem" $words ;;
+        esac </dev/null >"$side.$1.$row.out" 2>"$folder/said"
+        echo "$?" >"$side.$1.$row.status"
+        sed 's/^\[[^]]* [0-9:]*\] //' "$folder/said" >"$side.$1.$row.err" # without the time of day
+        kept=$(sed -n "s/.*CID: '\([0-9]*\)'.*/\1/p; s/^client id kept: .* id //p" "$side.$1.$row.out")
+        id=${kept:-$id}
+    done <"$2"
+}
+
+# ask_all LOAD SOCKET: runs all commands, ours at the socket, while the load asks at its own, and ends all that was
+# started
+ask_all() {
+    "$folder/load" "$1" "$folder/modem" 32 1 2000000000 2>>"$folder/log" & load=$!
+    started="$started $load"
+    wait_until all_ask
+    sleep 0.5
+    ask real "$folder/commands"
+    ask own "$folder/own" "$2"
     kill -0 "$load" 2>/dev/null || { echo "the load failed:" >&2; cat "$folder/log" >&2; exit 1; }
     stop
 }
@@ -93,7 +105,7 @@ wait_until test -S "$folder/modem"
 wait_until test -S "$folder/proxy.sock"
 socat ABSTRACT-LISTEN:qmi-proxy,fork "UNIX-CONNECT:$folder/proxy.sock" 2>>"$folder/log" & started="$started $!"
 wait_until is_taken
-ask_all "$folder/proxy.sock"
+ask_all "$folder/proxy.sock" "$folder/proxy.sock"
 
 side=$folder/theirs
 wait_until is_free
@@ -103,7 +115,9 @@ rm -f "$folder/modem"
 wait_until test -e "$folder/terminal"
 over "$(readlink "$folder/terminal")" "$peer" --no-exit >>"$folder/log" 2>&1 & started="$started $!"
 wait_until is_taken
-ask_all @qmi-proxy
+socat "UNIX-LISTEN:$folder/theirs.sock,fork" ABSTRACT-CONNECT:qmi-proxy 2>>"$folder/log" & started="$started $!"
+wait_until test -S "$folder/theirs.sock"
+ask_all @qmi-proxy "$folder/theirs.sock"
 
 failed=0
 # line WORDS STATUS WANTED OURS THEIRS: the two are files
@@ -111,24 +125,29 @@ line() {
     found=same
     diff "$4" "$5" >"$folder/diff" || found=differs
     [ "$found$2" = "same$3" ] || failed=1
-    printf '%-58s %3s  %s\n' "$1" "$2" "$found"
+    printf '%-73s %3s  %s\n' "$1" "$2" "$found"
     [ -z "$SHOW" ] || cat "$4"
     cat "$folder/diff" >&2
 }
-row=0
-while read -r status words; do
-    row=$((row + 1))
-    for side in "$folder/ours" "$folder/theirs"; do
-        cat "$side.$row.out" "$side.$row.err" "$side.$row.status" >"$side"
-    done
-    line "$words" "$(cat "$folder/ours.$row.status")" "$status" "$folder/ours" "$folder/theirs"
-done <"$folder/commands"
+# compare TOOL LIST NAME: a line for each command of the list
+compare() {
+    row=0
+    while read -r status words; do
+        row=$((row + 1))
+        for side in "$folder/ours" "$folder/theirs"; do
+            cat "$side.$1.$row.out" "$side.$1.$row.err" "$side.$1.$row.status" >"$side"
+        done
+        line "$3$words" "$(cat "$folder/ours.$1.$row.status")" "$status" "$folder/ours" "$folder/theirs"
+    done <"$2"
+}
+compare real "$folder/commands"
+compare own "$folder/own" "modemkit qmicli -p "
 
 "$folder/answering" unix "$folder/alone" & started=$!
 wait_until test -S "$folder/alone"
 "$program" qmicli -d "$folder/alone" --get-service-version-info >"$folder/said"
 status=$?
 awk '$1 == "Service:" { name = $3 } $1 == "Major:" { major = $2 } $1 == "Minor:" { print name, major "." $2 }' "$folder/said" | tr -d '()' >"$folder/ours"
-sed -n 's/^\t\(.*\) (\(.*\))$/\1 \2/p' "$folder/theirs.1.out" >"$folder/theirs"
+sed -n 's/^\t\(.*\) (\(.*\))$/\1 \2/p' "$folder/theirs.real.1.out" >"$folder/theirs"
 line "modemkit qmicli --get-service-version-info" "$status" 0 "$folder/ours" "$folder/theirs"
 exit "$failed"

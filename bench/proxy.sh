@@ -4,11 +4,8 @@
 # a character device, so its modem is behind a raw pseudo terminal; ours is behind a Unix socket.
 top=$(CDPATH= cd -- "$(dirname -- "$0")/.." && pwd) || exit 70
 peer=${QMI_PROXY:-/usr/libexec/qmi-proxy}
-missing=
-for tool in cc python3 strace valgrind "$peer"; do
-    command -v "$tool" >/dev/null 2>&1 || missing="$missing $tool"
-done
-[ -z "$missing" ] || { echo "missing:$missing (Debian: gcc, python3, strace, valgrind, libqmi-proxy); nothing was measured"; exit 0; }
+. "$top/bench/needs.sh"
+needs "Debian: gcc, python3, strace, valgrind, libqmi-proxy" cc python3 strace valgrind "$peer"
 program=$("$top/bench/build.sh") || exit 70
 folder=$(mktemp -d) || exit 70
 trap 'exit 130' INT TERM

@@ -2,11 +2,8 @@
 # What a reply of the proxy costs that it gives by itself: system calls and user instructions a message, of
 # one client that asks again once it was answered. The modem is there, and is asked for nothing.
 top=$(CDPATH= cd -- "$(dirname -- "$0")/.." && pwd) || exit 70
-missing=
-for tool in cc strace valgrind python3; do
-    command -v "$tool" >/dev/null 2>&1 || missing="$missing $tool"
-done
-[ -z "$missing" ] || { echo "missing:$missing (Debian: gcc, strace, valgrind, python3); nothing was measured"; exit 0; }
+. "$top/bench/needs.sh"
+needs "Debian: gcc, strace, valgrind, python3" cc strace valgrind python3
 program=$("$top/bench/build.sh") || exit 70
 folder=$(mktemp -d) || exit 70
 modem=

@@ -1,10 +1,9 @@
 #!/bin/sh
-# How long reading descriptions of 1, 2, 4 and 8 MiB takes, best of five. No command reads them yet, so
-# a program of a few lines is built in a copy of the crates that reading needs.
+# How long reading descriptions of 1, 2, 4 and 8 MiB takes, best of five: in a program of a few lines that
+# prints nothing, built in a copy of the crates that reading needs.
 top=$(CDPATH= cd -- "$(dirname -- "$0")/.." && pwd) || exit 70
-for tool in rt python3; do
-    command -v "$tool" >/dev/null 2>&1 || { echo "missing: $tool; nothing was measured"; exit 0; }
-done
+. "$top/bench/needs.sh"
+needs "the Rattle kit, and Debian: python3" rt python3
 folder=$(mktemp -d) || exit 70
 trap 'rm -rf "$folder"' EXIT
 trap 'exit 130' INT TERM

@@ -3,11 +3,8 @@
 # memory of both in one run, as ratios. The real tool wants a character device, so its modem is
 # behind a raw pseudo terminal; ours is behind a Unix socket.
 top=$(CDPATH= cd -- "$(dirname -- "$0")/.." && pwd) || exit 70
-missing=
-for tool in hyperfine qmicli python3 /usr/bin/time; do
-    command -v "$tool" >/dev/null 2>&1 || missing="$missing $tool"
-done
-[ -z "$missing" ] || { echo "missing:$missing (Debian: hyperfine, libqmi-utils, python3, time); nothing was measured"; exit 0; }
+. "$top/bench/needs.sh"
+needs "Debian: hyperfine, libqmi-utils, python3, time" hyperfine qmicli python3 /usr/bin/time
 program=$("$top/bench/build.sh") || exit 70
 
 folder=$(mktemp -d) || exit 70
