@@ -8,8 +8,6 @@ mod files;
 #[cfg(test)]
 mod prints;
 #[cfg(test)]
-mod runs;
-#[cfg(test)]
 mod services;
 #[cfg(test)]
 mod sessions;

@@ -1,14 +1,9 @@
-use kit_bytes::{Octets, PathText, ShortOctets, ShortText, Text};
+use kit_bytes::{PathText, Text};
 use message_tables::Tables;
 use qmi_requests::QmiRequest;
 use qmi_services::{AnswerFault, QmiAnswer, answer, built_in, message_of, request, service_of};
-use std::alloc::{AllocError, Global};
 use std::process::Abort;
 use std::test::Fail;
-
-fn short(alloc: Global, text: &str) -> Result<Option<ShortText>, AllocError> {
-    Ok(ShortText::of(Text::from_str(alloc, text)?))
-}
 
 // The request goes to this service with this id, and its TLVs are these bytes.
 fn asks<R: Abort + AllocGlobal>(
@@ -45,87 +40,6 @@ fn requests_of_the_control_service_are_written(rt: HostRuntime) -> Result<(), Fa
         &QmiRequest::Release(2, 5),
         (0, 0x0023),
         &[0x01, 0x02, 0x00, 0x02, 0x05],
-    )
-}
-
-#[test]
-fn a_network_is_started_with_what_is_given(rt: HostRuntime) -> Result<(), Fail> {
-    let rt = &rt;
-    let start = QmiRequest::WdsStartNetwork {
-        apn: short(rt.alloc(), "internet")?,
-        username: None,
-        password: short(rt.alloc(), "")?,
-        ip_type: Some(4),
-    };
-    asks(
-        rt,
-        &start,
-        (1, 0x0020),
-        b"\x14\x08\x00internet\x18\x00\x00\x19\x01\x00\x04",
-    )?;
-    let start = QmiRequest::WdsStartNetwork {
-        apn: None,
-        username: short(rt.alloc(), "me")?,
-        password: None,
-        ip_type: None,
-    };
-    asks(rt, &start, (1, 0x0020), b"\x17\x02\x00me")
-}
-
-#[test]
-fn requests_with_numbers_are_written(rt: HostRuntime) -> Result<(), Fail> {
-    let rt = &rt;
-    asks(
-        rt,
-        &QmiRequest::DmsSetOperatingMode(1),
-        (2, 0x002E),
-        &[0x01, 0x01, 0x00, 0x01],
-    )?;
-    asks(
-        rt,
-        &QmiRequest::WdsStopNetwork(0x0102_0304),
-        (1, 0x0021),
-        &[0x01, 0x04, 0x00, 0x04, 0x03, 0x02, 0x01],
-    )?;
-    asks(
-        rt,
-        &QmiRequest::WdsGetCurrentSettings,
-        (1, 0x002D),
-        &[0x10, 0x04, 0x00, 0x10, 0x23, 0x00, 0x00],
-    )?;
-    asks(rt, &QmiRequest::NasGetSignalStrength, (3, 0x0020), &[])
-}
-
-#[test]
-fn requests_for_short_messages_are_written(rt: HostRuntime) -> Result<(), Fail> {
-    let rt = &rt;
-    let pdu = ShortOctets::of(Octets::from_slice(rt.alloc(), &[0xAB, 0xCD])?).ok_or("long")?;
-    let (storage, index) = (1, 0x0105);
-    asks(
-        rt,
-        &QmiRequest::WmsRawSend(pdu),
-        (5, 0x0020),
-        &[0x01, 0x05, 0x00, 0x06, 0x02, 0x00, 0xAB, 0xCD],
-    )?;
-    asks(
-        rt,
-        &QmiRequest::WmsRawRead { storage, index },
-        (5, 0x0022),
-        &[0x01, 0x05, 0x00, 0x01, 0x05, 0x01, 0x00, 0x00],
-    )?;
-    asks(
-        rt,
-        &QmiRequest::WmsDelete { storage, index },
-        (5, 0x0024),
-        &[
-            0x01, 0x01, 0x00, 0x01, 0x10, 0x04, 0x00, 0x05, 0x01, 0x00, 0x00,
-        ],
-    )?;
-    asks(
-        rt,
-        &QmiRequest::WmsListMessages(1),
-        (5, 0x0031),
-        &[0x01, 0x01, 0x00, 0x01],
     )
 }
 

@@ -33,12 +33,6 @@ const ABC: [u8; 26] = [
     0x00, 0x00, 0x00, 0x00, 0x01, 0x03, 0x00, 0x41, 0x42, 0x43,
 ];
 
-/// Release CID of service 2 and the client id 5, with the number 2.
-const RELEASE: [u8; 17] = [
-    0x01, 0x10, 0x00, 0x00, 0x00, 0x00, 0x00, 0x02, 0x23, 0x00, 0x05, 0x00, 0x01, 0x02, 0x00, 0x02,
-    0x05,
-];
-
 const RELEASED: [u8; 19] = [
     0x01, 0x12, 0x00, 0x80, 0x00, 0x00, 0x01, 0x02, 0x23, 0x00, 0x07, 0x00, 0x02, 0x04, 0x00, 0x00,
     0x00, 0x00, 0x00,
@@ -64,9 +58,6 @@ const TWO_ANSWERS: [u8; 54] = [
     0x01, 0x16, 0x00, 0x80, 0x00, 0x00, 0x01, 0x02, 0x21, 0x00, 0x0B, 0x00, 0x02, 0x04, 0x00, 0x00,
     0x00, 0x00, 0x00, 0x01, 0x01, 0x00, 0x00,
 ];
-
-const ABC_GIVEN_BACK: &str =
-    r#"Ok(QmiEnd { answer: Success(Fields { fields: [Field { name: Text { text: "Manufacturer" }, shape: Str(Rest), val: Str(Octets { bytes: [65, 66, 67] }) }] }), kept: None })"#;
 
 const ABC_KEPT: &str =
     r#"Ok(QmiEnd { answer: Success(Fields { fields: [Field { name: Text { text: "Manufacturer" }, shape: Str(Rest), val: Str(Octets { bytes: [65, 66, 67] }) }] }), kept: Some((2, 5)) })"#;
@@ -139,30 +130,6 @@ fn run(alloc: Global, plan: QmiPlan, steps: &[Step<'_>]) -> Result<Ran, Fail> {
 /// A session that asks for the manufacturer, with a client id of its own.
 fn ask(alloc: Global, steps: &[Step<'_>]) -> Result<Ran, Fail> {
     run(alloc, plan(alloc, QmiRequest::DmsGetManufacturer)?, steps)
-}
-
-#[test]
-fn a_client_id_is_allocated_and_given_back(rt: HostRuntime) -> Result<(), Fail> {
-    let steps = [
-        Step::Does,
-        Step::Gives(&ALLOCATED),
-        Step::Does,
-        Step::Gives(&ABC),
-        Step::Does,
-        Step::Gives(&RELEASED),
-    ];
-    let calls: [(Made, &[u8]); 6] = [
-        (SENT, &ALLOCATE),
-        (Made::Took, &ALLOCATED),
-        (SENT, &MANUFACTURER),
-        (Made::Took, &ABC),
-        (SENT, &RELEASE),
-        (Made::Took, &RELEASED),
-    ];
-    let ran = ask(rt.alloc(), &steps)?;
-    assert_eq!(rt; ran.end.as_str(), ABC_GIVEN_BACK);
-    assert!(rt; ran.has_made(&calls));
-    Ok(())
 }
 
 #[test]

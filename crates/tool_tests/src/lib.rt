@@ -1,15 +1,11 @@
-//! Tests of the outside and of the tools: what no contract says.
+//! Tests of the tools, from their words to what is sent and printed: what no contract says.
 #![tactic(auto)]
 
 #[cfg(test)]
-mod hubs;
+mod commands;
 #[cfg(test)]
-mod links;
+mod ran;
 #[cfg(test)]
-mod proxies;
-#[cfg(test)]
-mod sinks;
-#[cfg(test)]
-mod versions;
+mod runs;
 #[cfg(test)]
 mod words;

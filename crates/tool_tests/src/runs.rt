@@ -1,38 +1,27 @@
-use file_io::{FileAnswer, MemFiles};
+use crate::ran::{Ran, run, run_over, words};
+use file_io::FileAnswer;
 use kit_io::{MemSink, SinkAnswer};
-use link_io::{LinkAnswer, Made, MemLink};
-use program::{Status, refuse, run_tool};
+use link_io::{LinkAnswer, Made};
+use message_tables::{MemberName, TableFault};
+use program::{Status, refuse};
 use std::alloc::{AllocError, Global};
+use std::process::Abort;
 use std::test::Fail;
 use tool_words::UsageKind;
 
-const COMMAND: [&str; 4] = ["qmicli", "-d", "m.sock", "--get-service-version-info"];
+const COMMAND: &str = "qmicli -d m.sock --get-service-version-info";
 
-const REQUEST: [u8; 12] = [
-    0x01, 0x0B, 0x00, 0x00, 0x00, 0x00, 0x00, 0x01, 0x21, 0x00, 0x00, 0x00,
-];
-
-const ANSWER: [u8; 28] = [
+static ANSWER: [u8; 28] = [
     0x01, 0x1B, 0x00, 0x80, 0x00, 0x00, 0x01, 0x01, 0x21, 0x00, 0x10, 0x00, 0x02, 0x04, 0x00, 0x00,
     0x00, 0x00, 0x00, 0x01, 0x06, 0x00, 0x01, 0x02, 0x01, 0x00, 0x03, 0x00,
 ];
 
+// A Sync indication, which no command asks for.
+static INDICATION: [u8; 12] = [
+    0x01, 0x0B, 0x00, 0x80, 0x00, 0x00, 0x02, 0x00, 0x27, 0x00, 0x00, 0x00,
+];
+
 const TEXT: &str = "Service list: 1\n  1:\n    Service: 2 (dms)\n    Major: 1\n    Minor: 3\n";
-
-/// What a run left behind.
-#[derive(Drop)]
-struct Ran {
-    status: Status,
-    out: Vec<u8>,
-    err: Vec<u8>,
-    link: MemLink,
-}
-
-fn words(alloc: Global, line: &[&str]) -> Result<Vec<String>, AllocError> {
-    line.iter()
-        .map(|word| String::from_str(alloc, word))
-        .try_collect(alloc)
-}
 
 /// The script of a link that opens, takes the request, gives these pieces, and then ends.
 fn giving(alloc: Global, pieces: &[&[u8]]) -> Result<Vec<LinkAnswer>, AllocError> {
@@ -43,131 +32,135 @@ fn giving(alloc: Global, pieces: &[&[u8]]) -> Result<Vec<LinkAnswer>, AllocError
     Ok(script)
 }
 
-fn run(
-    alloc: Global,
-    line: &[&str],
-    script: Vec<LinkAnswer>,
-    writes: Vec<SinkAnswer>,
-) -> Result<Ran, AllocError> {
-    let files = MemFiles::new(alloc, Vec::new(alloc), 0, 0)?;
-    run_with(alloc, line, script, writes, files)
-}
-
-fn run_with(
-    alloc: Global,
-    line: &[&str],
-    script: Vec<LinkAnswer>,
-    writes: Vec<SinkAnswer>,
-    mut files: MemFiles,
-) -> Result<Ran, AllocError> {
-    let mut link = MemLink::new(alloc, script, 400, 1_000)?;
-    let mut out = MemSink::new(alloc, writes, 1_000)?;
-    let mut err = MemSink::new(alloc, Vec::new(alloc), 1_000)?;
-    let words = words(alloc, line)?;
-    let status = run_tool(alloc, &words, &mut out, &mut err, &mut link, &mut files);
-    Ok(Ran {
-        status,
-        out: Vec::from_slice(alloc, out.taken().unwrap_or(b"not told"))?,
-        err: Vec::from_slice(alloc, err.taken().unwrap_or(b"not told"))?,
-        link,
-    })
-}
-
-#[test]
-fn an_answer_is_asked_for_and_printed(rt: HostRuntime) -> Result<(), Fail> {
-    let alloc = rt.alloc();
-    let ran = run(alloc, &COMMAND, giving(alloc, &[&ANSWER])?, Vec::new(alloc))?;
-    assert_eq!(rt; ran.status, Status::Done);
-    assert_eq!(rt; ran.status.code(), 0);
-    assert_eq!(rt; ran.out.as_slice(), TEXT.as_bytes());
-    assert_eq!(rt; ran.err.as_slice(), b"".as_slice());
-    let calls: [(Made, &[u8]); 4] = [
-        (Made::Opened { ok: true }, b"m.sock"),
-        (Made::Sent { ok: true }, &REQUEST),
-        (Made::Took, &ANSWER),
-        (Made::Closed, &[]),
-    ];
-    assert_eq!(rt; ran.link.log().len(), Some(4));
-    for (at, call) in calls.into_iter().enumerate() {
-        assert_eq!(rt; ran.link.log().at(at), Some(call), "call {at}");
+/// The same with an indication and the answer, all byte by byte.
+fn giving_bytes(alloc: Global) -> Result<Vec<LinkAnswer>, AllocError> {
+    let mut script = giving(alloc, &[])?;
+    for byte in INDICATION.chunks(1).chain(ANSWER.chunks(1)) {
+        script.push(LinkAnswer::Gives(Vec::from_slice(alloc, byte)?))?;
     }
-    Ok(())
+    Ok(script)
 }
 
 #[test]
 fn an_answer_may_come_in_any_pieces(rt: HostRuntime) -> Result<(), Fail> {
     let alloc = rt.alloc();
-    let mut bytewise = giving(alloc, &[])?;
-    for byte in &ANSWER {
-        bytewise.push(LinkAnswer::Gives(vec![in alloc; *byte]?))?;
-    }
-    let in_three = giving(alloc, &[&ANSWER[..3], &ANSWER[3..14], &ANSWER[14..]])?;
-    let with_more = giving(alloc, &[&ANSWER[..27], &[0, 2, 2]])?;
-    for script in [bytewise, in_three, with_more] {
-        let ran = run(alloc, &COMMAND, script, Vec::new(alloc))?;
-        assert_eq!(rt; ran.status, Status::Done);
-        assert_eq!(rt; ran.out.as_slice(), TEXT.as_bytes());
-    }
+    let in_three = [&ANSWER[..3], &ANSWER[3..14], &ANSWER[14..]];
+    run_over(alloc, COMMAND, giving(alloc, &in_three)?)?.ended(&rt, Status::Done, TEXT, "");
+    let with_more: [&[u8]; 2] = [&ANSWER[..27], &[0, 2, 2]];
+    run_over(alloc, COMMAND, giving(alloc, &with_more)?)?.ended(&rt, Status::Done, TEXT, "");
+    run_over(alloc, COMMAND, giving_bytes(alloc)?)?.ended(&rt, Status::Done, TEXT, "");
     Ok(())
+}
+
+/// The modem sends this and hangs up, and the command ends so.
+fn ends<R: Abort>(
+    rt: &R,
+    alloc: Global,
+    stream: &[u8],
+    status: Status,
+    line: &str,
+) -> Result<(), AllocError> {
+    run_over(alloc, COMMAND, giving(alloc, &[stream])?)?.ended(rt, status, "", line);
+    Ok(())
+}
+
+/// The answer with another byte at a place.
+fn answer_with(place: usize, byte: u8) -> [u8; 28] {
+    let mut answer = ANSWER;
+    if let Some(other) = answer.get_mut(place) {
+        *other = byte;
+    }
+    answer
 }
 
 #[test]
 fn other_streams_are_told_apart(rt: HostRuntime) -> Result<(), Fail> {
-    let alloc = rt.alloc();
-    let mut refused = ANSWER;
-    refused[15] = 1;
-    refused[17] = 3;
-    let mut other_number = ANSWER;
-    other_number[7] = 2;
-    let mut short_list = ANSWER;
-    short_list[22] = 2;
-    let indication = [1, 11, 0, 128, 0, 0, 2, 0, 39, 0, 0, 0];
+    let (rt, alloc) = (&rt, rt.alloc());
     let broken = Status::Broken { place: 0 };
-    let cases: [(&[u8], Status, &str); 7] = [
-        (&ANSWER[..20], Status::LinkEnd, "error: link ended\n"),
-        (&[2], broken, "error: broken at 0\n"),
-        (&[1, 10, 0], broken, "error: broken at 0\n"),
-        (&refused, Status::Denied { error: 3 }, "error: denied 3\n"),
-        // what isn't the answer is passed over
-        (&other_number, Status::LinkEnd, "error: link ended\n"),
-        (&short_list, broken, "error: broken at 0\n"),
-        (&indication, Status::LinkEnd, "error: link ended\n"),
-    ];
-    for (at, (stream, status, line)) in cases.into_iter().enumerate() {
-        let ran = run(alloc, &COMMAND, giving(alloc, &[stream])?, Vec::new(alloc))?;
-        assert_eq!(rt; ran.status, status, "case {at}");
-        assert_eq!(rt; ran.out.as_slice(), b"".as_slice(), "case {at}");
-        assert_eq!(rt; ran.err.as_slice(), line.as_bytes(), "case {at}");
+    ends(
+        rt,
+        alloc,
+        &ANSWER[..20],
+        Status::LinkEnd,
+        "error: link ended\n",
+    )?;
+    ends(rt, alloc, &[2], broken, "error: broken at 0\n")?;
+    ends(rt, alloc, &[1, 10, 0], broken, "error: broken at 0\n")?;
+    let short_list = answer_with(22, 2);
+    ends(rt, alloc, &short_list, broken, "error: broken at 0\n")?;
+    let mut refused = answer_with(15, 1);
+    refused[17] = 3;
+    let denied = Status::Denied { error: 3 };
+    ends(rt, alloc, &refused, denied, "error: denied 3\n")?;
+    Ok(())
+}
+
+#[test]
+fn what_is_not_the_answer_is_passed_over(rt: HostRuntime) -> Result<(), Fail> {
+    let (rt, alloc) = (&rt, rt.alloc());
+    let other_number = answer_with(7, 2);
+    for stream in [other_number.as_slice(), &INDICATION] {
+        ends(rt, alloc, stream, Status::LinkEnd, "error: link ended\n")?;
     }
     Ok(())
 }
 
 #[test]
-fn faults_of_the_link_and_the_sink_are_told(rt: HostRuntime) -> Result<(), Fail> {
+fn faults_of_the_link_are_told(rt: HostRuntime) -> Result<(), Fail> {
     let alloc = rt.alloc();
-    let not_opened = vec![in alloc; LinkAnswer::Fails]?;
-    let not_sent = vec![in alloc; LinkAnswer::Does, LinkAnswer::Fails]?;
-    let not_taken = vec![in alloc; LinkAnswer::Does, LinkAnswer::Does, LinkAnswer::Fails]?;
-    let mut quiet = Vec::new(alloc);
-    for _ in 0..302 {
-        quiet.push(LinkAnswer::Does)?;
+    for calls_before in 0..3 {
+        let mut script = Vec::new(alloc);
+        for _ in 0..calls_before {
+            script.push(LinkAnswer::Does)?;
+        }
+        script.push(LinkAnswer::Fails)?;
+        let ran = run_over(alloc, COMMAND, script)?;
+        ran.ended(&rt, Status::LinkFault, "", "error: link fault\n");
     }
-    let cases = [
-        (not_opened, Status::LinkFault, "error: link fault\n"),
-        (not_sent, Status::LinkFault, "error: link fault\n"),
-        (not_taken, Status::LinkFault, "error: link fault\n"),
-        (quiet, Status::TimedOut, "error: timed out\n"),
-    ];
-    for (script, status, line) in cases {
-        let ran = run(alloc, &COMMAND, script, Vec::new(alloc))?;
-        assert_eq!(rt; ran.status, status);
-        assert_eq!(rt; ran.err.as_slice(), line.as_bytes());
+    Ok(())
+}
+
+/// The script of a link that opens, takes the request, and is quiet for so many ticks.
+fn quiet_for(alloc: Global, ticks: u32) -> Result<Vec<LinkAnswer>, AllocError> {
+    let mut script = giving(alloc, &[])?;
+    for _ in 0..ticks {
+        script.push(LinkAnswer::Does)?;
     }
-    let writes = vec![in alloc; SinkAnswer::Takes(3), SinkAnswer::Fails]?;
-    let ran = run(alloc, &COMMAND, giving(alloc, &[&ANSWER])?, writes)?;
-    assert_eq!(rt; ran.status, Status::WriteFault);
-    assert_eq!(rt; ran.out.as_slice(), b"Ser".as_slice());
-    assert_eq!(rt; ran.err.as_slice(), b"error: write fault\n".as_slice());
+    Ok(script)
+}
+
+#[test]
+fn a_quiet_modem_is_waited_for_so_long(rt: HostRuntime) -> Result<(), Fail> {
+    let alloc = rt.alloc();
+    let ran = run_over(alloc, COMMAND, quiet_for(alloc, 300)?)?;
+    ran.ended(&rt, Status::TimedOut, "", "error: timed out\n");
+    let mut script = quiet_for(alloc, 299)?;
+    script.push(LinkAnswer::Gives(Vec::from_slice(alloc, &ANSWER)?))?;
+    run_over(alloc, COMMAND, script)?.ended(&rt, Status::Done, TEXT, "");
+    Ok(())
+}
+
+/// A stdout that answers so has taken this when it fails.
+fn writes<R: Abort>(
+    rt: &R,
+    alloc: Global,
+    out: Vec<SinkAnswer>,
+    taken: &str,
+) -> Result<(), AllocError> {
+    let words = words(alloc, COMMAND)?;
+    let script = giving(alloc, &[&ANSWER])?;
+    let ran = run(alloc, &words, script, out, Vec::new(alloc))?;
+    ran.ended(rt, Status::WriteFault, taken, "error: write fault\n");
+    Ok(())
+}
+
+#[test]
+fn a_fault_of_the_sink_is_told(rt: HostRuntime) -> Result<(), Fail> {
+    let alloc = rt.alloc();
+    let at_once = vec![in alloc; SinkAnswer::Fails]?;
+    let later = vec![in alloc; SinkAnswer::Takes(3), SinkAnswer::Fails]?;
+    writes(&rt, alloc, at_once, "")?;
+    writes(&rt, alloc, later, "Ser")?;
     Ok(())
 }
 
@@ -182,125 +175,183 @@ const OPENED: [u8; 19] = [
     0x00, 0x00, 0x00,
 ];
 
+// Get Version Info with the number 2.
+const SECOND_REQUEST: [u8; 12] = [
+    0x01, 0x0B, 0x00, 0x00, 0x00, 0x00, 0x00, 0x02, 0x21, 0x00, 0x00, 0x00,
+];
+
+/// A proxy that opens the device, and then gives the answer with the number 2.
+fn a_proxy(alloc: Global) -> Result<Vec<LinkAnswer>, AllocError> {
+    let mut script = giving(alloc, &[&OPENED])?;
+    script.push(LinkAnswer::Does)?;
+    script.push(LinkAnswer::Gives(Vec::from_slice(alloc, &answer_with(7, 2))?))?;
+    Ok(script)
+}
+
 #[test]
 fn a_proxy_is_asked_for_the_device_first(rt: HostRuntime) -> Result<(), Fail> {
     let alloc = rt.alloc();
-    let mut second_request = REQUEST;
-    second_request[7] = 2;
-    let mut second_answer = ANSWER;
-    second_answer[7] = 2;
-    let script = vec![in alloc;
-        LinkAnswer::Does,
-        LinkAnswer::Does,
-        LinkAnswer::Gives(Vec::from_slice(alloc, &OPENED)?),
-        LinkAnswer::Does,
-        LinkAnswer::Gives(Vec::from_slice(alloc, &second_answer)?),
-    ]?;
-    let line = [
-        "qmicli",
-        "-p",
-        "-d",
-        "/dev/cdc-wdm0",
-        "--get-service-version-info",
-    ];
-    let ran = run(alloc, &line, script, Vec::new(alloc))?;
-    assert_eq!(rt; ran.status, Status::Done);
-    assert_eq!(rt; ran.out.as_slice(), TEXT.as_bytes());
+    let line = "qmicli -p -d /dev/cdc-wdm0 --get-service-version-info";
+    let ran = run_over(alloc, line, a_proxy(alloc)?)?;
+    ran.ended(&rt, Status::Done, TEXT, "");
     let calls: [(Made, &[u8]); 6] = [
         (Made::Opened { ok: true }, b"/tmp/qmi-proxy.sock"),
         (Made::Sent { ok: true }, &OPENS),
         (Made::Took, &OPENED),
-        (Made::Sent { ok: true }, &second_request),
-        (Made::Took, &second_answer),
+        (Made::Sent { ok: true }, &SECOND_REQUEST),
+        (Made::Took, &answer_with(7, 2)),
         (Made::Closed, &[]),
     ];
-    assert_eq!(rt; ran.link.log().len(), Some(6));
-    for (at, call) in calls.into_iter().enumerate() {
-        assert_eq!(rt; ran.link.log().at(at), Some(call), "call {at}");
-    }
+    ran.made(&rt, &calls);
     Ok(())
+}
+
+/// A file's text, how its description ends, and what is printed of it with the line on stderr.
+static DESCRIBED: [(&str, Status, &str, &str); 6] = [
+    ("[]", Status::Done, "ok\n", ""),
+    (
+        r#"[
+            // two messages
+            {"type": "Message", "name": "Get Model", "service": "DMS", "id": "0x0022",
+             "output": [{"name": "Model", "id": "0x01", "format": "string"}]},
+            {"type": "Indication", "name": "Event", "service": "NAS", "id": "0xAB"}]"#,
+        Status::Done,
+        "\
+dms message 0x0022 Get Model: 0 in, 1 out
+nas indication 0x00AB Event: 0 in, 0 out
+",
+        "",
+    ),
+    (
+        "{",
+        Status::Tables {
+            fault: TableFault::Json,
+        },
+        "",
+        "error: tables: json\n",
+    ),
+    (
+        r#"[{"type": "Message", "name": 5}]"#,
+        Status::Tables {
+            fault: TableFault::Member {
+                object: 0,
+                name: MemberName::Name,
+            },
+        },
+        "",
+        "error: tables: member name in 0\n",
+    ),
+    (
+        r#"[
+            {"type": "Message", "name": "A", "service": "DMS", "id": "0x1"},
+            {"type": "Message", "name": "B", "service": "DMS", "id": "0x0001"}]"#,
+        Status::Tables {
+            fault: TableFault::Twice { object: 1 },
+        },
+        "",
+        "error: tables: twice in 1\n",
+    ),
+    (
+        r#"[{"type": "Message", "name": "A", "service": "DMS", "id": "0x1",
+             "output": [{"name": "B", "id": "0x01", "format": "gfloat"}]}]"#,
+        Status::Tables {
+            fault: TableFault::Format { object: 0 },
+        },
+        "",
+        "error: tables: format in 0\n",
+    ),
+];
+
+fn described() -> &'static [(&'static str, Status, &'static str, &'static str)] {
+    DESCRIBED.as_slice()
+}
+
+/// The file that these words name is opened, and answers so.
+fn describe(alloc: Global, answer: FileAnswer) -> Result<Ran, AllocError> {
+    let words = words(alloc, "qmicli --describe-tables a.json")?;
+    let files = vec![in alloc; FileAnswer::Does, answer]?;
+    run(alloc, &words, Vec::new(alloc), Vec::new(alloc), files)
 }
 
 #[test]
 fn a_file_is_described(rt: HostRuntime) -> Result<(), Fail> {
     let alloc = rt.alloc();
-    let member = "[{\"type\": \"Message\", \"name\": 5}]";
-    let cases = [
-        (FileAnswer::Gives(Vec::from_slice(alloc, b"[]")?), 0, ""),
-        (
-            FileAnswer::Gives(Vec::from_slice(alloc, b"{")?),
-            9,
-            "error: tables: json\n",
-        ),
-        (
-            FileAnswer::Gives(Vec::from_slice(alloc, member.as_bytes())?),
-            9,
-            "error: tables: member name in 0\n",
-        ),
-        (FileAnswer::Fails, 10, "error: read fault\n"),
-    ];
-    for (answer, code, line) in cases {
-        let script = vec![in alloc; FileAnswer::Does, answer]?;
-        let files = MemFiles::new(alloc, script, 10, 100)?;
-        let words = ["qmicli", "--describe-tables", "a.json"];
-        let ran = run_with(alloc, &words, Vec::new(alloc), Vec::new(alloc), files)?;
-        assert_eq!(rt; ran.status.code(), code);
-        assert_eq!(rt; ran.err.as_slice(), line.as_bytes());
-        assert_eq!(rt;
-            ran.out.as_slice(),
-            if code == 0 {
-                b"ok\n".as_slice()
-            } else {
-                b"".as_slice()
-            }
-        );
+    for &(text, status, out, err) in described() {
+        let text = Vec::from_slice(alloc, text.as_bytes())?;
+        describe(alloc, FileAnswer::Gives(text))?.ended(&rt, status, out, err);
     }
+    let unread = describe(alloc, FileAnswer::Fails)?;
+    unread.ended(&rt, Status::ReadFault, "", "error: read fault\n");
     Ok(())
+}
+
+/// Words that are refused.
+static REFUSED: [(&str, UsageKind, &str); 6] = [
+    (
+        "frob",
+        UsageKind::UnknownTool,
+        "error: usage: unknown tool\n",
+    ),
+    (
+        "qmicli -d m.sock",
+        UsageKind::NoCommand,
+        "error: usage: no command\n",
+    ),
+    ("qmicli", UsageKind::NoDevice, "error: usage: no device\n"),
+    (
+        "qmicli -d /dev/cdc-wdm0 --get-service-version-info",
+        UsageKind::Value,
+        "error: usage: value\n",
+    ),
+    (
+        "qmicli -d m.sock --client-cid=255 --dms-get-model",
+        UsageKind::Value,
+        "error: usage: value\n",
+    ),
+    (
+        "qmicli --device= --get-service-version-info",
+        UsageKind::Value,
+        "error: usage: value\n",
+    ),
+];
+
+fn refused() -> &'static [(&'static str, UsageKind, &'static str)] {
+    REFUSED.as_slice()
 }
 
 #[test]
 fn words_are_refused(rt: HostRuntime) -> Result<(), Fail> {
     let alloc = rt.alloc();
-    let node = [
-        "qmicli",
-        "-d",
-        "/dev/cdc-wdm0",
-        "--get-service-version-info",
-    ];
-    let nowhere = ["qmicli", "-d", "", "--get-service-version-info"];
-    let cases: [(&[&str], UsageKind, &str); 6] = [
-        (&[], UsageKind::NoTool, "error: usage: no tool\n"),
-        (
-            &["frob"],
-            UsageKind::UnknownTool,
-            "error: usage: unknown tool\n",
-        ),
-        (
-            &["qmicli", "-d", "m.sock"],
-            UsageKind::NoCommand,
-            "error: usage: no command\n",
-        ),
-        (
-            &["qmicli"],
-            UsageKind::NoDevice,
-            "error: usage: no device\n",
-        ),
-        (&node, UsageKind::Value, "error: usage: value\n"),
-        (&nowhere, UsageKind::Value, "error: usage: value\n"),
-    ];
-    for (at, (line, kind, text)) in cases.into_iter().enumerate() {
-        let ran = run(alloc, line, Vec::new(alloc), Vec::new(alloc))?;
-        assert_eq!(rt; ran.status, Status::Usage { kind }, "case {at}");
-        assert_eq!(rt; ran.status.code(), 2);
-        assert_eq!(rt; ran.err.as_slice(), text.as_bytes(), "case {at}");
-        assert_eq!(rt; ran.link.log().len(), Some(0));
+    for &(line, kind, err) in refused() {
+        let ran = run_over(alloc, line, Vec::new(alloc))?;
+        ran.ended(&rt, Status::Usage { kind }, "", err);
+        ran.made(&rt, &[]);
     }
-    let mut err = MemSink::new(alloc, Vec::new(alloc), 100)?;
-    assert_eq!(rt;
-        refuse(&mut err),
-        Status::Usage {
-            kind: UsageKind::Words
-        }
-    );
     Ok(())
+}
+
+#[test]
+fn no_words_are_refused(rt: HostRuntime) -> Result<(), Fail> {
+    let alloc = rt.alloc();
+    let none = run(
+        alloc,
+        &[],
+        Vec::new(alloc),
+        Vec::new(alloc),
+        Vec::new(alloc),
+    )?;
+    let kind = UsageKind::NoTool;
+    none.ended(&rt, Status::Usage { kind }, "", "error: usage: no tool\n");
+    let mut err = MemSink::new(alloc, Vec::new(alloc), 100)?;
+    let kind = UsageKind::Words;
+    assert_eq!(rt; refuse(&mut err), Status::Usage { kind });
+    Ok(())
+}
+
+#[test]
+fn a_status_has_a_code(rt: HostRuntime) {
+    let kind = UsageKind::Words;
+    assert_eq!(rt; Status::Done.code(), 0);
+    assert_eq!(rt; Status::Usage { kind }.code(), 2);
+    assert_eq!(rt; Status::ReadFault.code(), 10);
 }

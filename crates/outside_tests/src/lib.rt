@@ -1,0 +1,11 @@
+//! Tests of the outside, over real sockets and by turns: what no contract says.
+#![tactic(auto)]
+
+#[cfg(test)]
+mod hubs;
+#[cfg(test)]
+mod links;
+#[cfg(test)]
+mod proxies;
+#[cfg(test)]
+mod sinks;
