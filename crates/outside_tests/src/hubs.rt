@@ -1,162 +1,219 @@
+use crate::steps::{
+    accept, assert_calls, assert_listens, assert_reads, gives, modem_gives, read, target,
+};
 use hub_io::{Hub, HubAnswer, HubCall, HubEvent, HubTurn, MemHub, MioHub, NEXT_ROOM};
-use kit_bytes::Text;
 use kit_io::Failed;
 use link_io::Target;
-use std::alloc::Global;
+use std::alloc::{AllocError, Global};
 use std::fs::{self, Files};
-use std::io::{Read, Write};
+use std::io::Write;
 use std::net::Net;
 use std::os::unix::fs::PermissionsExt;
 use std::os::unix::net::{UnixListener, UnixStream};
 use std::process::Abort;
 use std::test::Fail;
-use std::time::{SystemTime, UNIX_EPOCH};
+use std::time::{Clock, SystemTime, UNIX_EPOCH};
 
 const CLIENTS: usize = 64;
 
 // What is done with a hub stands in functions over any hub: a check takes far longer over one of
 // these two.
 
-/// The next answers, so many, but for those of the time.
-fn answers<H: Hub>(
-    hub: &mut H,
-    alloc: Global,
-    count: usize,
-) -> Result<Vec<Result<HubEvent, Failed>>, Fail> {
+/// The next answer, but for those of the time.
+fn next_answer<H: Hub>(hub: &mut H) -> Result<HubEvent, Failed> {
     let mut buffer = [0u8; NEXT_ROOM];
-    let mut answers = Vec::new(alloc);
     for _ in 0..1_000 {
-        if answers.len() >= count {
-            break;
-        }
-        let answer = hub.next(&mut buffer);
-        if !matches!(answer, Ok(HubEvent::Now(_))) {
-            answers.push(answer)?;
+        let event = hub.next(&mut buffer)?;
+        if !matches!(event, HubEvent::Now(_)) {
+            return Ok(event);
         }
     }
-    Ok(answers)
+    Ok(HubEvent::Now(0))
 }
 
-/// Opens the hub, sends to a client and to the modem, opens this again and hangs up. The answers of
-/// the sends.
-fn ask<H: Hub>(hub: &mut H, device: &Target) -> [Result<usize, Failed>; 4] {
-    let _ = hub.open("h.sock", Some(device));
-    let sent = hub.send(1, &[1, 2, 3]);
-    let failed = hub.send(1, &[3]);
-    let waits = hub.send_modem(&[6]);
-    let all = hub.send_modem(&[6, 6]);
-    let _ = hub.reopen_modem();
-    hub.hang_up(1);
-    [sent, failed, waits, all]
+/// The next answers are these, but for those of the time.
+fn assert_answers<H: Hub, R: Abort>(rt: &R, hub: &mut H, wanted: &[Result<HubEvent, Failed>]) {
+    for (at, wanted) in wanted.iter().enumerate() {
+        assert_eq!(rt; next_answer(hub), *wanted, "answer {at}");
+    }
+}
+
+/// A send answered this.
+fn assert_sent<R: Abort>(rt: &R, sent: Result<usize, Failed>, wanted: Result<usize, Failed>) {
+    assert_eq!(rt; sent, wanted);
+}
+
+/// The turns of the hub in memory.
+fn turns(alloc: Global) -> Result<Vec<HubTurn>, AllocError> {
+    let mut turns = Vec::new(alloc);
+    turns.push(HubTurn::Tells(HubEvent::Joined(3)))?;
+    turns.push(gives(alloc, 3, &[7, 8])?)?;
+    // these can't be told
+    turns.push(HubTurn::Tells(HubEvent::Joined(3)))?;
+    turns.push(HubTurn::Tells(HubEvent::ModemPiece(9)))?;
+    turns.push(HubTurn::ModemGives(Vec::new(alloc)))?;
+    turns.push(HubTurn::Fails)?;
+    turns.push(modem_gives(alloc, &[5])?)?;
+    Ok(turns)
+}
+
+/// What it answers then.
+static TOLD: [Result<HubEvent, Failed>; 8] = [
+    Ok(HubEvent::Joined(3)),
+    Ok(HubEvent::Piece(3, 2)),
+    Err(Failed),
+    Err(Failed),
+    Err(Failed),
+    Err(Failed),
+    Ok(HubEvent::ModemPiece(1)),
+    // behind the end of its turns
+    Ok(HubEvent::Stop),
+];
+
+fn told() -> &'static [Result<HubEvent, Failed>] {
+    &TOLD
+}
+
+/// The second call told of this piece.
+fn assert_told_piece<R: Abort>(rt: &R, hub: &MemHub) {
+    let piece: (HubCall, &[u8]) = (HubCall::Told(HubEvent::Piece(3, 2)), &[7, 8]);
+    assert_eq!(rt; hub.log().at(1), Some(piece));
 }
 
 #[test]
 fn a_hub_in_memory_follows_its_turns(rt: HostRuntime) -> Result<(), Fail> {
     let alloc = rt.alloc();
-    let turns = vec![in alloc;
-        HubTurn::Tells(HubEvent::Joined(3)),
-        HubTurn::Gives(3, Vec::from_slice(alloc, &[7, 8])?),
-        // these can't be told
-        HubTurn::Tells(HubEvent::Joined(3)),
-        HubTurn::Tells(HubEvent::ModemPiece(9)),
-        HubTurn::ModemGives(Vec::new(alloc)),
-        HubTurn::Fails,
-        HubTurn::ModemGives(Vec::from_slice(alloc, &[5])?)
-    ]?;
-    let mut hub = MemHub::new(alloc, turns, Vec::new(alloc), 9, 9)?;
-    let wanted = [
-        Ok(HubEvent::Joined(3)),
-        Ok(HubEvent::Piece(3, 2)),
-        Err(Failed),
-        Err(Failed),
-        Err(Failed),
-        Err(Failed),
-        Ok(HubEvent::ModemPiece(1)),
-        // behind the end of its turns
-        Ok(HubEvent::Stop),
-    ];
-    assert_eq!(rt; answers(&mut hub, alloc, 8)?.as_slice(), wanted.as_slice());
-    let piece: (HubCall, &[u8]) = (HubCall::Told(HubEvent::Piece(3, 2)), &[7, 8]);
-    assert_eq!(rt; hub.log().at(1), Some(piece));
+    let mut hub = MemHub::new(alloc, turns(alloc)?, Vec::new(alloc), 9, 9)?;
+    assert_answers(&rt, &mut hub, told());
+    assert_told_piece(&rt, &hub);
     Ok(())
+}
+
+/// What the hub in memory answers to the calls that are made on it.
+fn answers(alloc: Global) -> Result<Vec<HubAnswer>, AllocError> {
+    Ok(vec![in alloc;
+        HubAnswer::Takes(0),
+        HubAnswer::Takes(2),
+        HubAnswer::Fails,
+        HubAnswer::Takes(0),
+    ]?)
+}
+
+/// Opens the hub, sends to a client and to the modem, opens this again and hangs up.
+fn ask<H: Hub, R: Abort>(rt: &R, hub: &mut H, device: &Target) {
+    let _ = hub.open("h.sock", Some(device));
+    assert_sent(rt, hub.send(1, &[1, 2, 3]), Ok(2));
+    assert_sent(rt, hub.send(1, &[3]), Err(Failed));
+    assert_sent(rt, hub.send_modem(&[6]), Ok(0));
+    // behind the end of its answers it does all that is asked
+    assert_sent(rt, hub.send_modem(&[6, 6]), Ok(2));
+    let _ = hub.reopen_modem();
+    hub.hang_up(1);
+}
+
+/// The calls that its record tells then.
+static ASKED: [(HubCall, &[u8]); 8] = [
+    (HubCall::Opened { ok: true }, b"h.sock"),
+    (HubCall::ToDevice, b"m.sock"),
+    (HubCall::Sent { conn: 1, taken: 2 }, &[1, 2, 3]),
+    (HubCall::SendFailed { conn: 1 }, &[3]),
+    (HubCall::SentModem { taken: 0 }, &[6]),
+    (HubCall::SentModem { taken: 2 }, &[6, 6]),
+    (HubCall::Reopened, &[]),
+    (HubCall::HungUp { conn: 1 }, &[]),
+];
+
+fn asked() -> &'static [(HubCall, &'static [u8])] {
+    &ASKED
 }
 
 #[test]
 fn a_hub_in_memory_tells_what_was_asked(rt: HostRuntime) -> Result<(), Fail> {
     let alloc = rt.alloc();
-    let answers = vec![in alloc;
-        HubAnswer::Takes(0),
-        HubAnswer::Takes(2),
-        HubAnswer::Fails,
-        HubAnswer::Takes(0),
-    ]?;
-    let mut hub = MemHub::new(alloc, Vec::new(alloc), answers, 9, 99)?;
-    let device = Target::Socket(Text::from_str(alloc, "m.sock")?);
-    // behind the end of its answers it does all that is asked
-    assert_eq!(rt; ask(&mut hub, &device), [Ok(2), Err(Failed), Ok(0), Ok(2)]);
-    let calls: [(HubCall, &[u8]); 8] = [
-        (HubCall::Opened { ok: true }, b"h.sock"),
-        (HubCall::ToDevice, b"m.sock"),
-        (HubCall::Sent { conn: 1, taken: 2 }, &[1, 2, 3]),
-        (HubCall::SendFailed { conn: 1 }, &[3]),
-        (HubCall::SentModem { taken: 0 }, &[6]),
-        (HubCall::SentModem { taken: 2 }, &[6, 6]),
-        (HubCall::Reopened, &[]),
-        (HubCall::HungUp { conn: 1 }, &[]),
-    ];
-    for (at, call) in calls.into_iter().enumerate() {
-        assert_eq!(rt; hub.log().at(at), Some(call), "call {at}");
-    }
+    let device = target(alloc, "m.sock")?;
+    let mut hub = MemHub::new(alloc, Vec::new(alloc), answers(alloc)?, 9, 99)?;
+    ask(&rt, &mut hub, &device);
+    assert_calls(&rt, hub.log(), asked());
     Ok(())
+}
+
+/// The client says something, and is answered.
+fn converse<H: Hub, R: Abort>(
+    rt: &R,
+    hub: &mut H,
+    alloc: Global,
+    client: &mut UnixStream,
+) -> Result<(), Fail> {
+    client.write_all(&[1, 2, 3])?;
+    assert_answers(
+        rt,
+        hub,
+        &[Ok(HubEvent::Joined(1)), Ok(HubEvent::Piece(1, 3))],
+    );
+    assert_sent(rt, hub.send(1, &[7, 8]), Ok(2));
+    assert_reads(rt, alloc, client, &[7, 8])
 }
 
 /// A client comes, is answered, and goes.
 fn serve_one<H: Hub, R: Abort + Net + Files>(
-    hub: &mut H,
     rt: &R,
+    hub: &mut H,
     alloc: Global,
 ) -> Result<(), Fail> {
     // what stands at the path is removed
     fs::write(rt, "hub.sock", b"stale")?;
-    assert!(rt; hub.open("hub.sock", None).is_ok());
+    assert_listens(rt, hub, "hub.sock", None);
     let mut client = UnixStream::connect(rt, "hub.sock")?;
-    client.write_all(&[1, 2, 3])?;
-    let came = [Ok(HubEvent::Joined(1)), Ok(HubEvent::Piece(1, 3))];
-    assert_eq!(rt; answers(hub, alloc, 2)?.as_slice(), came.as_slice());
-    assert_eq!(rt; hub.send(1, &[7, 8]), Ok(2));
-    let mut got = [0u8; 2];
-    client.read_exact(&mut got)?;
-    assert_eq!(rt; got, [7, 8]);
+    converse(rt, hub, alloc, &mut client)?;
     drop(client);
-    let left = [Ok(HubEvent::Left(1))];
-    assert_eq!(rt; answers(hub, alloc, 1)?.as_slice(), left.as_slice());
-    assert_eq!(rt; hub.send(1, &[9]), Err(Failed));
+    assert_answers(rt, hub, &[Ok(HubEvent::Left(1))]);
+    assert_sent(rt, hub.send(1, &[9]), Err(Failed));
     fs::remove_file(rt, "hub.sock")?;
     Ok(())
 }
 
 #[test]
 fn a_client_comes_and_goes(rt: HostRuntime) -> Result<(), Fail> {
-    serve_one(&mut MioHub::new(&rt, rt.alloc())?, &rt, rt.alloc())
+    let mut hub = MioHub::new(&rt, rt.alloc())?;
+    serve_one(&rt, &mut hub, rt.alloc())
+}
+
+/// The modem says something and goes.
+fn lose_modem<H: Hub, R: Abort>(rt: &R, hub: &mut H, device: &UnixListener) -> Result<(), Fail> {
+    accept(device)?.write_all(&[6])?;
+    assert_answers(
+        rt,
+        hub,
+        &[Ok(HubEvent::ModemPiece(1)), Ok(HubEvent::ModemGone)],
+    );
+    assert_sent(rt, hub.send_modem(&[4]), Err(Failed));
+    Ok(())
+}
+
+/// The modem is opened again, and takes bytes.
+fn find_modem<H: Hub, R: Abort>(
+    rt: &R,
+    hub: &mut H,
+    alloc: Global,
+    device: &UnixListener,
+) -> Result<(), Fail> {
+    assert!(rt; hub.reopen_modem().is_ok());
+    let mut modem = accept(device)?;
+    assert_sent(rt, hub.send_modem(&[4, 5]), Ok(2));
+    assert_reads(rt, alloc, &mut modem, &[4, 5])
 }
 
 /// The modem goes, and is opened again.
-fn reopen<H: Hub, R: Abort + Net + Files>(hub: &mut H, rt: &R, alloc: Global) -> Result<(), Fail> {
+fn reopen<H: Hub, R: Abort + Net + Files>(
+    rt: &R,
+    hub: &mut H,
+    alloc: Global,
+    target: &Target,
+) -> Result<(), Fail> {
     let device = UnixListener::bind(rt, "modem.sock")?;
-    let target = Target::Socket(Text::from_str(alloc, "modem.sock")?);
-    assert!(rt; hub.open("modem_hub.sock", Some(&target)).is_ok());
-    let (mut modem, _) = device.accept()?;
-    modem.write_all(&[6])?;
-    drop(modem);
-    let lost = [Ok(HubEvent::ModemPiece(1)), Ok(HubEvent::ModemGone)];
-    assert_eq!(rt; answers(hub, alloc, 2)?.as_slice(), lost.as_slice());
-    assert_eq!(rt; hub.send_modem(&[4]), Err(Failed));
-    assert!(rt; hub.reopen_modem().is_ok());
-    let (mut modem, _) = device.accept()?;
-    assert_eq!(rt; hub.send_modem(&[4, 5]), Ok(2));
-    let mut got = [0u8; 2];
-    modem.read_exact(&mut got)?;
-    assert_eq!(rt; got, [4, 5]);
+    assert_listens(rt, hub, "modem_hub.sock", Some(target));
+    lose_modem(rt, hub, &device)?;
+    find_modem(rt, hub, alloc, &device)?;
     fs::remove_file(rt, "modem_hub.sock")?;
     fs::remove_file(rt, "modem.sock")?;
     Ok(())
@@ -164,7 +221,22 @@ fn reopen<H: Hub, R: Abort + Net + Files>(hub: &mut H, rt: &R, alloc: Global) ->
 
 #[test]
 fn a_modem_is_lost_and_opened_again(rt: HostRuntime) -> Result<(), Fail> {
-    reopen(&mut MioHub::new(&rt, rt.alloc())?, &rt, rt.alloc())
+    let target = target(rt.alloc(), "modem.sock")?;
+    let mut hub = MioHub::new(&rt, rt.alloc())?;
+    reopen(&rt, &mut hub, rt.alloc(), &target)
+}
+
+/// Who may read, write and execute a file, as `chmod` has it.
+fn rights<R: Files>(rt: &R, path: &str) -> Result<u32, Fail> {
+    let mode = fs::metadata(rt, path)?.permissions().mode();
+    Ok(mode % 0o1000)
+}
+
+/// The socket's file is for its owner alone.
+fn assert_is_private<R: Abort + Files>(rt: &R, path: &str) -> Result<(), Fail> {
+    let rights = rights(rt, path)?;
+    assert_eq!(rt; rights, 0o600);
+    Ok(())
 }
 
 /// Sends until the socket takes nothing more. How many bytes it took.
@@ -179,33 +251,36 @@ fn fill<H: Hub>(hub: &mut H) -> Result<usize, Failed> {
     Ok(sent)
 }
 
-/// A client doesn't read, and then does. The socket's file is for its owner alone.
-fn wait_for_room<H: Hub, R: Abort + Net + Files>(
-    hub: &mut H,
-    rt: &R,
-    alloc: Global,
-) -> Result<(), Fail> {
-    assert!(rt; hub.open("room.sock", None).is_ok());
-    let rights = fs::metadata(rt, "room.sock")?.permissions().mode() % 0o1000;
-    assert_eq!(rt; rights, 0o600);
-    let mut client = UnixStream::connect(rt, "room.sock")?;
-    let joined = [Ok(HubEvent::Joined(1))];
-    assert_eq!(rt; answers(hub, alloc, 1)?.as_slice(), joined.as_slice());
+/// Fills the client's socket. How many bytes it took.
+fn assert_fills<H: Hub, R: Abort>(rt: &R, hub: &mut H) -> usize {
     let sent = fill(hub).unwrap_or(0);
     assert!(rt; sent > 0);
-    assert_eq!(rt; hub.send(1, &[7]), Ok(0));
-    let mut got = Vec::from_elem(alloc, 0u8, sent)?;
-    client.read_exact(&mut got)?;
-    let room = [Ok(HubEvent::Room(1))];
-    assert_eq!(rt; answers(hub, alloc, 1)?.as_slice(), room.as_slice());
-    assert_eq!(rt; hub.send(1, &[7]), Ok(1));
+    assert_sent(rt, hub.send(1, &[7]), Ok(0));
+    sent
+}
+
+/// A client doesn't read, and then does.
+fn wait_for_room<H: Hub, R: Abort + Net + Files>(
+    rt: &R,
+    hub: &mut H,
+    alloc: Global,
+) -> Result<(), Fail> {
+    assert_listens(rt, hub, "room.sock", None);
+    assert_is_private(rt, "room.sock")?;
+    let mut client = UnixStream::connect(rt, "room.sock")?;
+    assert_answers(rt, hub, &[Ok(HubEvent::Joined(1))]);
+    let sent = assert_fills(rt, hub);
+    let _ = read(alloc, &mut client, sent)?;
+    assert_answers(rt, hub, &[Ok(HubEvent::Room(1))]);
+    assert_sent(rt, hub.send(1, &[7]), Ok(1));
     fs::remove_file(rt, "room.sock")?;
     Ok(())
 }
 
 #[test]
 fn a_full_socket_tells_of_room(rt: HostRuntime) -> Result<(), Fail> {
-    wait_for_room(&mut MioHub::new(&rt, rt.alloc())?, &rt, rt.alloc())
+    let mut hub = MioHub::new(&rt, rt.alloc())?;
+    wait_for_room(&rt, &mut hub, rt.alloc())
 }
 
 /// What a client says, each something else.
@@ -270,42 +345,72 @@ fn send_back<H: Hub>(hub: &mut H, wanted: usize) -> Result<(), Failed> {
     Ok(())
 }
 
-/// Many clients say something in parts, and each gets its own bytes back.
-fn serve_many<H: Hub, R: Abort + Net + Files>(
-    hub: &mut H,
-    rt: &R,
-    alloc: Global,
-    seed: u64,
-) -> Result<(), Fail> {
-    assert!(rt; hub.open("many.sock", None).is_ok());
+fn connect_many<R: Net + Files>(rt: &R, alloc: Global) -> Result<Vec<UnixStream>, Fail> {
     let mut clients = Vec::new(alloc);
     for _ in 0..CLIENTS {
         clients.push(UnixStream::connect(rt, "many.sock")?)?;
     }
+    Ok(clients)
+}
+
+/// The clients say something in parts, and the hub sends it back.
+fn serve_parts<H: Hub, R: Abort>(
+    rt: &R,
+    hub: &mut H,
+    alloc: Global,
+    clients: &mut [UnixStream],
+    seed: u64,
+) -> Result<(), Fail> {
     for part in 0..3 {
-        let sent = send_parts(&mut clients, alloc, seed, part)?;
+        let sent = send_parts(clients, alloc, seed, part)?;
         assert!(rt; send_back(hub, sent).is_ok());
     }
+    Ok(())
+}
+
+/// Each client gets its own bytes back.
+fn assert_all_read<R: Abort>(
+    rt: &R,
+    alloc: Global,
+    clients: &mut [UnixStream],
+    seed: u64,
+) -> Result<(), Fail> {
     for (number, client) in clients.iter_mut().enumerate() {
         let message = message(alloc, number)?;
-        let mut got = Vec::from_elem(alloc, 0u8, message.len())?;
-        client.read_exact(&mut got)?;
+        let got = read(alloc, client, message.len())?;
         assert_eq!(rt;
             got.as_slice(),
             message.as_slice(),
             "client {number}, seed {seed}"
         );
     }
+    Ok(())
+}
+
+/// Many clients say something in parts, and each gets its own bytes back.
+fn serve_many<H: Hub, R: Abort + Net + Files>(
+    rt: &R,
+    hub: &mut H,
+    alloc: Global,
+    seed: u64,
+) -> Result<(), Fail> {
+    assert_listens(rt, hub, "many.sock", None);
+    let mut clients = connect_many(rt, alloc)?;
+    serve_parts(rt, hub, alloc, &mut clients, seed)?;
+    assert_all_read(rt, alloc, &mut clients, seed)?;
     fs::remove_file(rt, "many.sock")?;
     Ok(())
 }
 
+/// A seed that differs from run to run.
+fn seed_of_now<R: Clock>(rt: &R) -> Result<u64, Fail> {
+    let time = SystemTime::now(rt)?.duration_since(UNIX_EPOCH)?;
+    Ok(u64::from(time.subsec_nanos()))
+}
+
 #[test]
 fn many_clients_get_their_own_bytes_back(rt: HostRuntime) -> Result<(), Fail> {
-    let seed = u64::from(
-        SystemTime::now(&rt)?
-            .duration_since(UNIX_EPOCH)?
-            .subsec_nanos(),
-    );
-    serve_many(&mut MioHub::new(&rt, rt.alloc())?, &rt, rt.alloc(), seed)
+    let seed = seed_of_now(&rt)?;
+    let mut hub = MioHub::new(&rt, rt.alloc())?;
+    serve_many(&rt, &mut hub, rt.alloc(), seed)
 }

@@ -9,3 +9,5 @@ mod links;
 mod proxies;
 #[cfg(test)]
 mod sinks;
+#[cfg(test)]
+mod steps;

@@ -1,3 +1,4 @@
+use crate::steps::{assert_bytes, assert_calls, assert_listens, gives, modem_gives};
 use hub_io::{Hub, HubCall, HubEvent, HubTurn, MemHub, MioHub, ServeEnd, Settings};
 use kit_bytes::Text;
 use kit_io::MemSink;
@@ -55,20 +56,44 @@ const ABORTED: [u8; 19] = [
     0x00, 0x04, 0x00,
 ];
 
-fn run(
+/// A hub in memory that follows these turns.
+fn hub_of(alloc: Global, turns: Vec<HubTurn>) -> Result<MemHub, AllocError> {
+    MemHub::new(alloc, turns, Vec::new(alloc), 100, 1_000)
+}
+
+fn words(alloc: Global, line: &[&str]) -> Result<Vec<String>, AllocError> {
+    let mut words = Vec::new(alloc);
+    for word in line {
+        words.push(String::from_str(alloc, word)?)?;
+    }
+    Ok(words)
+}
+
+/// Runs a proxy with these words over a hub. Its status, and what it writes.
+fn run(alloc: Global, line: &[&str], hub: &mut MemHub) -> Result<(Status, MemSink), AllocError> {
+    let words = words(alloc, line)?;
+    let mut err = MemSink::new(alloc, Vec::new(alloc), 1_000)?;
+    let status = run_proxy(alloc, &words, &mut err, hub);
+    Ok((status, err))
+}
+
+/// The proxy ends with this status, and writes this.
+fn assert_ends<R: Abort>(
+    rt: &R,
     alloc: Global,
     line: &[&str],
-    turns: Vec<HubTurn>,
-) -> Result<(Status, Vec<u8>, MemHub), AllocError> {
-    let mut hub = MemHub::new(alloc, turns, Vec::new(alloc), 100, 1_000)?;
-    let mut err = MemSink::new(alloc, Vec::new(alloc), 1_000)?;
-    let words = line
-        .iter()
-        .map(|word| String::from_str(alloc, word))
-        .try_collect::<Vec<String>>(alloc)?;
-    let status = run_proxy(alloc, &words, &mut err, &mut hub);
-    let said = Vec::from_slice(alloc, err.taken().unwrap_or(b"not told"))?;
-    Ok((status, said, hub))
+    hub: &mut MemHub,
+    wanted: (Status, &[u8]),
+) -> Result<(), Fail> {
+    let (status, err) = run(alloc, line, hub)?;
+    assert_eq!(rt; (status, err.taken().unwrap_or(b"not told")), wanted);
+    Ok(())
+}
+
+/// The hub was asked for this, in this order, and then told the end.
+fn assert_asked<R: Abort>(rt: &R, hub: &MemHub, calls: &[(HubCall, &[u8])]) {
+    assert_calls(rt, hub.log(), calls);
+    assert_eq!(rt; hub.log().at(calls.len() + 1), None);
 }
 
 fn with_turns(turns: &str) -> [&str; 7] {
@@ -83,20 +108,35 @@ fn with_turns(turns: &str) -> [&str; 7] {
     ]
 }
 
+/// Runs a proxy over these turns, until they are over. The hub was asked for this.
+fn assert_serves<R: Abort>(
+    rt: &R,
+    alloc: Global,
+    turns: Vec<HubTurn>,
+    calls: &[(HubCall, &[u8])],
+) -> Result<(), Fail> {
+    let mut hub = hub_of(alloc, turns)?;
+    let line = with_turns("1000000000000");
+    assert_ends(rt, alloc, &line, &mut hub, (Status::Done, b""))?;
+    assert_asked(rt, &hub, calls);
+    Ok(())
+}
+
+/// A client opens the proxy in two pieces and asks, the modem answers, and the client sends garbage.
+fn served_turns(alloc: Global) -> Result<Vec<HubTurn>, AllocError> {
+    let (front, rest) = OPENS.split_at(20);
+    let mut turns = Vec::new(alloc);
+    turns.push(HubTurn::Tells(HubEvent::Joined(1)))?;
+    turns.push(gives(alloc, 1, front)?)?;
+    turns.push(gives(alloc, 1, rest)?)?;
+    turns.push(gives(alloc, 1, &ASKS)?)?;
+    turns.push(modem_gives(alloc, &ANSWERS)?)?;
+    turns.push(gives(alloc, 1, &[0x02])?)?;
+    Ok(turns)
+}
+
 #[test]
 fn clients_are_served_and_hung_up(rt: HostRuntime) -> Result<(), Fail> {
-    let alloc = rt.alloc();
-    let turns = vec![in alloc;
-        HubTurn::Tells(HubEvent::Joined(1)),
-        HubTurn::Gives(1, Vec::from_slice(alloc, &OPENS[..20])?),
-        HubTurn::Gives(1, Vec::from_slice(alloc, &OPENS[20..])?),
-        HubTurn::Gives(1, Vec::from_slice(alloc, &ASKS)?),
-        HubTurn::ModemGives(Vec::from_slice(alloc, &ANSWERS)?),
-        // garbage
-        HubTurn::Gives(1, Vec::from_slice(alloc, &[0x02])?)
-    ]?;
-    let (status, said, hub) = run(alloc, &with_turns("1000000000000"), turns)?;
-    assert_eq!(rt; (status, said.len()), (Status::Done, 0));
     let calls: [(HubCall, &[u8]); 12] = [
         (HubCall::Opened { ok: true }, b"p.sock"),
         (HubCall::ToDevice, b"m.sock"),
@@ -111,31 +151,23 @@ fn clients_are_served_and_hung_up(rt: HostRuntime) -> Result<(), Fail> {
         (HubCall::Told(HubEvent::Piece(1, 1)), &[0x02]),
         (HubCall::HungUp { conn: 1 }, &[]),
     ];
-    assert_calls(&rt, &hub, &calls)
+    assert_serves(&rt, rt.alloc(), served_turns(rt.alloc())?, &calls)
 }
 
-// The hub was asked for this, in this order, and then told the end.
-fn assert_calls<R: Abort>(rt: &R, hub: &MemHub, calls: &[(HubCall, &[u8])]) -> Result<(), Fail> {
-    for (at, &call) in calls.iter().enumerate() {
-        assert_eq!(rt; hub.log().at(at), Some(call), "call {at}");
-    }
-    assert_eq!(rt; hub.log().at(calls.len() + 1), None);
-    Ok(())
+/// A client opens the proxy and asks, the modem is lost, the client asks again, and time passes.
+fn lost_turns(alloc: Global) -> Result<Vec<HubTurn>, AllocError> {
+    let mut turns = Vec::new(alloc);
+    turns.push(HubTurn::Tells(HubEvent::Joined(1)))?;
+    turns.push(gives(alloc, 1, &OPENS)?)?;
+    turns.push(gives(alloc, 1, &ASKS)?)?;
+    turns.push(HubTurn::Tells(HubEvent::ModemGone))?;
+    turns.push(gives(alloc, 1, &ASKS)?)?;
+    turns.push(HubTurn::Tells(HubEvent::Now(100)))?;
+    Ok(turns)
 }
 
 #[test]
 fn a_lost_modem_is_told_of_and_opened_again(rt: HostRuntime) -> Result<(), Fail> {
-    let alloc = rt.alloc();
-    let turns = vec![in alloc;
-        HubTurn::Tells(HubEvent::Joined(1)),
-        HubTurn::Gives(1, Vec::from_slice(alloc, &OPENS)?),
-        HubTurn::Gives(1, Vec::from_slice(alloc, &ASKS)?),
-        HubTurn::Tells(HubEvent::ModemGone),
-        HubTurn::Gives(1, Vec::from_slice(alloc, &ASKS)?),
-        HubTurn::Tells(HubEvent::Now(100)),
-    ]?;
-    let (status, _, hub) = run(alloc, &with_turns("1000000000000"), turns)?;
-    assert_eq!(rt; status, Status::Done);
     let calls: [(HubCall, &[u8]); 13] = [
         (HubCall::Opened { ok: true }, b"p.sock"),
         (HubCall::ToDevice, b"m.sock"),
@@ -151,31 +183,41 @@ fn a_lost_modem_is_told_of_and_opened_again(rt: HostRuntime) -> Result<(), Fail>
         (HubCall::Told(HubEvent::Now(100)), &[]),
         (HubCall::Reopened, &[]),
     ];
-    assert_calls(&rt, &hub, &calls)
+    assert_serves(&rt, rt.alloc(), lost_turns(rt.alloc())?, &calls)
 }
 
-fn ticks(alloc: Global, count: u64) -> Result<Vec<HubTurn>, AllocError> {
-    (0..count)
-        .map(|time| HubTurn::Tells(HubEvent::Now(time)))
-        .collect(alloc)
+fn tick(time: u64) -> HubTurn {
+    HubTurn::Tells(HubEvent::Now(time))
+}
+
+/// Time passes, and then the hub fails.
+fn failing_turns(alloc: Global) -> Result<Vec<HubTurn>, AllocError> {
+    let mut turns = Vec::new(alloc);
+    turns.push(tick(0))?;
+    turns.push(tick(1))?;
+    turns.push(HubTurn::Fails)?;
+    Ok(turns)
+}
+
+/// Time passes.
+fn ticking_turns(alloc: Global) -> Result<Vec<HubTurn>, AllocError> {
+    let mut turns = Vec::new(alloc);
+    turns.push(tick(0))?;
+    turns.push(tick(1))?;
+    turns.push(tick(2))?;
+    turns.push(tick(3))?;
+    Ok(turns)
 }
 
 #[test]
 fn a_serving_ends_for_its_reason(rt: HostRuntime) -> Result<(), Fail> {
     let alloc = rt.alloc();
-    let mut failing = ticks(alloc, 2)?;
-    failing.push(HubTurn::Fails)?;
-    let (status, said, _) = run(alloc, &with_turns("9"), failing)?;
-    assert_eq!(rt;
-        (status, said.as_slice()),
-        (Status::HubFault, b"error: hub fault\n".as_slice())
-    );
-    let (status, said, _) = run(alloc, &with_turns("3"), ticks(alloc, 4)?)?;
-    assert_eq!(rt;
-        (status, said.as_slice()),
-        (Status::TurnsSpent, b"error: turns spent\n".as_slice())
-    );
-    Ok(())
+    let fault: (Status, &[u8]) = (Status::HubFault, b"error: hub fault\n");
+    let mut hub = hub_of(alloc, failing_turns(alloc)?)?;
+    assert_ends(&rt, alloc, &with_turns("9"), &mut hub, fault)?;
+    let spent: (Status, &[u8]) = (Status::TurnsSpent, b"error: turns spent\n");
+    let mut hub = hub_of(alloc, ticking_turns(alloc)?)?;
+    assert_ends(&rt, alloc, &with_turns("3"), &mut hub, spent)
 }
 
 #[test]
@@ -197,35 +239,46 @@ fn words_of_a_proxy_are_read_or_refused(rt: HostRuntime) -> Result<(), Fail> {
     assert_status(&rt, alloc, &["qmi-proxy", "-d", "/dev/m"], value)
 }
 
+/// The status of a proxy with these words over a hub that has no turns.
+fn status_of(alloc: Global, line: &[&str]) -> Result<Status, AllocError> {
+    let mut hub = hub_of(alloc, Vec::new(alloc))?;
+    let (status, _) = run(alloc, line, &mut hub)?;
+    Ok(status)
+}
+
 fn assert_status<R: Abort>(
     rt: &R,
     alloc: Global,
     line: &[&str],
     wanted: Status,
 ) -> Result<(), Fail> {
-    let (status, _, _) = run(alloc, line, Vec::new(alloc))?;
+    let status = status_of(alloc, line)?;
     assert_eq!(rt; status, wanted);
     Ok(())
 }
 
-/// Many clients open the proxy and ask at once, and each gets its two answers: the modem that isn't
-/// there fails at the first request, and the others are refused. They have hung up before they are
-/// served, so that the serving ends by itself.
-fn serve_many<H: Hub, R: Abort + Net + Files>(
-    hub: &mut H,
-    rt: &R,
-    alloc: Global,
-) -> Result<(), Fail> {
-    assert!(rt; hub.open("proxy.sock", None).is_ok());
+/// Opens the proxy in two pieces, asks, and hangs up.
+fn ask(client: &mut UnixStream, cut: usize) -> Result<(), Fail> {
+    client.write_all(OPENS.get(..cut).unwrap_or(&[]))?;
+    client.write_all(OPENS.get(cut..).unwrap_or(&[]))?;
+    client.write_all(&ASKS)?;
+    client.shutdown(Shutdown::Write)?;
+    Ok(())
+}
+
+/// Many clients, each of which has asked and hung up. Each cuts its opening at another place.
+fn clients_that_asked<R: Net + Files>(rt: &R, alloc: Global) -> Result<Vec<UnixStream>, Fail> {
     let mut clients = Vec::new(alloc);
     for number in 0..CLIENTS {
         let mut client = UnixStream::connect(rt, "proxy.sock")?;
-        client.write_all(&OPENS[..number % OPENS.len()])?;
-        client.write_all(&OPENS[number % OPENS.len()..])?;
-        client.write_all(&ASKS)?;
-        client.shutdown(Shutdown::Write)?;
+        ask(&mut client, number % OPENS.len())?;
         clients.push(client)?;
     }
+    Ok(clients)
+}
+
+/// The proxy serves its clients until there are none.
+fn assert_serves_all<H: Hub, R: Abort>(rt: &R, hub: &mut H, alloc: Global) -> Result<(), Fail> {
     let settings = Settings {
         device: Text::from_str(alloc, "m.sock")?,
         time: 30_000,
@@ -233,26 +286,55 @@ fn serve_many<H: Hub, R: Abort + Net + Files>(
         turns: 10_000,
     };
     assert_eq!(rt; serve_qmi(alloc, hub, &settings), ServeEnd::Empty);
-    let mut told_lost = Vec::from_slice(alloc, &OPENED)?;
-    told_lost.extend_from_slice(&ABORTED)?;
-    let mut refused = Vec::from_slice(alloc, &OPENED)?;
-    refused.extend_from_slice(&REFUSED)?;
-    let mut aborted: usize = 0;
+    Ok(())
+}
+
+/// A client was told that the proxy is open, and then that the modem was lost or is away. Whether it
+/// was lost.
+fn assert_answered<R: Abort>(rt: &R, got: &[u8]) -> bool {
+    let (opened, reply) = got.split_at(OPENED.len().min(got.len()));
+    assert_bytes(rt, opened, &OPENED);
+    let lost = reply == ABORTED.as_slice();
+    if !lost {
+        assert_bytes(rt, reply, &REFUSED);
+    }
+    lost
+}
+
+/// Each client was answered, and one of them was told that the modem was lost.
+fn assert_all_answered<R: Abort>(
+    rt: &R,
+    alloc: Global,
+    clients: &mut [UnixStream],
+) -> Result<(), Fail> {
+    let mut lost: usize = 0;
     for client in clients.iter_mut() {
         let mut got = Vec::new(alloc);
         client.read_to_end(&mut got)?;
-        if got.as_slice() == told_lost.as_slice() {
-            aborted = aborted.saturating_add(1);
-        } else {
-            assert_eq!(rt; got.as_slice(), refused.as_slice());
-        }
+        lost = lost.saturating_add(usize::from(assert_answered(rt, &got)));
     }
-    assert_eq!(rt; aborted, 1);
+    assert_eq!(rt; lost, 1);
+    Ok(())
+}
+
+/// Many clients open the proxy and ask at once, and each gets its two answers: the modem that isn't
+/// there fails at the first request, and the others are refused. They have hung up before they are
+/// served, so that the serving ends by itself.
+fn serve_many<H: Hub, R: Abort + Net + Files>(
+    rt: &R,
+    hub: &mut H,
+    alloc: Global,
+) -> Result<(), Fail> {
+    assert_listens(rt, hub, "proxy.sock", None);
+    let mut clients = clients_that_asked(rt, alloc)?;
+    assert_serves_all(rt, hub, alloc)?;
+    assert_all_answered(rt, alloc, &mut clients)?;
     fs::remove_file(rt, "proxy.sock")?;
     Ok(())
 }
 
 #[test]
 fn many_clients_get_their_own_replies(rt: HostRuntime) -> Result<(), Fail> {
-    serve_many(&mut MioHub::new(&rt, rt.alloc())?, &rt, rt.alloc())
+    let mut hub = MioHub::new(&rt, rt.alloc())?;
+    serve_many(&rt, &mut hub, rt.alloc())
 }
