@@ -2,11 +2,11 @@
 use Rattle.std.proofs.Common.{◌≡◌, ◌≢◌, ℕ, zero, ◌≤◌, Bool, true, false, not, ◌&&◌, ◌||◌, ◌==◌, if◌then◌else◌, List, [], ◌∷◌, length, filter, refl, ap, sym, ◌∙◌, subst, ⊎_elim, arith, All, Contains, Option, Some, None}
 use Rattle.std.proofs.lemmas.Bool.{eqb-true, eq-eqb}
 use Rattle.std.proofs.lemmas.List.Elements.{All-contains, All-from_recursion}
-use Rattle.qmux_frame.specs.Head.{service_of, is_control, client_of, flags_of, number_of, is_framed}
+use Rattle.qmux_frame.specs.Head.{service_of, is_control, client_of, number_of}
 use Rattle.qmux_frame.specs.Reply.{with_number, result_reply}
 use Rattle.proxy_history.specs.Events.{Event}
 use Rattle.proxy_history.specs.Facts.{Fact, Request, Answered, IdHeld, Late, Indicated, Stray, Granted, Freed, Ended, NoRoom, EventBegan}
-use Rattle.proxy_history.specs.Connections.{contains, present, dropped, is_present}
+use Rattle.proxy_history.specs.Connections.{contains, present, is_present}
 use Rattle.proxy_history.specs.Requests.{in_use, pending, has_request, without_request, is_pending}
 use Rattle.proxy_history.specs.ClientIds.{held, holder, is_holder, is_other, holds_some}
 use Rattle.proxy_history.specs.View.{Entry, Response, Refused, Indication, HeldId, entry_if, view}
@@ -17,9 +17,9 @@ use Rattle.proxy_history.proofs.Sound.{in_use_from_pending, forwarded_from_in_us
 use Rattle.qmi_proxy.specs.Setup.{Setup}
 use Rattle.qmi_proxy.specs.Errors.{client_ids_exhausted}
 use Rattle.qmi_proxy.specs.Spaces.{limit_of, top_of, control_space, service_space, space_of}
-use Rattle.qmi_proxy.specs.Messages.{IsResponse, IsIndication, IsNeither, kind_of, is_bit_set, response_bit, indication_bit, is_release, is_success, byte_of, value_of, used_service, used_client}
+use Rattle.qmi_proxy.specs.Messages.{IsResponse, kind_of, is_release, is_success, byte_of, value_of, used_service, used_client}
 use Rattle.qmi_proxy.specs.Text.{note, text, blank, view_of, rendering}
-use Rattle.qmi_proxy.specs.FromModem.{NoChange, Frees, id_change, granted_unless, brings_id, holder_of_brought, is_answered_by, first_answered_by, answer, answer_or_late, respond, hear_as, hear_modem, open_ones, receivers, tell}
+use Rattle.qmi_proxy.specs.FromModem.{IdChange, NoChange, Frees, id_change, granted_unless, brings_id, holder_of_brought, is_answered_by, first_answered_by, answer, answer_or_late, respond, hear_as, hear_modem, open_ones, receivers, tell}
 use Rattle.qmi_proxy.specs.History.{history}
 use Rattle.qmi_state.specs.Regular.{IsPlaced, IsAsked, Regular}
 use Rattle.qmi_state.specs.Core.{Core, Stands, greatest_name, rests_of}
@@ -29,9 +29,6 @@ use Rattle.qmi_state.proofs.Keeping.{exchange}
 use Rattle.qmi_state.proofs.Modem.{responses_framed, kept_heard_all}
 use Rattle.qmi_state.proofs.Steps.{keeps_read}
 use Rattle.qmi_state.proofs.Answering.{asked_of_pending}
-use Rattle.qmi_state.specs.Desk.{asks, ids}
-use Rattle.proxy_history.specs.Requests.{last_number}
-use Rattle.proxy_history.specs.Modem.{to_modem, modem_drained}
 use Rattle.qmi_isolation.specs.Laws.{facts_before, IsDelivered}
 use Rattle.qmi_isolation.proofs.Views.{noted_same}
 
@@ -191,14 +188,26 @@ module _ (s : Setup) (events : List Event) (core : Core) (earlier : List (List �
   heard : hear_modem s.device m past ≡ respond s.device (first_answered_by m (in_use past)) m past
   heard = ap (λ kind. hear_as kind s.device m past) response
 
-  pub answers_have_one_receiver : (r : Request) → Contains (pending past) r → is_answered_by m r ≡ true → IsDelivered s.device r m past (hear_modem s.device m past)
-  answers_have_one_receiver r at answers =
+  -- the sender still waits, so this is what the modem's message does
+  replied : (r : Request) → Contains (pending past) r → is_answered_by m r ≡ true → hear_modem s.device m past ≡ answer s.device r m (id_change r.conn r.message m (holder_of_brought m past)) past
+  replied r at answers =
       let used : Contains (in_use past) r = in_use_from_pending past r at in
       let found : first_answered_by m (in_use past) ≡ Some r = first_is m (in_use past) r (λ q at_q is. one_is_answered past m q r regular at_q used is answers) used answers in
       let waiting : is_pending r past ≡ true = contained_has (pending past) r at in
-      subst (IsDelivered s.device r m past)
-      (sym (heard ∙ ap (λ (o : Option Request). respond s.device o m past) found ∙ ap (λ (b : Bool). answer_or_late s.device b r m past) waiting))
-      (delivered s.device r m past (framed_long m (responses_framed m response)) (asked_of_pending past r regular at))
+      heard ∙ ap (λ (o : Option Request). respond s.device o m past) found ∙ ap (λ (b : Bool). answer_or_late s.device b r m past) waiting
+
+  pub held_ids_are_not_granted : (r : Request) → Contains (pending past) r → is_answered_by m r ≡ true
+      → brings_id r.message m ≡ true → is_other r.conn (holder_of_brought m past) ≡ true → hear_modem s.device m past ≡ note s.device (IdHeld r) past
+  held_ids_are_not_granted r at answers brings other =
+      let change : Bool → Bool → IdChange = λ b o.
+      if b then granted_unless o (byte_of 0 (value_of 0x01 m)) (byte_of 1 (value_of 0x01 m)) else if is_release r.message && is_success m then Frees (used_service r.message) (used_client r.message) else NoChange in
+      replied r at answers
+      ∙ ap (λ (b : Bool). answer s.device r m (change b (is_other r.conn (holder_of_brought m past))) past) brings
+      ∙ ap (λ (o : Bool). answer s.device r m (change true o) past) other
+
+  pub answers_have_one_receiver : (r : Request) → Contains (pending past) r → is_answered_by m r ≡ true → IsDelivered s.device r m past (hear_modem s.device m past)
+  answers_have_one_receiver r at answers =
+      subst (IsDelivered s.device r m past) (sym (replied r at answers)) (delivered s.device r m past (framed_long m (responses_framed m response)) (asked_of_pending past r regular at))
 
   pub other_answers_have_none : (c : ℕ) → All (λ r. is_answered_by m r ≡ false) (pending past) → rendering s.device c (hear_modem s.device m past) ≡ rendering s.device c past
   unfolding view

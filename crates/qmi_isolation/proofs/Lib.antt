@@ -3,3 +3,4 @@ pub mod Others
 pub mod Answers
 pub mod Numbers
 pub mod Refusals
+pub mod ClientIds

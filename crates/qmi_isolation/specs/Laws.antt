@@ -1,19 +1,20 @@
 -- What the clients of a QMI proxy have of each other: nothing. What others do leaves a client's bytes as they are, and an answer of the modem has one receiver.
 -- Lists of events and of facts have the newest first.
-use Rattle.std.specs.Prelude.{◌≡◌, ◌≢◌, ℕ, Bool, true, false, not, ◌&&◌, ◌==◌, if◌then◌else◌, List, ◌∷◌, ◌++◌, map, Some, All, Contains}
+use Rattle.std.specs.Prelude.{◌≡◌, ◌≢◌, ℕ, ◌+◌, Bool, true, false, not, ◌&&◌, ◌==◌, if◌then◌else◌, List, ◌∷◌, ◌++◌, map, Some, All, Contains}
 use Rattle.qmux_frame.specs.Head.{service_of, is_control, client_of, number_of}
 use Rattle.qmux_frame.specs.Reply.{with_number, result_reply}
 use Rattle.proxy_history.specs.Events.{Event, Joined, Piece, Left, Took}
 use Rattle.proxy_history.specs.Items.{ModemSays}
-use Rattle.proxy_history.specs.Facts.{Fact, Request, EventBegan, Forwarded}
-use Rattle.proxy_history.specs.Connections.{contains}
+use Rattle.proxy_history.specs.Facts.{Verdict, Forward, Fact, Request, EventBegan, Judged, Forwarded, IdHeld}
+use Rattle.proxy_history.specs.Connections.{contains, message_count}
 use Rattle.proxy_history.specs.Requests.{in_use, pending, has_request, numbers_in_use}
 use Rattle.proxy_history.specs.ClientIds.{holder, is_other}
 use Rattle.proxy_history.specs.Rendering.{put}
 use Rattle.qmi_proxy.specs.Setup.{Setup}
 use Rattle.qmi_proxy.specs.Errors.{client_ids_exhausted}
 use Rattle.qmi_proxy.specs.Messages.{IsResponse, kind_of}
-use Rattle.qmi_proxy.specs.Text.{rendering}
+use Rattle.qmi_proxy.specs.Text.{note, rendering}
+use Rattle.qmi_proxy.specs.Clients.{holder_for, hear_client}
 use Rattle.qmi_proxy.specs.FromModem.{is_answered_by, brings_id, holder_of_brought, hear_modem, receivers, tell, tick, abort_all, lose}
 use Rattle.qmi_proxy.specs.History.{add_all, history, text_for}
 use Rattle.qmi_state.specs.Core.{Core, Stands}
@@ -57,6 +58,19 @@ AnswersHaveOneReceiver = (s : Setup) (events : List Event) (core : Core) (earlie
     → Stands s events core → kind_of m ≡ IsResponse
     → Contains (pending (facts_before s events earlier)) r → is_answered_by m r ≡ true
     → IsDelivered s.device r m (facts_before s events earlier) (hear_modem s.device m (facts_before s events earlier))
+
+-- an answer that brings a client id which another client holds grants nothing: it is noted as such
+abbrev pub HeldIdsAreNotGranted : Type 0
+HeldIdsAreNotGranted = (s : Setup) (events : List Event) (core : Core) (earlier : List (List ℕ)) (m : List ℕ) (r : Request)
+    → Stands s events core → kind_of m ≡ IsResponse
+    → Contains (pending (facts_before s events earlier)) r → is_answered_by m r ≡ true
+    → brings_id r.message m ≡ true → is_other r.conn (holder_of_brought m (facts_before s events earlier)) ≡ true
+    → hear_modem s.device m (facts_before s events earlier) ≡ note s.device (IdHeld r) (facts_before s events earlier)
+
+-- a client's message that uses a client id which another client holds isn't forwarded, and grants nothing: it is judged alone
+abbrev pub HeldIdsAreNotUsed : Type 0
+HeldIdsAreNotUsed = (s : Setup) (c : ℕ) (m : List ℕ) (past : List Fact) → is_other c (holder_for m past) ≡ true
+    → (verdict : Verdict) × (verdict ≢ Forward) × (hear_client s c m past ≡ note s.device (Judged c (message_count c past + 1) m verdict) past)
 
 -- a late answer, or one to nothing: no sender waits for it, and nobody gets it
 abbrev pub OtherAnswersHaveNone : Type 0

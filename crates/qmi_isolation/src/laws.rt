@@ -1,4 +1,4 @@
-ghost use Rattle.qmi_isolation.specs.Laws.{OthersChangeNothing, AnswersHaveOneReceiver, OtherAnswersHaveNone, IndicationsReachTheirReceivers, HoldersAloneAreTold, TheIdleAreNotRefused, NumbersAreFreeWhenGiven};
+ghost use Rattle.qmi_isolation.specs.Laws.{OthersChangeNothing, AnswersHaveOneReceiver, OtherAnswersHaveNone, HeldIdsAreNotGranted, HeldIdsAreNotUsed, IndicationsReachTheirReceivers, HoldersAloneAreTold, TheIdleAreNotRefused, NumbersAreFreeWhenGiven};
 
 /// The law that what other clients do, whatever it is, leaves a client's bytes as they are.
 pub fn others_change_nothing()
@@ -12,6 +12,14 @@ pub fn others_change_nothing()
 pub fn answers_have_one_receiver()
     ensures one { AnswersHaveOneReceiver }
     ensures none { OtherAnswersHaveNone }
+{}
+
+/// The law that neither an answer nor a message takes a client id from the client that holds it. An
+/// answer of the modem to an Allocate which brings it for another client grants nothing, and is refused
+/// to its sender; another client's message which uses it isn't forwarded.
+pub fn held_ids_are_not_granted()
+    ensures answers { HeldIdsAreNotGranted }
+    ensures requests { HeldIdsAreNotUsed }
 {}
 
 /// The law that an indication reaches its receivers, each once, and nobody else. The only receiver of

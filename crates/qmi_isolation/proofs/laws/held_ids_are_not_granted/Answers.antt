@@ -1,0 +1,9 @@
+use Rattle.qmi_isolation.proofs.Answers.{held_ids_are_not_granted}
+use Rattle.qmi_isolation.proofs.ClientIds.{held_ids_are_not_used}
+use Rattle.qmi_isolation.proofs.laws.held_ids_are_not_granted.Goals as goal
+
+pub returns : goal.returns
+returns c = record {
+  answers = λ s events core earlier m r S response at answers brings other. held_ids_are_not_granted s events core earlier m S response r at answers brings other;
+  requests = λ s c m past other. held_ids_are_not_used s c m past other;
+}
