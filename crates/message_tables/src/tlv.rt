@@ -25,6 +25,13 @@ impl TlvShapes {
     {
         &self.tlvs
     }
+
+    /// Gives the vector back that holds the TLVs.
+    pub fn into_vec(self) -> Vec<TlvShape>
+        ensures { map tlv_view result.items ≡ tlvs_view self }
+    {
+        self.tlvs
+    }
 }
 
 impl From<Vec<TlvShape>> for TlvShapes {

@@ -42,6 +42,13 @@ impl Fields {
     {
         &self.fields
     }
+
+    /// Gives the vector back that holds the fields.
+    pub fn into_vec(self) -> Vec<Field>
+        ensures { map field_view result.items ≡ fields_view self }
+    {
+        self.fields
+    }
 }
 
 impl From<Vec<Field>> for Fields {

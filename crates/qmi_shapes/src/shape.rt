@@ -51,6 +51,13 @@ impl ShapeFields {
     {
         &self.fields
     }
+
+    /// Gives the vector back that holds the fields.
+    pub fn into_vec(self) -> Vec<ShapeField>
+        ensures { fields_of (map field_view result.items) ≡ fields_view self }
+    {
+        self.fields
+    }
 }
 
 impl From<Vec<ShapeField>> for ShapeFields {

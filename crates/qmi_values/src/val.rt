@@ -85,6 +85,13 @@ impl Vals {
     {
         &self.vals
     }
+
+    /// Gives the vector back that holds the values.
+    pub fn into_vec(self) -> Vec<Val>
+        ensures { values_of (map val_view result.items) ≡ vals_view self }
+    {
+        self.vals
+    }
 }
 
 impl From<Vec<Val>> for Vals {

@@ -24,6 +24,13 @@ impl Tlvs {
     {
         &self.tlvs
     }
+
+    /// Gives the vector back that holds the TLVs.
+    pub fn into_vec(self) -> Vec<Tlv>
+        ensures { result.items ≡ self }
+    {
+        self.tlvs
+    }
 }
 
 impl From<Vec<Tlv>> for Tlvs {
