@@ -5,7 +5,7 @@ use Rattle.serde_json.specs.View.{view}
 use Rattle.serde_json.specs.declared.value.Value.{Value}
 use Rattle.message_tables.specs.declared.fault.TableFault.{TableFault}
 use Rattle.message_tables.specs.declared.fault.TableFault.TheVariants.{Json, Member, Format, Twice, Deep, OutOfMemory}
-use Rattle.message_tables.specs.declared.tables.Tables.{Tables}
+use Rattle.message_tables.specs.declared.message.Message.{Message}
 use Rattle.message_tables.specs.Messages.{MessageForm}
 use Rattle.message_tables.specs.View.{messages_in}
 
@@ -20,7 +20,7 @@ IsValue value (Err (Deep entry)) = ⊥
 IsValue value (Err OutOfMemory) = Unit {0}
 
 -- the stated messages, or the stated fault
-abbrev pub Answers : Result (List MessageForm) TableFault → Result Tables TableFault → Type 0
+abbrev pub Answers : Result (List MessageForm) TableFault → Result (List Message) TableFault → Type 0
 Answers stated (Ok tables) = stated ≡ Ok (messages_in tables)
 Answers stated (Err Json) = stated ≡ Err Json
 Answers stated (Err (Member entry which)) = stated ≡ Err (Member entry which)

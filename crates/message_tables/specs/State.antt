@@ -1,5 +1,5 @@
 -- What the reader's state stands for.
-use Rattle.std.specs.Prelude.{◌≡◌, map, Result, Ok, Err}
+use Rattle.std.specs.Prelude.{◌≡◌, Result, Ok, Err}
 use Rattle.message_tables.specs.declared.fault.ObjectFault.{ObjectFault}
 use Rattle.message_tables.specs.declared.fault.ObjectFault.TheVariants.{Member, Format, Twice, Deep, OutOfMemory}
 use Rattle.message_tables.specs.declared.fault.TableFault.{TableFault}
@@ -7,14 +7,12 @@ use Rattle.message_tables.specs.declared.fault.TableFault.TheVariants as table_f
 use Rattle.message_tables.specs.declared.objects.Described as declared
 use Rattle.message_tables.specs.Definitions.{named_by}
 use Rattle.message_tables.specs.Objects.{Described}
-use Rattle.message_tables.specs.Keys.{key_of}
-use Rattle.message_tables.specs.View.{message_view, names_in}
+use Rattle.message_tables.specs.View.{messages_in, names_in}
 
--- its definitions and messages are these, and its keys are those of the messages
+-- its definitions and messages are these
 pub record StandsFor (state : declared.Described) (described : Described) : Type 0 where
   pub names : names_in state.definitions ≡ named_by described.definitions
-  pub messages : map message_view state.messages.items ≡ described.messages
-  pub keys : state.keys.keys ≡ map key_of described.messages
+  pub messages : messages_in state.tables ≡ described.messages
 
 -- it goes on to stand for what is described, or the fault is the stated one
 abbrev pub GoesOn : declared.Described → Result (Unit {0}) ObjectFault → Result Described ObjectFault → Type 0

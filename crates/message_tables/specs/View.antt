@@ -5,7 +5,6 @@ use Rattle.qmi_shapes.specs.View.{shape_view}
 use Rattle.message_tables.specs.declared.tlv.TlvShape.{TlvShape}
 use Rattle.message_tables.specs.declared.tlv.TlvShapes.{TlvShapes}
 use Rattle.message_tables.specs.declared.message.Message.{Message}
-use Rattle.message_tables.specs.declared.tables.Tables.{Tables}
 use Rattle.message_tables.specs.declared.definitions.Definition as declared
 use Rattle.message_tables.specs.declared.definitions.Definitions.{Definitions}
 use Rattle.message_tables.specs.Definitions.{Definition, Names}
@@ -29,8 +28,8 @@ message_view message = record {
 }
 
 -- the messages of tables, in their order
-abbrev pub messages_in : Tables → List MessageForm
-messages_in tables = map message_view tables.messages.items
+abbrev pub messages_in : List Message → List MessageForm
+messages_in tables = map message_view tables
 
 abbrev pub definition_view : declared.Definition → Definition
 definition_view definition = record { name = definition.name; id = definition.id; form = shape_view definition.shape }

@@ -16,7 +16,7 @@ pub struct Message {
 }
 
 /// What tells a message from the others.
-#[derive(PartialEq, Eq, Hash, Drop)]
+#[derive(Debug, PartialEq, Eq, Hash, Drop)]
 pub(crate) struct MessageKey {
     pub(crate) service: u8,
     pub(crate) id: u16,

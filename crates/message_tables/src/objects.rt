@@ -1,20 +1,17 @@
-ghost use Rattle.std.specs.Prelude.{◌≡◌, IfOk, List, [], ◌∷◌, ◌++◌, true, false, not, map, option_map, option_copied, string_bytes, chars};
-ghost use Rattle.std.specs.List.{list_any};
+ghost use Rattle.std.specs.Prelude.{◌≡◌, IfOk, option_map, option_copied, string_bytes, chars};
 ghost use Rattle.serde_json.specs.View.{view};
 ghost use Rattle.message_tables.specs.Reads.{Finds};
-ghost use Rattle.message_tables.specs.Messages.{MessageForm, service_named, message_of, message_with, comes_twice};
-ghost use Rattle.message_tables.specs.Keys.{key_of, same_key};
+ghost use Rattle.message_tables.specs.Messages.{service_named, message_of, message_with};
 ghost use Rattle.message_tables.specs.Objects.{sort_of, defines, definition_of};
 ghost use Rattle.message_tables.specs.View.{names_in, definition_view, message_view};
 
-use crate::MemberName;
 use crate::copies::text_of;
 use crate::definitions::{Definition, Definitions};
 use crate::fault::ObjectFault;
 use crate::members::{id_member, member, text_member, tlv_id};
-use crate::message::{Message, MessageKey};
+use crate::message::Message;
 use crate::nesting::nests_well;
-use indexmap::IndexSet;
+use crate::{MemberName, Tables};
 use kit_bytes::Text;
 use serde_json::Value;
 use std::alloc::{AllocError, Global};
@@ -23,8 +20,7 @@ use std::alloc::{AllocError, Global};
 #[derive(Drop)]
 pub(crate) struct Described {
     definitions: Definitions,
-    keys: IndexSet<MessageKey>,
-    messages: Vec<Message>,
+    tables: Tables,
 }
 
 /// What an object is, by its `type`.
@@ -50,15 +46,14 @@ impl Described {
     {
         Ok(Described {
             definitions: Definitions::open(alloc)?,
-            keys: IndexSet::new(alloc),
-            messages: Vec::new(alloc),
+            tables: Tables::new(alloc),
         })
     }
 
-    pub(crate) fn into_messages(self) -> Vec<Message>
-        ensures { result.items ≡ self.messages.items }
+    pub(crate) fn into_tables(self) -> Tables
+        ensures { result ≡ self.tables }
     {
-        self.messages
+        self.tables
     }
 
     /// Takes in what one object more describes.
@@ -87,14 +82,13 @@ impl Described {
         let Some(message) = message else {
             return Ok(());
         };
-        let twice = comes_twice(&mut self.keys, &message)?;
-        if twice {
+        if self.tables.has(&message) || message.has_id_twice() {
             return Err(ObjectFault::Twice);
         }
         if message.is_deep() {
             return Err(ObjectFault::Deep);
         }
-        self.messages.push(message)?;
+        self.tables.push(message)?;
         Ok(())
     }
 
@@ -108,29 +102,6 @@ impl Described {
         self.definitions.define(reference, definition)?;
         Ok(())
     }
-}
-
-// Notes the key of a message, and tells whether an earlier one has it or one of the message's lists
-// has an id twice.
-fn comes_twice(keys: &mut IndexSet<MessageKey>, message: &Message) -> Result<bool, AllocError>
-    ensures twice { IfOk result (λ twice. (earlier : List MessageForm)
-        → keys.old.keys ≡ map key_of earlier
-        → twice ≡ comes_twice (message_view message.now) earlier) }
-    ensures noted { IfOk result (λ twice. (earlier : List MessageForm)
-        → keys.old.keys ≡ map key_of earlier → twice ≡ false
-        → keys.new.keys ≡ map key_of (earlier ++ message_view message.now ∷ [])) }
-{
-    let is_new = insert_key(keys, message.key())?;
-    Ok(!is_new || message.has_id_twice())
-}
-
-fn insert_key(keys: &mut IndexSet<MessageKey>, key: MessageKey) -> Result<bool, AllocError>
-    ensures new { IfOk result (λ is_new. is_new ≡ not (list_any (same_key key) keys.old.keys)) }
-    ensures keys { IfOk result (λ is_new. is_new ≡ true
-        → keys.new.keys ≡ keys.old.keys ++ key ∷ []) }
-{
-    let (_, is_new) = keys.insert_full(key)?;
-    Ok(is_new)
 }
 
 #[tactic(auto, unfolding(crate::specs::Objects::sort_of))]

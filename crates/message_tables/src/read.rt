@@ -42,7 +42,7 @@ fn tables_of(alloc: Global, value: &Value) -> Result<Tables, TableFault>
     match objects_in(value) {
         Some(objects) => {
             let described = describe(alloc, objects)?;
-            Ok(Tables::from(described.into_messages()))
+            Ok(described.into_tables())
         }
         None => Err(TableFault::Json),
     }

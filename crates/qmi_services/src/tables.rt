@@ -17,7 +17,7 @@ pub fn built_in(alloc: Global) -> Result<Tables, AllocError>
     ensures sound { IfOk result (λ tables. AreSound (messages_in tables)) }
 {
     let messages = all_messages(alloc, &rows())?;
-    Ok(Tables::from(messages))
+    Tables::from_messages(alloc, messages)
 }
 
 fn all_messages(alloc: Global, rows: &[&Row]) -> Result<Vec<Message>, AllocError>

@@ -14,6 +14,5 @@ returns c = λ so_far stands.
         names = λ i name.
             (c.in_ok-define.ensures name ∙ ap (λ (names : Names). if bytes_eq (string_bytes c.args.reference) name then Some definition else names name) stands.names) i;
         messages = stands.messages;
-        keys = stands.keys;
       },
     )
