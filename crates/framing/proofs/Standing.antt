@@ -4,16 +4,13 @@ use Rattle.std.proofs.lemmas.List.{append-nil, drop_at}
 use Rattle.std.proofs.lemmas.Slice.{between_to_end}
 use Rattle.std.proofs.lemmas.List.Elements.{All-push}
 use Rattle.std.specs.List.{concat}
+pub use Rattle.kit_bytes.proofs.Lists.{concat-push}
 use Rattle.kit_bytes.specs.declared.span.Span.{Span}
 use Rattle.framing.specs.declared.framing.Size.{Size}
 use Rattle.framing.specs.Framing.{IsMessage, IsPartial, IsBad, IsKept, IsPositive}
 use Rattle.framing.specs.Cutting.{Cutting, behind, cut}
 use Rattle.framing.specs.Reading.{Reading, Gives, GivesMessage, StandsFor, HasGiven}
 use Rattle.framing.proofs.Cuts.{cut-given, cut-partial, cut-bad}
-
-pub concat-push : (lists : List (List ℕ)) (list : List ℕ) → concat (lists ++ list ∷ []) ≡ concat lists ++ list
-concat-push [] list = append-nil list
-concat-push (first ∷ lists) list = ap (λ (l : List ℕ). first ++ l) (concat-push lists list) ∙ sym (append_assoc first (concat lists) list)
 
 module _ (size : List ℕ → Size) where
   -- the part that is given is the message
