@@ -2,6 +2,8 @@
 use Rattle.std.proofs.Common.{◌≡◌, ℕ, ◌≤◌, Bool, true, false, not, inr, ◌&&◌, ◌||◌, List, [], ◌∷◌, ◌++◌, Option, Some, None, IfSome, Result, Ok, Err, IfOk, bytes_eq, codes, refl, sym, ap, ◌∙◌, arith, append_assoc, append-nil, if◌then◌else◌}
 use Rattle.std.proofs.lemmas.Grind.{common_steps}
 use Rattle.std.specs.List.{AllByRecursion}
+use Rattle.std.proofs.lemmas.Bool.{and_parts, or_parts, not-false}
+use Rattle.kit_bytes.proofs.Lists.{all_push}
 use Rattle.serde_json.specs.Data.{Data, Items, no_items, item}
 use Rattle.qmi_shapes.specs.Form.{Form}
 use Rattle.qmi_shapes.specs.WellMade.{IsSize, IsWellMade}
@@ -108,31 +110,19 @@ module _ (names : Names) (defined : AreDefined names) where
 
 -- ---- lists of messages ----
 
-and-both : (a b : Bool) → (a && b) ≡ true → (a ≡ true) × (b ≡ true)
-and-both true b is = (refl, is)
-and-both false b is = absurd cc
-
-or-neither : (a b : Bool) → (a || b) ≡ false → (a ≡ false) × (b ≡ false)
-or-neither true b is = absurd cc
-or-neither false b is = (refl, is)
-
-not-false : (a : Bool) → not a ≡ false → a ≡ true
-not-false true is = refl
-not-false false is = absurd cc
-
 nests : (form : Form) → nests_well form ≡ true → nesting form ≤ 16
 nests form is = grind (arith, common_steps)
 
 sound-tlvs : (tlvs : List TlvForm) → AllByRecursion IsWellTlv tlvs → nest_well tlvs ≡ true → AllByRecursion IsSoundTlv tlvs
 sound-tlvs [] well nest = tt
 sound-tlvs (tlv ∷ tlvs) well nest =
-    let both = and-both (nests_well tlv.form) (nest_well tlvs) nest in (record { well_made = well.0; nests_well = nests tlv.form both.0 }, sound-tlvs tlvs well.1 both.1)
+    let both = and_parts (nests_well tlv.form) (nest_well tlvs) nest in (record { well_made = well.0; nests_well = nests tlv.form both.0 }, sound-tlvs tlvs well.1 both.1)
 
 again-push : (earlier messages : List MessageForm) (message : MessageForm) → again_behind earlier messages ≡ false → is_among message (earlier ++ messages) ≡ false
     → again_behind earlier (messages ++ message ∷ []) ≡ false
 again-push earlier [] message once new = rw (sym (ap (is_among message) (append-nil earlier)) ∙ new) refl
 again-push earlier (first ∷ more) message once new =
-    let both = or-neither (is_among first earlier) (again_behind (earlier ++ first ∷ []) more) once in
+    let both = or_parts (is_among first earlier) (again_behind (earlier ++ first ∷ []) more) once in
     rw both.0 (again-push (earlier ++ first ∷ []) more message both.1 (ap (is_among message) (append_assoc earlier (first ∷ []) more) ∙ new))
 
 -- ---- objects ----
@@ -141,21 +131,17 @@ record IsSoundSoFar (described : Described) : Type 0 where
   defined : AreDefined (named_by described.definitions)
   messages : AreSound described.messages
 
-all-push : {A : Type 0} (P : A → Type 0) (xs : List A) (x : A) → AllByRecursion P xs → P x → AllByRecursion P (xs ++ x ∷ [])
-all-push P [] x all last = (last, tt)
-all-push P (first ∷ more) x all last = (all.0, all-push P more x all.1 last)
-
 taken-sound : (so_far : Described) (message : MessageForm) → IsSoundSoFar so_far → (AllByRecursion IsWellTlv message.input × AllByRecursion IsWellTlv message.output)
     → comes_twice message so_far.messages ≡ false → is_deep message ≡ false → IsSoundSoFar (record so_far { messages = so_far.messages ++ message ∷ [] })
 taken-sound so_far message sound well once flat =
-    let new = or-neither (is_among message so_far.messages) (has_twice message.input || has_twice message.output) once in
-    let ids = or-neither (has_twice message.input) (has_twice message.output) new.1 in
-    let nest = and-both (nest_well message.input) (nest_well message.output) (not-false _ flat) in
+    let new = or_parts (is_among message so_far.messages) (has_twice message.input || has_twice message.output) once in
+    let ids = or_parts (has_twice message.input) (has_twice message.output) new.1 in
+    let nest = and_parts (nest_well message.input) (nest_well message.output) (not-false _ flat) in
     record {
       defined = sound.defined;
       messages = record {
         each =
-            all-push IsSoundMessage so_far.messages message sound.messages.each
+            all_push IsSoundMessage so_far.messages message sound.messages.each
             (record { input = sound-tlvs message.input well.0 nest.0; output = sound-tlvs message.output well.1 nest.1; input_once = ids.0; output_once = ids.1 });
         once = again-push [] so_far.messages message sound.messages.once new.0;
       };
