@@ -4,6 +4,7 @@ use Rattle.std.specs.Prelude.{slice_index}
 use Rattle.kit_bytes.specs.Numbers.{number_at}
 use Rattle.framing.specs.Framing.{AreBytes}
 use Rattle.qmux_frame.specs.Head.{head_of, is_control}
+use Rattle.qmux_frame.specs.Writing.{head_text}
 use Rattle.qmux_frame.specs.Reply.{result_reply, reply_of}
 
 number_at-low : (bytes : List ℕ) (at : ℕ) → AreBytes bytes → number_at bytes at 2 % 256 ≡ slice_index bytes at
@@ -16,7 +17,7 @@ low_byte : (n : ℕ) → n < 256 → n % 256 ≡ n
 low_byte n small = omega arith
 
 pub reply_of-head_of : (message : List ℕ) (error : ℕ) → AreBytes message → reply_of (head_of message) error ≡ result_reply message error
-unfolding reply_of
+unfolding reply_of head_text
 reply_of-head_of message error are =
     let step : (b : Bool) → is_control message ≡ b → reply_of (head_of message) error ≡ result_reply message error =
     λ b. elim b as (λ b. is_control message ≡ b → reply_of (head_of message) error ≡ result_reply message error) [

@@ -1,7 +1,7 @@
 -- The head of a QMI message in a QMUX frame: the service and the client id that it goes to or comes from, what kind of message it is, and which.
 -- Service 0 (CTL) has numbers of one byte, every other service of two.
 -- Source: `struct control_header` and `struct service_header` in libqmi's src/libqmi-glib/qmi-message.c.
-use Rattle.std.specs.Prelude.{ℕ, ◌+◌, Bool, ◌==◌, List, length, slice_index, if◌then◌else◌}
+use Rattle.std.specs.Prelude.{ℕ, ◌+◌, Bool, ◌==◌, List, length, drop, slice_index, if◌then◌else◌}
 use Rattle.kit_bytes.specs.Numbers.{number_at}
 use Rattle.qmux_frame.specs.declared.head.Head.{Head}
 
@@ -27,6 +27,10 @@ message_id_of message = if is_control message then number_at message 8 2 else nu
 -- how many bytes stand before the TLVs
 abbrev pub head_length : List ℕ → ℕ
 head_length message = if is_control message then 12 else 13
+
+-- the bytes behind the head
+abbrev pub tlvs_in : List ℕ → List ℕ
+tlvs_in message = drop (head_length message) message
 
 abbrev pub tlv_length : List ℕ → ℕ
 tlv_length message = if is_control message then number_at message 10 2 else number_at message 11 2

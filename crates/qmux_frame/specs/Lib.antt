@@ -1,5 +1,9 @@
 pub mod Frame
 pub mod Framing
 pub mod Head
+pub mod Kind
+pub mod Control
+pub mod Writing
 pub mod Reply
 pub mod Padding
+pub mod Laws

@@ -1,7 +1,12 @@
 -- Messages made from a message: with another number, and the reply that tells a result alone.
 use Rattle.std.specs.Prelude.{ℕ, ◌/◌, ◌%◌, ◌==◌, List, [], ◌∷◌, ◌++◌, take, drop, slice_index, if◌then◌else◌}
 use Rattle.qmux_frame.specs.declared.head.Head.{Head}
+use Rattle.qmux_frame.specs.declared.kind.MessageKind.TheVariants.{Response}
+use Rattle.qmux_frame.specs.declared.writing.NewMessage.{NewMessage}
+use Rattle.qmux_frame.specs.declared.writing.Sender.TheVariants.{Modem}
 use Rattle.qmux_frame.specs.Head.{service_of, is_control, client_of}
+use Rattle.qmux_frame.specs.Kind.{flags_for}
+use Rattle.qmux_frame.specs.Writing.{message_text}
 
 -- the message with this number in place of its own
 abbrev pub with_number : ℕ → List ℕ → List ℕ
@@ -23,11 +28,20 @@ result_reply message error =
 
 -- ---- the same by the fields of the message's head ----
 
-abbrev pub reply_head : Head → List ℕ
-reply_head head =
-    if head.service == 0
-    then 0x01 ∷ 0x12 ∷ 0x00 ∷ 0x80 ∷ head.service ∷ head.client ∷ 0x01 ∷ head.number % 256 ∷ head.message % 256 ∷ head.message / 256 ∷ 0x07 ∷ 0x00 ∷ []
-    else 0x01 ∷ 0x13 ∷ 0x00 ∷ 0x80 ∷ head.service ∷ head.client ∷ 0x02 ∷ head.number % 256 ∷ head.number / 256 ∷ head.message % 256 ∷ head.message / 256 ∷ 0x07 ∷ 0x00 ∷ []
+-- service 0 has numbers of one byte
+abbrev pub short_number : Head → ℕ
+short_number head = if head.service == 0 then head.number % 256 else head.number
+
+-- what answers a message with this head, but for its TLVs
+abbrev pub reply_to : Head → NewMessage
+reply_to head = record {
+  sender = Modem;
+  service = head.service;
+  client = head.client;
+  flags = flags_for head.service Response;
+  number = short_number head;
+  message = head.message;
+}
 
 unfoldable pub reply_of : Head → ℕ → List ℕ
-reply_of head error = reply_head head ++ result_tlv error
+reply_of head error = message_text (reply_to head) (result_tlv error)

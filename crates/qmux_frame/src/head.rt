@@ -1,5 +1,7 @@
 ghost use Rattle.std.specs.Prelude.{◌≡◌, ◌≤◌, length};
+ghost use Rattle.qmux_frame.specs.Head.{tlvs_in};
 
+use crate::kind::MessageKind;
 use kit_bytes::u16_at;
 
 /// The fields at the head of a message.
@@ -19,7 +21,9 @@ pub struct Head {
 }
 
 impl Head {
+    ghost use Rattle.std.specs.Prelude.{◌==◌, ◌&&◌};
     ghost use Rattle.qmux_frame.specs.Head.{head_of};
+    ghost use Rattle.qmux_frame.specs.Kind.{kind_by};
 
     /// The head of a whole message, which has at least 12 bytes.
     pub fn read(message: &[u8]) -> Head
@@ -50,4 +54,27 @@ impl Head {
             }
         }
     }
+
+    /// What kind of message it is.
+    pub fn kind(&self) -> MessageKind
+        ensures { result ≡ kind_by self.now.service self.now.flags }
+    {
+        MessageKind::of(self.service, self.flags)
+    }
+
+    /// Whether it is the message of service 0 (CTL) with this id.
+    pub fn is_command(&self, id: u16) -> bool
+        ensures { result ≡ (self.now.service == 0 && self.now.message == id) }
+    {
+        self.service == 0 && self.message == id
+    }
+}
+
+/// The bytes behind the head of a message, which are its TLVs.
+pub fn tlvs_in(message: &[u8]) -> &[u8]
+    requires { 12 ≤ length message.now }
+    ensures { result.now ≡ tlvs_in message.now }
+{
+    let head_length = if message[4] == 0 { 12 } else { 13 };
+    &message[head_length.min(message.len())..]
 }

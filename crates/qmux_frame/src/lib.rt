@@ -1,15 +1,25 @@
-//! Messages of QMI over QMUX: where they end in a stream, and their heads.
+//! Messages of QMI over QMUX: where they end in a stream, what their heads say, and how they are
+//! written.
 #![tactic(auto)]
 
+pub mod control;
 mod head;
+mod kind;
+mod laws;
 mod number;
 mod qmux;
 mod reply;
+mod short;
+mod writing;
 
-pub use head::Head;
+pub use head::{Head, tlvs_in};
+pub use kind::MessageKind;
+pub use laws::written_is_read;
 pub use number::set_number;
 pub use qmux::Qmux;
 pub use reply::{Reply, result_reply};
+pub use short::ShortBytes;
+pub use writing::{LONGEST_TLVS, NewMessage, Sender};
 
 /// Cuts a QMUX stream into its messages.
 pub type Cutter = framing::Cutter<Qmux>;

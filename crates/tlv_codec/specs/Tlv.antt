@@ -1,6 +1,6 @@
 -- TLVs: values, each behind a type of one byte and a length of two bytes.
 -- Source: `struct tlv` in libqmi's src/libqmi-glib/qmi-message.c.
-use Rattle.std.specs.Prelude.{ℕ, ◌+◌, ◌/◌, ◌%◌, ◌==◌, nat_lt, List, [], ◌∷◌, ◌++◌, length, map, drop, slice_index, Option, Some, None, if◌then◌else◌}
+use Rattle.std.specs.Prelude.{ℕ, ◌+◌, ◌/◌, ◌%◌, ◌==◌, nat_lt, List, [], ◌∷◌, ◌++◌, length, map, drop, slice_index, Option, Some, None, option_and_then, if◌then◌else◌}
 use Rattle.kit_bytes.specs.Numbers.{number_at}
 use Rattle.framing.specs.declared.framing.Size.{Size}
 use Rattle.framing.specs.declared.framing.Size.TheVariants.{Unknown, Known}
@@ -42,3 +42,7 @@ tlvs_of bytes = entries_in (cut tlv_size bytes).messages (cut tlv_size bytes).re
 abbrev pub first_value : ℕ → List Entry → Option (List ℕ)
 first_value kind [] = None
 first_value kind (entry ∷ entries) = if entry.kind == kind then Some entry.value else first_value kind entries
+
+-- the value of the first TLV of a type, where these bytes are TLVs and have one
+abbrev pub tlv_value : ℕ → List ℕ → Option (List ℕ)
+tlv_value kind tlvs = option_and_then (first_value kind) (tlvs_of tlvs)

@@ -4,6 +4,7 @@
 mod laws;
 mod list;
 mod look;
+mod outcome;
 mod read;
 mod tlv;
 mod write;
@@ -13,7 +14,8 @@ pub use laws::{
     written_is_what_was_read,
 };
 pub use list::Tlvs;
-pub use look::{First, find, first_of};
+pub use look::{First, find, first_of, tlv_value};
+pub use outcome::{Outcome, outcome_in};
 pub use read::tlvs;
 pub use tlv::{Tlv, TlvFault};
 pub use write::write_tlv;

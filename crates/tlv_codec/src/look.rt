@@ -1,4 +1,5 @@
-ghost use Rattle.std.specs.Prelude.{◌≡◌, [], ◌∷◌};
+ghost use Rattle.std.specs.Prelude.{◌≡◌, [], ◌∷◌, option_copied};
+ghost use Rattle.tlv_codec.specs.Tlv.{tlv_value};
 ghost use Rattle.tlv_codec.specs.Reading.{first_tlv};
 ghost use Rattle.tlv_codec.specs.Looking.{FindsFirst};
 
@@ -44,6 +45,16 @@ pub fn first_of(bytes: &[u8], kind: u8) -> First
     match first {
         Some(tlv) => First::Found(tlv),
         None => First::Missing,
+    }
+}
+
+/// The value of the first TLV of a type, where these bytes are TLVs and have one.
+pub fn tlv_value(tlvs: &[u8], kind: u8) -> Option<&[u8]>
+    ensures { option_copied result ≡ tlv_value kind tlvs.now }
+{
+    match first_of(tlvs, kind) {
+        First::Found(tlv) => Some(&tlvs[tlv.start..tlv.end]),
+        First::Missing | First::Unread => None,
     }
 }
 

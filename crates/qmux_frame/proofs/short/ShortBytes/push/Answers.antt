@@ -1,7 +1,7 @@
 use Rattle.std.proofs.Common.{length, ap, arith}
 use Rattle.std.proofs.lemmas.List.{length-take-le}
 use Rattle.qmux_frame.proofs.Padding.{IsPadded-put}
-use Rattle.qmux_frame.proofs.reply.Reply.push.Goals as goal
+use Rattle.qmux_frame.proofs.short.ShortBytes.push.Goals as goal
 
 pub invariant_of-self : goal.invariant_of-self
 invariant_of-self c =
