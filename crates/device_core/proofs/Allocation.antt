@@ -3,6 +3,7 @@ use Rattle.std.proofs.Common.{◌≡◌, ℕ, List, [], ◌∷◌, length, Optio
 use Rattle.std.specs.Option.{IsSome, option_and_then}
 use Rattle.std.specs.List.{slice_get}
 use Rattle.std.specs.Prelude.{chars, codes}
+use Rattle.qmux_frame.specs.Head.{tlvs_in}
 use Rattle.qmi_requests.specs.declared.QmiRequest.TheVariants.{Allocate}
 use Rattle.qmi_shapes.specs.Form.{unsigned, no_fields, field}
 use Rattle.qmi_values.specs.Value.{Value, number, integer, text, elements, members, list_of}
@@ -12,7 +13,7 @@ use Rattle.qmi_services.specs.Answers.{FieldValue, Says}
 use Rattle.qmi_services.specs.declared.answers.QmiAnswer.{QmiAnswer}
 use Rattle.qmi_services.specs.declared.answers.QmiAnswer.TheVariants.{Success, Failure}
 use Rattle.device_core.specs.Hearing.{failure_in}
-use Rattle.device_core.specs.Session.{Reads, allocated_in, tlvs_in}
+use Rattle.device_core.specs.Session.{Reads, allocated_in}
 
 one_byte : (value : Value) (bytes : List ℕ) → Spells (unsigned 1) value bytes → length bytes ≡ 1
 one_byte (number n) bytes spells = spells.are.count

@@ -19,7 +19,8 @@ use Rattle.device_core.specs.declared.exchange.Reply.{Reply}
 use Rattle.device_core.specs.declared.incoming.Found.{Found}
 use Rattle.qmi_services.specs.declared.answers.QmiEnd.{QmiEnd}
 use Rattle.device_core.specs.declared.waiting.Wanted.{Wanted}
-use Rattle.device_core.specs.Requests.{Request, message_of, message_with, wanted_by}
+use Rattle.qmux_frame.specs.Writing.{message_text}
+use Rattle.device_core.specs.Requests.{Request, message_of, new_message, wanted_by}
 use Rattle.device_core.specs.Waiting.{Heard, Outcome, Answered, Fails, Waits}
 use Rattle.device_core.specs.Hearing.{AsksFor, RepliesTo, WaitsFor, failure_in, found_in}
 use Rattle.device_core.specs.Session.{Asks, unmade, unsent, sent, AfterOutcome, Makes, OnSuccess, Reads, ReadsThen, Step, end_with, failed, released}
@@ -54,7 +55,7 @@ module _ {r s : Request} (message : message_of r ≡ message_of s) (wanted : wan
 pub proxy_open-message : (a b : List ℕ) → encode_utf8_all a ≡ encode_utf8_all b
     → message_of (record { body = ProxyOpen a; client = 0; number = 1 }) ≡ message_of (record { body = ProxyOpen b; client = 0; number = 1 })
 unfolding message_of
-proxy_open-message a b same = ap (λ (path : List ℕ). message_with 0 0 1 0xFF00 (tlv_text (tlv 0x01 path))) same
+proxy_open-message a b same = ap (λ (path : List ℕ). message_text (new_message (record { body = ProxyOpen a; client = 0; number = 1 })) (tlv_text (tlv 0x01 path))) same
 
 -- ---- what follows ----
 

@@ -1,8 +1,9 @@
 -- A tool's whole session: the requests of a plan, each behind the answer to the one before, and how it ends.
 -- Source: the order in which libqmi's qmi_device_open and qmi_device_allocate_client (src/libqmi-glib/qmi-device.c) and qmicli ask.
-use Rattle.std.specs.Prelude.{◌≡◌, ◌≢◌, ◌⊎◌, ℕ, ◌+◌, true, false, ◌==◌, if◌then◌else◌, List, [], ◌∷◌, ◌++◌, drop, slice_get, option_and_then, Option, Some, None, Result, Ok, Err}
+use Rattle.std.specs.Prelude.{◌≡◌, ◌≢◌, ◌⊎◌, ℕ, ◌+◌, true, false, ◌==◌, if◌then◌else◌, List, [], ◌∷◌, ◌++◌, slice_get, option_and_then, Option, Some, None, Result, Ok, Err}
 use Rattle.kit_io.specs.Told.{Grows}
-use Rattle.qmux_frame.specs.Head.{head_length, is_framed}
+use Rattle.qmux_frame.specs.Head.{is_framed, tlvs_in}
+use Rattle.tlv_codec.specs.Tlv.{tlv_value}
 use Rattle.link_io.specs.Calls.{Call, Sent}
 use Rattle.qmi_requests.specs.declared.QmiRequest.{QmiRequest}
 use Rattle.qmi_requests.specs.declared.QmiRequest.TheVariants.{ProxyOpen, Allocate, Release}
@@ -10,7 +11,7 @@ use Rattle.qmi_services.specs.declared.answers.QmiAnswer.{QmiAnswer}
 use Rattle.qmi_services.specs.declared.answers.QmiAnswer.TheVariants.{Success, Failure}
 use Rattle.qmi_services.specs.declared.answers.AnswerFault.TheVariants.{Unread}
 use Rattle.qmi_services.specs.Requests.{row_of}
-use Rattle.qmi_services.specs.Answers.{Answers, tlv_value}
+use Rattle.qmi_services.specs.Answers.{Answers}
 use Rattle.device_core.specs.declared.fault.SessionFault.{SessionFault}
 use Rattle.device_core.specs.declared.fault.SessionFault.TheVariants as fault
 use Rattle.device_core.specs.declared.plan.QmiPlan.{QmiPlan}
@@ -26,9 +27,6 @@ pub data Asks (request : Request) (heard : Heard) (calls : List Call) (outcome :
   unmade : calls ≡ [] → outcome ≡ Fails fault.OutOfMemory → Asks request heard calls outcome later
   unsent : (front rest : List ℕ) → message_of request ≡ front ++ rest → calls ≡ Sent front false ∷ [] → outcome ≡ Fails fault.LinkFault → Asks request heard calls outcome later
   sent : (takes : List Call) → calls ≡ Sent (message_of request) true ∷ takes → Waits (wanted_by request) heard takes outcome later → Asks request heard calls outcome later
-
-abbrev pub tlvs_in : List ℕ → List ℕ
-tlvs_in message = drop (head_length message) message
 
 -- what an answer says to a request: one that isn't framed or doesn't read breaks the session where it begins
 abbrev pub Reads : QmiRequest → ℕ → List ℕ → Result QmiAnswer SessionFault → Type 0

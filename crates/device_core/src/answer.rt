@@ -1,15 +1,14 @@
-ghost use Rattle.std.specs.Prelude.{◌≡◌, true, IsSome, Some};
+ghost use Rattle.std.specs.Prelude.{◌≡◌, IsSome, Some};
 ghost use Rattle.framing.specs.Framing.{IsMessage};
 ghost use Rattle.qmux_frame.specs.Frame.{size_of};
-ghost use Rattle.qmux_frame.specs.Head.{is_framed};
-ghost use Rattle.device_core.specs.Session.{Reads, allocated_in, tlvs_in};
+ghost use Rattle.device_core.specs.Session.{Reads, allocated_in};
 
 use crate::fault::SessionFault;
 use qmi_requests::QmiRequest;
 use qmi_services::{AnswerFault, QmiAnswer, answer};
-use qmux_frame::Head;
+use qmux_frame::{Head, tlvs_in};
 use std::alloc::Global;
-use tlv_codec::{First, first_of};
+use tlv_codec::tlv_value;
 
 /// The type of the TLV of Allocate CID's answer that holds a service and a client id.
 const ALLOCATION: u8 = 0x01;
@@ -27,22 +26,10 @@ pub(crate) fn read(
     if !Head::read(message).framed {
         return Err(SessionFault::Broken { place });
     }
-    match answer(alloc, body, tlvs_of(message)) {
+    match answer(alloc, body, tlvs_in(message)) {
         Ok(answer) => Ok(answer),
         Err(AnswerFault::Unread) => Err(SessionFault::Broken { place }),
         Err(AnswerFault::OutOfMemory) => Err(SessionFault::OutOfMemory),
-    }
-}
-
-/// The TLVs of a message whose head is whole.
-pub(crate) fn tlvs_of(message: &[u8]) -> &[u8]
-    requires { is_framed message.now ≡ true }
-    ensures { result.now ≡ tlvs_in message.now }
-{
-    if message[4] == 0 {
-        &message[12..]
-    } else {
-        &message[13..]
     }
 }
 
@@ -58,8 +45,5 @@ pub(crate) fn allocated(tlvs: &[u8]) -> u8
 fn allocation(tlvs: &[u8]) -> Option<u8>
     ensures { result ≡ allocated_in tlvs.now }
 {
-    match first_of(tlvs, ALLOCATION) {
-        First::Found(tlv) => tlvs[tlv.start..tlv.end].get(1).copied(),
-        First::Missing | First::Unread => None,
-    }
+    tlv_value(tlvs, ALLOCATION)?.get(1).copied()
 }

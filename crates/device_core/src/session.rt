@@ -1,12 +1,12 @@
-ghost use Rattle.std.specs.Prelude.{◌≡◌, ◌==◌, ◌≤◌, if◌then◌else◌, true, Err, IsSome};
+ghost use Rattle.std.specs.Prelude.{◌≡◌, ◌==◌, ◌≤◌, if◌then◌else◌, Err, IsSome};
 ghost use Rattle.kit_io.specs.Causes.{Rose};
-ghost use Rattle.qmux_frame.specs.Head.{is_framed};
+ghost use Rattle.qmux_frame.specs.Head.{tlvs_in};
 ghost use Rattle.qmi_services.specs.Requests.{row_of};
-ghost use Rattle.device_core.specs.Session.{Chooses, Commands, CommandsAs, Finishes, Makes, Session, allocated_in, failed, tlvs_in};
+ghost use Rattle.device_core.specs.Session.{Chooses, Commands, CommandsAs, Finishes, Makes, Session, allocated_in, failed};
 ghost use Rattle.device_core.specs.Waiting.{Heard};
 ghost use Rattle.device_core.specs.Hearing.{IsGiven, Stands, found_in};
 
-use crate::answer::{allocated, tlvs_of};
+use crate::answer::allocated;
 use crate::control::{allocate, open_proxy, release};
 use crate::exchange::ask;
 use crate::fault::SessionFault;
@@ -15,7 +15,7 @@ use crate::plan::QmiPlan;
 use link_io::Link;
 use qmi_requests::QmiRequest;
 use qmi_services::{QmiAnswer, QmiEnd, service_of};
-use qmux_frame::Head;
+use qmux_frame::{Head, tlvs_in};
 use std::alloc::Global;
 
 /// A whole session with a QMI modem, over a link that is open.
@@ -93,7 +93,6 @@ fn run_allocated<L: Link>(
     number: u8,
 ) -> Result<QmiEnd, SessionFault>
     requires given { IsGiven incoming.old found }
-    requires framed { is_framed (found_in incoming.old found) ≡ true }
     requires allocates { IsSome (allocated_in (tlvs_in (found_in incoming.old found))) }
     ensures commands { (heard : Heard) → Stands incoming.old heard
         → Makes (λ calls. CommandsAs plan.now (found_in incoming.old found) number heard calls result) (L.calls link.old) (L.calls link.new) }
@@ -101,7 +100,7 @@ fn run_allocated<L: Link>(
     ensures later { L.faults link.old ≤ L.faults link.new }
     ensures later_open { L.open_faults link.old ≤ L.open_faults link.new }
 {
-    let client = allocated(tlvs_of(incoming.bytes(found)));
+    let client = allocated(tlvs_in(incoming.bytes(found)));
     run_command(alloc, link, incoming, plan, client, number)
 }
 

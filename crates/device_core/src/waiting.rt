@@ -31,12 +31,7 @@ impl Wanted {
         ensures { result ≡ answers self message.now }
     {
         let head = Head::read(message);
-        let is_response = if head.service == 0 {
-            head.flags % 2 == 1
-        } else {
-            head.flags / 2 % 2 == 1
-        };
-        is_response
+        head.kind().is_response()
             && head.service == self.service
             && head.client == self.client
             && head.number == u16::from(self.number)

@@ -1,13 +1,14 @@
 -- Reading the TLVs of the table, one after another.
 use Rattle.std.proofs.Common.{◌≡◌, ℕ, zero, suc, ◌+◌, ◌<◌, inl, inr, List, [], ◌∷◌, ◌++◌, Option, Some, length, get_or, take, map, refl, sym, ◌∙◌, ap, subst, arith, append_assoc}
 use Rattle.std.proofs.lemmas.List.{append-nil, map_push, take_more}
+use Rattle.tlv_codec.specs.Tlv.{tlv_value}
 use Rattle.qmi_shapes.specs.Form.{Form}
 use Rattle.qmi_shapes.specs.WellMade.{IsWellMade}
 use Rattle.qmi_values.specs.Value.{Value}
 use Rattle.qmi_values.specs.Spelling.{Spells}
 use Rattle.message_tables.specs.Tlvs.{TlvForm}
 use Rattle.qmi_services.specs.Table.{Output}
-use Rattle.qmi_services.specs.Answers.{FieldValue, named, tlv_value, Says, AllSay, AddsField, IsUnread, AnyUnread, AreWellMade, IfUnread}
+use Rattle.qmi_services.specs.Answers.{FieldValue, named, Says, AllSay, AddsField, IsUnread, AnyUnread, AreWellMade, IfUnread}
 use Rattle.qmi_services.specs.declared.answers.AnswerFault.{AnswerFault}
 use Rattle.qmi_services.specs.declared.answers.AnswerFault.TheVariants.{Unread, OutOfMemory}
 

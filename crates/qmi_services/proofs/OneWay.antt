@@ -1,11 +1,14 @@
 -- The TLVs of an answer read in one way alone.
 use Rattle.std.proofs.Common.{◌≡◌, ℕ, inl, inr, true, false, List, [], ◌∷◌, ◌++◌, Option, Some, None, refl, sym, ◌∙◌, ap}
+use Rattle.tlv_codec.specs.declared.outcome.Outcome.{Outcome}
+use Rattle.tlv_codec.specs.Tlv.{tlv_value}
+use Rattle.tlv_codec.specs.Outcome.{outcome_in}
 use Rattle.qmi_values.specs.Value.{Value}
 use Rattle.qmi_values.proofs.Spellings.{one_value}
 use Rattle.qmi_shapes.specs.WellMade.{IsWellMade}
 use Rattle.qmi_services.specs.Table.{Output}
 use Rattle.qmi_services.specs.Laws.{ReadOneWay}
-use Rattle.qmi_services.specs.Answers.{Outcome, outcome_in, IsSuccess, IsFailure, tlv_value, FieldValue, named, Says, AllSay, IsUnread, AnyUnread, AreWellMade, unread, failure, success, Reads}
+use Rattle.qmi_services.specs.Answers.{IsSuccess, IsFailure, FieldValue, named, Says, AllSay, IsUnread, AnyUnread, AreWellMade, unread, failure, success, Reads}
 
 says_once : (output : Output) (bytes : Option (List ℕ)) (a b : List FieldValue) → IsWellMade output.tlv.form → Says output bytes a → Says output bytes b → a ≡ b
 says_once output None a b made (missing_a, in_a) (missing_b, in_b) = in_a ∙ sym in_b

@@ -1,8 +1,8 @@
 -- What the TLVs of an answer say, by the table.
--- Source: the common TLV `Operation Result` in libqmi's data/qmi-common.json, and how its build-aux/qmi-codegen parses an answer.
-use Rattle.std.specs.Prelude.{◌≡◌, ◌≢◌, ◌⊎◌, ◌==◌, ℕ, true, false, List, [], ◌∷◌, ◌++◌, length, map, Option, Some, None, option_and_then, Result, Ok, Err, if◌then◌else◌}
-use Rattle.kit_bytes.specs.Numbers.{number_at}
-use Rattle.tlv_codec.specs.Tlv.{tlvs_of, first_value}
+-- Source: how libqmi's build-aux/qmi-codegen parses an answer.
+use Rattle.std.specs.Prelude.{◌≡◌, ◌≢◌, ◌⊎◌, ℕ, true, false, List, [], ◌∷◌, ◌++◌, map, Option, Some, None, Result, Ok, Err}
+use Rattle.tlv_codec.specs.Tlv.{tlv_value}
+use Rattle.tlv_codec.specs.Outcome.{outcome_in}
 use Rattle.qmi_shapes.specs.Form.{Form}
 use Rattle.qmi_shapes.specs.View.{shape_view}
 use Rattle.qmi_values.specs.Value.{Value}
@@ -15,7 +15,6 @@ use Rattle.qmi_values.specs.declared.fault.ValFault.TheVariants as val_fault
 use Rattle.qmi_services.specs.Table.{Output}
 use Rattle.qmi_services.specs.declared.answers.Field.{Field}
 use Rattle.qmi_services.specs.declared.answers.Fields.{Fields}
-use Rattle.qmi_services.specs.declared.answers.Outcome as declared_outcome
 use Rattle.qmi_services.specs.declared.answers.QmiAnswer.{QmiAnswer}
 use Rattle.qmi_services.specs.declared.answers.QmiAnswer.TheVariants.{Success, Failure}
 use Rattle.qmi_services.specs.declared.answers.AnswerFault.{AnswerFault}
@@ -24,21 +23,6 @@ use Rattle.qmi_services.specs.declared.answers.AnswerFault.TheVariants.{Unread, 
 -- ---- success and failure ----
 
 -- a status of 0 is success
-pub record Outcome : Type 0 where
-  pub status : ℕ
-  pub error : ℕ
-
--- the value of the first TLV of a type, where these bytes are TLVs and have one
-abbrev pub tlv_value : ℕ → List ℕ → Option (List ℕ)
-tlv_value kind tlvs = option_and_then (first_value kind) (tlvs_of tlvs)
-
-abbrev pub outcome_of : List ℕ → Option Outcome
-outcome_of value = if length value == 4 then Some (record { status = number_at value 0 2; error = number_at value 2 2 }) else None
-
--- what the first Result TLV says
-abbrev pub outcome_in : List ℕ → Option Outcome
-outcome_in tlvs = option_and_then outcome_of (tlv_value 0x02 tlvs)
-
 abbrev pub IsSuccess : List ℕ → Type 0
 IsSuccess tlvs = (error : ℕ) × (outcome_in tlvs ≡ Some (record { status = 0; error = error }))
 
@@ -114,9 +98,6 @@ AddsField output tlvs old new = (here : List FieldValue) × (new ≡ old ++ here
 
 abbrev pub field_view : Field → FieldValue
 field_view field = record { name = field.name; form = shape_view field.shape; value = val_view field.val }
-
-abbrev pub outcome_view : declared_outcome.Outcome → Outcome
-outcome_view outcome = record { status = outcome.status; error = outcome.error }
 
 abbrev pub fields_view : Fields → List FieldValue
 fields_view fields = map field_view fields.fields.items

@@ -6,6 +6,7 @@ use Rattle.qmi_shapes.specs.declared.shape.Prefix.TheVariants.{Rest, Counted}
 use Rattle.qmi_shapes.specs.Form.{Form, unsigned, signed, string, array, sequence}
 use Rattle.qmi_shapes.specs.View.{NamedForm, fields_of}
 use Rattle.message_tables.specs.Tlvs.{TlvForm}
+use Rattle.qmux_frame.specs.Control as control
 
 -- a TLV of an answer, and whether a success always has it
 pub record Output : Type 0 where
@@ -108,19 +109,19 @@ abbrev pub client_id : Form
 client_id = fields (field "Service" u8 ∷ field "Client id" u8 ∷ [])
 
 abbrev pub get_version_info : Row
-get_version_info = message ctl 0x0021 "Get Version Info" [] (needed 0x01 "Service list" (list8 (fields (field "Service" u8 ∷ field "Major" u16 ∷ field "Minor" u16 ∷ []))) ∷ [])
+get_version_info = message ctl control.get_version_info "Get Version Info" [] (needed 0x01 "Service list" (list8 (fields (field "Service" u8 ∷ field "Major" u16 ∷ field "Minor" u16 ∷ []))) ∷ [])
 
 abbrev pub allocate : Row
-allocate = message ctl 0x0022 "Allocate CID" (input 0x01 "" u8 ∷ []) (needed 0x01 "Allocation" client_id ∷ [])
+allocate = message ctl control.allocate "Allocate CID" (input 0x01 "" u8 ∷ []) (needed 0x01 "Allocation" client_id ∷ [])
 
 abbrev pub release : Row
-release = message ctl 0x0023 "Release CID" (input 0x01 "" (fields (unnamed u8 ∷ unnamed u8 ∷ [])) ∷ []) (optional 0x01 "Release" client_id ∷ [])
+release = message ctl control.release "Release CID" (input 0x01 "" (fields (unnamed u8 ∷ unnamed u8 ∷ [])) ∷ []) (optional 0x01 "Release" client_id ∷ [])
 
 abbrev pub sync : Row
-sync = and_indication (message ctl 0x0027 "Sync" [] [])
+sync = and_indication (message ctl control.sync "Sync" [] [])
 
 abbrev pub proxy_open : Row
-proxy_open = message ctl 0xFF00 "Internal Proxy Open" (input 0x01 "" text ∷ []) []
+proxy_open = message ctl control.proxy_open "Internal Proxy Open" (input 0x01 "" text ∷ []) []
 
 abbrev pub get_capabilities : Row
 get_capabilities = message dms 0x0020 "Get Capabilities" [] (needed 0x01 "Info" (fields (field "Max TX rate" u32 ∷ field "Max RX rate" u32 ∷ field "Data service" u8 ∷ field "SIM" u8 ∷ field "Radio interfaces" (list8 u8) ∷ [])) ∷ [])

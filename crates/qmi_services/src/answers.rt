@@ -1,23 +1,20 @@
 ghost use Rattle.std.specs.Prelude.{◌≡◌, map, IfOk, IfErr, OnOk};
-ghost use Rattle.std.specs.Option.{option_copied, option_map};
 ghost use Rattle.qmi_shapes.specs.WellMade.{IsWellMade};
 ghost use Rattle.qmi_services.specs.declared.answers.AnswerFault.TheVariants.{OutOfMemory};
-ghost use Rattle.qmi_services.specs.Answers.{AddsField, AllSay, Answers, AnyUnread, AreWellMade, IfUnread, IsUnread, fault_of, field_view, fields_view, outcome_in, outcome_view, tlv_value};
+ghost use Rattle.tlv_codec.specs.Tlv.{tlv_value};
+ghost use Rattle.qmi_services.specs.Answers.{AddsField, AllSay, Answers, AnyUnread, AreWellMade, IfUnread, IsUnread, fault_of, field_view, fields_view};
 ghost use Rattle.qmi_services.specs.Requests.{row_of};
 ghost use Rattle.qmi_services.specs.View.{output_view};
 
 use crate::requests::row_of;
 use crate::table::{Output, TlvFormat, text};
-use kit_bytes::{Text, u16_at};
+use kit_bytes::Text;
 use qmi_requests::QmiRequest;
 use qmi_shapes::Shape;
 use qmi_values::{Val, ValFault, decode};
 use std::alloc::{AllocError, AllocFailed, Global};
 use thiserror::Error;
-use tlv_codec::{First, first_of};
-
-/// The type of the Result TLV, which tells of success or failure.
-const RESULT: u8 = 0x02;
+use tlv_codec::{outcome_in, tlv_value};
 
 /// A value that an answer gives.
 #[derive(Debug, Drop)]
@@ -122,7 +119,7 @@ impl From<ValFault> for AnswerFault {
 pub fn answer(alloc: Global, body: &QmiRequest, tlvs: &[u8]) -> Result<QmiAnswer, AnswerFault>
     ensures { Answers (row_of body.now).output tlvs.now result }
 {
-    let Some(outcome) = read_outcome(tlvs) else {
+    let Some(outcome) = outcome_in(tlvs) else {
         return Err(AnswerFault::Unread);
     };
     if outcome.status != 0 {
@@ -131,37 +128,6 @@ pub fn answer(alloc: Global, body: &QmiRequest, tlvs: &[u8]) -> Result<QmiAnswer
     let row = row_of(body);
     let fields = read_fields(alloc, row.output, tlvs)?;
     Ok(QmiAnswer::Success(fields))
-}
-
-/// What the Result TLV says: a status, which is 0 for success, and an error.
-#[derive(Clone, Copy)]
-pub(crate) struct Outcome {
-    pub(crate) status: u16,
-    pub(crate) error: u16,
-}
-
-// What the first Result TLV says.
-fn read_outcome(tlvs: &[u8]) -> Option<Outcome>
-    ensures { option_map outcome_view result ≡ outcome_in tlvs.now }
-{
-    let value = tlv_value(tlvs, RESULT)?;
-    if value.len() != 4 {
-        return None;
-    }
-    Some(Outcome {
-        status: u16_at(value, 0),
-        error: u16_at(value, 2),
-    })
-}
-
-// The value of the first TLV of a type, where these bytes are TLVs and have one.
-fn tlv_value(tlvs: &[u8], kind: u8) -> Option<&[u8]>
-    ensures { option_copied result ≡ tlv_value kind tlvs.now }
-{
-    match first_of(tlvs, kind) {
-        First::Found(tlv) => Some(&tlvs[tlv.start..tlv.end]),
-        First::Missing | First::Unread => None,
-    }
 }
 
 // The fields of the TLVs of the table that are there.

@@ -7,6 +7,7 @@ ghost use Rattle.qmi_services.specs.View.{row_view};
 use crate::table::Format::{I8, List8, List16, List32, Sequence, Text, Text8, U8, U16, U32};
 use crate::table::Output::{Needed, Optional};
 use crate::table::{FieldFormat, Row, TlvFormat};
+use qmux_frame::control;
 
 const CTL: u8 = 0;
 
@@ -20,7 +21,7 @@ const WMS: u8 = 5;
 
 pub(crate) static GET_VERSION_INFO: Row = Row {
     service: CTL,
-    id: 0x0021,
+    id: control::GET_VERSION_INFO,
     name: "Get Version Info",
     input: &[],
     output: &[Needed(TlvFormat(
@@ -37,7 +38,7 @@ pub(crate) static GET_VERSION_INFO: Row = Row {
 
 pub(crate) static ALLOCATE: Row = Row {
     service: CTL,
-    id: 0x0022,
+    id: control::ALLOCATE,
     name: "Allocate CID",
     input: &[TlvFormat(0x01, "", U8)],
     output: &[Needed(TlvFormat(
@@ -50,7 +51,7 @@ pub(crate) static ALLOCATE: Row = Row {
 
 pub(crate) static RELEASE: Row = Row {
     service: CTL,
-    id: 0x0023,
+    id: control::RELEASE,
     name: "Release CID",
     input: &[TlvFormat(
         0x01,
@@ -67,7 +68,7 @@ pub(crate) static RELEASE: Row = Row {
 
 pub(crate) static SYNC: Row = Row {
     service: CTL,
-    id: 0x0027,
+    id: control::SYNC,
     name: "Sync",
     input: &[],
     output: &[],
@@ -76,7 +77,7 @@ pub(crate) static SYNC: Row = Row {
 
 pub(crate) static PROXY_OPEN: Row = Row {
     service: CTL,
-    id: 0xFF00,
+    id: control::PROXY_OPEN,
     name: "Internal Proxy Open",
     input: &[TlvFormat(0x01, "", Text)],
     output: &[],
