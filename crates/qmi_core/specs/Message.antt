@@ -1,8 +1,8 @@
 -- A message as the core reads it.
 use Rattle.std.specs.Prelude.{◌≡◌, ℕ, ◌≤◌, Bool, not, ◌&&◌, ◌==◌, List, length, option_copied}
 use Rattle.framing.specs.Framing.{AreBytes}
-use Rattle.qmux_frame.specs.Head.{head_of, flags_of}
-use Rattle.qmi_proxy.specs.Messages.{value_of, has_length, byte_of, is_success, is_bit_set, response_bit, indication_bit}
+use Rattle.qmux_frame.specs.Head.{head_of}
+use Rattle.qmi_proxy.specs.Messages.{value_of, has_length, byte_of, is_success}
 use Rattle.qmi_core.specs.declared.message.Message.TheInside.{Inside}
 
 abbrev pub bytes_of : Inside → List ℕ
@@ -14,12 +14,6 @@ pub record IsRead (message : Inside) : Type 0 where
   pub long : 12 ≤ length message.bytes.now
   pub head : message.head ≡ head_of message.bytes.now
   pub value : option_copied message.value ≡ value_of 0x01 message.bytes.now
-
-abbrev pub has_response_bit : List ℕ → Bool
-has_response_bit m = is_bit_set (flags_of m) (response_bit m)
-
-abbrev pub has_indication_bit : List ℕ → Bool
-has_indication_bit m = is_bit_set (flags_of m) (indication_bit m)
 
 -- it tells success, and brings a client id: the service, then the id
 abbrev pub tells_id : List ℕ → Bool

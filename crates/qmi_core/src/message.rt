@@ -1,27 +1,19 @@
-ghost use Rattle.std.specs.Prelude.{◌≡◌, ◌≤◌, ◌==◌, ◌||◌, ◌++◌, true, length, take, drop, option_copied};
-ghost use Rattle.qmux_frame.specs.Head.{head_length, is_control, service_of, client_of, number_of, is_framed};
+ghost use Rattle.std.specs.Prelude.{◌≡◌, ◌≤◌, ◌==◌, ◌||◌, ◌++◌, true, length, take, drop};
+ghost use Rattle.qmux_frame.specs.Head.{is_control, service_of, client_of, number_of};
+ghost use Rattle.qmux_frame.specs.Kind.{framed_kind};
+ghost use Rattle.qmux_frame.specs.Control.{is_command, is_sync};
 ghost use Rattle.qmux_frame.specs.Reply.{result_reply, with_number};
-ghost use Rattle.tlv_codec.specs.Tlv.{tlvs_of};
-ghost use Rattle.qmi_proxy.specs.Messages.{value_in, value_of, has_length, byte_of, is_command, is_malformed, opens, has_bad_id, is_sync, uses_id, used_service, used_client, is_success};
+ghost use Rattle.qmi_proxy.specs.Messages.{value_of, has_length, byte_of, is_malformed, opens, has_bad_id, uses_id, used_service, used_client, is_success};
 ghost use Rattle.qmi_state.specs.Asked.{asked_of};
-ghost use Rattle.qmi_core.specs.Message.{has_response_bit, has_indication_bit, tells_id};
+ghost use Rattle.qmi_core.specs.Message.{tells_id};
 ghost use Rattle.qmi_proxy.specs.OwnReplies.{own_reply_of, is_opening};
 ghost use Rattle.proxy_history.specs.Facts.{Own};
 
 use crate::errors::{INTERNAL, INVALID_CLIENT_ID, MALFORMED_MESSAGE, NO_ERROR};
 use qmi_state::Asked;
-use qmux_frame::{Head, Reply, set_number};
+use qmux_frame::{Head, MessageKind, Reply, control, set_number, tlvs_in};
 use std::marker::Model;
-use tlv_codec::{First, first_of};
-
-// The messages of service 0 that a proxy knows.
-const ALLOCATE: u16 = 0x0022;
-
-const RELEASE: u16 = 0x0023;
-
-const SYNC: u16 = 0x0027;
-
-const PROXY_OPEN: u16 = 0xff00;
+use tlv_codec::{outcome_in, tlv_value};
 
 /// A whole message, with what the proxy reads of it.
 #[derive(Drop)]
@@ -52,7 +44,7 @@ impl<'a> Message<'a> {
         Message {
             bytes,
             head: Head::read(bytes),
-            value: first_value(tlvs(bytes), 0x01),
+            value: tlv_value(tlvs_in(bytes), 0x01),
         }
     }
 
@@ -64,9 +56,9 @@ impl<'a> Message<'a> {
             Some(MALFORMED_MESSAGE)
         } else if self.opens(device) {
             Some(NO_ERROR)
-        } else if self.is_command(PROXY_OPEN) || !opened {
+        } else if self.is_command(control::PROXY_OPEN) || !opened {
             Some(INTERNAL)
-        } else if self.is_command(SYNC) {
+        } else if self.is_command(control::SYNC) {
             Some(NO_ERROR)
         } else if self.has_bad_id() {
             Some(INVALID_CLIENT_ID)
@@ -86,7 +78,7 @@ impl<'a> Message<'a> {
     fn opens(&self, device: &[u8]) -> bool
         ensures { result ≡ opens device.now self.now }
     {
-        self.is_command(PROXY_OPEN) && self.value.is_some_and(|value| value == device)
+        self.is_command(control::PROXY_OPEN) && self.value.is_some_and(|value| value == device)
     }
 
     /// The reply to it with this error alone.
@@ -156,43 +148,28 @@ impl<'a> Message<'a> {
         self.head.number
     }
 
-    pub fn is_framed(&self) -> bool
-        ensures { result ≡ is_framed self.now }
+    /// What kind of message it is, where its head counts its TLVs.
+    pub fn kind(&self) -> Option<MessageKind>
+        ensures { result ≡ framed_kind self.now }
     {
-        self.head.framed
-    }
-
-    pub fn is_response(&self) -> bool
-        ensures { result ≡ has_response_bit self.now }
-    {
-        if self.head.service == 0 {
-            self.head.flags % 2 == 1
+        if self.head.framed {
+            Some(self.head.kind())
         } else {
-            self.head.flags / 2 % 2 == 1
-        }
-    }
-
-    pub fn is_indication(&self) -> bool
-        ensures { result ≡ has_indication_bit self.now }
-    {
-        if self.head.service == 0 {
-            self.head.flags / 2 % 2 == 1
-        } else {
-            self.head.flags / 4 % 2 == 1
+            None
         }
     }
 
     pub fn is_sync(&self) -> bool
         ensures { result ≡ is_sync self.now }
     {
-        self.is_command(SYNC)
+        self.is_command(control::SYNC)
     }
 
     /// Whether it uses a client id.
     pub fn uses_id(&self) -> bool
         ensures { result ≡ uses_id self.now }
     {
-        self.head.service != 0 || self.is_command(RELEASE)
+        self.head.service != 0 || self.is_command(control::RELEASE)
     }
 
     pub fn used_service(&self) -> u8
@@ -219,9 +196,7 @@ impl<'a> Message<'a> {
     pub fn is_success(&self) -> bool
         ensures { result ≡ is_success self.now }
     {
-        first_value(tlvs(self.bytes), 0x02).is_some_and(|value| value.len() == 4
-            && value[0] == 0
-            && value[1] == 0)
+        outcome_in(tlvs_in(self.bytes)).is_some_and(|outcome| outcome.is_success())
     }
 
     /// Whether it says success and brings a client id: the service in byte 0 of TLV 0x01, the id in
@@ -238,9 +213,9 @@ impl<'a> Message<'a> {
         !self.head.framed
             || self.head.flags != 0
             || (self.head.service == 0 && self.head.client != 0)
-            || (self.is_command(PROXY_OPEN) && self.value.is_none())
-            || (self.is_command(ALLOCATE) && !self.has_length(1))
-            || (self.is_command(RELEASE) && !self.has_length(2))
+            || (self.is_command(control::PROXY_OPEN) && self.value.is_none())
+            || (self.is_command(control::ALLOCATE) && !self.has_length(1))
+            || (self.is_command(control::RELEASE) && !self.has_length(2))
     }
 
     // Whether the client id that it uses is one that no client has.
@@ -250,14 +225,14 @@ impl<'a> Message<'a> {
         if self.head.service != 0 {
             is_nobodys(self.head.client)
         } else {
-            self.is_command(RELEASE) && (self.byte(0) == 0 || is_nobodys(self.byte(1)))
+            self.is_command(control::RELEASE) && (self.byte(0) == 0 || is_nobodys(self.byte(1)))
         }
     }
 
     fn is_command(&self, id: u16) -> bool
         ensures { result ≡ is_command id self.now }
     {
-        self.head.service == 0 && self.head.message == id
+        self.head.is_command(id)
     }
 
     // Whether its TLV 0x01 has a value of so many bytes.
@@ -283,25 +258,6 @@ fn is_nobodys(client: u8) -> bool
     ensures { result ≡ (client == 0 || client == 255) }
 {
     client == 0 || client == 255
-}
-
-// The bytes behind the head of a message.
-fn tlvs(message: &[u8]) -> &[u8]
-    requires { 12 ≤ length message.now }
-    ensures { result.now ≡ drop (head_length message.now) message.now }
-{
-    let head_length = if message[4] == 0 { 12 } else { 13 };
-    &message[head_length.min(message.len())..]
-}
-
-// The value of the first TLV of this type, where these bytes are TLVs and one of them has it.
-fn first_value(tlvs: &[u8], kind: u8) -> Option<&[u8]>
-    ensures { option_copied result ≡ value_in kind (tlvs_of tlvs.now) }
-{
-    match first_of(tlvs, kind) {
-        First::Found(tlv) => Some(&tlvs[tlv.start..tlv.end]),
-        First::Missing | First::Unread => None,
-    }
 }
 
 fn first_bytes(message: &[u8]) -> [u8; 12]

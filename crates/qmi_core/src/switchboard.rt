@@ -14,6 +14,7 @@ use crate::message::Message;
 use crate::terms::Terms;
 use framing::LONGEST_PIECE;
 use qmi_state::Asked;
+use qmux_frame::MessageKind;
 use std::alloc::{AllocError, Global};
 use std::marker::Model;
 
@@ -250,13 +251,10 @@ impl Switchboard {
         ensures { self.new ≡ within (hears_modem message.now) self.old }
     {
         let message = Message::read(message);
-        if !message.is_framed() {
-            return;
-        }
-        if message.is_response() {
-            self.respond(&message);
-        } else if message.is_indication() {
-            self.hear_indication(&message);
+        match message.kind() {
+            Some(MessageKind::Response) => self.respond(&message),
+            Some(MessageKind::Indication) => self.hear_indication(&message),
+            Some(MessageKind::Request) | None => {}
         }
     }
 

@@ -3,6 +3,9 @@ use Rattle.std.proofs.Common.{◌≡◌, ◌≢◌, ℕ, zero, ◌≤◌, Bool, 
 use Rattle.std.proofs.lemmas.Bool.{eqb-true, eq-eqb}
 use Rattle.std.proofs.lemmas.List.Elements.{All-contains, All-from_recursion}
 use Rattle.qmux_frame.specs.Head.{service_of, is_control, client_of, number_of}
+use Rattle.qmux_frame.specs.declared.kind.MessageKind.TheVariants as kind
+use Rattle.qmux_frame.specs.Kind.{framed_kind}
+use Rattle.qmux_frame.specs.Control.{is_release}
 use Rattle.qmux_frame.specs.Reply.{with_number, result_reply}
 use Rattle.proxy_history.specs.Events.{Event}
 use Rattle.proxy_history.specs.Facts.{Fact, Request, Answered, IdHeld, Late, Indicated, Stray, Granted, Freed, Ended, NoRoom, EventBegan}
@@ -17,7 +20,7 @@ use Rattle.proxy_history.proofs.Sound.{in_use_from_pending, forwarded_from_in_us
 use Rattle.qmi_proxy.specs.Setup.{Setup}
 use Rattle.qmi_proxy.specs.Errors.{client_ids_exhausted}
 use Rattle.qmi_proxy.specs.Spaces.{limit_of, top_of, control_space, service_space, space_of}
-use Rattle.qmi_proxy.specs.Messages.{IsResponse, kind_of, is_release, is_success, byte_of, value_of, used_service, used_client}
+use Rattle.qmi_proxy.specs.Messages.{is_success, byte_of, value_of, used_service, used_client}
 use Rattle.qmi_proxy.specs.Text.{note, text, blank, view_of, rendering}
 use Rattle.qmi_proxy.specs.FromModem.{IdChange, NoChange, Frees, id_change, granted_unless, brings_id, holder_of_brought, is_answered_by, first_answered_by, answer, answer_or_late, respond, hear_as, hear_modem, open_ones, receivers, tell}
 use Rattle.qmi_proxy.specs.History.{history}
@@ -178,7 +181,7 @@ module _ (device : List ℕ) where
         (byte_of 0 (value_of 0x01 m)) (byte_of 1 (value_of 0x01 m)) (used_service r.message) (used_client r.message) in
         record { sender = all.0; others = all.1; once = all.2 }
 
-module _ (s : Setup) (events : List Event) (core : Core) (earlier : List (List ℕ)) (m : List ℕ) (S : Stands s events core) (response : kind_of m ≡ IsResponse) where
+module _ (s : Setup) (events : List Event) (core : Core) (earlier : List (List ℕ)) (m : List ℕ) (S : Stands s events core) (response : framed_kind m ≡ Some kind.Response) where
   abbrev past : List Fact
   past = facts_before s events earlier
 
@@ -186,7 +189,7 @@ module _ (s : Setup) (events : List Event) (core : Core) (earlier : List (List �
   regular = regular_before s events core earlier S
 
   heard : hear_modem s.device m past ≡ respond s.device (first_answered_by m (in_use past)) m past
-  heard = ap (λ kind. hear_as kind s.device m past) response
+  heard = ap (λ answered. hear_as answered s.device m past) response
 
   -- the sender still waits, so this is what the modem's message does
   replied : (r : Request) → Contains (pending past) r → is_answered_by m r ≡ true → hear_modem s.device m past ≡ answer s.device r m (id_change r.conn r.message m (holder_of_brought m past)) past

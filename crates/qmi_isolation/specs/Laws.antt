@@ -1,7 +1,9 @@
 -- What the clients of a QMI proxy have of each other: nothing. What others do leaves a client's bytes as they are, and an answer of the modem has one receiver.
 -- Lists of events and of facts have the newest first.
 use Rattle.std.specs.Prelude.{◌≡◌, ◌≢◌, ℕ, ◌+◌, Bool, true, false, not, ◌&&◌, ◌==◌, if◌then◌else◌, List, ◌∷◌, ◌++◌, map, Some, All, Contains}
+use Rattle.qmux_frame.specs.declared.kind.MessageKind.TheVariants as kind
 use Rattle.qmux_frame.specs.Head.{service_of, is_control, client_of, number_of}
+use Rattle.qmux_frame.specs.Kind.{framed_kind}
 use Rattle.qmux_frame.specs.Reply.{with_number, result_reply}
 use Rattle.proxy_history.specs.Events.{Event, Joined, Piece, Left, Took}
 use Rattle.proxy_history.specs.Items.{ModemSays}
@@ -12,7 +14,6 @@ use Rattle.proxy_history.specs.ClientIds.{holder, is_other}
 use Rattle.proxy_history.specs.Rendering.{put}
 use Rattle.qmi_proxy.specs.Setup.{Setup}
 use Rattle.qmi_proxy.specs.Errors.{client_ids_exhausted}
-use Rattle.qmi_proxy.specs.Messages.{IsResponse, kind_of}
 use Rattle.qmi_proxy.specs.Text.{note, rendering}
 use Rattle.qmi_proxy.specs.Clients.{holder_for, hear_client}
 use Rattle.qmi_proxy.specs.FromModem.{is_answered_by, brings_id, holder_of_brought, hear_modem, receivers, tell, tick, abort_all, lose}
@@ -55,14 +56,14 @@ pub record IsDelivered (device : List ℕ) (r : Request) (m : List ℕ) (past af
 -- `core` met these events, and `m` is the modem's answer to a request whose sender waits
 abbrev pub AnswersHaveOneReceiver : Type 0
 AnswersHaveOneReceiver = (s : Setup) (events : List Event) (core : Core) (earlier : List (List ℕ)) (m : List ℕ) (r : Request)
-    → Stands s events core → kind_of m ≡ IsResponse
+    → Stands s events core → framed_kind m ≡ Some kind.Response
     → Contains (pending (facts_before s events earlier)) r → is_answered_by m r ≡ true
     → IsDelivered s.device r m (facts_before s events earlier) (hear_modem s.device m (facts_before s events earlier))
 
 -- an answer that brings a client id which another client holds grants nothing: it is noted as such
 abbrev pub HeldIdsAreNotGranted : Type 0
 HeldIdsAreNotGranted = (s : Setup) (events : List Event) (core : Core) (earlier : List (List ℕ)) (m : List ℕ) (r : Request)
-    → Stands s events core → kind_of m ≡ IsResponse
+    → Stands s events core → framed_kind m ≡ Some kind.Response
     → Contains (pending (facts_before s events earlier)) r → is_answered_by m r ≡ true
     → brings_id r.message m ≡ true → is_other r.conn (holder_of_brought m (facts_before s events earlier)) ≡ true
     → hear_modem s.device m (facts_before s events earlier) ≡ note s.device (IdHeld r) (facts_before s events earlier)
@@ -75,7 +76,7 @@ HeldIdsAreNotUsed = (s : Setup) (c : ℕ) (m : List ℕ) (past : List Fact) → 
 -- a late answer, or one to nothing: no sender waits for it, and nobody gets it
 abbrev pub OtherAnswersHaveNone : Type 0
 OtherAnswersHaveNone = (s : Setup) (events : List Event) (core : Core) (earlier : List (List ℕ)) (m : List ℕ) (c : ℕ)
-    → Stands s events core → kind_of m ≡ IsResponse
+    → Stands s events core → framed_kind m ≡ Some kind.Response
     → All (λ r. is_answered_by m r ≡ false) (pending (facts_before s events earlier))
     → rendering s.device c (hear_modem s.device m (facts_before s events earlier)) ≡ rendering s.device c (facts_before s events earlier)
 

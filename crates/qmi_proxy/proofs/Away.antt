@@ -2,6 +2,10 @@
 use Rattle.std.proofs.Common.{◌≡◌, ℕ, ◌+◌, Bool, true, false, not, ◌&&◌, ◌==◌, if◌then◌else◌, List, [], ◌∷◌, ◌++◌, map, refl, ap, ◌∙◌, Option, Some, None, is_none}
 use Rattle.qmux_frame.specs.Frame.{size_of}
 use Rattle.qmux_frame.specs.Head.{is_control, client_of}
+use Rattle.qmux_frame.specs.declared.kind.MessageKind.{MessageKind}
+use Rattle.qmux_frame.specs.declared.kind.MessageKind.TheVariants as kind
+use Rattle.qmux_frame.specs.Kind.{framed_kind}
+use Rattle.qmux_frame.specs.Control.{is_sync}
 use Rattle.proxy_history.specs.Events.{Event, Joined, Piece, Left, ModemPiece, ModemGone, ModemBack, Now, Took, ModemTook}
 use Rattle.proxy_history.specs.Streams.{messages_of_piece, is_bad, stream, modem_stream, with_piece, come_back}
 use Rattle.proxy_history.specs.Items.{Item, Joins, Says, Garbles, Leaves, ModemSays, ModemFails, ModemReturns, ClockShows, Takes, ModemTakes, item_if, modem_items, fails_once, returns_once}
@@ -12,7 +16,7 @@ use Rattle.proxy_history.specs.Modem.{is_away}
 use Rattle.proxy_history.specs.Noting.{join}
 use Rattle.proxy_history.proofs.Away.{same_note, same_join, same_abort_all, same_tick}
 use Rattle.qmi_proxy.specs.Setup.{Setup}
-use Rattle.qmi_proxy.specs.Messages.{Kind, IsResponse, IsIndication, IsNeither, kind_of, is_sync, uses_id}
+use Rattle.qmi_proxy.specs.Messages.{uses_id}
 use Rattle.qmi_proxy.specs.Text.{note, text, blank}
 use Rattle.qmi_proxy.specs.Clients.{number_for, forward, grant_if, judge, verdict_on, request_of}
 use Rattle.qmi_proxy.specs.FromModem.{IdChange, NoChange, Grants, Collides, Frees, id_change, holder_of_brought, answer, answer_or_late, respond, first_answered_by, in_expiry_order, abort_all, tick, receivers, tell, indicate, hear_as}
@@ -76,11 +80,12 @@ module _ (away : Bool) where
       either_same (is_sync m) _ _ past (same_tell device m (Reset ∷ abort_all device past) ∙ same_aborts device past)
       (either_same (not (is_control m) && client_of m == 0) _ _ past refl (same_tell device m past))
 
-  same_hear : (kind : Kind) (device m : List ℕ) (past : List Fact) → Is (hear_as kind device m past) ≡ Is past
+  same_hear : (heard : Option MessageKind) (device m : List ℕ) (past : List Fact) → Is (hear_as heard device m past) ≡ Is past
   unfolding is_away
-  same_hear IsResponse device m past = same_respond device (first_answered_by m (in_use past)) m past
-  same_hear IsIndication device m past = same_indicate device m past
-  same_hear IsNeither device m past = refl
+  same_hear (Some kind.Response) device m past = same_respond device (first_answered_by m (in_use past)) m past
+  same_hear (Some kind.Indication) device m past = same_indicate device m past
+  same_hear (Some kind.Request) device m past = refl
+  same_hear None device m past = refl
 
   -- whether the modem is away after some items
   away_after : Bool → List Item → Bool
@@ -101,7 +106,7 @@ module _ (away : Bool) where
   away_add_all s (Says c m ∷ items) past = away_add_all s items (add s (Says c m) past) ∙ ap (λ (b : Bool). away_after b items) (either_same (is_present c past) _ _ past (same_judge s c m (number_for m past) (verdict_on s c m past) past) refl)
   away_add_all s (Garbles c ∷ items) past = away_add_all s items (add s (Garbles c) past) ∙ ap (λ (b : Bool). away_after b items) (either_same (is_present c past) _ _ past refl refl)
   away_add_all s (Leaves c ∷ items) past = away_add_all s items (add s (Leaves c) past) ∙ ap (λ (b : Bool). away_after b items) (either_same (is_present c past) _ _ past refl refl)
-  away_add_all s (ModemSays m ∷ items) past = away_add_all s items (add s (ModemSays m) past) ∙ ap (λ (b : Bool). away_after b items) (same_hear (kind_of m) s.device m past)
+  away_add_all s (ModemSays m ∷ items) past = away_add_all s items (add s (ModemSays m) past) ∙ ap (λ (b : Bool). away_after b items) (same_hear (framed_kind m) s.device m past)
   away_add_all s (ModemFails ∷ items) past = away_add_all s items (add s ModemFails past)
   away_add_all s (ModemReturns ∷ items) past = away_add_all s items (add s ModemReturns past)
   away_add_all s (ClockShows time ∷ items) past = away_add_all s items (add s (ClockShows time) past) ∙ ap (λ (b : Bool). away_after b items) (same_ticks s.device time past)

@@ -4,6 +4,10 @@ use Rattle.std.specs.List.{AllByRecursion}
 use Rattle.std.proofs.lemmas.Bool.Decides.{nat_tests}
 use Rattle.qmux_frame.specs.Frame.{size_of}
 use Rattle.qmux_frame.specs.Head.{is_control, client_of}
+use Rattle.qmux_frame.specs.declared.kind.MessageKind.{MessageKind}
+use Rattle.qmux_frame.specs.declared.kind.MessageKind.TheVariants as kind
+use Rattle.qmux_frame.specs.Kind.{framed_kind}
+use Rattle.qmux_frame.specs.Control.{is_sync}
 use Rattle.proxy_history.specs.Limits.{connection_limit}
 use Rattle.proxy_history.specs.Events.{Event, Joined, Piece, Left, ModemPiece, ModemGone, ModemBack, Now, Took, ModemTook}
 use Rattle.proxy_history.specs.Items.{Item, Joins, Says, Garbles, Leaves, ModemSays, ModemFails, ModemReturns, ClockShows, Takes, ModemTakes, item_if, modem_items, fails_once, returns_once}
@@ -15,7 +19,7 @@ use Rattle.proxy_history.specs.View.{End, Collected, entry_if, view}
 use Rattle.proxy_history.specs.Rendering.{render, empty, collect, Grows}
 use Rattle.proxy_history.proofs.Growing as growing
 use Rattle.qmi_proxy.specs.Setup.{Setup}
-use Rattle.qmi_proxy.specs.Messages.{Kind, IsResponse, IsIndication, IsNeither, kind_of, is_sync, uses_id}
+use Rattle.qmi_proxy.specs.Messages.{uses_id}
 use Rattle.qmi_proxy.specs.Text.{note, text, blank, rendering}
 use Rattle.qmi_proxy.specs.Clients.{number_for, forward, grant_if, judge, verdict_on, request_of}
 use Rattle.qmi_proxy.specs.FromModem.{IdChange, NoChange, Grants, Collides, Frees, id_change, holder_of_brought, answer, answer_or_late, respond, first_answered_by, in_expiry_order, abort_all, lose, tick, receivers, tell, indicate, hear_as}
@@ -99,10 +103,11 @@ module _ (s : Setup) (client : ℕ) where
       (further past _ _ (abort_all_grows past) (further (abort_all s.device past) _ _ (added Reset (abort_all s.device past) refl) (tell_grows m (Reset ∷ abort_all s.device past))))
       (either (not (is_control m) && client_of m == 0) past _ _ (added Stray past refl) (tell_grows m past))
 
-  hear_grows : (kind : Kind) (m : List ℕ) (past : List Fact) → GrowsFor past (hear_as kind s.device m past)
-  hear_grows IsResponse m past = respond_grows (first_answered_by m (in_use past)) m past
-  hear_grows IsIndication m past = indicate_grows m past
-  hear_grows IsNeither m past = added Stray past refl
+  hear_grows : (heard : Option MessageKind) (m : List ℕ) (past : List Fact) → GrowsFor past (hear_as heard s.device m past)
+  hear_grows (Some kind.Response) m past = respond_grows (first_answered_by m (in_use past)) m past
+  hear_grows (Some kind.Indication) m past = indicate_grows m past
+  hear_grows (Some kind.Request) m past = added Stray past refl
+  hear_grows None m past = added Stray past refl
 
   -- ---- items and events ----
 
@@ -111,7 +116,7 @@ module _ (s : Setup) (client : ℕ) where
   add_grows (Says c m) past none = either (is_present c past) past _ past (judge_grows c m (number_for m past) (verdict_on s c m past) past) (same past)
   add_grows (Garbles c) past none = either (is_present c past) past _ past (added (Ended c BadStream) past refl) (same past)
   add_grows (Leaves c) past none = either (is_present c past) past _ past (added (Ended c Closed) past refl) (same past)
-  add_grows (ModemSays m) past none = hear_grows (kind_of m) m past
+  add_grows (ModemSays m) past none = hear_grows (framed_kind m) m past
   add_grows ModemFails past none = lose_grows past
   add_grows ModemReturns past none = added ModemReturned past refl
   add_grows (ClockShows time) past none = tick_grows time past

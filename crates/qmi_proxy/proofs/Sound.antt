@@ -3,6 +3,10 @@ use Rattle.std.proofs.Common.{◌≡◌, ℕ, ◌+◌, Bool, true, false, not, i
 use Rattle.std.specs.List.{AllByRecursion}
 use Rattle.std.proofs.lemmas.List.Elements.{All-append, All-filter, All-contains, recursion_from_All}
 use Rattle.qmux_frame.specs.Head.{is_control, client_of}
+use Rattle.qmux_frame.specs.declared.kind.MessageKind.{MessageKind}
+use Rattle.qmux_frame.specs.declared.kind.MessageKind.TheVariants as kind
+use Rattle.qmux_frame.specs.Kind.{framed_kind}
+use Rattle.qmux_frame.specs.Control.{is_sync}
 use Rattle.proxy_history.specs.Events.{Event}
 use Rattle.proxy_history.specs.Items.{Item, Joins, Says, Garbles, Leaves, ModemSays, ModemFails, ModemReturns, ClockShows, Takes, ModemTakes}
 use Rattle.proxy_history.specs.Facts.{Fact, Request, Verdict, Own, Foreign, Away, Full, Forward, EventBegan, Judged, Forwarded, Answered, IdHeld, Indicated, Stray, Granted, Freed, Reset}
@@ -14,7 +18,7 @@ use Rattle.proxy_history.proofs.Sound.{each_contained, party_from_present, forwa
 use Rattle.proxy_history.proofs.SoundLaws.{waiting_are_parties}
 use Rattle.qmi_proxy.specs.Setup.{Setup}
 use Rattle.qmi_proxy.specs.Spaces.{limit_of, top_of, control_space, service_space}
-use Rattle.qmi_proxy.specs.Messages.{Kind, IsResponse, IsIndication, IsNeither, kind_of, is_sync, uses_id}
+use Rattle.qmi_proxy.specs.Messages.{uses_id}
 use Rattle.qmi_proxy.specs.Text.{note, text, blank}
 use Rattle.qmi_proxy.specs.Clients.{number_for, forward, grant_if, judge, hear_client, verdict_on, request_of}
 use Rattle.qmi_proxy.specs.FromModem.{IdChange, NoChange, Grants, Collides, Frees, id_change, holder_of_brought, answer, answer_or_late, respond, first_answered_by, is_answered_by, in_expiry_order, abort_all, tick, receivers, tell, indicate, hear_as}
@@ -116,10 +120,11 @@ sound_indicate device m past s =
     (λ e. sound_tell device m (Reset ∷ abort_all device past) (tt, sound_aborts device past s))
     (λ e. by_test Sound (not (is_control m) && client_of m == 0) (Stray ∷ past) (tell device m past) (λ e. (tt, s)) (λ e. sound_tell device m past s))
 
-sound_hear_as : (kind : Kind) (device m : List ℕ) (past : List Fact) → Sound past → Sound (hear_as kind device m past)
-sound_hear_as IsResponse device m past s = sound_respond device (first_answered_by m (in_use past)) m past s refl
-sound_hear_as IsIndication device m past s = sound_indicate device m past s
-sound_hear_as IsNeither device m past s = (tt, s)
+sound_hear_as : (heard : Option MessageKind) (device m : List ℕ) (past : List Fact) → Sound past → Sound (hear_as heard device m past)
+sound_hear_as (Some kind.Response) device m past s = sound_respond device (first_answered_by m (in_use past)) m past s refl
+sound_hear_as (Some kind.Indication) device m past s = sound_indicate device m past s
+sound_hear_as (Some kind.Request) device m past s = (tt, s)
+sound_hear_as None device m past s = (tt, s)
 
 -- ---- every item ----
 
@@ -128,7 +133,7 @@ sound_add s (Joins c) past sound = sound_join limit_of top_of c past sound
 sound_add s (Says c m) past sound = by_test Sound (is_present c past) (hear_client s c m past) past (λ there. sound_judge s c m (verdict_on s c m past) past sound there) (λ e. sound)
 sound_add s (Garbles c) past sound = by_test Sound (is_present c past) _ past (λ there. (there, sound)) (λ e. sound)
 sound_add s (Leaves c) past sound = by_test Sound (is_present c past) _ past (λ there. (there, sound)) (λ e. sound)
-sound_add s (ModemSays m) past sound = sound_hear_as (kind_of m) s.device m past sound
+sound_add s (ModemSays m) past sound = sound_hear_as (framed_kind m) s.device m past sound
 sound_add s ModemFails past sound = (tt, sound_aborts s.device past sound)
 sound_add s ModemReturns past sound = (tt, sound)
 sound_add s (ClockShows time) past sound = sound_ticks s.device time past sound

@@ -1,13 +1,17 @@
 -- What a message of the modem, the clock and a loss add to the history. A list of facts has the newest first.
 use Rattle.std.specs.Prelude.{ℕ, Bool, true, false, not, ◌&&◌, ◌==◌, if◌then◌else◌, List, [], ◌∷◌, ◌++◌, filter, Option, Some, None}
+use Rattle.qmux_frame.specs.declared.kind.MessageKind.{MessageKind}
+use Rattle.qmux_frame.specs.declared.kind.MessageKind.TheVariants as kind
 use Rattle.qmux_frame.specs.Head.{service_of, is_control, client_of, number_of}
+use Rattle.qmux_frame.specs.Kind.{framed_kind}
+use Rattle.qmux_frame.specs.Control.{is_allocate, is_release, is_sync}
 use Rattle.proxy_history.specs.Facts.{Request, Fact, Answered, IdHeld, Late, Indicated, Stray, Granted, Freed, Reset}
 use Rattle.proxy_history.specs.Connections.{present}
 use Rattle.proxy_history.specs.Requests.{in_use, is_pending, of_space}
 use Rattle.proxy_history.specs.ClientIds.{held, holder, is_other, is_holder, holds_some}
 use Rattle.proxy_history.specs.Unanswered as unanswered
 use Rattle.qmi_proxy.specs.Spaces.{control_space, service_space}
-use Rattle.qmi_proxy.specs.Messages.{Kind, IsResponse, IsIndication, IsNeither, kind_of, value_of, has_length, byte_of, is_allocate, is_release, is_sync, used_service, used_client, is_success}
+use Rattle.qmi_proxy.specs.Messages.{value_of, has_length, byte_of, used_service, used_client, is_success}
 use Rattle.qmi_proxy.specs.OwnReplies.{is_open}
 use Rattle.qmi_proxy.specs.Text.{view_of, note}
 
@@ -108,10 +112,12 @@ indicate device m past =
 
 -- ---- every message of the modem ----
 
-abbrev pub hear_as : Kind → List ℕ → List ℕ → List Fact → List Fact
-hear_as IsResponse device m past = respond device (first_answered_by m (in_use past)) m past
-hear_as IsIndication device m past = indicate device m past
-hear_as IsNeither device m past = Stray ∷ past
+-- one that isn't framed, and a request, are for nobody
+abbrev pub hear_as : Option MessageKind → List ℕ → List ℕ → List Fact → List Fact
+hear_as (Some kind.Response) device m past = respond device (first_answered_by m (in_use past)) m past
+hear_as (Some kind.Indication) device m past = indicate device m past
+hear_as (Some kind.Request) device m past = Stray ∷ past
+hear_as None device m past = Stray ∷ past
 
 abbrev pub hear_modem : List ℕ → List ℕ → List Fact → List Fact
-hear_modem device m past = hear_as (kind_of m) device m past
+hear_modem device m past = hear_as (framed_kind m) device m past

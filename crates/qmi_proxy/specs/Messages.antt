@@ -1,18 +1,16 @@
 -- What the proxy reads off one message of QMI.
--- Sources: the messages of service CTL in libqmi's data/qmi-service-ctl.json, and its src/libqmi-glib/qmi-proxy.c.
-use Rattle.std.specs.Prelude.{ℕ, ◌^◌, ◌/◌, ◌%◌, Bool, true, false, not, ◌&&◌, ◌||◌, ◌==◌, if◌then◌else◌, List, length, drop, slice_index, Option, Some, None, bytes_eq}
-use Rattle.qmux_frame.specs.Head.{service_of, is_control, client_of, flags_of, message_id_of, head_length, is_framed}
-use Rattle.tlv_codec.specs.Tlv.{Entry, tlvs_of, first_value}
+-- Source: libqmi's src/libqmi-glib/qmi-proxy.c.
+use Rattle.std.specs.Prelude.{ℕ, Bool, true, false, not, ◌&&◌, ◌||◌, ◌==◌, if◌then◌else◌, List, length, slice_index, Option, Some, None, bytes_eq}
+use Rattle.qmux_frame.specs.Head.{service_of, is_control, client_of, flags_of, is_framed, tlvs_in}
+use Rattle.qmux_frame.specs.Control.{is_allocate, is_release, is_proxy_open}
+use Rattle.tlv_codec.specs.Tlv.{tlv_value}
+use Rattle.tlv_codec.specs.Outcome as outcome
 
 -- ---- TLVs ----
 
-abbrev pub value_in : ℕ → Option (List Entry) → Option (List ℕ)
-value_in kind None = None
-value_in kind (Some entries) = first_value kind entries
-
 -- the value of the message's first TLV of this type, where its TLVs read and one of them has it
 abbrev pub value_of : ℕ → List ℕ → Option (List ℕ)
-value_of kind m = value_in kind (tlvs_of (drop (head_length m) m))
+value_of kind m = tlv_value kind (tlvs_in m)
 
 abbrev pub is_there : Option (List ℕ) → Bool
 is_there None = false
@@ -31,26 +29,9 @@ abbrev pub byte_of : ℕ → Option (List ℕ) → ℕ
 byte_of at None = 0
 byte_of at (Some value) = slice_index value at
 
--- ---- the messages of service 0 that a proxy knows ----
-
-abbrev pub is_command : ℕ → List ℕ → Bool
-is_command id m = is_control m && message_id_of m == id
-
--- Allocate CID asks for a client id of the service in TLV 0x01
-abbrev pub is_allocate : List ℕ → Bool
-is_allocate m = is_command 0x0022 m
-
--- Release CID gives back the client id in TLV 0x01: the service, then the id
-abbrev pub is_release : List ℕ → Bool
-is_release m = is_command 0x0023 m
-
--- Sync asks the modem to begin anew; as an indication it says that the modem did
-abbrev pub is_sync : List ℕ → Bool
-is_sync m = is_command 0x0027 m
-
--- Internal Proxy Open names in TLV 0x01 the device that the client wants; it is for the proxy and never reaches the modem
-abbrev pub is_proxy_open : List ℕ → Bool
-is_proxy_open m = is_command 0xff00 m
+-- the Result TLV says success
+abbrev pub is_success : List ℕ → Bool
+is_success m = outcome.is_success (outcome.outcome_in (tlvs_in m))
 
 -- a Proxy Open of this device
 abbrev pub opens : List ℕ → List ℕ → Bool
@@ -79,36 +60,3 @@ used_client m = if is_control m then byte_of 1 (value_of 0x01 m) else client_of 
 -- no client has this id: 0 is service 0's, and 255 is everybody's
 abbrev pub has_bad_id : List ℕ → Bool
 has_bad_id m = uses_id m && (used_service m == 0 || (used_client m == 0) || (used_client m == 255))
-
--- ---- what a message of the modem is ----
-
-abbrev pub is_bit_set : ℕ → ℕ → Bool
-is_bit_set n bit = n / 2 ^ bit % 2 == 1
-
--- service 0 has no bit for compound messages, so its bits stand one lower
-abbrev pub response_bit : List ℕ → ℕ
-response_bit m = if is_control m then 0 else 1
-
-abbrev pub indication_bit : List ℕ → ℕ
-indication_bit m = if is_control m then 1 else 2
-
-pub data Kind : Type 0 where
-  IsResponse : Kind
-  IsIndication : Kind
-  IsNeither : Kind
-
--- a message with the response bit is a response, whatever else is set
-abbrev pub kind_of : List ℕ → Kind
-kind_of m =
-    if not (is_framed m) then IsNeither
-    else if is_bit_set (flags_of m) (response_bit m) then IsResponse
-    else if is_bit_set (flags_of m) (indication_bit m) then IsIndication
-    else IsNeither
-
--- the Result TLV, type 0x02, says success: it has four bytes, of which the first two are status 0
-abbrev pub is_success_value : Option (List ℕ) → Bool
-is_success_value None = false
-is_success_value (Some value) = length value == 4 && (slice_index value 0 == 0) && (slice_index value 1 == 0)
-
-abbrev pub is_success : List ℕ → Bool
-is_success m = is_success_value (value_of 0x02 m)

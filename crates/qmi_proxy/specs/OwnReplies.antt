@@ -1,10 +1,11 @@
 -- The replies that a client's own view decides: no other client and nothing of the modem has a say in them. A view has the newest entry first.
 -- Source of the reply to a Proxy Open: `process_internal_proxy_open` in libqmi's src/libqmi-glib/qmi-proxy.c. The refusals are this proxy's own.
 use Rattle.std.specs.Prelude.{ℕ, Bool, false, not, ◌&&◌, ◌||◌, if◌then◌else◌, List, [], ◌∷◌, Option, Some, None}
+use Rattle.qmux_frame.specs.Control.{is_sync, is_proxy_open}
 use Rattle.proxy_history.specs.Facts.{Verdict, Own}
 use Rattle.proxy_history.specs.View.{Entry, Sent}
 use Rattle.qmi_proxy.specs.Errors.{no_error, malformed_message, internal, invalid_client_id}
-use Rattle.qmi_proxy.specs.Messages.{is_sync, is_proxy_open, opens, is_malformed, has_bad_id}
+use Rattle.qmi_proxy.specs.Messages.{opens, is_malformed, has_bad_id}
 
 -- the error of the reply, 0 for success, from whether the client has opened the device; None where what all clients share decides
 abbrev pub own_reply_of : List ℕ → Bool → List ℕ → Option ℕ

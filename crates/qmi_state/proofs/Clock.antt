@@ -2,6 +2,10 @@
 use Rattle.std.proofs.Common.{◌≡◌, ℕ, ◌+◌, Bool, true, false, not, ◌&&◌, max, nat_lt, if◌then◌else◌, List, [], ◌∷◌, ◌++◌, length, map, refl, ap, ◌∙◌, Option, Some, None, ◌==◌}
 use Rattle.qmux_frame.specs.Frame.{size_of}
 use Rattle.qmux_frame.specs.Head.{is_control, client_of}
+use Rattle.qmux_frame.specs.declared.kind.MessageKind.{MessageKind}
+use Rattle.qmux_frame.specs.declared.kind.MessageKind.TheVariants as kind
+use Rattle.qmux_frame.specs.Kind.{framed_kind}
+use Rattle.qmux_frame.specs.Control.{is_sync}
 use Rattle.proxy_history.specs.Limits.{connection_limit}
 use Rattle.proxy_history.specs.Events.{Event, Joined, Piece, Left, ModemPiece, ModemGone, ModemBack, Now, Took, ModemTook}
 use Rattle.proxy_history.specs.Streams.{messages_of_piece, is_bad, stream, modem_stream}
@@ -13,7 +17,7 @@ use Rattle.proxy_history.specs.Modem.{now}
 use Rattle.proxy_history.specs.Noting.{join, end_overfull, each_pending, rendering, receivers_of}
 use Rattle.proxy_history.specs.Unanswered.{due}
 use Rattle.qmi_proxy.specs.Setup.{Setup}
-use Rattle.qmi_proxy.specs.Messages.{Kind, IsResponse, IsIndication, IsNeither, kind_of, is_sync, uses_id}
+use Rattle.qmi_proxy.specs.Messages.{uses_id}
 use Rattle.qmi_proxy.specs.Text.{note, text, blank}
 use Rattle.qmi_proxy.specs.Clients.{number_for, forward, grant_if, judge, verdict_on, request_of}
 use Rattle.qmi_proxy.specs.FromModem.{IdChange, NoChange, Grants, Collides, Frees, id_change, holder_of_brought, answer, answer_or_late, respond, first_answered_by, in_expiry_order, abort_all, tick, receivers, tell, indicate, hear_as}
@@ -95,11 +99,12 @@ same_indicate device m past =
     either_same (is_sync m) _ _ past (same_tell device m (Reset ∷ abort_all device past) ∙ same_aborts device past)
     (either_same (not (is_control m) && client_of m == 0) _ _ past refl (same_tell device m past))
 
-same_hear : (kind : Kind) (device m : List ℕ) (past : List Fact) → now (hear_as kind device m past) ≡ now past
+same_hear : (heard : Option MessageKind) (device m : List ℕ) (past : List Fact) → now (hear_as heard device m past) ≡ now past
 unfolding now
-same_hear IsResponse device m past = same_respond device (first_answered_by m (in_use past)) m past
-same_hear IsIndication device m past = same_indicate device m past
-same_hear IsNeither device m past = refl
+same_hear (Some kind.Response) device m past = same_respond device (first_answered_by m (in_use past)) m past
+same_hear (Some kind.Indication) device m past = same_indicate device m past
+same_hear (Some kind.Request) device m past = refl
+same_hear None device m past = refl
 
 -- the time after some items
 time_after : ℕ → List Item → ℕ
@@ -119,7 +124,7 @@ time_add_all s (Joins c ∷ items) past = time_add_all s items (join c past) ∙
 time_add_all s (Says c m ∷ items) past = time_add_all s items (add s (Says c m) past) ∙ ap (λ (n : ℕ). time_after n items) (either_same (is_present c past) _ _ past (same_judge s c m (number_for m past) (verdict_on s c m past) past) refl)
 time_add_all s (Garbles c ∷ items) past = time_add_all s items (add s (Garbles c) past) ∙ ap (λ (n : ℕ). time_after n items) (either_same (is_present c past) _ _ past refl refl)
 time_add_all s (Leaves c ∷ items) past = time_add_all s items (add s (Leaves c) past) ∙ ap (λ (n : ℕ). time_after n items) (either_same (is_present c past) _ _ past refl refl)
-time_add_all s (ModemSays m ∷ items) past = time_add_all s items (add s (ModemSays m) past) ∙ ap (λ (n : ℕ). time_after n items) (same_hear (kind_of m) s.device m past)
+time_add_all s (ModemSays m ∷ items) past = time_add_all s items (add s (ModemSays m) past) ∙ ap (λ (n : ℕ). time_after n items) (same_hear (framed_kind m) s.device m past)
 time_add_all s (ModemFails ∷ items) past = time_add_all s items (add s ModemFails past) ∙ ap (λ (n : ℕ). time_after n items) (same_aborts s.device past)
 time_add_all s (ModemReturns ∷ items) past = time_add_all s items (add s ModemReturns past)
 time_add_all s (ClockShows time ∷ items) past = time_add_all s items (add s (ClockShows time) past) ∙ ap (λ (n : ℕ). time_after n items) (ticked s.device time past)

@@ -3,8 +3,8 @@ use Rattle.std.proofs.Common.{◌≡◌, ℕ, ◌+◌, ◌<◌, ◌≤◌, Bool,
 use Rattle.std.proofs.lemmas.Bool.{eqb-true}
 use Rattle.std.proofs.lemmas.List.{get_or-take}
 use Rattle.qmux_frame.specs.Head.{service_of, is_control, client_of, number_of, head_length, tlv_length, is_framed}
+use Rattle.qmux_frame.specs.Control.{allocate, is_command, release}
 use Rattle.qmux_frame.specs.Reply.{with_number, result_reply}
-use Rattle.qmi_proxy.specs.Messages.{is_command}
 use Rattle.qmi_proxy.specs.FromModem.{id_change}
 use Rattle.qmi_state.specs.Asked.{asked_of}
 use Rattle.qmi_state.specs.Transitions.{change_by}
@@ -32,7 +32,7 @@ reply_kept m error = rw (kept m 4 (omega arith), kept m 5 (omega arith), kept m 
 
 pub change_is : (c : ℕ) (request m : List ℕ) (holder : Option ℕ) → change_by c (asked_of request) m holder ≡ id_change c request m holder
 unfolding asked_of
-change_is c request m holder = rw (command_kept 0x0022 request, command_kept 0x0023 request) refl
+change_is c request m holder = rw (command_kept allocate request, command_kept release request) refl
 
 -- ---- numbers of messages ----
 

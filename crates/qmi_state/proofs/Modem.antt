@@ -1,7 +1,11 @@
 -- What the messages of the modem, its loss and the clock make of a core.
-use Rattle.std.proofs.Common.{◌≡◌, ℕ, ◌-◌, ◌≤◌, max, Bool, true, false, not, ◌&&◌, ◌==◌, List, [], ◌∷◌, length, drop, map, refl, ap, sym, ◌∙◌, subst, arith, if◌then◌else◌}
+use Rattle.std.proofs.Common.{◌≡◌, ℕ, ◌-◌, ◌≤◌, max, Bool, true, false, not, ◌&&◌, ◌==◌, List, [], ◌∷◌, length, drop, map, refl, ap, sym, ◌∙◌, subst, arith, Option, Some, None, if◌then◌else◌}
 use Rattle.std.proofs.lemmas.List.{length-drop}
-use Rattle.qmux_frame.specs.Head.{is_control, client_of, flags_of, is_framed}
+use Rattle.qmux_frame.specs.declared.kind.MessageKind.{MessageKind}
+use Rattle.qmux_frame.specs.declared.kind.MessageKind.TheVariants as kind
+use Rattle.qmux_frame.specs.Head.{is_control, client_of, is_framed}
+use Rattle.qmux_frame.specs.Kind.{framed_kind, kind_of}
+use Rattle.qmux_frame.specs.Control.{is_sync}
 use Rattle.proxy_history.specs.Facts.{Fact, Reset, ModemReturned, ModemDrained, TimeIs}
 use Rattle.proxy_history.specs.Connections.{present, dropped}
 use Rattle.proxy_history.specs.Requests.{pending, last_number}
@@ -10,7 +14,6 @@ use Rattle.proxy_history.specs.View.{view}
 use Rattle.proxy_history.specs.Items.{ModemSays}
 use Rattle.qmi_proxy.specs.Setup.{Setup}
 use Rattle.qmi_proxy.specs.Clients.{wire}
-use Rattle.qmi_proxy.specs.Messages.{Kind, IsResponse, IsIndication, IsNeither, kind_of, is_sync, is_bit_set, response_bit, indication_bit}
 use Rattle.qmi_proxy.specs.FromModem.{abort_all, lose, tick, indicate, hear_as, hear_modem}
 use Rattle.qmi_proxy.specs.History.{add_all}
 use Rattle.qmi_state.specs.Desk.{Desk, asks, forgets, ids}
@@ -24,12 +27,12 @@ use Rattle.qmi_state.proofs.Expired.{kept_expires, kept_aborts}
 use Rattle.qmi_state.proofs.Indicating.{kept_indicated}
 
 -- a response is framed
-pub responses_framed : (m : List ℕ) → kind_of m ≡ IsResponse → is_framed m ≡ true
-responses_framed m e = by_tests (is_framed m) (is_bit_set (flags_of m) (response_bit m)) (is_bit_set (flags_of m) (indication_bit m)) e
+pub responses_framed : (m : List ℕ) → framed_kind m ≡ Some kind.Response → is_framed m ≡ true
+responses_framed m e = by_test (is_framed m) e
   where
-    by_tests : (framed response indication : Bool) → (if not framed then IsNeither else if response then IsResponse else if indication then IsIndication else IsNeither) ≡ IsResponse → framed ≡ true
-    by_tests true response indication e = refl
-    by_tests false response indication e = absurd (cc)
+    by_test : (framed : Bool) → (if framed then Some (kind_of m) else None) ≡ Some kind.Response → framed ≡ true
+    by_test true e = refl
+    by_test false e = absurd (cc)
 
 module _ (device : List ℕ) (greatest : ℕ) (rests : ℕ → List ℕ) where
   abbrev Kept : List Fact → Exchange → Type 0
@@ -53,14 +56,13 @@ module _ (device : List ℕ) (greatest : ℕ) (rests : ℕ → List ℕ) where
       (kept_either (not (is_control m) && client_of m == 0) _ _ _ _ (kept_stray device greatest rests past x K) (kept_indicated device greatest rests m past x K))
 
   kept_heard : (m : List ℕ) (past : List Fact) (x : Exchange) → Kept past x → Kept (hear_modem device m past) (hears_modem m x)
-  kept_heard m past x K =
-      let step : (kind : Kind) → kind_of m ≡ kind → Kept (hear_as kind device m past) (hears_as kind m x) =
-      λ kind. elim kind as (λ kind. kind_of m ≡ kind → Kept (hear_as kind device m past) (hears_as kind m x)) [
-        | IsResponse ↦ λ e. keeps_responds device greatest rests past x m (framed_long m (responses_framed m e)) K
-        | IsIndication ↦ λ e. kept_indication m past x K
-        | IsNeither ↦ λ e. kept_stray device greatest rests past x K
-      ]
-      in step (kind_of m) refl
+  kept_heard m past x K = by_kind (framed_kind m) refl
+    where
+      by_kind : (heard : Option MessageKind) → framed_kind m ≡ heard → Kept (hear_as heard device m past) (hears_as heard m x)
+      by_kind (Some kind.Response) e = keeps_responds device greatest rests past x m (framed_long m (responses_framed m e)) K
+      by_kind (Some kind.Indication) e = kept_indication m past x K
+      by_kind (Some kind.Request) e = kept_stray device greatest rests past x K
+      by_kind None e = kept_stray device greatest rests past x K
 
   pub kept_heard_all : (s : Setup) → s.device ≡ device → (messages : List (List ℕ)) (past : List Fact) (x : Exchange) → Kept past x → Kept (add_all s (map (λ m. ModemSays m) messages) past) (hears_all messages x)
   unfolding add_all hears_all

@@ -2,7 +2,11 @@
 use Rattle.std.specs.Prelude.{ℕ, suc, zero, ◌+◌, ◌-◌, ◌^◌, max, Bool, true, false, not, ◌&&◌, ◌||◌, ◌==◌, nat_lt, if◌then◌else◌, List, [], ◌∷◌, ◌++◌, length, drop, map, filter, Option, Some, None, is_some}
 use Rattle.framing.specs.Cutting.{Cutting, cut}
 use Rattle.qmux_frame.specs.Frame.{size_of}
+use Rattle.qmux_frame.specs.declared.kind.MessageKind.{MessageKind}
+use Rattle.qmux_frame.specs.declared.kind.MessageKind.TheVariants as kind
 use Rattle.qmux_frame.specs.Head.{is_control, service_of, client_of, number_of}
+use Rattle.qmux_frame.specs.Kind.{framed_kind}
+use Rattle.qmux_frame.specs.Control.{is_release, is_sync}
 use Rattle.qmux_frame.specs.Reply.{result_reply, with_number}
 use Rattle.proxy_history.specs.Limits.{connection_limit, outbox_limit}
 use Rattle.proxy_history.specs.Events.{Event, Joined, Piece, Left, ModemPiece, ModemGone, ModemBack, Now, Took, ModemTook}
@@ -10,7 +14,7 @@ use Rattle.proxy_history.specs.Streams.{is_invalid}
 use Rattle.proxy_history.specs.Facts.{Verdict, Own, Foreign, Away, Full, Forward}
 use Rattle.proxy_history.specs.ClientIds.{Grant, holder_in, is_other, holds_some}
 use Rattle.qmi_proxy.specs.Errors.{internal, aborted, client_ids_exhausted, invalid_client_id, device_in_use}
-use Rattle.qmi_proxy.specs.Messages.{Kind, IsResponse, IsIndication, IsNeither, kind_of, uses_id, used_service, used_client, is_sync, value_of, byte_of, is_release, is_success}
+use Rattle.qmi_proxy.specs.Messages.{uses_id, used_service, used_client, value_of, byte_of, is_success}
 use Rattle.qmi_proxy.specs.OwnReplies.{own_reply_of, is_opening}
 use Rattle.qmi_proxy.specs.Text.{reply_if}
 use Rattle.qmi_proxy.specs.Clients.{shared_verdict_of, own_or, has_room, deadline_of}
@@ -288,13 +292,14 @@ hears_indication m x =
     else if not (is_control m) && client_of m == 0 then x
     else indicates m x
 
-abbrev pub hears_as : Kind → List ℕ → Exchange → Exchange
-hears_as IsResponse m x = responds m x
-hears_as IsIndication m x = hears_indication m x
-hears_as IsNeither m x = x
+abbrev pub hears_as : Option MessageKind → List ℕ → Exchange → Exchange
+hears_as (Some kind.Response) m x = responds m x
+hears_as (Some kind.Indication) m x = hears_indication m x
+hears_as (Some kind.Request) m x = x
+hears_as None m x = x
 
 abbrev pub hears_modem : List ℕ → Exchange → Exchange
-hears_modem m x = hears_as (kind_of m) m x
+hears_modem m x = hears_as (framed_kind m) m x
 
 unfoldable pub hears_all : List (List ℕ) → Exchange → Exchange
 hears_all [] x = x

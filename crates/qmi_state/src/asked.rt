@@ -1,15 +1,10 @@
 ghost use Rattle.std.specs.Prelude.{◌≡◌, ◌≤◌, ◌==◌, ◌&&◌, true, length};
 ghost use Rattle.framing.specs.Framing.{AreBytes};
 ghost use Rattle.qmux_frame.specs.Head.{head_of, is_control, service_of, client_of, number_of};
+ghost use Rattle.qmux_frame.specs.Control.{is_allocate, is_release};
 ghost use Rattle.qmux_frame.specs.Reply.{result_reply};
-ghost use Rattle.qmi_proxy.specs.Messages.{is_allocate, is_release};
 
-use qmux_frame::{Head, Reply};
-
-// The messages of service 0 that change who holds a client id.
-const ALLOCATE: u16 = 0x0022;
-
-const RELEASE: u16 = 0x0023;
+use qmux_frame::{Head, Reply, control};
 
 /// What is kept of a request that went to the modem: as much of the sender's message as its answer
 /// needs.
@@ -42,23 +37,22 @@ impl Asked {
     pub fn fits(&self, service: u8, client: u8) -> bool
         ensures { result ≡ (service_of self.now.head == service && (client_of self.now.head == client)) }
     {
-        self.head[4] == service && self.head[5] == client
+        let head = read(&self.head);
+        head.service == service && head.client == client
     }
 
     /// Whether it asks for a client id.
     pub fn is_allocate(&self) -> bool
         ensures { result ≡ is_allocate self.now.head }
     {
-        let head = read(&self.head);
-        head.service == 0 && head.message == ALLOCATE
+        read(&self.head).is_command(control::ALLOCATE)
     }
 
     /// Whether it gives a client id back.
     pub fn is_release(&self) -> bool
         ensures { result ≡ is_release self.now.head }
     {
-        let head = read(&self.head);
-        head.service == 0 && head.message == RELEASE
+        read(&self.head).is_command(control::RELEASE)
     }
 }
 
