@@ -1,11 +1,12 @@
 -- The look for the next mark goes on and ends.
-use Rattle.std.proofs.Common.{◌≡◌, inl, inr, ℕ, List, [], ◌∷◌, ◌++◌, Option, refl, sym, ◌∙◌, ap}
+use Rattle.std.proofs.Common.{◌≡◌, inl, inr, ℕ, List, [], ◌∷◌, ◌++◌, All, Option, refl, sym, ◌∙◌, ap}
 use Rattle.std.proofs.lemmas.List.{append-nil}
+use Rattle.std.proofs.lemmas.List.Elements.{All-nil, All-cons}
 use Rattle.kit_io.specs.Told.{Grows}
 use Rattle.kit_io.proofs.Told.{Grows-none, Grows-append}
 use Rattle.framing.specs.Reading.{Reading}
 use Rattle.link_io.specs.Calls.{Call, Took, WasQuiet, WasEnd, TakeFailed}
-use Rattle.device_core.specs.Marks.{Mark, Message, Bad, Quiet, End, Failed, piece_marks, take_marks, bytes_in}
+use Rattle.device_core.specs.Marks.{Mark, Message, Bad, Quiet, End, Failed, IsTake, piece_marks, take_marks, bytes_in}
 use Rattle.device_core.specs.Waiting.{Heard, Brings, AreNeeded, marks_with}
 use Rattle.device_core.specs.Hearing.{Stands, IsFirst, Looks, found_in}
 use Rattle.device_core.specs.declared.incoming.Found.{Found}
@@ -24,24 +25,28 @@ pub record Looked (heard : Heard) (cutter : Reading) (before calls : Option (Lis
 pub Looked-none : {heard : Heard} {cutter : Reading} (calls : Option (List Call)) → Stands cutter heard → Looked heard cutter calls calls
 Looked-none {heard = heard} calls stands = record { takes = []; now = heard; brings = Brings-none heard; needed = inl refl; stands = stands; grows = Grows-none calls }
 
+one_take : (call : Call) → IsTake call → All IsTake (call ∷ [])
+one_take call is = All-cons IsTake call [] is (All-nil IsTake)
+
 Brings-took : (heard : Heard) (piece : List ℕ) → heard.left ≡ [] → Brings heard (Took piece ∷ []) [] (record { taken = heard.taken ++ piece; left = piece_marks heard.taken piece })
 unfolding take_marks bytes_in
 Brings-took heard piece none = record {
+  each = one_take (Took piece) tt;
   marks = ap (λ (l : List Mark). l ++ (piece_marks heard.taken piece ++ [])) none ∙ append-nil (piece_marks heard.taken piece);
   taken = ap (λ (l : List ℕ). heard.taken ++ l) (sym (append-nil piece));
 }
 
 Brings-quiet : (heard : Heard) → heard.left ≡ [] → Brings heard (WasQuiet ∷ []) (Quiet ∷ []) heard
 unfolding take_marks bytes_in
-Brings-quiet heard none = record { marks = ap (λ (l : List Mark). l ++ Quiet ∷ []) none ∙ ap (λ (l : List Mark). Quiet ∷ l) (sym none); taken = sym (append-nil heard.taken) }
+Brings-quiet heard none = record { each = one_take WasQuiet tt; marks = ap (λ (l : List Mark). l ++ Quiet ∷ []) none ∙ ap (λ (l : List Mark). Quiet ∷ l) (sym none); taken = sym (append-nil heard.taken) }
 
 Brings-end : (heard : Heard) → heard.left ≡ [] → Brings heard (WasEnd ∷ []) (End ∷ []) heard
 unfolding take_marks bytes_in
-Brings-end heard none = record { marks = ap (λ (l : List Mark). l ++ End ∷ []) none ∙ ap (λ (l : List Mark). End ∷ l) (sym none); taken = sym (append-nil heard.taken) }
+Brings-end heard none = record { each = one_take WasEnd tt; marks = ap (λ (l : List Mark). l ++ End ∷ []) none ∙ ap (λ (l : List Mark). End ∷ l) (sym none); taken = sym (append-nil heard.taken) }
 
 Brings-failed : (heard : Heard) → heard.left ≡ [] → Brings heard (TakeFailed ∷ []) (Failed ∷ []) heard
 unfolding take_marks bytes_in
-Brings-failed heard none = record { marks = ap (λ (l : List Mark). l ++ Failed ∷ []) none ∙ ap (λ (l : List Mark). Failed ∷ l) (sym none); taken = sym (append-nil heard.taken) }
+Brings-failed heard none = record { each = one_take TakeFailed tt; marks = ap (λ (l : List Mark). l ++ Failed ∷ []) none ∙ ap (λ (l : List Mark). Failed ∷ l) (sym none); taken = sym (append-nil heard.taken) }
 
 module _ {heard : Heard} {cutter : Reading} {before calls : Option (List Call)} (looked : Looked heard cutter before calls) where
   -- what was taken holds a mark
@@ -49,7 +54,7 @@ module _ {heard : Heard} {cutter : Reading} {before calls : Option (List Call)} 
   Looks-message found first = record {
     takes = looked.takes;
     later = record { taken = looked.now.taken; left = first.later };
-    brings = record { marks = looked.brings.marks ∙ first.are; taken = looked.brings.taken };
+    brings = record { each = looked.brings.each; marks = looked.brings.marks ∙ first.are; taken = looked.brings.taken };
     needed = looked.needed;
     stands = first.stands;
     grows = looked.grows;
@@ -59,7 +64,7 @@ module _ {heard : Heard} {cutter : Reading} {before calls : Option (List Call)} 
   Looks-bad place bad = record {
     takes = looked.takes;
     later = record { taken = looked.now.taken; left = [] };
-    brings = record { marks = looked.brings.marks ∙ bad; taken = looked.brings.taken };
+    brings = record { each = looked.brings.each; marks = looked.brings.marks ∙ bad; taken = looked.brings.taken };
     needed = looked.needed;
     stands = tt;
     grows = looked.grows;

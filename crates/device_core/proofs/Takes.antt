@@ -1,8 +1,9 @@
 -- Takes after takes, and the marks that they bring.
 use Rattle.std.proofs.Common.{◌≡◌, inl, inr, ℕ, List, [], ◌∷◌, ◌++◌, refl, sym, ◌∙◌, ap, append_assoc}
 use Rattle.std.proofs.lemmas.List.{append-nil}
+use Rattle.std.proofs.lemmas.List.Elements.{All-nil, All-append}
 use Rattle.link_io.specs.Calls.{Call, Opened, Sent, Took, WasQuiet, WasEnd, TakeFailed, Closed}
-use Rattle.device_core.specs.Marks.{Mark, Quiet, End, Failed, piece_marks, take_marks, bytes_in}
+use Rattle.device_core.specs.Marks.{Mark, Quiet, End, Failed, IsTake, piece_marks, take_marks, bytes_in}
 use Rattle.device_core.specs.Waiting.{Heard, Brings, AreNeeded, marks_with}
 
 pub take_marks-append : (stream : List ℕ) (xs ys : List Call) → take_marks stream (xs ++ ys) ≡ take_marks stream xs ++ take_marks (stream ++ bytes_in xs) ys
@@ -32,7 +33,7 @@ bytes_in-append (Closed ∷ xs) ys = bytes_in-append xs ys
 
 pub Brings-none : (heard : Heard) → Brings heard [] [] heard
 unfolding take_marks bytes_in
-Brings-none heard = record { marks = append-nil heard.left; taken = sym (append-nil heard.taken) }
+Brings-none heard = record { each = All-nil IsTake; marks = append-nil heard.left; taken = sym (append-nil heard.taken) }
 
 module _ {heard mid : Heard} {xs : List Call} {first : List Mark} (front : Brings heard xs first mid) where
   -- what there is to look at with more takes
@@ -47,6 +48,7 @@ module _ {heard mid : Heard} {xs : List Call} {first : List Mark} (front : Bring
   -- one after the other
   pub Brings-append : {later : Heard} {ys : List Call} {more : List Mark} → Brings mid ys more later → Brings heard (xs ++ ys) (first ++ more) later
   Brings-append {later = later} {ys = ys} {more = more} back = record {
+    each = All-append IsTake xs ys front.each back.each;
     marks = marks_behind ys ∙ ap (λ (l : List Mark). first ++ l) back.marks ∙ sym (append_assoc first more later.left);
     taken =
         back.taken

@@ -42,6 +42,14 @@ marks_from place bytes = marks_of place (qmux_cut bytes)
 
 -- ---- the marks of takes ----
 
+-- a call of `take`, whatever it gave
+abbrev pub IsTake : Call → Type 0
+IsTake (Took piece) = Unit {0}
+IsTake WasQuiet = Unit {0}
+IsTake WasEnd = Unit {0}
+IsTake TakeFailed = Unit {0}
+IsTake _ = ⊥
+
 -- what a stream has with a piece more, and hadn't without it
 unfoldable pub piece_marks : List ℕ → List ℕ → List Mark
 piece_marks stream piece = drop (length (marks_from 0 stream)) (marks_from 0 (stream ++ piece))

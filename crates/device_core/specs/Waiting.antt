@@ -3,7 +3,7 @@
 use Rattle.std.specs.Prelude.{◌≡◌, ◌⊎◌, ℕ, ◌+◌, ◌<◌, Bool, true, false, ◌==◌, if◌then◌else◌, List, [], ◌∷◌, ◌++◌, All, count_by, Option, Some, None}
 use Rattle.link_io.specs.Calls.{Call}
 use Rattle.device_core.specs.Requests.{answers}
-use Rattle.device_core.specs.Marks.{Mark, Message, Bad, Quiet, End, Failed, take_marks, bytes_in}
+use Rattle.device_core.specs.Marks.{Mark, Message, Bad, Quiet, End, Failed, IsTake, take_marks, bytes_in}
 use Rattle.device_core.specs.declared.waiting.Wanted.{Wanted}
 use Rattle.device_core.specs.declared.fault.SessionFault.{SessionFault}
 use Rattle.device_core.specs.declared.fault.SessionFault.TheVariants as fault
@@ -66,8 +66,9 @@ abbrev pub AreNeeded : Heard → List Call → List Mark → Type 0
 AreNeeded heard takes marks =
     (takes ≡ []) ⊎ ((earlier : List Call) × (last : Call) × (more : List Mark) × (takes ≡ earlier ++ last ∷ []) × (marks ≡ marks_with heard earlier ++ more))
 
--- takes that bring these marks, and what is left then
+-- takes, and no other calls, that bring these marks, and what is left then
 pub record Brings (heard : Heard) (takes : List Call) (brought : List Mark) (later : Heard) : Type 0 where
+  pub each : All IsTake takes
   pub marks : marks_with heard takes ≡ brought ++ later.left
   pub taken : later.taken ≡ heard.taken ++ bytes_in takes
 
