@@ -5,3 +5,4 @@ pub mod Looking
 pub mod Passing
 pub mod Steps
 pub mod Allocation
+pub mod Sending

@@ -3,3 +3,4 @@ pub mod Marks
 pub mod Waiting
 pub mod Session
 pub mod Hearing
+pub mod Sending

@@ -6,6 +6,7 @@ mod control;
 mod exchange;
 mod fault;
 mod incoming;
+mod laws;
 mod mark;
 mod message;
 mod plan;
@@ -13,6 +14,7 @@ mod session;
 mod waiting;
 
 pub use fault::SessionFault;
+pub use laws::sessions_send_their_requests;
 pub use message::request_message;
 pub use plan::QmiPlan;
 pub use session::qmi_session;
