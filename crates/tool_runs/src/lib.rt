@@ -3,8 +3,10 @@
 
 mod asking;
 mod describing;
+mod laws;
 mod run_end;
 
 pub use asking::ask;
 pub use describing::describe;
+pub use laws::links_are_opened_and_closed_once;
 pub use run_end::RunEnd;
