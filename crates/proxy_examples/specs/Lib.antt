@@ -3,6 +3,8 @@ pub mod Story
 pub mod Answers
 pub mod ClientIds
 pub mod Connections
+pub mod Endings
 pub mod FullSpace
+pub mod Losses
 pub mod Pieces
 pub mod Verdicts

@@ -4,6 +4,8 @@
 pub mod answers;
 pub mod client_ids;
 pub mod connections;
+pub mod endings;
 pub mod full_space;
+pub mod losses;
 pub mod pieces;
 pub mod verdicts;
