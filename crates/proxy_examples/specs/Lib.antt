@@ -5,6 +5,9 @@ pub mod ClientIds
 pub mod Connections
 pub mod Endings
 pub mod FullSpace
+pub mod Grants
+pub mod Indications
 pub mod Losses
 pub mod Pieces
+pub mod Releases
 pub mod Verdicts
