@@ -7,7 +7,10 @@ pub mod Endings
 pub mod FullSpace
 pub mod Grants
 pub mod Indications
+pub mod Limits
 pub mod Losses
+pub mod Malformed
+pub mod Matching
 pub mod Pieces
 pub mod Releases
 pub mod Verdicts

@@ -1,0 +1,27 @@
+-- Examples at the greatest deadline, and at the greatest transaction number.
+use Rattle.std.specs.Prelude.{◌≡◌, ℕ, true, List, [], ◌∷◌, ◌++◌, length, Option, Some, None}
+use Rattle.proxy_history.specs.Events.{Event, Piece, Now}
+use Rattle.proxy_history.specs.Requests.{number_after}
+use Rattle.qmi_proxy.specs.Spaces.{service_space, limit_of, top_of}
+use Rattle.qmi_proxy.specs.Clients.{is_number}
+use Rattle.proxy_examples.specs.Story.{opened, get_version, version_aborted, both_open, bytes_for}
+
+-- a request whose 30 seconds would end past the last time of 64 bits: it expires at that time, and not before
+abbrev pub asks_at_the_end : ℕ → List Event
+asks_at_the_end time = both_open (Now 18446744073709551000 ∷ Piece 1 get_version ∷ Now time ∷ [])
+
+pub record DeadlineIsBounded : Type 0 where
+  pub before : bytes_for 1 (asks_at_the_end 18446744073709551614) ≡ opened
+  pub at_deadline : bytes_for 1 (asks_at_the_end 18446744073709551615) ≡ opened ++ version_aborted
+
+-- the number that comes after `last` in the space of all services but 0, where these are in use
+abbrev pub service_number_after : ℕ → List ℕ → Option ℕ
+service_number_after last used = number_after (limit_of service_space) (top_of service_space) last used
+
+-- 1,024 may be in use; the numbers go to 65,535 and round again
+pub record ServiceNumbers : Type 0 where
+  pub full : (used : List ℕ) → length used ≡ 1024 → service_number_after 7 used ≡ None
+  pub nearly_full : (used : List ℕ) → length used ≡ 1023 → is_number (service_number_after 7 used) ≡ true
+  pub last : service_number_after 65534 [] ≡ Some 65535
+  pub first : service_number_after 65535 [] ≡ Some 1
+  pub first_free : service_number_after 65535 (2 ∷ 1 ∷ 65535 ∷ []) ≡ Some 3

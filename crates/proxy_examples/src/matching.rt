@@ -1,0 +1,9 @@
+ghost use Rattle.proxy_examples.specs.Matching.{OthersAnswersAreStray, BothBitsAreAResponse};
+
+pub fn answers_of_others_are_stray()
+    ensures { OthersAnswersAreStray }
+{}
+
+pub fn both_bits_are_a_response()
+    ensures { BothBitsAreAResponse }
+{}
