@@ -1,9 +1,9 @@
--- What the filters over requests keep: those that were forwarded and that no later fact ends.
+-- What the filters over facts keep: what a fact began and no later fact ends. First of all, the requests.
 use Rattle.std.proofs.Common.{◌≡◌, ◌↔◌, Bool, true, false, not, List, [], ◌∷◌, ◌++◌, refl, ap, sym, ◌∙◌, ⊎_elim, All, Contains, filter, subst, append-nil}
 use Rattle.std.proofs.lemmas.List.Elements.{All-nil, All-cons, All-head, All-tail, Contains-append_left, Contains-append_right, Contains-append_cases, Contains-push}
 use Rattle.proxy_history.specs.Facts.{Fact, Request, Ended, Forwarded, Answered, IdHeld, Late, Expired, Aborted, Reset, ModemLost}
 use Rattle.proxy_history.specs.Requests.{in_use, pending}
-use Rattle.proxy_history.specs.Laws.{IsForwardedAndGoesOn, frees_number, ends_waiting}
+use Rattle.proxy_history.specs.Laws.{GoesOn, IsForwardedAndGoesOn, frees_number, ends_waiting}
 use Rattle.proxy_history.proofs.Lists.{Contains-nil, Contains-cons_cases, Contains-filter, Contains-filter_from, Contains-filter_passes, filter-all, filter-none}
 
 -- the request that a fact forwards
@@ -20,52 +20,54 @@ goes_on_is : (b : Bool) → not b ≡ true → b ≡ false
 goes_on_is true e = absurd (cc)
 goes_on_is false e = refl
 
-module _ (ends : Request → Fact → Bool) (keeps : List Fact → List Request)
+-- what is begun by facts, and kept until a fact ends it
+module _ {X : Type 0} (begins : X → Fact) (begun : Fact → List X) (ends : X → Fact → Bool) (keeps : List Fact → List X)
+    (begun_is : (fact : Fact) (x : X) → Contains (begun fact) x → fact ≡ begins x)
+    (begun_self : (x : X) → begun (begins x) ≡ x ∷ [])
     (empty : keeps [] ≡ [])
-    (step : (fact : Fact) (past : List Fact) → keeps (fact ∷ past) ≡ filter (λ r. not (ends r fact)) (keeps past) ++ forwarded fact) where
-  kept_goes_on : (facts : List Fact) (r : Request) → Contains (keeps facts) r → IsForwardedAndGoesOn ends r facts
-  kept_goes_on [] r at = absurd (Contains-nil r (subst (λ (l : List Request). Contains l r) empty at))
-  kept_goes_on (fact ∷ past) r at =
+    (step : (fact : Fact) (past : List Fact) → keeps (fact ∷ past) ≡ filter (λ x. not (ends x fact)) (keeps past) ++ begun fact) where
+  kept_goes_on : (facts : List Fact) (x : X) → Contains (keeps facts) x → GoesOn begins ends x facts
+  kept_goes_on [] x at = absurd (Contains-nil x (subst (λ (l : List X). Contains l x) empty at))
+  kept_goes_on (fact ∷ past) x at =
       ⊎_elim
-      (λ (old : Contains (filter (λ q. not (ends q fact)) (keeps past)) r).
-      let before = kept_goes_on past r (Contains-filter_from (λ q. not (ends q fact)) (keeps past) r old) in
+      (λ (old : Contains (filter (λ y. not (ends y fact)) (keeps past)) x).
+      let before = kept_goes_on past x (Contains-filter_from (λ y. not (ends y fact)) (keeps past) x old) in
       record {
         later = fact ∷ before.later;
         earlier = before.earlier;
         whole = ap (λ (l : List Fact). fact ∷ l) before.whole;
-        none = All-cons (λ f. ends r f ≡ false) fact before.later (goes_on_is (ends r fact) (Contains-filter_passes (λ q. not (ends q fact)) (keeps past) r old)) before.none;
+        none = All-cons (λ f. ends x f ≡ false) fact before.later (goes_on_is (ends x fact) (Contains-filter_passes (λ y. not (ends y fact)) (keeps past) x old)) before.none;
       })
-      (λ (new : Contains (forwarded fact) r). record {
+      (λ (new : Contains (begun fact) x). record {
         later = [];
         earlier = past;
-        whole = ap (λ (f : Fact). f ∷ past) (forwarded_is fact r new);
-        none = All-nil (λ f. ends r f ≡ false);
+        whole = ap (λ (f : Fact). f ∷ past) (begun_is fact x new);
+        none = All-nil (λ f. ends x f ≡ false);
       })
-      (Contains-append_cases (filter (λ q. not (ends q fact)) (keeps past)) (forwarded fact) r (subst (λ (l : List Request). Contains l r) (step fact past) at))
+      (Contains-append_cases (filter (λ y. not (ends y fact)) (keeps past)) (begun fact) x (subst (λ (l : List X). Contains l x) (step fact past) at))
 
-  going_on_is_kept : (later earlier : List Fact) (r : Request) → All (λ fact. ends r fact ≡ false) later → Contains (keeps (later ++ Forwarded r ∷ earlier)) r
-  unfolding forwarded
-  going_on_is_kept [] earlier r none =
-      subst (λ (l : List Request). Contains l r) (sym (step (Forwarded r) earlier))
-      (Contains-append_right (filter (λ q. not (ends q (Forwarded r))) (keeps earlier)) (r ∷ []) r (Contains-push [] r))
-  going_on_is_kept (fact ∷ later) earlier r none =
-      let past : List Fact = later ++ Forwarded r ∷ earlier in
-      subst (λ (l : List Request). Contains l r) (sym (step fact past))
-      (Contains-append_left (filter (λ q. not (ends q fact)) (keeps past)) (forwarded fact) r
-      (Contains-filter (λ q. not (ends q fact)) (keeps past) r
-      (going_on_is_kept later earlier r (All-tail (λ f. ends r f ≡ false) fact later none))
-      (ap not (All-head (λ f. ends r f ≡ false) fact later none))))
+  going_on_is_kept : (later earlier : List Fact) (x : X) → All (λ fact. ends x fact ≡ false) later → Contains (keeps (later ++ begins x ∷ earlier)) x
+  going_on_is_kept [] earlier x none =
+      subst (λ (l : List X). Contains l x) (sym (step (begins x) earlier))
+      (Contains-append_right (filter (λ y. not (ends y (begins x))) (keeps earlier)) (begun (begins x)) x (subst (λ (l : List X). Contains l x) (sym (begun_self x)) (Contains-push [] x)))
+  going_on_is_kept (fact ∷ later) earlier x none =
+      let past : List Fact = later ++ begins x ∷ earlier in
+      subst (λ (l : List X). Contains l x) (sym (step fact past))
+      (Contains-append_left (filter (λ y. not (ends y fact)) (keeps past)) (begun fact) x
+      (Contains-filter (λ y. not (ends y fact)) (keeps past) x
+      (going_on_is_kept later earlier x (All-tail (λ f. ends x f ≡ false) fact later none))
+      (ap not (All-head (λ f. ends x f ≡ false) fact later none))))
 
-  kept_exactly : (facts : List Fact) (r : Request) → Contains (keeps facts) r ↔ IsForwardedAndGoesOn ends r facts
-  kept_exactly facts r = (kept_goes_on facts r, λ g. subst (λ (l : List Fact). Contains (keeps l) r) (sym g.whole) (going_on_is_kept g.later g.earlier r g.none))
+  pub kept_exactly : (facts : List Fact) (x : X) → Contains (keeps facts) x ↔ GoesOn begins ends x facts
+  kept_exactly facts x = (kept_goes_on facts x, λ g. subst (λ (l : List Fact). Contains (keeps l) x) (sym g.whole) (going_on_is_kept g.later g.earlier x g.none))
 
--- a fact that ends none and forwards none
-same : (requests : List Request) → requests ≡ filter (λ r. true) requests ++ []
-same requests = sym (append-nil (filter (λ r. true) requests) ∙ filter-all requests)
+-- a fact that ends none and begins none
+pub same : {X : Type 0} (xs : List X) → xs ≡ filter (λ x. true) xs ++ []
+same xs = sym (append-nil (filter (λ x. true) xs) ∙ filter-all xs)
 
 -- one that ends all
-cleared : (requests : List Request) → [] ≡ filter (λ r. false) requests ++ []
-cleared requests = sym (append-nil (filter (λ r. false) requests) ∙ filter-none requests)
+pub cleared : {X : Type 0} (xs : List X) → [] ≡ filter (λ x. false) xs ++ []
+cleared xs = sym (append-nil (filter (λ x. false) xs) ∙ filter-none xs)
 
 in_use-step : (fact : Fact) (past : List Fact) → in_use (fact ∷ past) ≡ filter (λ r. not (frees_number r fact)) (in_use past) ++ forwarded fact
 unfolding in_use forwarded
@@ -91,9 +93,9 @@ pending-step ModemLost past = cleared (pending past)
 pending-step _ past = same (pending past)
 
 pub in_use-exactly : (facts : List Fact) (r : Request) → Contains (in_use facts) r ↔ IsForwardedAndGoesOn frees_number r facts
-unfolding in_use
-in_use-exactly = kept_exactly frees_number in_use refl in_use-step
+unfolding in_use forwarded
+in_use-exactly = kept_exactly (λ r. Forwarded r) forwarded frees_number in_use forwarded_is (λ r. refl) refl in_use-step
 
 pub pending-exactly : (facts : List Fact) (r : Request) → Contains (pending facts) r ↔ IsForwardedAndGoesOn ends_waiting r facts
-unfolding pending
-pending-exactly = kept_exactly ends_waiting pending refl pending-step
+unfolding pending forwarded
+pending-exactly = kept_exactly (λ r. Forwarded r) forwarded ends_waiting pending forwarded_is (λ r. refl) refl pending-step

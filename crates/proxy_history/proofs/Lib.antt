@@ -8,3 +8,4 @@ pub mod Sound
 pub mod SoundLaws
 pub mod Few
 pub mod Growing
+pub mod Holding

@@ -24,12 +24,16 @@ StreamsGoOnFromTheirRest = (size : Framing) (before piece : List ℕ) → GoesOn
 
 -- ---- requests: what the filters keep is what a reader of the history would say ----
 
--- the request was forwarded, and no later fact ends it
-pub record IsForwardedAndGoesOn (ends : Request → Fact → Bool) (r : Request) (facts : List Fact) : Type 0 where
+-- a fact began this, and no later fact ends it
+pub record GoesOn {X : Type 0} (begins : X → Fact) (ends : X → Fact → Bool) (x : X) (facts : List Fact) : Type 0 where
   pub later : List Fact
   pub earlier : List Fact
-  pub whole : facts ≡ later ++ Forwarded r ∷ earlier
-  pub none : All (λ fact. ends r fact ≡ false) later
+  pub whole : facts ≡ later ++ begins x ∷ earlier
+  pub none : All (λ fact. ends x fact ≡ false) later
+
+-- the request was forwarded, and no later fact ends it
+abbrev pub IsForwardedAndGoesOn : (Request → Fact → Bool) → Request → List Fact → Type 0
+IsForwardedAndGoesOn ends r facts = GoesOn (λ q. Forwarded q) ends r facts
 
 -- an answer of any kind frees the request's number, and so does the end of all that the modem knows
 abbrev pub frees_number : Request → Fact → Bool

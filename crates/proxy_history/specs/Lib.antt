@@ -13,3 +13,4 @@ pub mod Noting
 pub mod Unanswered
 pub mod Laws
 pub mod Sound
+pub mod Holding

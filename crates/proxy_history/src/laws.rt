@@ -1,5 +1,6 @@
 ghost use Rattle.proxy_history.specs.Sound.{RequestsInUseDiffer, WaitingArePresent, HoldersArePresent, FewArePresent, FewAreInUse, GoneViewsStay, EndsAreLast};
 ghost use Rattle.proxy_history.specs.Laws.{StreamsGoOnFromTheirRest, InUseUntilFreed, PendingUntilEnded, GivesFirstFree, GivesNoneWhereFull, CollectedAndWaitingAreAll, TakingsSplitTheBytes};
+ghost use Rattle.proxy_history.specs.Holding.{HeldUntilEnded, HoldersWereGrantedLast};
 
 /// The law that what a piece brings depends on the piece and on what the stream left before it.
 pub fn streams_go_on_from_their_rest()
@@ -50,4 +51,11 @@ pub fn limits_are_kept()
 pub fn views_of_gone_connections_stay()
     ensures stay { GoneViewsStay }
     ensures last { EndsAreLast }
+{}
+
+/// The law that a client id is held exactly where it was granted and no later fact ends that, and
+/// that its holder is the connection that it was last granted to.
+pub fn client_ids_are_held_until_they_end()
+    ensures held { HeldUntilEnded }
+    ensures holder { HoldersWereGrantedLast }
 {}

@@ -1,0 +1,26 @@
+-- Who holds a client id, as a reader of the history would say. A list of facts has the newest first.
+use Rattle.std.specs.Prelude.{◌≡◌, ◌↔◌, ℕ, Bool, true, false, ◌&&◌, ◌==◌, List, Some, Contains}
+use Rattle.proxy_history.specs.Facts.{Fact, Ended, Granted, Freed, Reset, ModemLost}
+use Rattle.proxy_history.specs.ClientIds.{Grant, is_of, held, holder}
+use Rattle.proxy_history.specs.Laws.{GoesOn}
+
+abbrev pub grants : Grant → Fact
+grants g = Granted g.conn g.service g.client
+
+-- the id is granted anew, to whomever; its connection gives it back, or ends; the modem began anew, or is lost
+abbrev pub ends_holding : Grant → Fact → Bool
+ends_holding g (Granted c service client) = is_of service client g
+ends_holding g (Freed c service client) = is_of service client g && (c == g.conn)
+ends_holding g (Ended c why) = c == g.conn
+ends_holding g Reset = true
+ends_holding g ModemLost = true
+ends_holding g _ = false
+
+-- an id is held exactly where it was granted, and no later fact ends that
+abbrev pub HeldUntilEnded : Type 0
+HeldUntilEnded = (facts : List Fact) (g : Grant) → Contains (held facts) g ↔ GoesOn grants ends_holding g facts
+
+-- its holder is the connection that it was last granted to, where nothing ended that since
+abbrev pub HoldersWereGrantedLast : Type 0
+HoldersWereGrantedLast = (facts : List Fact) (c service client : ℕ)
+    → (holder service client facts ≡ Some c) ↔ GoesOn grants ends_holding (record { conn = c; service = service; client = client }) facts
