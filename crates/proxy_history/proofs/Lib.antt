@@ -9,3 +9,4 @@ pub mod SoundLaws
 pub mod Few
 pub mod Growing
 pub mod Holding
+pub mod HungUp

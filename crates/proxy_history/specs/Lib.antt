@@ -14,3 +14,4 @@ pub mod Unanswered
 pub mod Laws
 pub mod Sound
 pub mod Holding
+pub mod HungUp

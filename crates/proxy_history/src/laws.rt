@@ -1,6 +1,7 @@
 ghost use Rattle.proxy_history.specs.Sound.{RequestsInUseDiffer, WaitingArePresent, HoldersArePresent, FewArePresent, FewAreInUse, GoneViewsStay, EndsAreLast};
 ghost use Rattle.proxy_history.specs.Laws.{StreamsGoOnFromTheirRest, InUseUntilFreed, PendingUntilEnded, GivesFirstFree, GivesNoneWhereFull, CollectedAndWaitingAreAll, TakingsSplitTheBytes};
 ghost use Rattle.proxy_history.specs.Holding.{HeldUntilEnded, HoldersWereGrantedLast};
+ghost use Rattle.proxy_history.specs.HungUp.{HungUpSinceTheEventBegan};
 
 /// The law that what a piece brings depends on the piece and on what the stream left before it.
 pub fn streams_go_on_from_their_rest()
@@ -58,4 +59,10 @@ pub fn views_of_gone_connections_stay()
 pub fn client_ids_are_held_until_they_end()
     ensures held { HeldUntilEnded }
     ensures holder { HoldersWereGrantedLast }
+{}
+
+/// The law that the names to hang up are those of the connections that ended since the event began,
+/// but for those that went by themselves.
+pub fn hung_up_are_those_that_ended()
+    ensures { HungUpSinceTheEventBegan }
 {}
