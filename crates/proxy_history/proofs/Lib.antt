@@ -10,3 +10,4 @@ pub mod Few
 pub mod Growing
 pub mod Holding
 pub mod HungUp
+pub mod Fitting

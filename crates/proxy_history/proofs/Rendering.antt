@@ -1,9 +1,10 @@
--- The bytes taken and those that wait are all the bytes.
-use Rattle.std.proofs.Common.{◌≡◌, ℕ, ◌+◌, Bool, true, false, ◌||◌, nat_lt, List, [], ◌∷◌, ◌++◌, length, take, drop, refl, ap, sym, ◌∙◌, append_assoc, take-append-drop, length-append, length-take-le}
+-- The bytes taken and those that wait are all the bytes, and no more wait than there is room for.
+use Rattle.std.proofs.Common.{◌≡◌, ℕ, ◌+◌, ◌≤◌, Bool, true, false, ◌||◌, nat_lt, if◌then◌else◌, List, [], ◌∷◌, ◌++◌, length, take, drop, refl, ap, sym, ◌∙◌, arith, append_assoc, take-append-drop, length-append, length-take-le, length-drop}
 use Rattle.std.proofs.Math.Seq.{drop-append_seam, take-append_seam}
+use Rattle.std.proofs.lemmas.Bool.Decides.{nat_tests}
 use Rattle.proxy_history.specs.Limits.{outbox_limit}
 use Rattle.proxy_history.specs.View.{Entry, Sent, Response, Refused, Indication, Collected, End}
-use Rattle.proxy_history.specs.Rendering.{Rendering, render, put, put_unless}
+use Rattle.proxy_history.specs.Rendering.{Rendering, EntryText, render, put, put_unless}
 use Rattle.proxy_history.specs.Laws.{collected, collected_count, CollectsWhatWaits, IsSplitByCount}
 
 put_unless-split : (over : Bool) (new front : List ℕ) (r : Rendering) → r.bytes ≡ front ++ r.waiting → (put_unless over new r).bytes ≡ front ++ (put_unless over new r).waiting
@@ -49,3 +50,28 @@ module _ (text : List Entry → Entry → List ℕ) where
         ∙ ap (λ (n : ℕ). drop n (collected text entries ++ (render text entries).waiting)) (sym (length-collected entries c))
         ∙ drop-append_seam (collected text entries) (render text entries).waiting);
   }
+
+-- ---- no more waits than there is room for ----
+
+put_within : (new : List ℕ) (r : Rendering) → length r.waiting ≤ outbox_limit → length (put new r).waiting ≤ outbox_limit
+put_within new r within =
+    let step : (over full : Bool) → nat_lt outbox_limit (length r.waiting + length new) ≡ full → length (if over || full then r.waiting else r.waiting ++ new) ≤ outbox_limit =
+    λ over full. elim over as (λ over. nat_lt outbox_limit (length r.waiting + length new) ≡ full → length (if over || full then r.waiting else r.waiting ++ new) ≤ outbox_limit) [
+      | true ↦ λ e. within
+      | false ↦ λ e. elim full as (λ full. nat_lt outbox_limit (length r.waiting + length new) ≡ full → length (if full then r.waiting else r.waiting ++ new) ≤ outbox_limit) [
+        | true ↦ λ e. within
+        | false ↦ λ e. let both = length-append r.waiting new in grind (arith, nat_tests, e, both)
+      ] e
+    ]
+    in step r.is_over (nat_lt outbox_limit (length r.waiting + length new)) refl
+
+module _ (text : EntryText) where
+  pub waiting_within : (entries : List Entry) → length (render text entries).waiting ≤ outbox_limit
+  unfolding render
+  waiting_within [] = omega arith
+  waiting_within (Collected count ∷ entries) = let before = waiting_within entries in let left = length-drop count (render text entries).waiting in omega arith
+  waiting_within (Sent m verdict ∷ entries) = put_within (text entries (Sent m verdict)) (render text entries) (waiting_within entries)
+  waiting_within (Response place m ∷ entries) = put_within (text entries (Response place m)) (render text entries) (waiting_within entries)
+  waiting_within (Refused place cause ∷ entries) = put_within (text entries (Refused place cause)) (render text entries) (waiting_within entries)
+  waiting_within (Indication m ∷ entries) = put_within (text entries (Indication m)) (render text entries) (waiting_within entries)
+  waiting_within (End why ∷ entries) = waiting_within entries

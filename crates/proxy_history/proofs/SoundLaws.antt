@@ -28,6 +28,27 @@ or_left false b e = absurd (cc)
 either_both : {X : Type 0} (P Q R : X → Type 0) (xs : List X) → ((x : X) → P x → Q x → R x) → All P xs → All Q xs → All R xs
 either_both P Q R xs f a b k d lt = f (get_or xs k d) (a k d lt) (b k d lt)
 
+-- ---- who was there before a connection joined or ended ----
+
+pub left_is_absent : (c d : ℕ) (past : List Fact) → (d == c) ≡ true → contains c (without d (present past)) ≡ false
+left_is_absent c d past e = let same : d ≡ c = grind (arith, nat_tests, e) in subst (λ (x : ℕ). contains x (without d (present past)) ≡ false) same (contains-without_self d (present past))
+
+pub stayed_was_there : (c d : ℕ) (past : List Fact) → contains c (without d (present past)) ≡ true → is_present c past ≡ true
+stayed_was_there c d past is =
+    let step : (b : Bool) → (d == c) ≡ b → is_present c past ≡ true =
+    λ b. elim b as (λ b. (d == c) ≡ b → is_present c past ≡ true) [
+      | true ↦ λ e. absurd (let clash : true ≡ false = sym is ∙ left_is_absent c d past e in cc)
+      | false ↦ λ e. sym (contains_other d c (present past) e) ∙ is
+    ]
+    in step (d == c) refl
+
+pub joined_was_there : (c d : ℕ) (past : List Fact) → (d == c) ≡ false → contains c (present past ++ d ∷ []) ≡ true → is_present c past ≡ true
+joined_was_there c d past other is =
+    let turned : (c == d) ≡ false = grind (arith, nat_tests, other) in
+    let split : (is_present c past || (c == d || false)) ≡ true = sym (contains-append c (present past) (d ∷ [])) ∙ is in
+    let old : (is_present c past || false) ≡ true = subst (λ (b : Bool). (is_present c past || (b || false)) ≡ true) turned split in
+    elim (is_present c past) as (λ b. (b || false) ≡ true → b ≡ true) [ true ↦ λ e. refl | false ↦ λ e. e ] old
+
 -- ---- who is a party ----
 
 party_joins : (c d : ℕ) (past : List Fact) → IsParty d past → IsParty d (Admitted c ∷ past)
@@ -294,34 +315,15 @@ module _ (limit top : ℕ → ℕ) where
     begins_well true after fresh entries well no_end old old_end = (well, no_end refl)
     begins_well false after fresh entries well no_end old old_end = (old, old_end refl)
 
-    left_is_absent : (d : ℕ) (past : List Fact) → (d == c) ≡ true → contains c (without d (present past)) ≡ false
-    left_is_absent d past e = let same : d ≡ c = grind (arith, nat_tests, e) in subst (λ (x : ℕ). contains x (without d (present past)) ≡ false) same (contains-without_self d (present past))
-
-    stayed_was_there : (d : ℕ) (past : List Fact) → contains c (without d (present past)) ≡ true → is_present c past ≡ true
-    stayed_was_there d past is =
-        let step : (b : Bool) → (d == c) ≡ b → is_present c past ≡ true =
-        λ b. elim b as (λ b. (d == c) ≡ b → is_present c past ≡ true) [
-          | true ↦ λ e. absurd (let clash : true ≡ false = sym is ∙ left_is_absent d past e in cc)
-          | false ↦ λ e. sym (contains_other d c (present past) e) ∙ is
-        ]
-        in step (d == c) refl
-
-    joined_was_there : (d : ℕ) (past : List Fact) → (d == c) ≡ false → contains c (present past ++ d ∷ []) ≡ true → is_present c past ≡ true
-    joined_was_there d past other is =
-        let turned : (c == d) ≡ false = grind (arith, nat_tests, other) in
-        let split : (is_present c past || (c == d || false)) ≡ true = sym (contains-append c (present past) (d ∷ [])) ∙ is in
-        let old : (is_present c past || false) ≡ true = subst (λ (b : Bool). (is_present c past || (b || false)) ≡ true) turned split in
-        elim (is_present c past) as (λ b. (b || false) ≡ true → b ≡ true) [ true ↦ λ e. refl | false ↦ λ e. e ] old
-
     fact_ends_well : (fact : Fact) (past : List Fact) → Sound (fact ∷ past) → EndsWell past → EndsWell (fact ∷ past)
     unfolding EndsWell view present
-    fact_ends_well (Admitted d) past s well = begins_well (d == c) _ [] (view blank c past) tt (λ e is. All-nil (λ (x : Entry). is_end x ≡ false)) well.0 (λ e is. well.1 (joined_was_there d past e is))
+    fact_ends_well (Admitted d) past s well = begins_well (d == c) _ [] (view blank c past) tt (λ e is. All-nil (λ (x : Entry). is_end x ≡ false)) well.0 (λ e is. well.1 (joined_was_there c d past e is))
     fact_ends_well (Ended d NotAdmitted) past s well =
         begins_well (d == c) _ (End NotAdmitted ∷ []) (view blank c past) (All-nil (λ (x : Entry). is_end x ≡ false))
-        (λ e is. absurd (let clash : true ≡ false = sym is ∙ left_is_absent d past e in cc)) well.0 (λ e is. well.1 (stayed_was_there d past is))
-    fact_ends_well (Ended d BadStream) past s well = ends_well (d == c) (is_present c past) _ (End BadStream) (view blank c past) (present_here d past s.0) (left_is_absent d past) (stayed_was_there d past) well
-    fact_ends_well (Ended d Closed) past s well = ends_well (d == c) (is_present c past) _ (End Closed) (view blank c past) (present_here d past s.0) (left_is_absent d past) (stayed_was_there d past) well
-    fact_ends_well (Ended d NoRoom) past s well = (well.0, λ is. well.1 (stayed_was_there d past is))
+        (λ e is. absurd (let clash : true ≡ false = sym is ∙ left_is_absent c d past e in cc)) well.0 (λ e is. well.1 (stayed_was_there c d past is))
+    fact_ends_well (Ended d BadStream) past s well = ends_well (d == c) (is_present c past) _ (End BadStream) (view blank c past) (present_here d past s.0) (left_is_absent c d past) (stayed_was_there c d past) well
+    fact_ends_well (Ended d Closed) past s well = ends_well (d == c) (is_present c past) _ (End Closed) (view blank c past) (present_here d past s.0) (left_is_absent c d past) (stayed_was_there c d past) well
+    fact_ends_well (Ended d NoRoom) past s well = (well.0, λ is. well.1 (stayed_was_there c d past is))
     fact_ends_well (Judged d place message verdict) past s well = grows_well (d == c) (is_present c past) (Sent message verdict) (view blank c past) refl (present_here d past s.0) well
     fact_ends_well (Drained d count) past s well = grows_well (d == c) (is_present c past) (Collected count) (view blank c past) refl (present_here d past s.0) well
     fact_ends_well (Answered r message) past s well = grows_well (r.conn == c) (is_present c past) (Response r.place (blank message)) (view blank c past) refl (waits_here r past s.1 s.0) well

@@ -1,3 +1,5 @@
 pub mod Sound
 pub mod Away
 pub mod Growing
+pub mod Walk
+pub mod Room

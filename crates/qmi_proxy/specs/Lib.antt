@@ -8,3 +8,4 @@ pub mod Clients
 pub mod FromModem
 pub mod History
 pub mod Laws
+pub mod Room

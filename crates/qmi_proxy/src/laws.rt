@@ -1,4 +1,5 @@
 ghost use Rattle.qmi_proxy.specs.Laws.{HistoriesAreSound, NumbersInUseDiffer, WaitingArePresent, HoldersArePresent, FewArePresent, FewAreInUse, NothingFollowsAnEnd, EndsAreLast, AwayAgrees, BytesOnlyGrow, JoiningStartsWithNone, TakingTakesTheFirst, TakingOfTheAbsentTakesNone};
+ghost use Rattle.qmi_proxy.specs.Room.{NobodyThereIsOver, NoMoreWaitThanMay};
 
 /// The law that each fact of a proxy's history may follow those before it.
 pub fn histories_are_sound()
@@ -42,4 +43,11 @@ pub fn bytes_only_grow()
     ensures joining { JoiningStartsWithNone }
     ensures taking { TakingTakesTheFirst }
     ensures absent { TakingOfTheAbsentTakesNone }
+{}
+
+/// The law that a connection that is there got all that was due to it, and that no more bytes wait
+/// for a client than may.
+pub fn clients_have_room()
+    ensures nobody { NobodyThereIsOver }
+    ensures within { NoMoreWaitThanMay }
 {}

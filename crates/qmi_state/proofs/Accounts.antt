@@ -2,14 +2,14 @@
 use Rattle.std.proofs.Common.{◌≡◌, ℕ, ◌+◌, ◌≤◌, Bool, true, false, ◌||◌, List, [], ◌∷◌, ◌++◌, length, drop, refl, ap, ◌∙◌, arith, nat_lt, ◌==◌, if◌then◌else◌, append-nil}
 use Rattle.std.proofs.lemmas.Bool.Decides.{nat_tests}
 use Rattle.std.proofs.lemmas.Bool.{eq-eqb}
-use Rattle.std.proofs.lemmas.List.{length-append, length-drop}
 use Rattle.qmux_frame.specs.Head.{number_of}
 use Rattle.qmux_frame.specs.Reply.{result_reply, with_number}
 use Rattle.proxy_history.specs.Limits.{outbox_limit}
 use Rattle.proxy_history.specs.Facts.{Fact, Request, Admitted, Ended, Judged, Drained, Answered, IdHeld, Expired, Aborted, Indicated, Why, NotAdmitted, BadStream, NoRoom, Closed, Verdict, Own, Foreign, Away, Full, Forward}
 use Rattle.proxy_history.specs.Connections.{contains}
 use Rattle.proxy_history.specs.View.{Entry, Sent, Response, Refused, Indication, Collected, End, HeldId, NoAnswer, view, entry_if, sent_at}
-use Rattle.proxy_history.specs.Rendering.{Rendering, render, put}
+use Rattle.proxy_history.specs.Rendering.{render}
+use Rattle.proxy_history.proofs.Rendering.{waiting_within}
 use Rattle.qmi_proxy.specs.Errors.{aborted, client_ids_exhausted}
 use Rattle.qmi_proxy.specs.OwnReplies.{is_open, is_opening}
 use Rattle.qmi_proxy.specs.Text.{text, view_of, blank}
@@ -66,35 +66,11 @@ module _ (device : List ℕ) where
   unfolding render is_open
   indicated m entries = refl
 
-  -- ---- no more waits than there is room for ----
-
-  put_within : (bytes : List ℕ) (r : Rendering) → length r.waiting ≤ outbox_limit → length (put bytes r).waiting ≤ outbox_limit
-  put_within bytes r within =
-      let step : (over full : Bool) → nat_lt outbox_limit (length r.waiting + length bytes) ≡ full → length (if over || full then r.waiting else r.waiting ++ bytes) ≤ outbox_limit =
-      λ over full. elim over as (λ over. nat_lt outbox_limit (length r.waiting + length bytes) ≡ full → length (if over || full then r.waiting else r.waiting ++ bytes) ≤ outbox_limit) [
-        | true ↦ λ e. within
-        | false ↦ λ e. elim full as (λ full. nat_lt outbox_limit (length r.waiting + length bytes) ≡ full → length (if full then r.waiting else r.waiting ++ bytes) ≤ outbox_limit) [
-          | true ↦ λ e. within
-          | false ↦ λ e. let both = length-append r.waiting bytes in grind (arith, nat_tests, e, both)
-        ] e
-      ]
-      in step r.is_over (nat_lt outbox_limit (length r.waiting + length bytes)) refl
-
-  waiting_within : (entries : List Entry) → length (render (text device) entries).waiting ≤ outbox_limit
-  unfolding render
-  waiting_within [] = omega arith
-  waiting_within (Collected count ∷ entries) = let before = waiting_within entries in let left = length-drop count (render (text device) entries).waiting in omega arith
-  waiting_within (Sent m verdict ∷ entries) = put_within (text device entries (Sent m verdict)) (render (text device) entries) (waiting_within entries)
-  waiting_within (Response place m ∷ entries) = put_within (text device entries (Response place m)) (render (text device) entries) (waiting_within entries)
-  waiting_within (Refused place cause ∷ entries) = put_within (text device entries (Refused place cause)) (render (text device) entries) (waiting_within entries)
-  waiting_within (Indication m ∷ entries) = put_within m (render (text device) entries) (waiting_within entries)
-  waiting_within (End why ∷ entries) = waiting_within entries
-
-  -- so a message that is forwarded changes nothing
+  -- a message that is forwarded changes nothing
   pub forwarded_same : (past : List Fact) (c : ℕ) (m : List ℕ) → judged device m Forward (account_of device past c) ≡ account_of device past c
   forwarded_same past c m =
       let a : Account = account_of device past c in
-      let within : length a.waiting ≤ outbox_limit = waiting_within (view_of c past) in
+      let within : length a.waiting ≤ outbox_limit = waiting_within (text device) (view_of c past) in
       let room : nat_lt outbox_limit (length a.waiting + 0) ≡ false = grind (arith, nat_tests, within) in
       ap (λ (b : Bool). let after : Account = record { opened = a.opened; waiting = if a.is_over || b then a.waiting else a.waiting ++ []; is_over = a.is_over || b } in after) room
       ∙ elim a.is_over as (λ b. (let after : Account = record { opened = a.opened; waiting = if b || false then a.waiting else a.waiting ++ []; is_over = b || false } in after) ≡ record { opened = a.opened; waiting = a.waiting; is_over = b }) [

@@ -26,7 +26,8 @@ use Rattle.qmi_state.proofs.Accounts.{drained_own, drained_other, collected_acco
 use Rattle.qmi_state.proofs.Regulars.{regular_drained, regular_admitted, regular_refused}
 use Rattle.qmi_state.proofs.Keeping.{Keeps, exchange, session_as, session_name, with_account, keeps_changed, keeps_closed, keeps_spoilt, found_there, found_absent}
 use Rattle.qmi_state.proofs.Strangers.{desk_of_stranger}
-use Rattle.qmi_state.proofs.Pieces.{said, says_none, add_all-append, garbles_is, Heard, settled, heard_all}
+use Rattle.qmi_proxy.proofs.Walk.{add_all-append}
+use Rattle.qmi_state.proofs.Pieces.{said, says_none, garbles_is, Heard, settled, heard_all}
 
 -- ---- what is left of the streams ----
 
@@ -104,7 +105,7 @@ module _ (s : Setup) (greatest : ℕ) where
 
   facts_split : (c : ℕ) (f : Cutting) (past : List Fact) (bad : Bool) → is_invalid (size_of f.rest) ≡ bad → piece_facts c f past ≡ add_all s (item_if bad (Garbles c)) (add_all s (said s 0 (λ n. []) c f.messages) past)
   facts_split c f past bad is =
-      ap (λ (b : Bool). add_all s (said s 0 (λ n. []) c f.messages ++ item_if b (Garbles c)) past) is ∙ add_all-append s 0 (λ n. []) (said s 0 (λ n. []) c f.messages) (item_if bad (Garbles c)) past
+      ap (λ (b : Bool). add_all s (said s 0 (λ n. []) c f.messages ++ item_if b (Garbles c)) past) is ∙ add_all-append s (said s 0 (λ n. []) c f.messages) (item_if bad (Garbles c)) past
 
   not_garbled : (past : List Fact) (c : ℕ) → add_all s (item_if false (Garbles c)) past ≡ past
   unfolding add_all

@@ -1,5 +1,5 @@
 -- The messages of a piece, and what follows them.
-use Rattle.std.proofs.Common.{◌≡◌, ℕ, ◌+◌, Bool, true, false, not, List, [], ◌∷◌, ◌++◌, map, refl, ap, sym, ◌∙◌, subst, Option, Some, None, if◌then◌else◌}
+use Rattle.std.proofs.Common.{◌≡◌, ℕ, ◌+◌, Bool, true, false, not, List, [], ◌∷◌, map, refl, ap, sym, ◌∙◌, subst, Option, Some, None, if◌then◌else◌}
 use Rattle.proxy_history.specs.Items.{Item, Says, Garbles}
 use Rattle.proxy_history.specs.Facts.{Fact, Request, Verdict, Own, Foreign, Away, Full, Forward, Ended, Judged, Forwarded, Why, BadStream, NoRoom}
 use Rattle.proxy_history.specs.Connections.{present, contains, message_count}
@@ -9,7 +9,7 @@ use Rattle.proxy_history.specs.Noting.{end_overfull}
 use Rattle.qmi_proxy.specs.Setup.{Setup}
 use Rattle.qmi_proxy.specs.Messages.{uses_id}
 use Rattle.qmi_proxy.specs.Clients.{number_for, deadline_of, request_of, grant_if, forward, judge, hear_client}
-use Rattle.qmi_proxy.specs.History.{add, add_all}
+use Rattle.qmi_proxy.specs.History.{add_all}
 use Rattle.qmi_state.specs.Desk.{Desk, number_at, forwards_if}
 use Rattle.qmi_state.specs.Core.{Account, Session, account_of, session_of}
 use Rattle.qmi_state.specs.Transitions.{Exchange, update, drops, lacks_room, reply_as, verdict_of, Hearing, heard_as, hears_one, hears}
@@ -184,11 +184,6 @@ module _ (s : Setup) (greatest : ℕ) (rests : ℕ → List ℕ) where
   says_none c [] past absent = refl
   says_none c (m ∷ messages) past absent =
       ap (λ (b : Bool). add_all s (said c messages) (if b then hear_client s c m past else past)) absent ∙ says_none c messages past absent
-
-  pub add_all-append : (items more : List Item) (past : List Fact) → add_all s (items ++ more) past ≡ add_all s more (add_all s items past)
-  unfolding add_all
-  add_all-append [] more past = refl
-  add_all-append (item ∷ items) more past = add_all-append items more (add s item past)
 
   pub garbles_is : (c : ℕ) (past : List Fact) (there : Bool) → contains c (present past) ≡ there → add_all s (Garbles c ∷ []) past ≡ (if there then Ended c BadStream ∷ past else past)
   unfolding add_all

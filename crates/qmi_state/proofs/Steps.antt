@@ -28,7 +28,7 @@ use Rattle.qmi_state.proofs.Regulars.{regular_began}
 use Rattle.qmi_state.proofs.Keeping.{Keeps, exchange, sessions_same}
 use Rattle.qmi_state.proofs.Clock.{time_then, time_agrees}
 use Rattle.qmi_state.proofs.Modem.{kept_heard_all, kept_lost, kept_ticked, kept_returned, kept_modem_drained}
-use Rattle.qmi_state.proofs.Pieces.{add_all-append}
+use Rattle.qmi_proxy.proofs.Walk.{add_all-append}
 use Rattle.qmi_state.proofs.Clients.{rests_with, keeps_same, keeps_elsewhere, piece_facts, keeps_brought, keeps_left, keeps_took, keeps_joined}
 
 -- an event begins
@@ -274,10 +274,10 @@ module _ (s : Setup) (events : List Event) (core : Core) (none : core.dropped �
   kept_cut : (f : Cutting) (bad : Bool) → KeptNow (add_all s (map (λ m. ModemSays m) f.messages ++ item_if bad ModemFails) (begun s events)) (loses_if bad f.rest (heard f))
   unfolding add_all
   kept_cut f true =
-      subst (λ (l : List Fact). KeptNow l (loses (heard f))) (sym (add_all-append s 0 (λ n. []) (map (λ m. ModemSays m) f.messages) (ModemFails ∷ []) (begun s events)))
+      subst (λ (l : List Fact). KeptNow l (loses (heard f))) (sym (add_all-append s (map (λ m. ModemSays m) f.messages) (ModemFails ∷ []) (begun s events)))
       (kept_lost s.device (greatest_name events) (rests_of events) (add_all s (map (λ m. ModemSays m) f.messages) (begun s events)) (exchange_in (heard f)) (kept_hearing f))
   kept_cut f false =
-      subst (λ (l : List Fact). KeptNow l (record (heard f) { rest = f.rest })) (sym (add_all-append s 0 (λ n. []) (map (λ m. ModemSays m) f.messages) [] (begun s events))) (kept_hearing f)
+      subst (λ (l : List Fact). KeptNow l (record (heard f) { rest = f.rest })) (sym (add_all-append s (map (λ m. ModemSays m) f.messages) [] (begun s events))) (kept_hearing f)
 
   loses_keeps : (bad : Bool) (f : Cutting) (bytes : List ℕ) → (bad ≡ false → f.rest ≡ (cut size_of bytes).rest) → core.away ≡ false
       → let after : Core = loses_if bad f.rest (heard f) in
