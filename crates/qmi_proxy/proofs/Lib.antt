@@ -3,3 +3,4 @@ pub mod Away
 pub mod Growing
 pub mod Walk
 pub mod Room
+pub mod Queue

@@ -9,3 +9,4 @@ pub mod FromModem
 pub mod History
 pub mod Laws
 pub mod Room
+pub mod Queue

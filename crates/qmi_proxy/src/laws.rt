@@ -1,5 +1,6 @@
 ghost use Rattle.qmi_proxy.specs.Laws.{HistoriesAreSound, NumbersInUseDiffer, WaitingArePresent, HoldersArePresent, FewArePresent, FewAreInUse, NothingFollowsAnEnd, EndsAreLast, AwayAgrees, BytesOnlyGrow, JoiningStartsWithNone, TakingTakesTheFirst, TakingOfTheAbsentTakesNone};
 ghost use Rattle.qmi_proxy.specs.Room.{NobodyThereIsOver, NoMoreWaitThanMay};
+ghost use Rattle.qmi_proxy.specs.Queue.{ModemBytesOnlyGrow, ModemTakesTheFirst, LossLeavesNone};
 
 /// The law that each fact of a proxy's history may follow those before it.
 pub fn histories_are_sound()
@@ -50,4 +51,12 @@ pub fn bytes_only_grow()
 pub fn clients_have_room()
     ensures nobody { NobodyThereIsOver }
     ensures within { NoMoreWaitThanMay }
+{}
+
+/// The law that the bytes for the modem only grow: the modem takes the first of those that wait, a
+/// loss leaves none, and every other event leaves them as they are, perhaps with more behind them.
+pub fn modem_bytes_only_grow()
+    ensures grow { ModemBytesOnlyGrow }
+    ensures taking { ModemTakesTheFirst }
+    ensures loss { LossLeavesNone }
 {}

@@ -1,0 +1,39 @@
+-- What becomes of the bytes for the modem, from one event to the next. Lists of events and of facts have the newest first.
+use Rattle.std.specs.Prelude.{◌≡◌, ◌≤◌, ℕ, Bool, true, false, not, ◌&&◌, List, [], ◌∷◌, ◌++◌, length, drop}
+use Rattle.proxy_history.specs.Events.{Event, ModemTook}
+use Rattle.proxy_history.specs.Facts.{Fact}
+use Rattle.proxy_history.specs.Modem.{is_away, to_modem, modem_drained, modem_queue}
+use Rattle.qmi_proxy.specs.Setup.{Setup}
+use Rattle.qmi_proxy.specs.Clients.{wire}
+use Rattle.qmi_proxy.specs.History.{history}
+
+-- the modem was there, and is away once the event was met
+abbrev pub loses_modem : Setup → Event → List Event → Bool
+loses_modem s event events = not (is_away s.starts_away (history s events)) && is_away s.starts_away (history s (event ∷ events))
+
+abbrev pub modem_takes : Event → Bool
+modem_takes (ModemTook count) = true
+modem_takes _ = false
+
+-- the bytes for the modem that were there, and perhaps more behind them, which wait; what it took is no more than before
+pub record ModemGetsMore (before after : List Fact) : Type 0 where
+  pub more : List ℕ
+  pub bytes : to_modem wire after ≡ to_modem wire before ++ more
+  pub taken : modem_drained after ≡ modem_drained before
+  pub waiting : modem_drained before ≤ length (to_modem wire before) → modem_queue wire after ≡ modem_queue wire before ++ more
+
+-- where the modem takes nothing and isn't lost, the bytes for it only grow
+abbrev pub ModemBytesOnlyGrow : Type 0
+ModemBytesOnlyGrow = (s : Setup) (event : Event) (events : List Event)
+    → modem_takes event ≡ false → loses_modem s event events ≡ false → ModemGetsMore (history s events) (history s (event ∷ events))
+
+-- a taking takes the first of those that wait
+abbrev pub ModemTakesTheFirst : Type 0
+ModemTakesTheFirst = (s : Setup) (count : ℕ) (events : List Event)
+    → (to_modem wire (history s (ModemTook count ∷ events)) ≡ to_modem wire (history s events))
+    × (modem_queue wire (history s (ModemTook count ∷ events)) ≡ drop count (modem_queue wire (history s events)))
+
+-- a loss leaves none, and nothing counts as taken
+abbrev pub LossLeavesNone : Type 0
+LossLeavesNone = (s : Setup) (event : Event) (events : List Event) → loses_modem s event events ≡ true
+    → (to_modem wire (history s (event ∷ events)) ≡ []) × (modem_queue wire (history s (event ∷ events)) ≡ []) × (modem_drained (history s (event ∷ events)) ≡ 0)
