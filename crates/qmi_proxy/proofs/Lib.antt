@@ -4,3 +4,4 @@ pub mod Growing
 pub mod Walk
 pub mod Room
 pub mod Queue
+pub mod Verdicts

@@ -10,3 +10,4 @@ pub mod History
 pub mod Laws
 pub mod Room
 pub mod Queue
+pub mod Verdicts

@@ -1,6 +1,7 @@
 ghost use Rattle.qmi_proxy.specs.Laws.{HistoriesAreSound, NumbersInUseDiffer, WaitingArePresent, HoldersArePresent, FewArePresent, FewAreInUse, NothingFollowsAnEnd, EndsAreLast, AwayAgrees, BytesOnlyGrow, JoiningStartsWithNone, TakingTakesTheFirst, TakingOfTheAbsentTakesNone};
 ghost use Rattle.qmi_proxy.specs.Room.{NobodyThereIsOver, NoMoreWaitThanMay};
 ghost use Rattle.qmi_proxy.specs.Queue.{ModemBytesOnlyGrow, ModemTakesTheFirst, LossLeavesNone};
+ghost use Rattle.qmi_proxy.specs.Verdicts.{OwnVerdictsHaveAReply, ForwardedHaveANumber};
 
 /// The law that each fact of a proxy's history may follow those before it.
 pub fn histories_are_sound()
@@ -59,4 +60,11 @@ pub fn modem_bytes_only_grow()
     ensures grow { ModemBytesOnlyGrow }
     ensures taking { ModemTakesTheFirst }
     ensures loss { LossLeavesNone }
+{}
+
+/// The law that a message that the client's own view decides has its reply, and that one that is
+/// forwarded has a number.
+pub fn verdicts_have_what_they_need()
+    ensures own { OwnVerdictsHaveAReply }
+    ensures forwarded { ForwardedHaveANumber }
 {}
