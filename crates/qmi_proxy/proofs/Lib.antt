@@ -5,3 +5,4 @@ pub mod Walk
 pub mod Room
 pub mod Queue
 pub mod Verdicts
+pub mod HungUp

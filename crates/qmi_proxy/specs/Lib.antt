@@ -11,3 +11,4 @@ pub mod Laws
 pub mod Room
 pub mod Queue
 pub mod Verdicts
+pub mod HungUp

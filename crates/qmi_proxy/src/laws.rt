@@ -2,6 +2,7 @@ ghost use Rattle.qmi_proxy.specs.Laws.{HistoriesAreSound, NumbersInUseDiffer, Wa
 ghost use Rattle.qmi_proxy.specs.Room.{NobodyThereIsOver, NoMoreWaitThanMay};
 ghost use Rattle.qmi_proxy.specs.Queue.{ModemBytesOnlyGrow, ModemTakesTheFirst, LossLeavesNone};
 ghost use Rattle.qmi_proxy.specs.Verdicts.{OwnVerdictsHaveAReply, ForwardedHaveANumber};
+ghost use Rattle.qmi_proxy.specs.HungUp.{EventsHangUpTheirOwn};
 
 /// The law that each fact of a proxy's history may follow those before it.
 pub fn histories_are_sound()
@@ -67,4 +68,10 @@ pub fn modem_bytes_only_grow()
 pub fn verdicts_have_what_they_need()
     ensures own { OwnVerdictsHaveAReply }
     ensures forwarded { ForwardedHaveANumber }
+{}
+
+/// The law that an event adds its facts behind the one that begins it, and that the names to hang up
+/// are those of the connections that they end, but for those that went by themselves.
+pub fn events_hang_up_their_own()
+    ensures { EventsHangUpTheirOwn }
 {}
