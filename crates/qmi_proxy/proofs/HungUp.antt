@@ -2,12 +2,13 @@
 use Rattle.std.proofs.Common.{◌≡◌, false, List, [], ◌∷◌, ◌++◌, refl, ap, ◌∙◌, All}
 use Rattle.std.proofs.lemmas.List.Elements.{All-nil, All-cons}
 use Rattle.proxy_history.specs.Events.{Event}
-use Rattle.proxy_history.specs.Facts.{Fact, Forward, EventBegan, Judged, ModemLost, ModemDrained}
+use Rattle.proxy_history.specs.Facts.{Fact, Forward, EventBegan, Judged, Forwarded, ModemLost, ModemDrained}
 use Rattle.proxy_history.specs.Connections.{dropped}
 use Rattle.proxy_history.specs.HungUp.{is_beginning}
 use Rattle.proxy_history.proofs.HungUp.{hung_up_since}
 use Rattle.qmi_proxy.specs.Setup.{Setup}
 use Rattle.qmi_proxy.specs.HungUp.{AddsAnEvent}
+use Rattle.qmi_proxy.specs.Clients.{request_of}
 use Rattle.qmi_proxy.specs.History.{items_of, history}
 use Rattle.qmi_proxy.proofs.Walk.{is_apart, noted_as_added, every_item}
 
@@ -33,6 +34,7 @@ module _ (before : List Fact) where
   adds s event events is =
       every_item s IsSince (noted_as_added s.device IsSince added)
       (λ c place m past g. one_more (Judged c place m Forward) past refl g)
+      (λ c m number past g. one_more (Forwarded (request_of s c m number past)) past refl g)
       (λ past g. one_more ModemLost past refl g)
       (λ count past g. one_more (ModemDrained count) past refl g)
       (items_of s events event) (EventBegan ∷ history s events)

@@ -6,3 +6,4 @@ pub mod Room
 pub mod Queue
 pub mod Verdicts
 pub mod HungUp
+pub mod Refusals

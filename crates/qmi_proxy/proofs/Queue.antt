@@ -6,10 +6,10 @@ use Rattle.qmux_frame.specs.Frame.{size_of}
 use Rattle.proxy_history.specs.Events.{Event, Joined, Piece, Left, ModemPiece, ModemGone, ModemBack, Now, Took, ModemTook}
 use Rattle.proxy_history.specs.Streams.{messages_of_piece, is_bad, stream, modem_stream, with_piece, come_back}
 use Rattle.proxy_history.specs.Items.{Item, Says, Garbles, ModemSays, ModemFails, item_if, modem_items, fails_once, returns_once}
-use Rattle.proxy_history.specs.Facts.{Fact, EventBegan, Judged, Forward, Forwarded, ModemLost, ModemDrained}
+use Rattle.proxy_history.specs.Facts.{Fact, Request, EventBegan, Judged, Forward, Forwarded, ModemLost, ModemDrained}
 use Rattle.proxy_history.specs.Modem.{is_away, to_modem, modem_drained, modem_queue}
 use Rattle.qmi_proxy.specs.Setup.{Setup}
-use Rattle.qmi_proxy.specs.Clients.{wire}
+use Rattle.qmi_proxy.specs.Clients.{wire, request_of}
 use Rattle.qmi_proxy.specs.FromModem.{abort_all}
 use Rattle.qmi_proxy.specs.History.{add_all, items_of, history}
 use Rattle.qmi_proxy.specs.Queue.{loses_modem, modem_takes, ModemGetsMore}
@@ -26,14 +26,18 @@ module _ (before : List Fact) where
 
   added : (fact : Fact) (past : List Fact) → is_apart fact ≡ false → Grown past → Grown (fact ∷ past)
   unfolding to_modem modem_drained
-  added (Forwarded r) past apart g = record {
+  added (Forwarded r) past apart g = absurd (cc)
+  added ModemLost past apart g = absurd (cc)
+  added (ModemDrained count) past apart g = absurd (cc)
+  added _ past apart g = record { more = g.more; bytes = g.bytes; taken = g.taken }
+
+  requested : (r : Request) (past : List Fact) → Grown past → Grown (Forwarded r ∷ past)
+  unfolding to_modem modem_drained
+  requested r past g = record {
     more = g.more ++ wire r;
     bytes = ap (λ (l : List ℕ). l ++ wire r) g.bytes ∙ append_assoc (to_modem wire before) g.more (wire r);
     taken = g.taken;
   }
-  added ModemLost past apart g = absurd (cc)
-  added (ModemDrained count) past apart g = absurd (cc)
-  added _ past apart g = record { more = g.more; bytes = g.bytes; taken = g.taken }
 
   pub grown : (s : Setup) (items : List Item) → AllByRecursion (λ item. fails_or_takes item ≡ false) items → Grown (add_all s items (EventBegan ∷ before))
   unfolding to_modem modem_drained
@@ -41,6 +45,7 @@ module _ (before : List Fact) where
       all_kept s Grown
       (noted_as_added s.device Grown added)
       (λ c place m past g. added (Judged c place m Forward) past refl g)
+      (λ c m number past g. requested (request_of s c m number past) past g)
       items (EventBegan ∷ before) others (record { more = []; bytes = sym (append-nil (to_modem wire before)); taken = refl })
 
 -- ---- items ----

@@ -1,5 +1,5 @@
--- What every fact that is noted keeps, is kept by everything that a QMI proxy meets. The facts that begin an event,
--- lose the modem or tell what it took stand apart: their items are given by themselves.
+-- What every fact that is noted keeps, is kept by everything that a QMI proxy meets. Some facts stand apart: those that forward a request,
+-- begin an event, lose the modem or tell what it took are given by themselves.
 use Rattle.std.proofs.Common.{◌≡◌, ℕ, ◌+◌, Bool, true, false, not, ◌&&◌, ◌==◌, max, nat_lt, if◌then◌else◌, List, [], ◌∷◌, ◌++◌, length, refl, Option, Some, None}
 use Rattle.std.specs.List.{AllByRecursion}
 use Rattle.qmux_frame.specs.Head.{is_control, client_of}
@@ -20,6 +20,7 @@ use Rattle.qmi_proxy.specs.History.{add, add_all}
 
 abbrev pub is_apart : Fact → Bool
 is_apart EventBegan = true
+is_apart (Forwarded r) = true
 is_apart ModemLost = true
 is_apart (ModemDrained count) = true
 is_apart _ = false
@@ -49,7 +50,8 @@ module _ (device : List ℕ) (P : List Fact → Type 0) (added : (fact : Fact) (
 
 module _ (s : Setup) (P : List Fact → Type 0)
     (noted : (fact : Fact) (past : List Fact) → is_apart fact ≡ false → P past → P (note s.device fact past))
-    (forwarded : (c place : ℕ) (m : List ℕ) (past : List Fact) → P past → P (Judged c place m Forward ∷ past)) where
+    (forwarded : (c place : ℕ) (m : List ℕ) (past : List Fact) → P past → P (Judged c place m Forward ∷ past))
+    (requested : (c : ℕ) (m : List ℕ) (number : ℕ) (past : List Fact) → P past → P (Forwarded (request_of s c m number past) ∷ past)) where
   either : (b : Bool) (one other : List Fact) → P one → P other → P (if b then one else other)
   either true one other p q = p
   either false one other p q = q
@@ -66,9 +68,8 @@ module _ (s : Setup) (P : List Fact → Type 0)
   grants false c m past p = p
 
   forwards : (c : ℕ) (m : List ℕ) (number : Option ℕ) (past : List Fact) → P past → P (forward s c m number past)
-  unfolding end_overfull
   forwards c m None past p = p
-  forwards c m (Some n) past p = grants (uses_id m) c m (Forwarded (request_of s c m n past) ∷ past) (noted (Forwarded (request_of s c m n past)) past refl p)
+  forwards c m (Some n) past p = grants (uses_id m) c m (Forwarded (request_of s c m n past) ∷ past) (requested c m n past p)
 
   judges : (c : ℕ) (m : List ℕ) (number : Option ℕ) (verdict : Verdict) (past : List Fact) → P past → P (judge s c m number verdict past)
   judges c m number Own past p = noted (Judged c (message_count c past + 1) m Own) past refl p

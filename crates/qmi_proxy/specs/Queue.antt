@@ -15,11 +15,12 @@ abbrev pub modem_takes : Event → Bool
 modem_takes (ModemTook count) = true
 modem_takes _ = false
 
--- the bytes for the modem that were there, and perhaps more behind them, which wait; what it took is no more than before
+-- the bytes for the modem that were there, and perhaps more behind them; none is taken
 pub record ModemGetsMore (before after : List Fact) : Type 0 where
   pub more : List ℕ
   pub bytes : to_modem wire after ≡ to_modem wire before ++ more
   pub taken : modem_drained after ≡ modem_drained before
+  -- where it didn't take more than there were, what is new waits behind what waited
   pub waiting : modem_drained before ≤ length (to_modem wire before) → modem_queue wire after ≡ modem_queue wire before ++ more
 
 -- where the modem takes nothing and isn't lost, the bytes for it only grow

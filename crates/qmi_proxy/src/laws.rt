@@ -3,6 +3,7 @@ ghost use Rattle.qmi_proxy.specs.Room.{NobodyThereIsOver, NoMoreWaitThanMay};
 ghost use Rattle.qmi_proxy.specs.Queue.{ModemBytesOnlyGrow, ModemTakesTheFirst, LossLeavesNone};
 ghost use Rattle.qmi_proxy.specs.Verdicts.{OwnVerdictsHaveAReply, ForwardedHaveANumber};
 ghost use Rattle.qmi_proxy.specs.HungUp.{EventsHangUpTheirOwn};
+ghost use Rattle.qmi_proxy.specs.Refusals.{TheOrderLosesNone};
 
 /// The law that each fact of a proxy's history may follow those before it.
 pub fn histories_are_sound()
@@ -74,4 +75,9 @@ pub fn verdicts_have_what_they_need()
 /// are those of the connections that they end, but for those that went by themselves.
 pub fn events_hang_up_their_own()
     ensures { EventsHangUpTheirOwn }
+{}
+
+/// The law that the order in which requests are refused has each one that waits and no other.
+pub fn the_order_of_refusals_loses_none()
+    ensures { TheOrderLosesNone }
 {}
