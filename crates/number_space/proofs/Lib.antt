@@ -1,3 +1,4 @@
 pub mod InUse
 pub mod Tables
 pub mod Since
+pub mod Pending

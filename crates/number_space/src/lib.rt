@@ -5,5 +5,5 @@ mod laws;
 mod rows;
 mod space;
 
-pub use laws::numbers_are_in_use_until_freed;
+pub use laws::{numbers_are_in_use_until_freed, numbers_are_pending_until_ended};
 pub use space::{Found, Row, Space};
