@@ -4,3 +4,5 @@ pub mod Answers
 pub mod Numbers
 pub mod Refusals
 pub mod ClientIds
+pub mod Forwarded
+pub mod Splits

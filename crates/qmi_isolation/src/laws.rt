@@ -1,4 +1,5 @@
 ghost use Rattle.qmi_isolation.specs.Laws.{OthersChangeNothing, AnswersHaveOneReceiver, OtherAnswersHaveNone, HeldIdsAreNotGranted, HeldIdsAreNotUsed, IndicationsReachTheirReceivers, HoldersAloneAreTold, TheIdleAreNotRefused, NumbersAreFreeWhenGiven};
+ghost use Rattle.qmi_isolation.specs.Queues.{ForwardedRequestsAreQueued};
 
 /// The law that what other clients do, whatever it is, leaves a client's bytes as they are.
 pub fn others_change_nothing()
@@ -39,4 +40,11 @@ pub fn the_idle_are_not_refused()
 /// is over stays in use until its answer comes, the modem begins anew, or the modem is lost.
 pub fn numbers_are_free_when_given()
     ensures { NumbersAreFreeWhenGiven }
+{}
+
+/// The law that a client's message which is forwarded stands in the modem's queue at the end of its own
+/// event, under the next number, whole and once, behind all that waited there before it: nothing that
+/// the same piece brings behind it takes it out again.
+pub fn forwarded_requests_are_queued()
+    ensures { ForwardedRequestsAreQueued }
 {}
