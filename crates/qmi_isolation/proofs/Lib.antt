@@ -6,3 +6,5 @@ pub mod Refusals
 pub mod ClientIds
 pub mod Forwarded
 pub mod Splits
+pub mod ModemFacts
+pub mod Standing

@@ -1,19 +1,24 @@
 -- What stands in the queues at the end of an event, whatever the event brings behind it.
 -- Lists of events and of facts have the newest first; requests and bytes have the oldest first.
-use Rattle.std.specs.Prelude.{◌≡◌, ℕ, ◌+◌, ◌<◌, true, List, ◌∷◌, ◌++◌, map, Some, All}
+use Rattle.std.specs.Prelude.{◌≡◌, ℕ, ◌+◌, ◌<◌, Bool, true, false, not, List, ◌∷◌, ◌++◌, map, Some, All, Contains}
 use Rattle.std.specs.List.{concat}
 use Rattle.qmux_frame.specs.Frame.{size_of}
-use Rattle.proxy_history.specs.Events.{Event, Piece}
+use Rattle.proxy_history.specs.Events.{Event, Piece, ModemPiece}
 use Rattle.proxy_history.specs.Items.{Says}
-use Rattle.proxy_history.specs.Streams.{stream, messages_of_piece}
-use Rattle.proxy_history.specs.Facts.{Fact, Request, Forward, EventBegan}
-use Rattle.proxy_history.specs.Connections.{is_present, message_count}
-use Rattle.proxy_history.specs.Requests.{in_use}
+use Rattle.proxy_history.specs.Streams.{stream, modem_stream, messages_of_piece}
+use Rattle.proxy_history.specs.Facts.{Fact, Request, Forward, EventBegan, Ended, NoRoom}
+use Rattle.proxy_history.specs.Connections.{contains, is_present, dropped, message_count}
+use Rattle.proxy_history.specs.Requests.{in_use, pending}
 use Rattle.proxy_history.specs.Modem.{modem_queue}
+use Rattle.proxy_history.specs.Rendering.{Rendering, put}
 use Rattle.qmi_proxy.specs.Setup.{Setup}
+use Rattle.qmi_proxy.specs.Messages.{IsResponse, kind_of}
+use Rattle.qmi_proxy.specs.Text.{rendering}
 use Rattle.qmi_proxy.specs.Clients.{wire, number_for, verdict_on}
+use Rattle.qmi_proxy.specs.FromModem.{is_answered_by}
 use Rattle.qmi_proxy.specs.History.{add_all, history}
 use Rattle.qmi_state.specs.Core.{Core, Stands}
+use Rattle.qmi_isolation.specs.Laws.{facts_before, due}
 
 -- ---- requests ----
 
@@ -40,3 +45,42 @@ ForwardedRequestsAreQueued = (s : Setup) (events : List Event) (core : Core) (c 
     → is_present c (facts_before_saying s events c earlier) ≡ true
     → verdict_on s c m (facts_before_saying s events c earlier) ≡ Forward
     → IsQueued c m (facts_before_saying s events c earlier) (history s (Piece c piece ∷ events))
+
+-- ---- answers ----
+
+-- the bytes fit the client's queue
+abbrev pub finds_room : List ℕ → Rendering → Bool
+finds_room bytes before = not (put bytes before).is_over
+
+-- the bytes stand behind all that was there, and wait; more may stand behind them
+pub record StandsBehind (bytes : List ℕ) (before after : Rendering) : Type 0 where
+  pub more : List ℕ
+  pub all : after.bytes ≡ before.bytes ++ bytes ++ more
+  pub waiting : after.waiting ≡ before.waiting ++ bytes ++ more
+
+abbrev pub GetsNothing : Rendering → Rendering → Type 0
+GetsNothing before after = (after.bytes ≡ before.bytes) × (after.waiting ≡ before.waiting)
+
+-- the connection was ended for want of room in the last event, and is to be hung up
+pub record IsEndedForRoom (c : ℕ) (facts : List Fact) : Type 0 where
+  pub later : List Fact
+  pub earlier : List Fact
+  pub whole : facts ≡ later ++ Ended c NoRoom ∷ earlier
+  pub hung_up : contains c (dropped facts) ≡ true
+
+-- what the sender of a request is due for this answer stands in its queue where it finds room, and else the sender is ended and gets nothing
+pub record IsAnswered (device : List ℕ) (r : Request) (m : List ℕ) (past after : List Fact) : Type 0 where
+  pub stands : finds_room (due r m past) (rendering device r.conn past) ≡ true
+      → StandsBehind (due r m past) (rendering device r.conn past) (rendering device r.conn after)
+  pub ended : finds_room (due r m past) (rendering device r.conn past) ≡ false
+      → (is_present r.conn after ≡ false) × GetsNothing (rendering device r.conn past) (rendering device r.conn after)
+  -- want of room is all that ends a sender here, be it for this answer or for something that comes behind it
+  pub why : is_present r.conn after ≡ false → IsEndedForRoom r.conn after
+
+-- `core` met these events, and then this piece of the modem came; what it answers to a request whose sender waits stands in the sender's queue once the whole piece was met
+abbrev pub AnswersStand : Type 0
+AnswersStand = (s : Setup) (events : List Event) (core : Core) (stream piece : List ℕ) (earlier later : List (List ℕ)) (m : List ℕ) (r : Request)
+    → Stands s events core → modem_stream size_of s.starts_away events ≡ Some stream
+    → messages_of_piece size_of stream piece ≡ earlier ++ m ∷ later → kind_of m ≡ IsResponse
+    → Contains (pending (facts_before s events earlier)) r → is_answered_by m r ≡ true
+    → IsAnswered s.device r m (facts_before s events earlier) (history s (ModemPiece piece ∷ events))

@@ -1,5 +1,5 @@
 ghost use Rattle.qmi_isolation.specs.Laws.{OthersChangeNothing, AnswersHaveOneReceiver, OtherAnswersHaveNone, HeldIdsAreNotGranted, HeldIdsAreNotUsed, IndicationsReachTheirReceivers, HoldersAloneAreTold, TheIdleAreNotRefused, NumbersAreFreeWhenGiven};
-ghost use Rattle.qmi_isolation.specs.Queues.{ForwardedRequestsAreQueued};
+ghost use Rattle.qmi_isolation.specs.Queues.{ForwardedRequestsAreQueued, AnswersStand};
 
 /// The law that what other clients do, whatever it is, leaves a client's bytes as they are.
 pub fn others_change_nothing()
@@ -47,4 +47,11 @@ pub fn numbers_are_free_when_given()
 /// the same piece brings behind it takes it out again.
 pub fn forwarded_requests_are_queued()
     ensures { ForwardedRequestsAreQueued }
+{}
+
+/// The law that what the sender of a request is due for the modem's answer stands in the sender's queue
+/// at the end of the answer's own event, whatever the same piece of the modem brings behind it. A sender
+/// whose queue has no room for it is ended, and gets nothing more.
+pub fn answers_stand()
+    ensures { AnswersStand }
 {}

@@ -6,7 +6,7 @@
 mod laws;
 
 pub use laws::{
-    answers_have_one_receiver, forwarded_requests_are_queued, held_ids_are_not_granted,
-    indications_reach_their_receivers, numbers_are_free_when_given, others_change_nothing,
-    the_idle_are_not_refused,
+    answers_have_one_receiver, answers_stand, forwarded_requests_are_queued,
+    held_ids_are_not_granted, indications_reach_their_receivers, numbers_are_free_when_given,
+    others_change_nothing, the_idle_are_not_refused,
 };
