@@ -1,5 +1,5 @@
 -- What a hub answers, and the entry that a call on it has in the record.
-use Rattle.std.specs.Prelude.{◌≡◌, ℕ, ◌<◌, ◌≤◌, true, false, List, take, Option, Some, Result, Ok, Err}
+use Rattle.std.specs.Prelude.{◌≡◌, ℕ, ◌<◌, ◌≤◌, Bool, true, false, ◌||◌, ◌==◌, List, take, Option, Some, Result, Ok, Err}
 use Rattle.std.specs.Option.{option_map}
 use Rattle.link_io.specs.Target.{path_of}
 use Rattle.link_io.specs.declared.link.Target.{Target}
@@ -20,6 +20,18 @@ FitsBuffer _ room = Unit {0}
 abbrev pub NamesRise : Option HubEvent → ℕ → ℕ → Type 0
 NamesRise (Some (Joined conn)) old new = (old < conn) × (new ≡ conn)
 NamesRise _ old new = new ≡ old
+
+-- who is there now was there before
+abbrev pub NobodyCame : (ℕ → Bool) → (ℕ → Bool) → Type 0
+NobodyCame old new = (conn : ℕ) → new conn ≡ true → old conn ≡ true
+
+-- only who joins comes, only who is there tells something, and who left isn't there any more; from who was there before to who is after
+abbrev pub ToldOfThose : Option HubEvent → (ℕ → Bool) → (ℕ → Bool) → Type 0
+ToldOfThose (Some (Joined conn)) old new = NobodyCame (λ other. other == conn || old other) new
+ToldOfThose (Some (Piece conn size)) old new = (old conn ≡ true) × NobodyCame old new
+ToldOfThose (Some (Room conn)) old new = (old conn ≡ true) × NobodyCame old new
+ToldOfThose (Some (Left conn)) old new = (old conn ≡ true) × (new conn ≡ false) × NobodyCame old new
+ToldOfThose _ old new = NobodyCame old new
 
 -- no count has fallen
 abbrev pub NoneFell : (ℕ → ℕ) → (ℕ → ℕ) → Type 0

@@ -1,8 +1,9 @@
 //! The places of a hub's clients, the names that they have in turn, and their counts of faults.
-ghost use Rattle.std.specs.Prelude.{◌≡◌, ◌+◌, ◌<◌, ◌≤◌, ◌^◌, IsNone, IfSome, IfOk};
+ghost use Rattle.std.specs.Prelude.{◌≡◌, ◌+◌, ◌<◌, ◌≤◌, ◌^◌, false, Some, IsNone, IsTrue, ◌↔◌, IfSome};
 ghost use Rattle.kit_io.specs.Causes.{Rose};
-ghost use Rattle.hub_io.specs.Clients.{place_in_table, fault_of};
-ghost use Rattle.hub_io.specs.Hub.{NoneFell};
+ghost use Rattle.hub_io.specs.Clients.{place_in_table, fault_of, is_there, TellsOf};
+ghost use Rattle.hub_io.specs.Hub.{NobodyCame, NoneFell};
+ghost use Rattle.hub_io.specs.declared.hub.HubEvent.TheVariants.{Joined};
 
 use kit_io::Failed;
 use std::alloc::{AllocError, Global};
@@ -30,6 +31,80 @@ pub(crate) fn name_after(last: u64, place: usize) -> Option<u64>
     let next = last.checked_add(1)?;
     let ahead = (place + PLACES - place_of(next)) % PLACES;
     next.checked_add(ahead as u64)
+}
+
+/// The names of the clients that are there, and the greatest that was told. Of two names that are 128
+/// apart one is there at most.
+#[derive(Debug, Drop)]
+pub(crate) struct Names {
+    greatest: u64,
+    by_place: Vec<Option<u64>>,
+}
+
+impl Model for Names {
+    ghost use Rattle.std.specs.Prelude.{◌≡◌, vec_len};
+    ghost use Rattle.hub_io.specs.Clients.{Clients};
+
+    ghost Value = { Clients };
+
+    ghost view = { λ names. record { greatest = names.greatest; by_place = names.by_place.items } };
+
+    ghost invariant = { λ names. vec_len names.by_place ≡ 128 };
+}
+
+impl Names {
+    /// Nobody is there, and no name was told. This takes the memory of all the places.
+    pub(crate) fn none(alloc: Global) -> Result<Self, AllocError> {
+        Ok(Names {
+            greatest: 0,
+            by_place: Vec::from_elem(alloc, None, PLACES)?,
+        })
+    }
+
+    /// Whether the client of this name is there.
+    pub(crate) fn has(&self, name: u64) -> bool
+        ensures { result ≡ is_there self.now name }
+    {
+        match self.by_place[place_of(name)] {
+            Some(client) => client == name,
+            None => false,
+        }
+    }
+
+    /// Whether no name so great was told.
+    pub(crate) fn is_new(&self, name: u64) -> bool
+        ensures { IsTrue result ↔ (self.now.greatest < name) }
+    {
+        self.greatest < name
+    }
+
+    /// The first new name that has this place.
+    pub(crate) fn next(&self, place: usize) -> Option<u64>
+        requires { place < PLACES }
+        ensures { IfSome result (λ name. self.now.greatest < name) }
+    {
+        name_after(self.greatest, place)
+    }
+
+    /// A client of a new name comes.
+    pub(crate) fn join(&mut self, name: u64)
+        requires { self.old.greatest < name }
+        ensures { TellsOf (Some (Joined name)) self.old self.new }
+    {
+        self.by_place[place_of(name)] = Some(name);
+        self.greatest = name;
+    }
+
+    /// A client goes, where it is there.
+    pub(crate) fn leave(&mut self, name: u64)
+        ensures gone { is_there self.new name ≡ false }
+        ensures clients { NobodyCame (is_there self.old) (is_there self.new) }
+        ensures greatest { self.new.greatest ≡ self.old.greatest }
+    {
+        if self.has(name) {
+            self.by_place[place_of(name)] = None;
+        }
+    }
 }
 
 /// How many sends to each client have failed, by the place of its name. At its type's end a count

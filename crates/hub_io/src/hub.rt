@@ -1,4 +1,4 @@
-ghost use Rattle.std.specs.Prelude.{◌≡◌, ◌<◌, ◌≤◌, ℕ, List, Option, length, IfOk};
+ghost use Rattle.std.specs.Prelude.{◌≡◌, ◌<◌, ◌≤◌, ℕ, Bool, false, List, Option, length, IfOk};
 ghost use Rattle.std.specs.Option.{option_copied};
 ghost use Rattle.std.specs.Result.{result_ok};
 ghost use Rattle.kit_io.specs.Causes.{HasCause};
@@ -34,7 +34,7 @@ pub enum HubEvent {
 /// The clients of a server, and its modem. A client goes by the name with which it joined.
 pub trait Hub {
     ghost use Rattle.hub_io.specs.Record.{Call, HungUp, Records};
-    ghost use Rattle.hub_io.specs.Hub.{FitsBuffer, NamesRise, NoneFell, opened_call, next_call, send_call, send_modem_call, reopen_call};
+    ghost use Rattle.hub_io.specs.Hub.{FitsBuffer, NamesRise, NobodyCame, ToldOfThose, NoneFell, opened_call, next_call, send_call, send_modem_call, reopen_call};
 
     /// The calls so far, where told, the newest first.
     ghost calls: { Self → Option (List Call) };
@@ -51,13 +51,17 @@ pub trait Hub {
     /// The greatest name that was told.
     ghost greatest: { Self → ℕ };
 
+    /// Whether a client is there: it joined, and since then it didn't leave and wasn't hung up.
+    ghost is_connected: { Self → ℕ → Bool };
+
     /// Listens on a socket, and opens the device where one is named.
     fn open(&mut self, socket: &str, device: Option<&Target>) -> Result<(), Failed>
         ensures calls { Records (calls self.old) (opened_call result socket.now (option_copied device.entry)) (calls self.new) }
         ensures cause { HasCause (faults self.old) (faults self.new) result }
         ensures conns { NoneFell (conn_faults self.old) (conn_faults self.new) }
         ensures modem { modem_faults self.old ≤ modem_faults self.new }
-        ensures names { greatest self.new ≡ greatest self.old };
+        ensures names { greatest self.new ≡ greatest self.old }
+        ensures clients { NobodyCame (is_connected self.old) (is_connected self.new) };
 
     /// Waits for the next event.
     fn next(&mut self, buf: &mut [u8]) -> Result<HubEvent, Failed>
@@ -67,7 +71,8 @@ pub trait Hub {
         ensures cause { HasCause (faults self.old) (faults self.new) result }
         ensures conns { NoneFell (conn_faults self.old) (conn_faults self.new) }
         ensures modem { modem_faults self.old ≤ modem_faults self.new }
-        ensures names { NamesRise (result_ok result) (greatest self.old) (greatest self.new) };
+        ensures names { NamesRise (result_ok result) (greatest self.old) (greatest self.new) }
+        ensures clients { ToldOfThose (result_ok result) (is_connected self.old) (is_connected self.new) };
 
     /// Hands bytes to a client's socket, which takes a front of them: no byte where it takes none
     /// now.
@@ -79,7 +84,8 @@ pub trait Hub {
         ensures own { faults self.old ≤ faults self.new }
         ensures conns { NoneFell (conn_faults self.old) (conn_faults self.new) }
         ensures modem { modem_faults self.old ≤ modem_faults self.new }
-        ensures names { greatest self.new ≡ greatest self.old };
+        ensures names { greatest self.new ≡ greatest self.old }
+        ensures clients { NobodyCame (is_connected self.old) (is_connected self.new) };
 
     /// Hands bytes to the modem, which takes a front of them: no byte where it takes none now.
     fn send_modem(&mut self, bytes: &[u8]) -> Result<usize, Failed>
@@ -89,7 +95,8 @@ pub trait Hub {
         ensures cause { HasCause (modem_faults self.old) (modem_faults self.new) result }
         ensures own { faults self.old ≤ faults self.new }
         ensures conns { NoneFell (conn_faults self.old) (conn_faults self.new) }
-        ensures names { greatest self.new ≡ greatest self.old };
+        ensures names { greatest self.new ≡ greatest self.old }
+        ensures clients { NobodyCame (is_connected self.old) (is_connected self.new) };
 
     /// Opens the device of the opening again.
     fn reopen_modem(&mut self) -> Result<(), Failed>
@@ -97,13 +104,16 @@ pub trait Hub {
         ensures cause { HasCause (modem_faults self.old) (modem_faults self.new) result }
         ensures own { faults self.old ≤ faults self.new }
         ensures conns { NoneFell (conn_faults self.old) (conn_faults self.new) }
-        ensures names { greatest self.new ≡ greatest self.old };
+        ensures names { greatest self.new ≡ greatest self.old }
+        ensures clients { NobodyCame (is_connected self.old) (is_connected self.new) };
 
-    /// Ends a client's connection. No event of this client follows.
+    /// Ends a client's connection. The client isn't there any more, so no event of it follows.
     fn hang_up(&mut self, conn: u64)
+        ensures hung_up { is_connected self.new conn ≡ false }
         ensures calls { Records (calls self.old) (HungUp conn) (calls self.new) }
         ensures own { faults self.old ≤ faults self.new }
         ensures conns { NoneFell (conn_faults self.old) (conn_faults self.new) }
         ensures modem { modem_faults self.old ≤ modem_faults self.new }
-        ensures names { greatest self.new ≡ greatest self.old };
+        ensures names { greatest self.new ≡ greatest self.old }
+        ensures clients { NobodyCame (is_connected self.old) (is_connected self.new) };
 }

@@ -3,11 +3,11 @@ ghost use Rattle.std.specs.Option.{option_copied, option_map};
 ghost use Rattle.kit_io.specs.Record.{Notes};
 ghost use Rattle.link_io.specs.Target.{path_of};
 ghost use Rattle.hub_io.specs.Record.{Records, Opened};
-ghost use Rattle.hub_io.specs.Clients.{fault_of};
-ghost use Rattle.hub_io.specs.Hub.{FitsBuffer, NamesRise, event_call};
+ghost use Rattle.hub_io.specs.Clients.{fault_of, is_there, TellsOf};
+ghost use Rattle.hub_io.specs.Hub.{FitsBuffer, event_call};
 ghost use Rattle.hub_io.specs.Notes.{size_of, call_as, calls_of};
 
-use crate::clients::ConnFaults;
+use crate::clients::{ConnFaults, Names};
 use crate::{Hub, HubEvent};
 use kit_io::{Failed, Faults, Log};
 use link_io::Target;
@@ -57,8 +57,9 @@ pub enum HubCall {
 /// sends and reopenings answer, in the order of the calls. Behind the end of the first it tells
 /// `Stop`, and behind the end of the second each call does all that it is to do.
 ///
-/// A `next` also fails where its turn can't be told: the name of who joins doesn't rise, or a piece
-/// has no bytes.
+/// A `next` also fails where its turn can't be told: the name of who joins doesn't rise, a client that
+/// isn't there tells something, or a piece has no bytes. Who joins takes the place of a client whose
+/// name is 128 less, or so many times that.
 #[derive(Debug, Drop)]
 pub struct MemHub {
     // What is still to come of each script, the next one last.
@@ -68,7 +69,7 @@ pub struct MemHub {
     faults: Faults,
     conn_faults: ConnFaults,
     modem_faults: Faults,
-    greatest: u64,
+    names: Names,
 }
 
 impl MemHub {
@@ -94,7 +95,7 @@ impl MemHub {
             faults: Faults::none(),
             conn_faults: ConnFaults::none(alloc)?,
             modem_faults: Faults::none(),
-            greatest: 0,
+            names: Names::none(alloc)?,
         })
     }
 
@@ -122,27 +123,32 @@ fn give(bytes: &[u8], buf: &mut [u8]) -> Option<usize>
 }
 
 // What an event that brings no bytes tells, where it can be told.
-fn told(event: HubEvent, greatest: &mut u64) -> Option<HubEvent>
+fn told(event: HubEvent, names: &mut Names) -> Option<HubEvent>
     ensures fits { (room : ℕ) → IfSome result (λ event. FitsBuffer event room) }
-    ensures names { NamesRise result greatest.old greatest.new }
+    ensures names { TellsOf result names.old names.new }
 {
     match event {
-        HubEvent::Joined(name) if *greatest < name => *greatest = name,
-        HubEvent::Joined(_) | HubEvent::Piece(_, _) | HubEvent::ModemPiece(_) => return None,
-        _ => {}
+        HubEvent::Joined(conn) if names.is_new(conn) => names.join(conn),
+        HubEvent::Left(conn) if names.has(conn) => names.leave(conn),
+        HubEvent::Room(conn) if names.has(conn) => {}
+        HubEvent::ModemGone | HubEvent::Now(_) | HubEvent::ModemRoom | HubEvent::Stop => {}
+        _ => return None,
     }
     Some(event)
 }
 
 // Takes a turn, where it can be taken.
-fn take_turn(turn: HubTurn, greatest: &mut u64, buf: &mut [u8]) -> Option<HubEvent>
+fn take_turn(turn: HubTurn, names: &mut Names, buf: &mut [u8]) -> Option<HubEvent>
     ensures fits { IfSome result (λ event. FitsBuffer event (length buf.new)) }
     ensures len { length buf.new ≡ length buf.old }
-    ensures names { NamesRise result greatest.old greatest.new }
+    ensures names { TellsOf result names.old names.new }
 {
     match turn {
-        HubTurn::Tells(event) => told(event, greatest),
+        HubTurn::Tells(event) => told(event, names),
         HubTurn::Gives(conn, bytes) => {
+            if !names.has(conn) {
+                return None;
+            }
             let count = give(&bytes, buf)?;
             Some(HubEvent::Piece(conn, count))
         }
@@ -199,7 +205,9 @@ impl Hub for MemHub {
 
     ghost modem_faults = { λ s. s.modem_faults };
 
-    ghost greatest = { λ s. s.greatest };
+    ghost greatest = { λ s. s.names.greatest };
+
+    ghost is_connected = { λ s conn. is_there s.names conn };
 
     fn open(&mut self, socket: &str, device: Option<&Target>) -> Result<(), Failed> {
         match next_answer(&mut self.answers) {
@@ -216,7 +224,7 @@ impl Hub for MemHub {
 
     fn next(&mut self, buf: &mut [u8]) -> Result<HubEvent, Failed> {
         let turn = self.turns.pop().unwrap_or(HubTurn::Tells(HubEvent::Stop));
-        match take_turn(turn, &mut self.greatest, buf) {
+        match take_turn(turn, &mut self.names, buf) {
             Some(event) => {
                 note_event(&mut self.log, event, buf);
                 Ok(event)
@@ -270,6 +278,7 @@ impl Hub for MemHub {
     }
 
     fn hang_up(&mut self, conn: u64) {
+        self.names.leave(conn);
         note(&mut self.log, HubCall::HungUp { conn }, &[]);
     }
 }

@@ -1,5 +1,5 @@
 ghost use Rattle.std.specs.Prelude.{None};
-ghost use Rattle.hub_io.specs.Clients.{fault_of};
+ghost use Rattle.hub_io.specs.Clients.{fault_of, is_there};
 
 use crate::clients::ConnFaults;
 use crate::sockets::Sockets;
@@ -50,7 +50,9 @@ impl<R: Net + Clock + Files> Hub for MioHub<'_, R> {
 
     ghost modem_faults = { λ s. s.modem_faults };
 
-    ghost greatest = { λ s. s.sockets.greatest };
+    ghost greatest = { λ s. s.sockets.names.greatest };
+
+    ghost is_connected = { λ s conn. is_there s.sockets.names conn };
 
     fn open(&mut self, socket: &str, device: Option<&Target>) -> Result<(), Failed> {
         match self.sockets.open(socket, device) {

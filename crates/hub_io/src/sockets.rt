@@ -1,11 +1,12 @@
 //! The sockets of a hub, and what is told of them. No clause says what a socket gives or takes.
-ghost use Rattle.std.specs.Prelude.{◌≡◌, ◌<◌, ◌≤◌, length, IfSome, IfOk};
+ghost use Rattle.std.specs.Prelude.{◌≡◌, ◌<◌, ◌≤◌, true, false, length, IsSome, IfSome, IfOk};
 ghost use Rattle.std.specs.Option.{option_map};
 ghost use Rattle.std.specs.Result.{result_ok};
-ghost use Rattle.hub_io.specs.Hub.{FitsBuffer, NamesRise};
+ghost use Rattle.hub_io.specs.Clients.{is_there, TellsOf};
+ghost use Rattle.hub_io.specs.Hub.{FitsBuffer, NamesRise, NobodyCame, ToldOfThose};
 ghost use Rattle.hub_io.specs.declared.hub.HubEvent.TheVariants.{Joined};
 
-use crate::clients::{PLACES, name_after, place_of};
+use crate::clients::{Names, PLACES, place_of};
 use crate::modem::Modem;
 use crate::peer::{Gave, Peer};
 use crate::ticker::Ticker;
@@ -28,12 +29,6 @@ const LISTENER: Token = Token(0);
 
 const MODEM: Token = Token(usize::MAX);
 
-#[derive(Drop)]
-struct Client {
-    name: u64,
-    peer: Peer,
-}
-
 /// The sockets of a hub. One wait finds many events, which are then told one by one.
 #[derive(Drop)]
 pub(crate) struct Sockets<'a, R> {
@@ -48,9 +43,9 @@ pub(crate) struct Sockets<'a, R> {
     /// A client may wait that wasn't let in.
     is_crowded: bool,
     /// By the places of their names.
-    clients: Slab<Client>,
-    /// The greatest name that was told.
-    pub(crate) greatest: u64,
+    clients: Slab<Peer>,
+    /// Who is there.
+    pub(crate) names: Names,
     device: Option<Text>,
     modem: Option<Modem>,
     /// The modem was lost, which isn't told yet.
@@ -70,7 +65,7 @@ impl<'a, R: Net + Clock + Files> Sockets<'a, R> {
             listener: None,
             is_crowded: false,
             clients: Slab::with_capacity(alloc, PLACES)?,
-            greatest: 0,
+            names: Names::none(alloc)?,
             device: None,
             modem: None,
             lost_modem: false,
@@ -79,7 +74,7 @@ impl<'a, R: Net + Clock + Files> Sockets<'a, R> {
 
     /// Listens on a socket of its owner alone, and opens the device where one is named.
     pub(crate) fn open(&mut self, socket: &str, device: Option<&Target>) -> io::Result<()>
-        ensures names { self.new.greatest ≡ self.old.greatest }
+        ensures names { self.new.names ≡ self.old.names }
     {
         let _none_stood_there = fs::remove_file(self.rt, socket);
         let mut listener = UnixListener::bind(self.rt, socket)?;
@@ -97,7 +92,7 @@ impl<'a, R: Net + Clock + Files> Sockets<'a, R> {
 
     /// Connects to the device that was named at the opening.
     pub(crate) fn open_device(&mut self) -> io::Result<()>
-        ensures names { self.new.greatest ≡ self.old.greatest }
+        ensures names { self.new.names ≡ self.old.names }
     {
         let Some(path) = &self.device else {
             return Err(ErrorKind::NotFound.into());
@@ -113,7 +108,8 @@ impl<'a, R: Net + Clock + Files> Sockets<'a, R> {
     pub(crate) fn next(&mut self, buf: &mut [u8]) -> io::Result<HubEvent>
         requires { length buf.old ≡ NEXT_ROOM }
         ensures fits { IfOk result (λ event. FitsBuffer event NEXT_ROOM) }
-        ensures names { NamesRise (result_ok result) self.old.greatest self.new.greatest }
+        ensures names { NamesRise (result_ok result) self.old.names.greatest self.new.names.greatest }
+        ensures clients { ToldOfThose (result_ok result) (is_there self.old.names) (is_there self.new.names) }
     {
         for _ in 0..u64::MAX {
             if self.lost_modem {
@@ -137,7 +133,7 @@ impl<'a, R: Net + Clock + Files> Sockets<'a, R> {
 
     /// Waits for events, at most until the time is to be told.
     fn wait(&mut self) -> io::Result<()>
-        ensures names { self.new.greatest ≡ self.old.greatest }
+        ensures names { self.new.names ≡ self.old.names }
     {
         self.at = 0;
         self.write_to_modem();
@@ -156,7 +152,7 @@ impl<'a, R: Net + Clock + Files> Sockets<'a, R> {
         requires { length buf.old ≡ NEXT_ROOM }
         ensures fits { IfSome result (λ event. FitsBuffer event NEXT_ROOM) }
         ensures len { length buf.new ≡ length buf.old }
-        ensures names { NamesRise result self.old.greatest self.new.greatest }
+        ensures names { TellsOf result self.old.names self.new.names }
     {
         match event.token() {
             LISTENER => self.accept().map(HubEvent::Joined),
@@ -167,14 +163,14 @@ impl<'a, R: Net + Clock + Files> Sockets<'a, R> {
 
     /// The event at hand has told all.
     fn done(&mut self)
-        ensures names { self.new.greatest ≡ self.old.greatest }
+        ensures names { self.new.names ≡ self.old.names }
     {
         self.at = self.at.saturating_add(1);
     }
 
     /// Lets the next client in, and tells its name. One that can't be let in is closed, or waits.
     fn accept(&mut self) -> Option<u64>
-        ensures names { NamesRise (option_map Joined result) self.old.greatest self.new.greatest }
+        ensures names { TellsOf (option_map Joined result) self.old.names self.new.names }
     {
         let place = self.clients.vacant_key();
         if place >= PLACES {
@@ -186,16 +182,16 @@ impl<'a, R: Net + Clock + Files> Sockets<'a, R> {
             self.done();
             return None;
         };
-        let name = name_after(self.greatest, place)?;
+        let name = self.names.next(place)?;
         let peer = Peer::new(self.poll.registry(), stream, Token(name as usize)).ok()?;
-        self.clients.insert(Client { name, peer }).ok()?;
-        self.greatest = name;
+        self.clients.insert(peer).ok()?;
+        self.names.join(name);
         Some(name)
     }
 
     /// The stream of the client that waits first.
     fn take_waiting(&mut self) -> Option<UnixStream>
-        ensures names { self.new.greatest ≡ self.old.greatest }
+        ensures names { self.new.names ≡ self.old.names }
     {
         match self.listener.as_ref()?.accept() {
             Ok((stream, _)) => Some(stream),
@@ -211,7 +207,7 @@ impl<'a, R: Net + Clock + Files> Sockets<'a, R> {
         requires { length buf.old ≡ NEXT_ROOM }
         ensures fits { IfSome result (λ event. FitsBuffer event NEXT_ROOM) }
         ensures len { length buf.new ≡ length buf.old }
-        ensures names { NamesRise result self.old.greatest self.new.greatest }
+        ensures names { TellsOf result self.old.names self.new.names }
     {
         let Some(modem) = &mut self.modem else {
             self.done();
@@ -243,9 +239,9 @@ impl<'a, R: Net + Clock + Files> Sockets<'a, R> {
         requires { length buf.old ≡ NEXT_ROOM }
         ensures fits { IfSome result (λ event. FitsBuffer event NEXT_ROOM) }
         ensures len { length buf.new ≡ length buf.old }
-        ensures names { NamesRise result self.old.greatest self.new.greatest }
+        ensures names { TellsOf result self.old.names self.new.names }
     {
-        let Some(peer) = peer_of(&mut self.clients, name) else {
+        let Some(peer) = peer_of(&mut self.clients, &self.names, name) else {
             self.done();
             return None;
         };
@@ -269,9 +265,9 @@ impl<'a, R: Net + Clock + Files> Sockets<'a, R> {
     /// Writes to a client's socket.
     pub(crate) fn send(&mut self, name: u64, bytes: &[u8]) -> io::Result<usize>
         ensures within { IfOk result (λ count. count ≤ length bytes.now) }
-        ensures names { self.new.greatest ≡ self.old.greatest }
+        ensures names { self.new.names ≡ self.old.names }
     {
-        match peer_of(&mut self.clients, name) {
+        match peer_of(&mut self.clients, &self.names, name) {
             Some(peer) => peer.write(bytes),
             None => Err(ErrorKind::NotConnected.into()),
         }
@@ -280,7 +276,7 @@ impl<'a, R: Net + Clock + Files> Sockets<'a, R> {
     /// Takes bytes for the modem. One that fails is closed.
     pub(crate) fn send_modem(&mut self, bytes: &[u8]) -> io::Result<usize>
         ensures within { IfOk result (λ count. count ≤ length bytes.now) }
-        ensures names { self.new.greatest ≡ self.old.greatest }
+        ensures names { self.new.names ≡ self.old.names }
     {
         let is_last = self.at >= self.events.iter().len();
         let sent = match &mut self.modem {
@@ -295,7 +291,7 @@ impl<'a, R: Net + Clock + Files> Sockets<'a, R> {
 
     /// Writes what was gathered for the modem.
     fn write_to_modem(&mut self)
-        ensures names { self.new.greatest ≡ self.old.greatest }
+        ensures names { self.new.names ≡ self.old.names }
     {
         if let Some(modem) = &mut self.modem
             && modem.write_gathered().is_err()
@@ -307,11 +303,14 @@ impl<'a, R: Net + Clock + Files> Sockets<'a, R> {
 
     /// Closes a client's socket, and asks again for clients that wait.
     pub(crate) fn hang_up(&mut self, name: u64)
-        ensures names { self.new.greatest ≡ self.old.greatest }
+        ensures gone { is_there self.new.names name ≡ false }
+        ensures clients { NobodyCame (is_there self.old.names) (is_there self.new.names) }
+        ensures names { self.new.names.greatest ≡ self.old.names.greatest }
     {
-        if peer_of(&mut self.clients, name).is_none() {
+        if !self.names.has(name) {
             return;
         }
+        self.names.leave(name);
         self.clients.try_remove(place_of(name));
         if let Some(listener) = &mut self.listener
             && self.is_crowded
@@ -323,11 +322,12 @@ impl<'a, R: Net + Clock + Files> Sockets<'a, R> {
     }
 }
 
-/// The socket of the client of this name.
-fn peer_of(clients: &mut Slab<Client>, name: u64) -> Option<&mut Peer> {
-    let client = clients.get_mut(place_of(name))?;
-    if client.name == name {
-        Some(&mut client.peer)
+/// The socket of the client of this name, where it is there.
+fn peer_of<'a>(clients: &'a mut Slab<Peer>, names: &Names, name: u64) -> Option<&'a mut Peer>
+    ensures { IsSome result → is_there names.now name ≡ true }
+{
+    if names.has(name) {
+        clients.get_mut(place_of(name))
     } else {
         None
     }
