@@ -2,11 +2,36 @@
 use Rattle.std.proofs.Common.{ℕ, ◌≤◌, List, Option, inl, inr, arith}
 use Rattle.hub_io.specs.Record.{Call}
 use Rattle.proxy_serving.specs.Serving.{Proxy}
-use Rattle.proxy_serving.specs.Ends.{GoesOn, RanOut}
+use Rattle.proxy_serving.specs.Ends.{GoesOn, EndsWith, EndsIdle, RanOut}
 
-pub goes_on_further : {p : Proxy} {limit : Option ℕ} {calls : List Call} (turns more : ℕ) → turns ≤ more → GoesOn p limit turns calls → GoesOn p limit more calls
-goes_on_further turns more within on = record { serves = on.serves; awake = on.awake; counted = omega (arith, on.counted) }
+module _ {p : Proxy} {limit : Option ℕ} {calls : List Call} (turns more : ℕ) (within : turns ≤ more) where
+  pub goes_on_further : GoesOn p limit turns calls → GoesOn p limit more calls
+  goes_on_further on = record { serves = on.serves; no_end = on.no_end; awake = on.awake; counted = omega (arith, on.counted) }
 
-pub ran_out_further : {p : Proxy} {limit : Option ℕ} {calls : List Call} (turns more : ℕ) → turns ≤ more → RanOut p limit turns calls → RanOut p limit more calls
-ran_out_further turns more within (inl on) = inl (goes_on_further turns more within on)
-ran_out_further turns more within (inr early) = inr (record { event = early.event; earlier = early.earlier; whole = early.whole; goes_on = goes_on_further turns more within early.goes_on })
+module _ {p : Proxy} {limit : Option ℕ} {calls : List Call} (turns more : ℕ) (within : turns ≤ more) where
+  pub ends_with_further : {last : Call} → EndsWith p limit turns last calls → EndsWith p limit more last calls
+  ends_with_further ends = record { earlier = ends.earlier; whole = ends.whole; goes_on = goes_on_further turns more within ends.goes_on; serves = ends.serves; counted = omega (arith, ends.counted) }
+
+  pub ends_idle_further : EndsIdle p limit turns calls → EndsIdle p limit more calls
+  ends_idle_further ends = record {
+    time = ends.time;
+    earlier = ends.earlier;
+    hung_up = ends.hung_up;
+    whole = ends.whole;
+    idle = ends.idle;
+    goes_on = goes_on_further turns more within ends.goes_on;
+    serves = ends.serves;
+    counted = omega (arith, ends.counted);
+  }
+
+  pub ran_out_further : RanOut p limit turns calls → RanOut p limit more calls
+  ran_out_further (inl on) = inl (goes_on_further turns more within on)
+  ran_out_further (inr early) = inr (record {
+    conn = early.conn;
+    earlier = early.earlier;
+    whole = early.whole;
+    goes_on = goes_on_further turns more within early.goes_on;
+    offers = early.offers;
+    reopens = early.reopens;
+    counted = omega (arith, early.counted);
+  })

@@ -1,47 +1,56 @@
 -- What a serving promises, and why it ends. Lists of calls and of events have the newest first. The limit is how long nobody may be there.
-use Rattle.std.specs.Prelude.{◌≡◌, ◌⊎◌, ℕ, ◌≤◌, ◌∷◌, true, Option, List}
-use Rattle.proxy_history.specs.Events.{Event, Now}
+use Rattle.std.specs.Prelude.{◌≡◌, ◌⊎◌, ℕ, ◌≤◌, ◌∷◌, ◌++◌, true, Option, List}
+use Rattle.std.specs.List.{AllByRecursion}
+use Rattle.proxy_history.specs.Events.{Joined, Now}
 use Rattle.hub_io.specs.Record.{Call, ToldStop, NextFailed, Told, events}
 use Rattle.hub_io.specs.declared.settings.ServeEnd.{ServeEnd}
 use Rattle.hub_io.specs.declared.settings.ServeEnd.TheVariants as end
-use Rattle.proxy_serving.specs.Serving.{Proxy, SendsWhatWaits, TakesTheFirst, OffersBeforeEachNext, AllIsOffered, hang_ups, due_hang_ups, Reopens, turns_in, NeverIdle, AwakeBefore, is_idle}
+use Rattle.proxy_serving.specs.Serving.{Proxy, SendsWhatWaits, TakesTheFirst, OffersBeforeEachNext, AllIsOffered, hang_ups, due_hang_ups, hanging_up, IsNoOpening, ReopensBeforeEachNext, Reopens, turns_in, IsNoEnd, NeverIdle, is_idle}
 
--- what was sent, taken, offered, hung up and opened again is what the definitions say
+-- what was sent, taken, offered, hung up and opened again is what the definitions say, and the hub wasn't opened
 pub record Serves (p : Proxy) (calls : List Call) : Type 0 where
   pub sends : SendsWhatWaits p calls
   pub takes : TakesTheFirst p calls
   pub offers : OffersBeforeEachNext p calls
   pub hangs_up : hang_ups calls ≡ due_hang_ups p calls
   pub reopens : Reopens p calls
+  pub no_opening : AllByRecursion IsNoOpening calls
 
--- it also didn't go on once nobody had been there for so long, or once so many turns were taken
+-- nothing has ended it either: the hub didn't, somebody was there within so long, and the hub was asked at most so often
 pub record GoesOn (p : Proxy) (limit : Option ℕ) (turns : ℕ) (calls : List Call) : Type 0 where
   pub serves : Serves p calls
+  pub no_end : AllByRecursion IsNoEnd calls
   pub awake : NeverIdle p limit calls
   pub counted : turns_in calls ≤ turns
 
--- its last call was this one
+-- it went on until its last call, which was this one
 pub record EndsWith (p : Proxy) (limit : Option ℕ) (turns : ℕ) (last : Call) (calls : List Call) : Type 0 where
   pub earlier : List Call
   pub whole : calls ≡ last ∷ earlier
-  pub goes_on : GoesOn p limit turns calls
-
--- the clock was told, and nobody has been there for so long
-pub record EndsIdle (p : Proxy) (limit : Option ℕ) (turns : ℕ) (calls : List Call) : Type 0 where
-  pub time : ℕ
-  pub past : List Event
-  pub newest : events calls ≡ Now time ∷ past
-  pub idle : is_idle p limit (events calls) ≡ true
+  pub goes_on : GoesOn p limit turns earlier
   pub serves : Serves p calls
-  pub awake : AwakeBefore p limit calls
   pub counted : turns_in calls ≤ turns
 
--- for the event of its last call memory ran out, and nothing more was done
-pub record EndsEarly (p : Proxy) (limit : Option ℕ) (turns : ℕ) (calls : List Call) : Type 0 where
-  pub event : Event
+-- it went on until the clock was told and nobody had been there for so long; there were hang-ups after that, and no other calls
+pub record EndsIdle (p : Proxy) (limit : Option ℕ) (turns : ℕ) (calls : List Call) : Type 0 where
+  pub time : ℕ
   pub earlier : List Call
-  pub whole : calls ≡ Told event ∷ earlier
+  pub hung_up : List ℕ
+  pub whole : calls ≡ hanging_up hung_up ++ Told (Now time) ∷ earlier
+  pub idle : is_idle p limit (Now time ∷ events earlier) ≡ true
   pub goes_on : GoesOn p limit turns earlier
+  pub serves : Serves p calls
+  pub counted : turns_in calls ≤ turns
+
+-- it went on until its last call, which told that a client joined, for whom there was no memory
+pub record EndsEarly (p : Proxy) (limit : Option ℕ) (turns : ℕ) (calls : List Call) : Type 0 where
+  pub conn : ℕ
+  pub earlier : List Call
+  pub whole : calls ≡ Told (Joined conn) ∷ earlier
+  pub goes_on : GoesOn p limit turns earlier
+  pub offers : OffersBeforeEachNext p calls
+  pub reopens : ReopensBeforeEachNext p calls
+  pub counted : turns_in calls ≤ turns
 
 abbrev pub RanOut : Proxy → Option ℕ → ℕ → List Call → Type 0
 RanOut p limit turns calls = GoesOn p limit turns calls ⊎ EndsEarly p limit turns calls

@@ -2,7 +2,7 @@
 use Rattle.std.specs.Prelude.{◌≤◌, ◌≡◌, ◌⊎◌, ℕ, zero, suc, ◌+◌, ◌<◌, Bool, true, false, ◌&&◌, ◌==◌, nat_le, if◌then◌else◌, List, [], ◌∷◌, ◌++◌, length, take, reverse, Option, Some, None}
 use Rattle.std.specs.List.{AllByRecursion}
 use Rattle.proxy_history.specs.Events.{Event, Joined, ModemGone, ModemBack, Now}
-use Rattle.hub_io.specs.Record.{Call, Told, ToldRoom, ToldModemRoom, ToldStop, NextFailed, Sent, SendFailed, SentModem, SendModemFailed, Reopened, ReopenFailed, HungUp, events}
+use Rattle.hub_io.specs.Record.{Call, Told, ToldRoom, ToldModemRoom, ToldStop, NextFailed, Sent, SendFailed, SentModem, SendModemFailed, Opened, Reopened, ReopenFailed, HungUp, events}
 
 -- what a proxy's definitions say of the events that it met
 pub record Proxy : Type 0 where
@@ -106,7 +106,17 @@ hang_ups [] = []
 hang_ups (HungUp c ∷ calls) = c ∷ hang_ups calls
 hang_ups (_ ∷ calls) = hang_ups calls
 
--- ---- reopening ----
+-- the hang-ups of these, and no other calls
+abbrev pub hanging_up : List ℕ → List Call
+hanging_up [] = []
+hanging_up (c ∷ names) = HungUp c ∷ hanging_up names
+
+-- ---- opening and reopening ----
+
+-- the hub wasn't opened by this call
+abbrev pub IsNoOpening : Call → Type 0
+IsNoOpening (Opened socket device ok) = ⊥
+IsNoOpening _ = Unit {0}
 
 -- how often the modem was opened again, or tried to be, since the hub was last asked for what comes next
 unfoldable pub reopenings : List Call → ℕ
@@ -144,13 +154,21 @@ pub record Reopens (p : Proxy) (calls : List Call) : Type 0 where
 
 -- ---- ends ----
 
--- how often the hub told something
+-- how often the hub was asked for what comes next
 unfoldable pub turns_in : List Call → ℕ
 turns_in [] = 0
 turns_in (Told event ∷ calls) = turns_in calls + 1
 turns_in (ToldRoom c ∷ calls) = turns_in calls + 1
 turns_in (ToldModemRoom ∷ calls) = turns_in calls + 1
+turns_in (ToldStop ∷ calls) = turns_in calls + 1
+turns_in (NextFailed ∷ calls) = turns_in calls + 1
 turns_in (_ ∷ calls) = turns_in calls
+
+-- the hub didn't say by it that the serving is to end, nor fail to tell what comes next
+abbrev pub IsNoEnd : Call → Type 0
+IsNoEnd ToldStop = ⊥
+IsNoEnd NextFailed = ⊥
+IsNoEnd _ = Unit {0}
 
 abbrev pub is_nobody : List ℕ → Bool
 is_nobody names = length names == 0
@@ -170,9 +188,3 @@ abbrev pub NeverIdle : Proxy → Option ℕ → List Call → Type 0
 NeverIdle p limit [] = Unit {0}
 NeverIdle p limit (Told (Now time) ∷ calls) = (is_idle p limit (Now time ∷ events calls) ≡ false) × NeverIdle p limit calls
 NeverIdle p limit (_ ∷ calls) = NeverIdle p limit calls
-
--- the same of all that was before the hub told the newest event
-abbrev pub AwakeBefore : Proxy → Option ℕ → List Call → Type 0
-AwakeBefore p limit [] = Unit {0}
-AwakeBefore p limit (Told event ∷ calls) = NeverIdle p limit calls
-AwakeBefore p limit (_ ∷ calls) = AwakeBefore p limit calls

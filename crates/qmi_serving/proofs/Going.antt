@@ -12,7 +12,7 @@ use Rattle.qmi_proxy.specs.History.{history, text_for}
 use Rattle.qmi_state.specs.Core.{Core, Stands}
 use Rattle.proxy_serving.specs.Serving.{IsFront, AllIsOffered, taken_by, is_blocked, hang_ups, due_hang_ups, turns_in, NeverIdle, emptied_at, is_modem_blocked, reopenings, due_reopenings}
 use Rattle.proxy_serving.proofs.Offering.{AreBlocked, differs_from_all, blocked-sent_none, blocked-sent_none_on, blocked_but, blocked_others, all_on, all_joined}
-use Rattle.proxy_serving.specs.Ends.{Serves}
+use Rattle.proxy_serving.specs.Ends.{Serves, GoesOn}
 use Rattle.qmi_serving.specs.Serving.{proxy_of}
 use Rattle.qmi_serving.specs.Progress.{IsServing, names_left, MayBeTold}
 use Rattle.qmi_serving.specs.declared.server.Server.{Server}
@@ -21,7 +21,7 @@ use Rattle.qmi_serving.proofs.Offers.{events-sent, events-sent_none, events-hung
 
 -- ---- what is known, call by call ----
 
-module _ {s : Setup} {limit : Option ℕ} {turns : ℕ} {server : Server} {calls : List Call} (going : IsServing s limit turns server calls) where
+module _ {s : Setup} {turns : ℕ} {server : Server} {calls : List Call} (going : IsServing s turns server calls) where
   stands_for : (core : Core) (past later : List Event) → later ≡ past → Stands s past core → Stands s later core
   stands_for core past later is stands = let P : List Event → Type 0 = λ l. Stands s l core in subst P (sym is) stands
 
@@ -31,7 +31,7 @@ module _ {s : Setup} {limit : Option ℕ} {turns : ℕ} {server : Server} {calls
 
   -- the next dropped connection is hung up
   pub serving-hung_up : (c : ℕ) (now : Server) → names_left server.core ≡ c ∷ names_left now.core → Stands s (events calls) now.core → AreBlocked calls now.blocked → now.modem_blocked ≡ server.modem_blocked → now.emptied ≡ server.emptied
-      → IsServing s limit turns now (HungUp c ∷ calls)
+      → IsServing s turns now (HungUp c ∷ calls)
   unfolding hang_ups due_hang_ups is_blocked turns_in taken_by events is_modem_blocked reopenings due_reopenings
   serving-hung_up c now left stands blocked modem emptied = record {
     stands = stands_for now.core (events calls) (events (HungUp c ∷ calls)) (events-hung_up c calls) stands;
@@ -43,7 +43,8 @@ module _ {s : Setup} {limit : Option ℕ} {turns : ℕ} {server : Server} {calls
         ∙ ap (λ (l : List ℕ). l ++ hang_ups calls) (sym (reverse-append (c ∷ []) (names_left now.core)) ∙ ap reverse (sym left))
         ∙ going.hangs_up;
     reopens = record { before_next = going.reopens.before_next; no_more = going.reopens.no_more };
-    awake = going.awake;
+    no_opening = (tt, going.no_opening);
+    no_end = (tt, going.no_end);
     counted = going.counted;
     blocked = blocked;
     modem_blocked = λ is. going.modem_blocked (sym modem ∙ is);
@@ -52,7 +53,7 @@ module _ {s : Setup} {limit : Option ℕ} {turns : ℕ} {server : Server} {calls
 
   -- a sending took nothing
   pub serving-sent_none : (c : ℕ) (bytes : List ℕ) (now : Server) → IsFront bytes (text_for s c (events calls)).waiting → now.core ≡ server.core → now.blocked ≡ server.blocked ++ c ∷ [] → now.modem_blocked ≡ server.modem_blocked → now.emptied ≡ server.emptied
-      → IsServing s limit turns now (Sent c bytes 0 ∷ calls)
+      → IsServing s turns now (Sent c bytes 0 ∷ calls)
   unfolding hang_ups due_hang_ups turns_in is_modem_blocked reopenings due_reopenings
   serving-sent_none c bytes now front core blocked modem emptied = record {
     stands = stands_for now.core (events calls) (events (Sent c bytes 0 ∷ calls)) (events-sent_none c bytes calls) (subst (Stands s (events calls)) (sym core) going.stands);
@@ -61,7 +62,8 @@ module _ {s : Setup} {limit : Option ℕ} {turns : ℕ} {server : Server} {calls
     offers = going.offers;
     hangs_up = ap (λ (k : Core). reverse (names_left k) ++ hang_ups calls) core ∙ going.hangs_up;
     reopens = record { before_next = going.reopens.before_next; no_more = going.reopens.no_more };
-    awake = going.awake;
+    no_opening = (tt, going.no_opening);
+    no_end = (tt, going.no_end);
     counted = going.counted;
     blocked = subst (AreBlocked (Sent c bytes 0 ∷ calls)) (sym blocked)
         (all_joined _ server.blocked (c ∷ []) (all_on (λ d is. blocked-sent_none_on c d bytes calls is) server.blocked going.blocked) (blocked-sent_none c bytes calls, tt));
@@ -72,7 +74,7 @@ module _ {s : Setup} {limit : Option ℕ} {turns : ℕ} {server : Server} {calls
   -- a sending took bytes
   pub serving-sent : (c : ℕ) (bytes : List ℕ) (taken : ℕ) (now : Server) → (taken == 0) ≡ false → taken ≤ length bytes → is_present c (history s (events calls)) ≡ true → IsFront bytes (text_for s c (events calls)).waiting → contains c server.blocked ≡ false → names_left server.core ≡ [] → names_left now.core ≡ []
       → Stands s (Took c taken ∷ events calls) now.core → now.blocked ≡ server.blocked → now.modem_blocked ≡ server.modem_blocked → now.emptied ≡ emptied_at (proxy_of s) (Took c taken ∷ events calls)
-      → IsServing s limit turns now (Sent c bytes taken ∷ calls)
+      → IsServing s turns now (Sent c bytes taken ∷ calls)
   unfolding hang_ups due_hang_ups turns_in is_modem_blocked reopenings due_reopenings
   serving-sent c bytes taken now some within there front free before after stands blocked modem emptied = record {
     stands = stands_for now.core (Took c taken ∷ events calls) (events (Sent c bytes taken ∷ calls)) (events-sent c bytes taken calls some) stands;
@@ -81,7 +83,8 @@ module _ {s : Setup} {limit : Option ℕ} {turns : ℕ} {server : Server} {calls
     offers = going.offers;
     hangs_up = ap (λ (l : List ℕ). reverse l ++ hang_ups calls) after ∙ none_due before;
     reopens = record { before_next = going.reopens.before_next; no_more = going.reopens.no_more };
-    awake = going.awake;
+    no_opening = (tt, going.no_opening);
+    no_end = (tt, going.no_end);
     counted = going.counted;
     blocked = subst (AreBlocked (Sent c bytes taken ∷ calls)) (sym blocked) (blocked_others c bytes taken calls server.blocked (differs_from_all c server.blocked free) going.blocked);
     modem_blocked = λ is. going.modem_blocked (sym modem ∙ is);
@@ -91,7 +94,7 @@ module _ {s : Setup} {limit : Option ℕ} {turns : ℕ} {server : Server} {calls
   -- a sending failed, and its connection was hung up
   pub serving-failed : (c : ℕ) (bytes : List ℕ) (now : Server) → IsFront bytes (text_for s c (events calls)).waiting → names_left server.core ≡ [] → names_left now.core ≡ []
       → Stands s (Left c ∷ events calls) now.core → AreBlocked calls now.blocked → now.modem_blocked ≡ server.modem_blocked → now.emptied ≡ emptied_at (proxy_of s) (Left c ∷ events calls)
-      → IsServing s limit turns now (HungUp c ∷ SendFailed c bytes ∷ calls)
+      → IsServing s turns now (HungUp c ∷ SendFailed c bytes ∷ calls)
   unfolding hang_ups due_hang_ups is_blocked events turns_in taken_by is_modem_blocked reopenings due_reopenings
   serving-failed c bytes now front before after stands blocked modem emptied = record {
     stands = stands;
@@ -100,7 +103,8 @@ module _ {s : Setup} {limit : Option ℕ} {turns : ℕ} {server : Server} {calls
     offers = going.offers;
     hangs_up = ap (λ (l : List ℕ). reverse l ++ c ∷ hang_ups calls) after ∙ ap (λ (l : List ℕ). c ∷ l) (none_due before);
     reopens = record { before_next = going.reopens.before_next; no_more = going.reopens.no_more };
-    awake = going.awake;
+    no_opening = (tt, (tt, going.no_opening));
+    no_end = (tt, (tt, going.no_end));
     counted = going.counted;
     blocked = blocked;
     modem_blocked = λ is. going.modem_blocked (sym modem ∙ is);
@@ -108,11 +112,11 @@ module _ {s : Setup} {limit : Option ℕ} {turns : ℕ} {server : Server} {calls
   }
 
   -- the hub told an event, once all was offered
-  pub serving-told : (known : ℕ) (event : Event) (now : Server) → MayBeTold known event → NeverIdle (proxy_of s) limit calls → reopenings calls ≡ due_reopenings (proxy_of s) calls → AllIsOffered (proxy_of s) calls → names_left server.core ≡ [] → names_left now.core ≡ dropped (history s (event ∷ events calls))
+  pub serving-told : (known : ℕ) (event : Event) (now : Server) → MayBeTold known event → reopenings calls ≡ due_reopenings (proxy_of s) calls → AllIsOffered (proxy_of s) calls → names_left server.core ≡ [] → names_left now.core ≡ dropped (history s (event ∷ events calls))
       → Stands s (event ∷ events calls) now.core → now.blocked ≡ server.blocked → now.modem_blocked ≡ server.modem_blocked → now.emptied ≡ emptied_at (proxy_of s) (event ∷ events calls)
-      → IsServing s limit (turns + 1) now (Told event ∷ calls)
+      → IsServing s (turns + 1) now (Told event ∷ calls)
   unfolding hang_ups due_hang_ups is_blocked events turns_in is_modem_blocked reopenings due_reopenings
-  serving-told known event now may awake in_time offered before after stands blocked modem emptied = record {
+  serving-told known event now may in_time offered before after stands blocked modem emptied = record {
     stands = stands;
     sends = going.sends;
     takes = takes-told s known event calls may going.takes;
@@ -120,7 +124,8 @@ module _ {s : Setup} {limit : Option ℕ} {turns : ℕ} {server : Server} {calls
     hangs_up =
         ap (λ (l : List ℕ). reverse l ++ hang_ups calls) after ∙ ap (λ (l : List ℕ). reverse (dropped (history s (event ∷ events calls))) ++ l) (none_due before);
     reopens = record { before_next = (in_time, going.reopens.before_next); no_more = omega arith };
-    awake = awake;
+    no_opening = (tt, going.no_opening);
+    no_end = (tt, going.no_end);
     counted = ap (λ (n : ℕ). n + 1) going.counted;
     blocked = subst (λ (l : List ℕ). AreBlocked (Told event ∷ calls) l) (sym blocked) going.blocked;
     modem_blocked = λ is. going.modem_blocked (sym modem ∙ is);
@@ -129,7 +134,7 @@ module _ {s : Setup} {limit : Option ℕ} {turns : ℕ} {server : Server} {calls
 
   -- the hub told that a client's socket takes bytes again
   pub serving-room : (c : ℕ) (now : Server) → reopenings calls ≡ due_reopenings (proxy_of s) calls → AllIsOffered (proxy_of s) calls → now.core ≡ server.core → now.blocked ≡ without c server.blocked → now.modem_blocked ≡ server.modem_blocked → now.emptied ≡ server.emptied
-      → IsServing s limit (turns + 1) now (ToldRoom c ∷ calls)
+      → IsServing s (turns + 1) now (ToldRoom c ∷ calls)
   unfolding hang_ups due_hang_ups events turns_in taken_by is_modem_blocked reopenings due_reopenings
   serving-room c now in_time offered core blocked modem emptied = record {
     stands = subst (Stands s (events calls)) (sym core) going.stands;
@@ -138,7 +143,8 @@ module _ {s : Setup} {limit : Option ℕ} {turns : ℕ} {server : Server} {calls
     offers = (offered, going.offers);
     hangs_up = ap (λ (k : Core). reverse (names_left k) ++ hang_ups calls) core ∙ going.hangs_up;
     reopens = record { before_next = (in_time, going.reopens.before_next); no_more = omega arith };
-    awake = going.awake;
+    no_opening = (tt, going.no_opening);
+    no_end = (tt, going.no_end);
     counted = ap (λ (n : ℕ). n + 1) going.counted;
     blocked = subst (AreBlocked (ToldRoom c ∷ calls)) (sym blocked) (blocked_but c calls server.blocked going.blocked);
     modem_blocked = λ is. going.modem_blocked (sym modem ∙ is);
@@ -146,7 +152,7 @@ module _ {s : Setup} {limit : Option ℕ} {turns : ℕ} {server : Server} {calls
   }
 
   pub serving-modem_room : (now : Server) → reopenings calls ≡ due_reopenings (proxy_of s) calls → AllIsOffered (proxy_of s) calls → now.core ≡ server.core → now.blocked ≡ server.blocked → now.modem_blocked ≡ false → now.emptied ≡ server.emptied
-      → IsServing s limit (turns + 1) now (ToldModemRoom ∷ calls)
+      → IsServing s (turns + 1) now (ToldModemRoom ∷ calls)
   unfolding hang_ups due_hang_ups is_blocked events turns_in taken_by is_modem_blocked reopenings due_reopenings
   serving-modem_room now in_time offered core blocked modem emptied = record {
     stands = subst (Stands s (events calls)) (sym core) going.stands;
@@ -155,7 +161,8 @@ module _ {s : Setup} {limit : Option ℕ} {turns : ℕ} {server : Server} {calls
     offers = (offered, going.offers);
     hangs_up = ap (λ (k : Core). reverse (names_left k) ++ hang_ups calls) core ∙ going.hangs_up;
     reopens = record { before_next = (in_time, going.reopens.before_next); no_more = omega arith };
-    awake = going.awake;
+    no_opening = (tt, going.no_opening);
+    no_end = (tt, going.no_end);
     counted = ap (λ (n : ℕ). n + 1) going.counted;
     blocked = subst (λ (l : List ℕ). AreBlocked (ToldModemRoom ∷ calls) l) (sym blocked) going.blocked;
     modem_blocked = λ is. absurd (false≢true (sym modem ∙ is));
@@ -166,7 +173,7 @@ module _ {s : Setup} {limit : Option ℕ} {turns : ℕ} {server : Server} {calls
 
   -- a sending to the modem took nothing
   pub serving-modem_sent_none : (bytes : List ℕ) (now : Server) → IsFront bytes (modem_queue wire (history s (events calls))) → now.core ≡ server.core → now.blocked ≡ server.blocked → now.emptied ≡ server.emptied
-      → IsServing s limit turns now (SentModem bytes 0 ∷ calls)
+      → IsServing s turns now (SentModem bytes 0 ∷ calls)
   unfolding hang_ups due_hang_ups is_blocked events turns_in taken_by is_modem_blocked reopenings due_reopenings
   serving-modem_sent_none bytes now front core blocked emptied = record {
     stands = subst (Stands s (events calls)) (sym core) going.stands;
@@ -175,7 +182,8 @@ module _ {s : Setup} {limit : Option ℕ} {turns : ℕ} {server : Server} {calls
     offers = going.offers;
     hangs_up = ap (λ (k : Core). reverse (names_left k) ++ hang_ups calls) core ∙ going.hangs_up;
     reopens = record { before_next = going.reopens.before_next; no_more = going.reopens.no_more };
-    awake = going.awake;
+    no_opening = (tt, going.no_opening);
+    no_end = (tt, going.no_end);
     counted = going.counted;
     blocked = subst (λ (l : List ℕ). AreBlocked (SentModem bytes 0 ∷ calls) l) (sym blocked) going.blocked;
     modem_blocked = λ is. refl;
@@ -185,7 +193,7 @@ module _ {s : Setup} {limit : Option ℕ} {turns : ℕ} {server : Server} {calls
   -- it took bytes
   pub serving-modem_sent : (bytes : List ℕ) (taken : ℕ) (now : Server) → (taken == 0) ≡ false → IsFront bytes (modem_queue wire (history s (events calls))) → names_left server.core ≡ [] → names_left now.core ≡ []
       → Stands s (ModemTook taken ∷ events calls) now.core → now.blocked ≡ server.blocked → server.modem_blocked ≡ false → now.modem_blocked ≡ server.modem_blocked → now.emptied ≡ emptied_at (proxy_of s) (ModemTook taken ∷ events calls)
-      → IsServing s limit turns now (SentModem bytes taken ∷ calls)
+      → IsServing s turns now (SentModem bytes taken ∷ calls)
   unfolding hang_ups due_hang_ups is_blocked turns_in taken_by reopenings due_reopenings
   serving-modem_sent bytes taken now some front before after stands blocked free modem emptied = record {
     stands = stands_for now.core (ModemTook taken ∷ events calls) (events (SentModem bytes taken ∷ calls)) (events-sent_modem bytes taken calls some) stands;
@@ -194,7 +202,8 @@ module _ {s : Setup} {limit : Option ℕ} {turns : ℕ} {server : Server} {calls
     offers = going.offers;
     hangs_up = ap (λ (l : List ℕ). reverse l ++ hang_ups calls) after ∙ none_due before;
     reopens = record { before_next = going.reopens.before_next; no_more = going.reopens.no_more };
-    awake = going.awake;
+    no_opening = (tt, going.no_opening);
+    no_end = (tt, going.no_end);
     counted = going.counted;
     blocked = subst (λ (l : List ℕ). AreBlocked (SentModem bytes taken ∷ calls) l) (sym blocked) going.blocked;
     modem_blocked = λ is. absurd (false≢true (sym (modem ∙ free) ∙ is));
@@ -204,7 +213,7 @@ module _ {s : Setup} {limit : Option ℕ} {turns : ℕ} {server : Server} {calls
   -- it failed, so the modem is gone
   pub serving-modem_failed : (bytes : List ℕ) (now : Server) → IsFront bytes (modem_queue wire (history s (events calls))) → names_left server.core ≡ [] → names_left now.core ≡ dropped (history s (ModemGone ∷ events calls))
       → Stands s (ModemGone ∷ events calls) now.core → now.blocked ≡ server.blocked → server.modem_blocked ≡ false → now.modem_blocked ≡ server.modem_blocked → now.emptied ≡ emptied_at (proxy_of s) (ModemGone ∷ events calls)
-      → IsServing s limit turns now (SendModemFailed bytes ∷ calls)
+      → IsServing s turns now (SendModemFailed bytes ∷ calls)
   unfolding hang_ups due_hang_ups is_blocked events turns_in taken_by reopenings due_reopenings
   serving-modem_failed bytes now front before after stands blocked free modem emptied = record {
     stands = stands;
@@ -214,7 +223,8 @@ module _ {s : Setup} {limit : Option ℕ} {turns : ℕ} {server : Server} {calls
     hangs_up =
         ap (λ (l : List ℕ). reverse l ++ hang_ups calls) after ∙ ap (λ (l : List ℕ). reverse (dropped (history s (ModemGone ∷ events calls))) ++ l) (none_due before);
     reopens = record { before_next = going.reopens.before_next; no_more = going.reopens.no_more };
-    awake = going.awake;
+    no_opening = (tt, going.no_opening);
+    no_end = (tt, going.no_end);
     counted = going.counted;
     blocked = subst (λ (l : List ℕ). AreBlocked (SendModemFailed bytes ∷ calls) l) (sym blocked) going.blocked;
     modem_blocked = λ is. absurd (false≢true (sym (modem ∙ free) ∙ is));
@@ -224,7 +234,7 @@ module _ {s : Setup} {limit : Option ℕ} {turns : ℕ} {server : Server} {calls
   -- the modem was opened again
   pub serving-reopened : (now : Server) → reopenings calls ≡ 0 → due_reopenings (proxy_of s) calls ≡ 1 → names_left server.core ≡ [] → names_left now.core ≡ dropped (history s (ModemBack ∷ events calls))
       → Stands s (ModemBack ∷ events calls) now.core → now.blocked ≡ server.blocked → now.modem_blocked ≡ false → now.emptied ≡ emptied_at (proxy_of s) (ModemBack ∷ events calls)
-      → IsServing s limit turns now (Reopened ∷ calls)
+      → IsServing s turns now (Reopened ∷ calls)
   unfolding hang_ups due_hang_ups is_blocked events turns_in taken_by reopenings due_reopenings
   serving-reopened now not_yet due before after stands blocked modem emptied = record {
     stands = stands;
@@ -234,7 +244,8 @@ module _ {s : Setup} {limit : Option ℕ} {turns : ℕ} {server : Server} {calls
     hangs_up =
         ap (λ (l : List ℕ). reverse l ++ hang_ups calls) after ∙ ap (λ (l : List ℕ). reverse (dropped (history s (ModemBack ∷ events calls))) ++ l) (none_due before);
     reopens = record { before_next = going.reopens.before_next; no_more = omega (arith, not_yet, due) };
-    awake = going.awake;
+    no_opening = (tt, going.no_opening);
+    no_end = (tt, going.no_end);
     counted = going.counted;
     blocked = subst (λ (l : List ℕ). AreBlocked (Reopened ∷ calls) l) (sym blocked) going.blocked;
     modem_blocked = λ is. absurd (false≢true (sym modem ∙ is));
@@ -242,7 +253,7 @@ module _ {s : Setup} {limit : Option ℕ} {turns : ℕ} {server : Server} {calls
   }
 
   -- or it couldn't be
-  pub serving-reopen_failed : reopenings calls ≡ 0 → due_reopenings (proxy_of s) calls ≡ 1 → IsServing s limit turns server (ReopenFailed ∷ calls)
+  pub serving-reopen_failed : reopenings calls ≡ 0 → due_reopenings (proxy_of s) calls ≡ 1 → IsServing s turns server (ReopenFailed ∷ calls)
   unfolding hang_ups due_hang_ups is_blocked events turns_in taken_by is_modem_blocked reopenings due_reopenings
   serving-reopen_failed not_yet due = record {
     stands = going.stands;
@@ -251,7 +262,8 @@ module _ {s : Setup} {limit : Option ℕ} {turns : ℕ} {server : Server} {calls
     offers = going.offers;
     hangs_up = going.hangs_up;
     reopens = record { before_next = going.reopens.before_next; no_more = omega (arith, not_yet, due) };
-    awake = going.awake;
+    no_opening = (tt, going.no_opening);
+    no_end = (tt, going.no_end);
     counted = going.counted;
     blocked = going.blocked;
     modem_blocked = going.modem_blocked;
@@ -260,13 +272,16 @@ module _ {s : Setup} {limit : Option ℕ} {turns : ℕ} {server : Server} {calls
 
   -- once all hang-ups are done
   pub serves : names_left server.core ≡ [] → Serves (proxy_of s) calls
-  serves none = record { sends = going.sends; takes = going.takes; offers = going.offers; hangs_up = none_due none; reopens = going.reopens }
+  serves none = record { sends = going.sends; takes = going.takes; offers = going.offers; hangs_up = none_due none; reopens = going.reopens; no_opening = going.no_opening }
+
+  pub goes_on : {limit : Option ℕ} → names_left server.core ≡ [] → NeverIdle (proxy_of s) limit calls → GoesOn (proxy_of s) limit turns calls
+  goes_on none awake = record { serves = serves none; no_end = going.no_end; awake = awake; counted = omega (arith, going.counted) }
 
   -- the last call was to stop, or failed
   pub serves-stop : reopenings calls ≡ due_reopenings (proxy_of s) calls → AllIsOffered (proxy_of s) calls → names_left server.core ≡ [] → Serves (proxy_of s) (ToldStop ∷ calls)
   unfolding hang_ups due_hang_ups taken_by events reopenings due_reopenings
-  serves-stop in_time offered none = record { sends = going.sends; takes = going.takes; offers = (offered, going.offers); hangs_up = none_due none; reopens = record { before_next = (in_time, going.reopens.before_next); no_more = going.reopens.no_more } }
+  serves-stop in_time offered none = record { sends = going.sends; takes = going.takes; offers = (offered, going.offers); hangs_up = none_due none; reopens = record { before_next = (in_time, going.reopens.before_next); no_more = going.reopens.no_more }; no_opening = (tt, going.no_opening) }
 
   pub serves-failed : reopenings calls ≡ due_reopenings (proxy_of s) calls → AllIsOffered (proxy_of s) calls → names_left server.core ≡ [] → Serves (proxy_of s) (NextFailed ∷ calls)
   unfolding hang_ups due_hang_ups taken_by events reopenings due_reopenings
-  serves-failed in_time offered none = record { sends = going.sends; takes = going.takes; offers = (offered, going.offers); hangs_up = none_due none; reopens = record { before_next = (in_time, going.reopens.before_next); no_more = going.reopens.no_more } }
+  serves-failed in_time offered none = record { sends = going.sends; takes = going.takes; offers = (offered, going.offers); hangs_up = none_due none; reopens = record { before_next = (in_time, going.reopens.before_next); no_more = going.reopens.no_more }; no_opening = (tt, going.no_opening) }

@@ -18,7 +18,7 @@ use Rattle.qmi_serving.specs.Progress.{IsServing, HasOffered, IsAt, names_left, 
 use Rattle.qmi_serving.specs.declared.server.Server.{Server}
 use Rattle.qmi_serving.proofs.Histories.{present-took, present-left, dropped-took, dropped-left}
 use Rattle.qmi_serving.proofs.Offers.{events-sent, events-sent_none, events-send_failed, events-hung_up, offered-sent_none, offered-sent, offered-send_failed, offered-hung_up, earlier_differ, without-at}
-use Rattle.qmi_serving.proofs.Going.{serving-sent_none, serving-sent, serving-failed, serves}
+use Rattle.qmi_serving.proofs.Going.{serving-sent_none, serving-sent, serving-failed, goes_on}
 use Rattle.qmi_serving.proofs.Cores.{contains-middle, slice_get-at, queue_is, names_are, none_left, emptied_is, first_is, none_is}
 
 -- the whole queue is a front of it
@@ -85,7 +85,7 @@ module _ {s : Setup} {limit : Option ℕ} {turns count c : ℕ} {server : Server
   at-sent_none_unnoted bytes front none =
       let now : Server = record { core = server.core; blocked = server.blocked ++ c ∷ []; modem_blocked = server.modem_blocked; emptied = server.emptied } in
       let serving = serving-sent_none at.serving c bytes now (front_of_waiting bytes front) refl refl refl refl in
-      record { serves = serves serving none; awake = at.awake; counted = omega (arith, serving.counted) }
+      goes_on serving none at.awake
 
   pub at-sent : (bytes : List ℕ) (taken : ℕ) (now : Server) → (taken == 0) ≡ false → taken ≤ length bytes → IsFront bytes (queue_of c server.core) → contains c server.blocked ≡ false → names_left server.core ≡ []
       → StandsAfter s (Took c taken ∷ events calls) now.core → now.blocked ≡ server.blocked → now.modem_blocked ≡ server.modem_blocked → now.emptied ≡ emptied_after server.core server.emptied now.core
@@ -167,7 +167,7 @@ module _ {s : Setup} {limit : Option ℕ} {turns count : ℕ} {server : Server} 
       }
 
 -- nobody was offered anything yet
-pub none_offered : {s : Setup} {limit : Option ℕ} {turns : ℕ} {server : Server} {calls : List Call} → IsServing s limit turns server calls → NeverIdle (proxy_of s) limit calls → reopenings calls ≡ due_reopenings (proxy_of s) calls → HasOffered s limit turns 0 server calls
+pub none_offered : {s : Setup} {limit : Option ℕ} {turns : ℕ} {server : Server} {calls : List Call} → IsServing s turns server calls → NeverIdle (proxy_of s) limit calls → reopenings calls ≡ due_reopenings (proxy_of s) calls → HasOffered s limit turns 0 server calls
 none_offered {s = s} {calls = calls} serving awake in_time = record { serving = serving; awake = awake; in_time = in_time; done = []; todo = present (history s (events calls)); whole = refl; counted = refl; offered = tt }
 
 -- a list of no length

@@ -11,17 +11,17 @@ use Rattle.hub_io.specs.declared.settings.ServeEnd.{ServeEnd}
 use Rattle.hub_io.specs.declared.settings.ServeEnd.TheVariants as end
 use Rattle.proxy_serving.specs.Carrying.{Carries}
 use Rattle.proxy_serving.proofs.Carrying.{Carries-call}
-use Rattle.proxy_serving.proofs.Ends.{goes_on_further}
+use Rattle.proxy_serving.proofs.Ends.{goes_on_further, ends_with_further, ends_idle_further}
 use Rattle.qmi_proxy.specs.Setup.{Setup}
 use Rattle.qmi_proxy.specs.History.{history}
-use Rattle.qmi_state.specs.Core.{Core, Leftover, Stands, StandsAfter}
-use Rattle.proxy_serving.specs.Serving.{Proxy, IsOffered, is_blocked, hang_ups, due_hang_ups, turns_in, NeverIdle, is_idle, emptied_at, reopenings, due_reopenings}
-use Rattle.proxy_serving.specs.Ends.{GoesOn, EndsWith, EndsIdle, EndsSpent, EndsSo, RanOut}
+use Rattle.qmi_state.specs.Core.{Core, Leftover, Stands, StandsAfter, IsJoined}
+use Rattle.proxy_serving.specs.Serving.{Proxy, OffersBeforeEachNext, IsOffered, is_blocked, hang_ups, due_hang_ups, hanging_up, turns_in, NeverIdle, is_idle, emptied_at, ReopensBeforeEachNext, reopenings, due_reopenings}
+use Rattle.proxy_serving.specs.Ends.{Serves, EndsWith, EndsIdle, EndsSpent, EndsSo, RanOut}
 use Rattle.qmi_serving.specs.Serving.{proxy_of, emptied_after, is_idle_at, end_at, misses_modem}
-use Rattle.qmi_serving.specs.Progress.{IsServing, HasOffered, IsReady, IsOpened, HasTold, AfterMeeting, AfterTurn, EndsNow, names_left, MayBeTold, hanging_up, AfterEvent}
+use Rattle.qmi_serving.specs.Progress.{IsServing, HasOffered, IsReady, IsOpened, HasTold, AfterMeeting, AfterTurn, EndsNow, names_left, MayBeTold, AfterEvent}
 use Rattle.qmi_serving.specs.declared.server.Server.{Server}
 use Rattle.qmi_serving.proofs.Cores.{count_is, emptied_is, none_left}
-use Rattle.qmi_serving.proofs.Going.{serves, serves-stop, serves-failed, serving-told, serving-room, serving-modem_room}
+use Rattle.qmi_serving.proofs.Going.{serves, goes_on, serves-stop, serves-failed, serving-told, serving-room, serving-modem_room}
 use Rattle.qmi_serving.proofs.Places.{none_offered}
 use Rattle.qmi_serving.proofs.Takings.{takes-none}
 
@@ -47,7 +47,7 @@ due-hangs p [] calls = refl
 due-hangs p (c ∷ names) calls = due-hangs p names calls
 
 -- the dropped are hung up, and nobody was offered anything since
-pub offered-hangs : {s : Setup} {limit : Option ℕ} {turns count : ℕ} {server now : Server} {earlier : List Call} (names : List ℕ) → HasOffered s limit turns count server earlier → IsServing s limit turns now (hanging_up names ++ earlier)
+pub offered-hangs : {s : Setup} {limit : Option ℕ} {turns count : ℕ} {server now : Server} {earlier : List Call} (names : List ℕ) → HasOffered s limit turns count server earlier → IsServing s turns now (hanging_up names ++ earlier)
     → HasOffered s limit turns 0 now (hanging_up names ++ earlier)
 offered-hangs {s = s} {limit = limit} {earlier = earlier} names so serving =
     none_offered serving (never-hangs (proxy_of s) limit names earlier so.awake) (reopenings-hangs names earlier ∙ so.in_time ∙ sym (due-hangs (proxy_of s) names earlier))
@@ -127,27 +127,48 @@ goes_on_there time limit core emptied is =
 
 -- ---- the hub told an event ----
 
+who_joined : (event : Event) → IsJoined event → (c : ℕ) × (event ≡ Joined c)
+who_joined (Joined c) joined = (c, refl)
+who_joined (Piece c bytes) joined = absurd joined
+who_joined (Left c) joined = absurd joined
+who_joined (ModemPiece bytes) joined = absurd joined
+who_joined ModemGone joined = absurd joined
+who_joined ModemBack joined = absurd joined
+who_joined (Now time) joined = absurd joined
+who_joined (Took c count) joined = absurd joined
+who_joined (ModemTook count) joined = absurd joined
+
 module _ {s : Setup} {limit : Option ℕ} {turns : ℕ} {server : Server} {event : Event} {told : List Call} (has : HasTold s limit turns server (Told event) told) where
   -- it was met
   pub told-met : (known : ℕ) → MayBeTold known event → (now : Server) → names_left server.core ≡ [] → StandsAfter s (event ∷ events has.earlier) now.core → now.blocked ≡ server.blocked → now.modem_blocked ≡ server.modem_blocked → now.emptied ≡ emptied_after server.core server.emptied now.core
       → names_left now.core ≡ dropped (history s (event ∷ events has.earlier))
-      → IsServing s limit (turns + 1) now told
+      → IsServing s (turns + 1) now told
   told-met known may now none after blocked modem emptied all =
-      let P : List Call → Type 0 = IsServing s limit (turns + 1) now in
+      let P : List Call → Type 0 = IsServing s (turns + 1) now in
       subst P (sym has.whole)
-      (serving-told has.ready.serving known event now may has.ready.awake has.ready.in_time has.ready.offered none all after.stands blocked modem
+      (serving-told has.ready.serving known event now may has.ready.in_time has.ready.offered none all after.stands blocked modem
       (emptied ∙ emptied_is event server.emptied has.ready.serving.stands after.stands has.ready.serving.emptied))
 
   -- memory ran out for it
-  pub told-unmet : names_left server.core ≡ [] → RanOut (proxy_of s) limit (turns + 1) told
-  told-unmet none = inr (record {
-    event = event;
-    earlier = has.earlier;
-    whole = has.whole;
-    goes_on = record { serves = serves has.ready.serving none; awake = has.ready.awake; counted = omega (arith, has.ready.serving.counted) };
-  })
+  pub told-unmet : names_left server.core ≡ [] → IsJoined event → RanOut (proxy_of s) limit (turns + 1) told
+  unfolding turns_in
+  told-unmet none joined =
+      let who = who_joined event joined in
+      let whole : told ≡ Told (Joined who.0) ∷ has.earlier = has.whole ∙ ap (λ (e : Event). Told e ∷ has.earlier) who.1 in
+      let Offers : List Call → Type 0 = OffersBeforeEachNext (proxy_of s) in
+      let Reopens : List Call → Type 0 = ReopensBeforeEachNext (proxy_of s) in
+      let Counted : List Call → Type 0 = λ calls. turns_in calls ≤ turns + 1 in
+      inr (record {
+        conn = who.0;
+        earlier = has.earlier;
+        whole = whole;
+        goes_on = goes_on_further turns (turns + 1) (omega arith) (goes_on has.ready.serving none has.ready.awake);
+        offers = subst Offers (sym whole) (has.ready.offered, has.ready.serving.offers);
+        reopens = subst Reopens (sym whole) (has.ready.in_time, has.ready.serving.reopens.before_next);
+        counted = subst Counted (sym whole) (omega (arith, has.ready.serving.counted));
+      })
 
-  module _ {now : Server} (names : List ℕ) (serving : IsServing s limit (turns + 1) now (hanging_up names ++ told)) (none : names_left now.core ≡ []) where
+  module _ {now : Server} (names : List ℕ) (none_before : names_left server.core ≡ []) (serving : IsServing s (turns + 1) now (hanging_up names ++ told)) (none : names_left now.core ≡ []) where
     events_are : events (hanging_up names ++ told) ≡ event ∷ events has.earlier
     unfolding events
     events_are = events-hangs names told ∙ ap events has.whole
@@ -180,11 +201,12 @@ module _ {s : Setup} {limit : Option ℕ} {turns : ℕ} {server : Server} {event
               let Ends : ServeEnd → Type 0 = λ e. EndsNow s limit (turns + 1) e (hanging_up names ++ told) in
               let idle : EndsIdle (proxy_of s) limit (turns + 1) (hanging_up names ++ told) = record {
                 time = there.time;
-                past = events has.earlier;
-                newest = events_are ∙ ap (λ (e : Event). e ∷ events has.earlier) there.clock;
-                idle = ap (is_idle (proxy_of s) limit) events_are ∙ sym idle_here ∙ there.idle;
+                earlier = has.earlier;
+                hung_up = names;
+                whole = ap (λ (l : List Call). hanging_up names ++ l) (has.whole ∙ ap (λ (e : Event). Told e ∷ has.earlier) there.clock);
+                idle = ap (λ (e : Event). is_idle (proxy_of s) limit (e ∷ events has.earlier)) (sym there.clock) ∙ sym idle_here ∙ there.idle;
+                goes_on = goes_on_further turns (turns + 1) (omega arith) (goes_on has.ready.serving none_before has.ready.awake);
                 serves = serves serving none;
-                awake = serving.awake;
                 counted = omega (arith, serving.counted);
               } in
               subst Ends (sym there.empty) idle
@@ -211,21 +233,27 @@ module _ {s : Setup} {limit : Option ℕ} {turns : ℕ} {server : Server} {told 
   pub told-stop : names_left server.core ≡ [] → HasTold s limit turns server ToldStop told → EndsWith (proxy_of s) limit (turns + 1) ToldStop told
   unfolding turns_in
   told-stop none has =
-      let P : List Call → Type 0 = GoesOn (proxy_of s) limit (turns + 1) in
+      let All : List Call → Type 0 = Serves (proxy_of s) in
+      let Counted : List Call → Type 0 = λ calls. turns_in calls ≤ turns + 1 in
       record {
         earlier = has.earlier;
         whole = has.whole;
-        goes_on = subst P (sym has.whole) (record { serves = serves-stop has.ready.serving has.ready.in_time has.ready.offered none; awake = has.ready.awake; counted = omega (arith, has.ready.serving.counted) });
+        goes_on = goes_on_further turns (turns + 1) (omega arith) (goes_on has.ready.serving none has.ready.awake);
+        serves = subst All (sym has.whole) (serves-stop has.ready.serving has.ready.in_time has.ready.offered none);
+        counted = subst Counted (sym has.whole) (omega (arith, has.ready.serving.counted));
       }
 
   pub told-failed : names_left server.core ≡ [] → HasTold s limit turns server NextFailed told → EndsWith (proxy_of s) limit (turns + 1) NextFailed told
   unfolding turns_in
   told-failed none has =
-      let P : List Call → Type 0 = GoesOn (proxy_of s) limit (turns + 1) in
+      let All : List Call → Type 0 = Serves (proxy_of s) in
+      let Counted : List Call → Type 0 = λ calls. turns_in calls ≤ turns + 1 in
       record {
         earlier = has.earlier;
         whole = has.whole;
-        goes_on = subst P (sym has.whole) (record { serves = serves-failed has.ready.serving has.ready.in_time has.ready.offered none; awake = has.ready.awake; counted = omega (arith, has.ready.serving.counted) });
+        goes_on = goes_on_further turns (turns + 1) (omega arith) (goes_on has.ready.serving none has.ready.awake);
+        serves = subst All (sym has.whole) (serves-failed has.ready.serving has.ready.in_time has.ready.offered none);
+        counted = subst Counted (sym has.whole) (omega (arith, has.ready.serving.counted));
       }
 
 -- ---- a turn ----
@@ -254,16 +282,15 @@ turned s limit turns before now old new o came is carries =
 -- ---- the end ----
 
 pub ends_further : (s : Setup) (limit : Option ℕ) (calls : List Call) (why : ServeEnd) (turns more : ℕ) → turns ≤ more → EndsNow s limit turns why calls → EndsSo (proxy_of s) limit more why calls
-ends_further s limit calls end.Stopped turns more within ends = record { earlier = ends.earlier; whole = ends.whole; goes_on = goes_on_further turns more within ends.goes_on }
-ends_further s limit calls end.HubFault turns more within ends = record { earlier = ends.earlier; whole = ends.whole; goes_on = goes_on_further turns more within ends.goes_on }
-ends_further s limit calls end.Empty turns more within ends =
-    record { time = ends.time; past = ends.past; newest = ends.newest; idle = ends.idle; serves = ends.serves; awake = ends.awake; counted = omega (arith, ends.counted) }
+ends_further s limit calls end.Stopped turns more within ends = ends_with_further turns more within ends
+ends_further s limit calls end.HubFault turns more within ends = ends_with_further turns more within ends
+ends_further s limit calls end.Empty turns more within ends = ends_idle_further turns more within ends
 ends_further s limit calls end.TurnsSpent turns more within ends = absurd ends
 ends_further s limit calls end.OutOfMemory turns more within ends = absurd ends
 
 pub ends_spent : {s : Setup} {limit : Option ℕ} {turns : ℕ} {server : Server} {calls : List Call} → names_left server.core ≡ [] → IsReady s limit turns server calls → EndsSpent (proxy_of s) limit turns calls
 ends_spent none ready = record {
-  goes_on = record { serves = serves ready.serving none; awake = ready.awake; counted = omega (arith, ready.serving.counted) };
+  goes_on = goes_on ready.serving none ready.awake;
   spent = ready.serving.counted;
   offered = ready.offered;
 }
@@ -302,7 +329,8 @@ opened-ready {s = s} {server = server} limit opened =
         offers = tt;
         hangs_up = ap (λ (l : List ℕ). reverse l ++ []) none;
         reopens = record { before_next = tt; no_more = omega arith };
-        awake = tt;
+        no_opening = tt;
+        no_end = tt;
         counted = refl;
         blocked = subst (AllByRecursion (λ c. is_blocked c [] ≡ true)) (sym opened.blocked) tt;
         modem_blocked = λ is. absurd (false≢true (sym opened.modem_blocked ∙ is));
@@ -318,4 +346,4 @@ opened-ready {s = s} {server = server} limit opened =
 
 pub nothing_done : (s : Setup) (limit : Option ℕ) (turns : ℕ) → RanOut (proxy_of s) limit turns []
 unfolding hang_ups due_hang_ups turns_in reopenings due_reopenings
-nothing_done s limit turns = inl (record { serves = record { sends = tt; takes = takes-none s; offers = tt; hangs_up = refl; reopens = record { before_next = tt; no_more = omega arith } }; awake = tt; counted = omega arith })
+nothing_done s limit turns = inl (record { serves = record { sends = tt; takes = takes-none s; offers = tt; hangs_up = refl; reopens = record { before_next = tt; no_more = omega arith }; no_opening = tt }; no_end = tt; awake = tt; counted = omega arith })

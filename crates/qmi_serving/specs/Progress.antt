@@ -4,13 +4,13 @@ use Rattle.std.specs.List.{AllByRecursion}
 use Rattle.std.specs.declared.alloc.AllocError.{AllocError}
 use Rattle.proxy_history.specs.Events.{Event, Joined, Piece, Left, ModemPiece, ModemGone, Now}
 use Rattle.proxy_history.specs.Connections.{present}
-use Rattle.hub_io.specs.Record.{Call, Told, ToldRoom, ToldModemRoom, ToldStop, NextFailed, HungUp, events}
+use Rattle.hub_io.specs.Record.{Call, Told, ToldRoom, ToldModemRoom, ToldStop, NextFailed, events}
 use Rattle.hub_io.specs.Events.{event_of}
 use Rattle.hub_io.specs.declared.settings.ServeEnd.{ServeEnd}
 use Rattle.hub_io.specs.declared.settings.ServeEnd.TheVariants as end
 use Rattle.qmi_proxy.specs.Setup.{Setup}
 use Rattle.qmi_proxy.specs.History.{history}
-use Rattle.proxy_serving.specs.Serving.{SendsWhatWaits, TakesTheFirst, OffersBeforeEachNext, AllIsOffered, IsOffered, is_blocked, is_modem_blocked, hang_ups, due_hang_ups, reopenings, due_reopenings, Reopens, turns_in, NeverIdle, AwakeBefore, emptied_at}
+use Rattle.proxy_serving.specs.Serving.{SendsWhatWaits, TakesTheFirst, OffersBeforeEachNext, AllIsOffered, IsOffered, is_blocked, is_modem_blocked, hang_ups, due_hang_ups, hanging_up, IsNoOpening, reopenings, due_reopenings, Reopens, turns_in, IsNoEnd, NeverIdle, emptied_at}
 use Rattle.qmi_state.specs.Core.{Core, Leftover, Stands, greatest_after}
 use Rattle.proxy_serving.specs.Ends.{GoesOn, RanOut, EndsWith, EndsIdle, EndsSo}
 use Rattle.qmi_serving.specs.Serving.{proxy_of}
@@ -25,14 +25,15 @@ abbrev pub names_left : Core → List ℕ
 names_left core = map (λ (d : Leftover). d.name) core.dropped
 
 -- the proxy stands for the events in the record, and all is done but the hang-ups that it is still to be asked for
-pub record IsServing (s : Setup) (limit : Option ℕ) (turns : ℕ) (server : Server) (calls : List Call) : Type 0 where
+pub record IsServing (s : Setup) (turns : ℕ) (server : Server) (calls : List Call) : Type 0 where
   pub stands : Stands s (events calls) server.core
   pub sends : SendsWhatWaits (proxy_of s) calls
   pub takes : TakesTheFirst (proxy_of s) calls
   pub offers : OffersBeforeEachNext (proxy_of s) calls
   pub hangs_up : reverse (names_left server.core) ++ hang_ups calls ≡ due_hang_ups (proxy_of s) calls
   pub reopens : Reopens (proxy_of s) calls
-  pub awake : AwakeBefore (proxy_of s) limit calls
+  pub no_opening : AllByRecursion IsNoOpening calls
+  pub no_end : AllByRecursion IsNoEnd calls
   pub counted : turns_in calls ≡ turns
   pub blocked : AllByRecursion (λ c. is_blocked c calls ≡ true) server.blocked
   pub modem_blocked : server.modem_blocked ≡ true → is_modem_blocked calls ≡ true
@@ -40,7 +41,7 @@ pub record IsServing (s : Setup) (limit : Option ℕ) (turns : ℕ) (server : Se
 
 -- and the first so many connections were offered what waits for them
 pub record HasOffered (s : Setup) (limit : Option ℕ) (turns count : ℕ) (server : Server) (calls : List Call) : Type 0 where
-  pub serving : IsServing s limit turns server calls
+  pub serving : IsServing s turns server calls
   pub awake : NeverIdle (proxy_of s) limit calls
   pub in_time : reopenings calls ≡ due_reopenings (proxy_of s) calls
   pub done : List ℕ
@@ -51,7 +52,7 @@ pub record HasOffered (s : Setup) (limit : Option ℕ) (turns count : ℕ) (serv
 
 -- the connection stands at a place in the order of joining, before which all were offered what waits for them
 pub record IsAt (s : Setup) (limit : Option ℕ) (turns count c : ℕ) (server : Server) (calls : List Call) : Type 0 where
-  pub serving : IsServing s limit turns server calls
+  pub serving : IsServing s turns server calls
   pub awake : NeverIdle (proxy_of s) limit calls
   pub in_time : reopenings calls ≡ due_reopenings (proxy_of s) calls
   pub done : List ℕ
@@ -62,14 +63,14 @@ pub record IsAt (s : Setup) (limit : Option ℕ) (turns count c : ℕ) (server :
 
 -- all clients were
 pub record OffersClients (s : Setup) (limit : Option ℕ) (turns : ℕ) (server : Server) (calls : List Call) : Type 0 where
-  pub serving : IsServing s limit turns server calls
+  pub serving : IsServing s turns server calls
   pub awake : NeverIdle (proxy_of s) limit calls
   pub in_time : reopenings calls ≡ due_reopenings (proxy_of s) calls
   pub clients : AllByRecursion (IsOffered (proxy_of s) calls) (present (history s (events calls)))
 
 -- and the modem was
 pub record IsReady (s : Setup) (limit : Option ℕ) (turns : ℕ) (server : Server) (calls : List Call) : Type 0 where
-  pub serving : IsServing s limit turns server calls
+  pub serving : IsServing s turns server calls
   pub awake : NeverIdle (proxy_of s) limit calls
   pub in_time : reopenings calls ≡ due_reopenings (proxy_of s) calls
   pub offered : AllIsOffered (proxy_of s) calls
@@ -124,11 +125,6 @@ OneIsDone place (Err e) old new = Unit {0}
 
 -- ---- what a turn comes to ----
 
--- the hang-ups of these, and no other calls
-abbrev pub hanging_up : List ℕ → List Call
-hanging_up [] = []
-hanging_up (c ∷ names) = HungUp c ∷ hanging_up names
-
 abbrev pub AreHangUps : List Call → Type 0
 AreHangUps calls = (names : List ℕ) × (calls ≡ hanging_up names)
 
@@ -147,7 +143,7 @@ EndsNow s limit turns _ calls = ⊥
 
 -- an event was met and the modem is to be opened again, or it isn't; it wasn't yet since the hub told it
 pub record MayReopen (s : Setup) (limit : Option ℕ) (turns : ℕ) (misses : Bool) (server : Server) (calls : List Call) : Type 0 where
-  pub serving : IsServing s limit turns server calls
+  pub serving : IsServing s turns server calls
   pub awake : NeverIdle (proxy_of s) limit calls
   pub not_yet : reopenings calls ≡ 0
   pub due : due_reopenings (proxy_of s) calls ≡ (if misses then 1 else 0)

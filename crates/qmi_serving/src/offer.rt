@@ -13,8 +13,8 @@ use std::alloc::AllocError;
 
 /// Hangs up the connections that the proxy dropped.
 pub fn hang_up_dropped<H: Hub>(hub: &mut H, server: &mut Server)
-    ensures carries { (s : Setup) (limit : Option ℕ) (turns : ℕ) →
-        Carries (H.calls hub.old) (IsServing s limit turns server.old) (H.calls hub.new) (IsServing s limit turns server.new) }
+    ensures carries { (s : Setup) (turns : ℕ) →
+        Carries (H.calls hub.old) (IsServing s turns server.old) (H.calls hub.new) (IsServing s turns server.new) }
     ensures only { Since (H.calls hub.old) (H.calls hub.new) AreHangUps }
     ensures asked { server.new.core.dropped ≡ [] }
     ensures away { server.new.core.away ≡ server.old.core.away }

@@ -5,7 +5,8 @@ use Rattle.hub_io.specs.Record.{Call, Since}
 use Rattle.proxy_serving.specs.Carrying.{Carries}
 use Rattle.proxy_serving.proofs.Carrying.{Carries-none, Carries-then, Carries-with}
 use Rattle.qmi_proxy.specs.Setup.{Setup}
-use Rattle.qmi_serving.specs.Progress.{OffersClients, HasOffered, IsServing, IsReady, AfterModem, AreHangUps, hanging_up}
+use Rattle.qmi_serving.specs.Progress.{OffersClients, HasOffered, IsServing, IsReady, AfterModem, AreHangUps}
+use Rattle.proxy_serving.specs.Serving.{hanging_up}
 use Rattle.qmi_serving.specs.declared.server.Server.{Server}
 use Rattle.qmi_serving.proofs.Modem.{modem-away}
 use Rattle.qmi_serving.proofs.Turns.{offered-hangs}
@@ -19,11 +20,11 @@ modem_as {before = before} {old = old} {new = new} s limit turns now b came is c
 
 -- those that were dropped with the modem are hung up
 hung_up_then : (s : Setup) (limit : Option ℕ) (turns : ℕ) (server now : Server) (calls : List Call)
-    → ((earlier : List Call) × (later : List Call) × (calls ≡ later ++ earlier) × AreHangUps later × HasOffered s limit turns 0 server earlier × IsServing s limit turns now calls)
+    → ((earlier : List Call) × (later : List Call) × (calls ≡ later ++ earlier) × AreHangUps later × HasOffered s limit turns 0 server earlier × IsServing s turns now calls)
     → HasOffered s limit turns 0 now calls
 hung_up_then s limit turns server now calls all =
     let whole : calls ≡ hanging_up all.3.0 ++ all.0 = all.2 ∙ ap (λ (l : List Call). l ++ all.0) all.3.1 in
-    let Serving : List Call → Type 0 = IsServing s limit turns now in
+    let Serving : List Call → Type 0 = IsServing s turns now in
     let Offered : List Call → Type 0 = HasOffered s limit turns 0 now in
     subst Offered (sym whole) (offered-hangs all.3.0 all.4 (subst Serving whole all.5))
 
@@ -44,11 +45,11 @@ returns-then-branch-clause-carries g c = λ s limit turns.
 
 -- the modem is gone, and those that were dropped with it are hung up
 gone : {start mid new : Option (List Call)} {before : List Call → Type 0} (s : Setup) (limit : Option ℕ) (turns : ℕ) (server now : Server) (there : Bool) → there ≡ false
-    → Carries start before mid (AfterModem (Ok there) s limit turns server) → Since mid new AreHangUps → Carries mid (IsServing s limit turns server) new (IsServing s limit turns now)
+    → Carries start before mid (AfterModem (Ok there) s limit turns server) → Since mid new AreHangUps → Carries mid (IsServing s turns server) new (IsServing s turns now)
     → Carries start before new (HasOffered s limit turns 0 now)
 gone s limit turns server now there is first only hangs =
     let Gone : List Call → Type 0 = HasOffered s limit turns 0 server in
-    let Serving : List Call → Type 0 = IsServing s limit turns server in
+    let Serving : List Call → Type 0 = IsServing s turns server in
     Carries-then (modem_as s limit turns server there false is first)
     (Carries-then (Carries-with AreHangUps _ _ only (Carries-then (Carries-none Gone Serving _ (λ calls so. so.serving)) hangs))
     (Carries-none _ _ _ (λ calls all. hung_up_then s limit turns server now calls all)))
@@ -59,7 +60,7 @@ returns-in_err-offer_clients-2-clause-carries g c = λ s limit turns.
     rw (p.1, p.2)
     (Carries-then
     (gone s limit turns c.offer_modem.new.server c.hang_up_dropped.new.server c.in_ok-offer_modem.field-0 c.if-branch.false
-    (Carries-then (c.in_ok-offer_clients.ensures.carries s limit turns) (c.in_ok-offer_modem.ensures.carries s limit turns)) c.hang_up_dropped.ensures.only (c.hang_up_dropped.ensures.carries s limit turns))
+    (Carries-then (c.in_ok-offer_clients.ensures.carries s limit turns) (c.in_ok-offer_modem.ensures.carries s limit turns)) c.hang_up_dropped.ensures.only (c.hang_up_dropped.ensures.carries s turns))
     (c.in_err-offer_clients-2.ensures.carries s limit turns))
 
 pub returns-clause-carries : goal.returns-clause-carries
@@ -70,6 +71,6 @@ returns-clause-carries g c = λ s limit turns.
     Carries-then
     (Carries-then
     (gone s limit turns c.offer_modem.new.server c.hang_up_dropped.new.server c.in_ok-offer_modem.field-0 c.if-branch.false
-    (Carries-then (c.in_ok-offer_clients.ensures.carries s limit turns) (c.in_ok-offer_modem.ensures.carries s limit turns)) c.hang_up_dropped.ensures.only (c.hang_up_dropped.ensures.carries s limit turns))
+    (Carries-then (c.in_ok-offer_clients.ensures.carries s limit turns) (c.in_ok-offer_modem.ensures.carries s limit turns)) c.hang_up_dropped.ensures.only (c.hang_up_dropped.ensures.carries s turns))
     (c.in_ok-offer_clients-2.ensures.carries s limit turns))
     (Carries-none Clients Ready _ (λ calls all. modem-away all away))
