@@ -11,6 +11,7 @@ mod mio_hub;
 mod modem;
 mod peer;
 mod settings;
+mod socket_file;
 mod sockets;
 mod ticker;
 

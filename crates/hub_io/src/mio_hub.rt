@@ -14,15 +14,15 @@ use std::rt::Clock;
 
 /// A hub over Unix sockets. It tells no content, and is trusted with it.
 ///
-/// Its socket is its owner's alone: an opening removes a file that stands at the path, and has the
-/// rights of the new one at `0600`. In the moment between, the process's own mask holds. At most 128
-/// clients are there at a time, and others wait. `next` tells the time at least every 100 ms, and
-/// never `Stop`.
+/// Its socket is its owner's alone from its first moment on, and the file goes with the hub. An
+/// opening replaces a socket to which nobody listens. It fails where anything else stands at the
+/// path, or where the path leads to the device. At most 128 clients are there at a time, and others
+/// wait. `next` tells the time at least every 100 ms, and never `Stop`.
 ///
 /// What `send_modem` took is written at the last of the events that one wait found. A modem that is
 /// lost before then is told by `next`.
 #[derive(Drop)]
-pub struct MioHub<'a, R> {
+pub struct MioHub<'a, R: Files> {
     sockets: Sockets<'a, R>,
     faults: Faults,
     conn_faults: ConnFaults,

@@ -9,21 +9,21 @@ ghost use Rattle.hub_io.specs.declared.hub.HubEvent.TheVariants.{Joined};
 use crate::clients::{Names, PLACES, place_of};
 use crate::modem::Modem;
 use crate::peer::{Gave, Peer};
+use crate::socket_file::{FileId, Listening, are_same, left_over};
 use crate::ticker::Ticker;
 use crate::{HubEvent, NEXT_ROOM};
 use kit_bytes::Text;
 use link_io::Target;
 use mio::event::Event;
-use mio::net::{UnixListener, UnixStream};
+use mio::net::UnixStream;
 use mio::{Events, Interest, Poll, Token};
 use slab::Slab;
 use std::alloc::Global;
-use std::fs::{Files, Permissions};
+use std::fs::Files;
+use std::io;
 use std::io::ErrorKind;
 use std::net::Net;
-use std::os::unix::fs::PermissionsExt;
 use std::rt::Clock;
-use std::{fs, io};
 
 const LISTENER: Token = Token(0);
 
@@ -31,7 +31,7 @@ const MODEM: Token = Token(usize::MAX);
 
 /// The sockets of a hub. One wait finds many events, which are then told one by one.
 #[derive(Drop)]
-pub(crate) struct Sockets<'a, R> {
+pub(crate) struct Sockets<'a, R: Files> {
     rt: &'a R,
     alloc: Global,
     poll: Poll,
@@ -39,7 +39,7 @@ pub(crate) struct Sockets<'a, R> {
     /// Which of the events is told next.
     at: usize,
     ticker: Ticker,
-    listener: Option<UnixListener>,
+    listening: Option<Listening<'a, R>>,
     /// A client may wait that wasn't let in.
     is_crowded: bool,
     /// By the places of their names.
@@ -62,7 +62,7 @@ impl<'a, R: Net + Clock + Files> Sockets<'a, R> {
             events: Events::with_capacity(alloc, PLACES)?,
             at: 0,
             ticker: Ticker::start(rt)?,
-            listener: None,
+            listening: None,
             is_crowded: false,
             clients: Slab::with_capacity(alloc, PLACES)?,
             names: Names::none(alloc)?,
@@ -72,22 +72,32 @@ impl<'a, R: Net + Clock + Files> Sockets<'a, R> {
         })
     }
 
-    /// Listens on a socket of its owner alone, and opens the device where one is named.
+    /// Opens the device where one is named, and listens on a socket of its owner alone. What stands
+    /// at its path stays as it is, but for a socket to which nobody listens.
     pub(crate) fn open(&mut self, socket: &str, device: Option<&Target>) -> io::Result<()>
         ensures names { self.new.names ≡ self.old.names }
     {
-        let _none_stood_there = fs::remove_file(self.rt, socket);
-        let mut listener = UnixListener::bind(self.rt, socket)?;
-        fs::set_permissions(self.rt, socket, Permissions::from_mode(0o600))?;
-        let registry = self.poll.registry();
-        registry.register(&mut listener, LISTENER, Interest::READABLE)?;
-        self.listener = Some(listener);
+        let left_over = self.look(socket, device)?;
         if let Some(Target::Socket(path)) = device {
             self.device = Some(Text::from_str(self.alloc, path.as_str())?);
             self.open_device()?;
         }
+        let mut listening = Listening::start(self.rt, self.alloc, socket, left_over)?;
+        let registry = self.poll.registry();
+        registry.register(&mut listening.listener, LISTENER, Interest::READABLE)?;
+        self.listening = Some(listening);
         self.ticker = Ticker::start(self.rt)?;
         Ok(())
+    }
+
+    /// The socket that may be replaced, where the path isn't the device's.
+    fn look(&self, socket: &str, device: Option<&Target>) -> io::Result<Option<FileId>> {
+        if let Some(Target::Socket(path)) = device
+            && are_same(self.rt, socket, path.as_str())
+        {
+            return Err(ErrorKind::AlreadyExists.into());
+        }
+        left_over(self.rt, socket)
     }
 
     /// Connects to the device that was named at the opening.
@@ -193,7 +203,7 @@ impl<'a, R: Net + Clock + Files> Sockets<'a, R> {
     fn take_waiting(&mut self) -> Option<UnixStream>
         ensures names { self.new.names ≡ self.old.names }
     {
-        match self.listener.as_ref()?.accept() {
+        match self.listening.as_ref()?.listener.accept() {
             Ok((stream, _)) => Some(stream),
             Err(error) => {
                 // out of descriptors, for one
@@ -312,12 +322,12 @@ impl<'a, R: Net + Clock + Files> Sockets<'a, R> {
         }
         self.names.leave(name);
         self.clients.try_remove(place_of(name));
-        if let Some(listener) = &mut self.listener
+        if let Some(listening) = &mut self.listening
             && self.is_crowded
         {
             self.is_crowded = false;
             let registry = self.poll.registry();
-            let _ = registry.reregister(listener, LISTENER, Interest::READABLE);
+            let _ = registry.reregister(&mut listening.listener, LISTENER, Interest::READABLE);
         }
     }
 }

@@ -160,22 +160,46 @@ fn serve_one<H: Hub, R: Abort + Net + Files>(
     hub: &mut H,
     alloc: Global,
 ) -> Result<(), Fail> {
-    // what stands at the path is removed
-    fs::write(rt, "hub.sock", b"stale")?;
+    // a socket to which nobody listens is replaced
+    drop(UnixListener::bind(rt, "hub.sock")?);
     assert_listens(rt, hub, "hub.sock", None);
     let mut client = UnixStream::connect(rt, "hub.sock")?;
     converse(rt, hub, alloc, &mut client)?;
     drop(client);
     assert_answers(rt, hub, &[Ok(HubEvent::Left(1))]);
     assert_sent(rt, hub.send(1, &[9]), Err(Failed));
-    fs::remove_file(rt, "hub.sock")?;
+    assert_refuses(rt, hub, "hub.sock");
+    Ok(())
+}
+
+/// No hub opens where this stands.
+fn assert_refuses<H: Hub, R: Abort>(rt: &R, hub: &mut H, path: &str) {
+    assert!(rt; hub.open(path, None).is_err());
+}
+
+/// Another file at the path stays.
+fn assert_leaves<H: Hub, R: Abort + Files>(rt: &R, hub: &mut H) -> Result<(), Fail> {
+    fs::write(rt, "hub.txt", b"a report")?;
+    assert_refuses(rt, hub, "hub.txt");
+    fs::remove_file(rt, "hub.txt")?;
+    Ok(())
+}
+
+/// Nothing stands at the path.
+fn assert_gone<R: Abort + Files>(rt: &R, path: &str) -> Result<(), Fail> {
+    let stands = fs::exists(rt, path)?;
+    assert!(rt; !stands);
     Ok(())
 }
 
 #[test]
 fn a_client_comes_and_goes(rt: HostRuntime) -> Result<(), Fail> {
     let mut hub = MioHub::new(&rt, rt.alloc())?;
-    serve_one(&rt, &mut hub, rt.alloc())
+    assert_leaves(&rt, &mut hub)?;
+    serve_one(&rt, &mut hub, rt.alloc())?;
+    // its file goes with the hub
+    drop(hub);
+    assert_gone(&rt, "hub.sock")
 }
 
 /// The modem says something and goes.
@@ -214,7 +238,6 @@ fn reopen<H: Hub, R: Abort + Net + Files>(
     assert_listens(rt, hub, "modem_hub.sock", Some(target));
     lose_modem(rt, hub, &device)?;
     find_modem(rt, hub, alloc, &device)?;
-    fs::remove_file(rt, "modem_hub.sock")?;
     fs::remove_file(rt, "modem.sock")?;
     Ok(())
 }
@@ -273,7 +296,6 @@ fn wait_for_room<H: Hub, R: Abort + Net + Files>(
     let _ = read(alloc, &mut client, sent)?;
     assert_answers(rt, hub, &[Ok(HubEvent::Room(1))]);
     assert_sent(rt, hub.send(1, &[7]), Ok(1));
-    fs::remove_file(rt, "room.sock")?;
     Ok(())
 }
 
@@ -398,7 +420,6 @@ fn serve_many<H: Hub, R: Abort + Net + Files>(
     let mut clients = connect_many(rt, alloc)?;
     serve_parts(rt, hub, alloc, &mut clients, seed)?;
     assert_all_read(rt, alloc, &mut clients, seed)?;
-    fs::remove_file(rt, "many.sock")?;
     Ok(())
 }
 

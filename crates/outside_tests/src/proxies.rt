@@ -5,7 +5,7 @@ use kit_io::MemSink;
 use program::{Status, run_proxy};
 use qmi_serving::serve_qmi;
 use std::alloc::{AllocError, Global};
-use std::fs::{self, Files};
+use std::fs::Files;
 use std::io::{Read, Write};
 use std::net::{Net, Shutdown};
 use std::os::unix::net::UnixStream;
@@ -329,7 +329,6 @@ fn serve_many<H: Hub, R: Abort + Net + Files>(
     let mut clients = clients_that_asked(rt, alloc)?;
     assert_serves_all(rt, hub, alloc)?;
     assert_all_answered(rt, alloc, &mut clients)?;
-    fs::remove_file(rt, "proxy.sock")?;
     Ok(())
 }
 

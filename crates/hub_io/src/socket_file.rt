@@ -1,0 +1,176 @@
+//! The file of a hub's socket: what may stand there before, how it comes about, and its end.
+use mio::net::{UnixListener, UnixStream};
+use std::alloc::{AllocError, Global};
+use std::fs::{Files, Metadata, Permissions};
+use std::io::ErrorKind;
+use std::net::Net;
+use std::os::unix::fs::{FileTypeExt, MetadataExt, PermissionsExt};
+use std::{fs, io};
+
+/// How many names are tried for the folder in which a socket is made. Each has one digit.
+const NAMES: u8 = 10;
+
+/// Which file stands at a path: its file system, and its number there.
+#[derive(Clone, Copy, PartialEq, Eq)]
+pub(crate) struct FileId {
+    device: u64,
+    number: u64,
+}
+
+impl FileId {
+    fn of(found: &Metadata) -> Self {
+        FileId {
+            device: found.dev(),
+            number: found.ino(),
+        }
+    }
+
+    /// Of the file at the path itself, be it a link.
+    fn at<R: Files>(rt: &R, path: &str) -> io::Result<Self> {
+        Ok(FileId::of(&fs::symlink_metadata(rt, path)?))
+    }
+
+    /// Of the file to which the path leads.
+    fn behind<R: Files>(rt: &R, path: &str) -> io::Result<Self> {
+        Ok(FileId::of(&fs::metadata(rt, path)?))
+    }
+}
+
+/// Whether two paths are one, or lead to one file.
+pub(crate) fn are_same<R: Files>(rt: &R, path: &str, other: &str) -> bool {
+    if path == other {
+        return true;
+    }
+    match (FileId::behind(rt, path), FileId::behind(rt, other)) {
+        (Ok(file), Ok(other)) => file == other,
+        _ => false,
+    }
+}
+
+/// The socket at the path to which nobody listens, if there is one. Anything else that stands there
+/// is a fault.
+pub(crate) fn left_over<R: Net + Files>(rt: &R, path: &str) -> io::Result<Option<FileId>> {
+    let found = match fs::symlink_metadata(rt, path) {
+        Ok(found) => found,
+        Err(error) if error.kind() == ErrorKind::NotFound => return Ok(None),
+        Err(error) => return Err(error),
+    };
+    if found.file_type().is_socket() && is_deserted(rt, path) {
+        Ok(Some(FileId::of(&found)))
+    } else {
+        Err(ErrorKind::AlreadyExists.into())
+    }
+}
+
+// Whether nobody listens to the socket at the path.
+fn is_deserted<R: Net>(rt: &R, path: &str) -> bool {
+    match UnixStream::connect(rt, path) {
+        Ok(_) => false,
+        Err(error) => error.kind() == ErrorKind::ConnectionRefused,
+    }
+}
+
+/// A socket that listens at a path. Its file goes with it, where no other has taken its place.
+pub(crate) struct Listening<'a, R: Files> {
+    rt: &'a R,
+    path: String,
+    file: FileId,
+    pub(crate) listener: UnixListener,
+}
+
+impl<'a, R: Net + Files> Listening<'a, R> {
+    /// Has a socket of its owner alone stand at the path, in place of the left-over one. It is made
+    /// elsewhere, so that it listens and has its rights before anybody finds it.
+    pub(crate) fn start(
+        rt: &'a R,
+        alloc: Global,
+        path: &str,
+        left_over: Option<FileId>,
+    ) -> io::Result<Self> {
+        let text = String::from_str(alloc, path)?;
+        let folder = OwnFolder::beside(rt, alloc, path)?;
+        let made = folder.socket.as_str();
+        let listener = UnixListener::bind(rt, made)?;
+        fs::set_permissions(rt, made, Permissions::from_mode(0o600))?;
+        let file = FileId::at(rt, made)?;
+        remove(rt, path, left_over);
+        // unlike a renaming, this replaces nothing that came meanwhile
+        fs::hard_link(rt, made, path)?;
+        Ok(Listening {
+            rt,
+            path: text,
+            file,
+            listener,
+        })
+    }
+}
+
+impl<R: Files> Drop for Listening<'_, R> {
+    fn drop(self) {
+        let Listening {
+            rt,
+            path,
+            file,
+            listener,
+        } = self;
+        remove(rt, path.as_str(), Some(file));
+        // behind the removal: no other file has this number as long as the socket is open
+        drop(listener);
+        drop(path);
+    }
+}
+
+// Removes a file, where it still stands at the path.
+fn remove<R: Files>(rt: &R, path: &str, file: Option<FileId>) {
+    if let Some(file) = file
+        && let Ok(found) = FileId::at(rt, path)
+        && found == file
+    {
+        let _ = fs::remove_file(rt, path);
+    }
+}
+
+/// A folder of its owner alone, where a socket is made. Both names go when it is dropped.
+struct OwnFolder<'a, R: Files> {
+    rt: &'a R,
+    name: String,
+    socket: String,
+}
+
+impl<'a, R: Files> OwnFolder<'a, R> {
+    /// A new folder, whose name is the path and a number.
+    fn beside(rt: &'a R, alloc: Global, path: &str) -> io::Result<Self> {
+        for number in 0..NAMES {
+            let name = numbered(alloc, path, number)?;
+            let socket = joined(alloc, name.as_str(), "/s")?;
+            match rt.create_dir_with_mode(name.as_str(), 0o700) {
+                Ok(()) => return Ok(OwnFolder { rt, name, socket }),
+                Err(error) if error.kind() == ErrorKind::AlreadyExists => {}
+                Err(error) => return Err(error),
+            }
+        }
+        Err(ErrorKind::AlreadyExists.into())
+    }
+}
+
+impl<R: Files> Drop for OwnFolder<'_, R> {
+    fn drop(self) {
+        let OwnFolder { rt, name, socket } = self;
+        let _ = fs::remove_file(rt, socket.as_str());
+        let _ = fs::remove_dir(rt, name.as_str());
+        drop(socket);
+        drop(name);
+    }
+}
+
+fn numbered(alloc: Global, path: &str, number: u8) -> Result<String, AllocError> {
+    let mut name = joined(alloc, path, ".")?;
+    name.push(char::from(b'0'.saturating_add(number)))?;
+    Ok(name)
+}
+
+fn joined(alloc: Global, front: &str, back: &str) -> Result<String, AllocError> {
+    let mut text = String::from_str(alloc, front)?;
+    text.push_str(back)?;
+    Ok(text)
+}
