@@ -1,8 +1,9 @@
--- The words of qmi-proxy.
+-- The words of a proxy, by the kind of its modem.
 use Rattle.std.specs.Prelude.{ℕ, ◌*◌, ◌^◌, ◌==◌, ◌||◌, Bool, true, List, [], ◌∷◌, Option, Some, None, Result, Err, codes, if◌then◌else◌, option_and_then}
 use Rattle.clap.specs.Simple.{App}
 use Rattle.clap.specs.Walk.{Row, Text}
-use Rattle.kit_bytes.specs.declared.Kind.TheVariants.{Qmi}
+use Rattle.kit_bytes.specs.declared.Kind.{Kind}
+use Rattle.kit_bytes.specs.declared.Kind.TheVariants.{Qmi, Mbim}
 use Rattle.tool_words.specs.Answers.{or_value, read_by}
 use Rattle.tool_words.specs.Given.{is_given, value_given}
 use Rattle.tool_words.specs.Reading.{with_options, without_options}
@@ -11,9 +12,20 @@ use Rattle.tool_words.specs.Values.{◌>>=◌, device_in, number_or, path_or}
 use Rattle.tool_words.specs.declared.command.ToolCommand.{ToolCommand}
 use Rattle.tool_words.specs.declared.command.ToolCommand.TheVariants.{Proxy}
 use Rattle.tool_words.specs.declared.fault.UsageKind.{UsageKind}
-use Rattle.tool_words.specs.declared.fault.UsageKind.TheVariants as kind
+use Rattle.tool_words.specs.declared.fault.UsageKind.TheVariants as usage
 use Rattle.tool_words.specs.declared.proxy.ProxyOption.{ProxyOption}
 use Rattle.tool_words.specs.declared.proxy.ProxyOption.TheVariants as option
+
+-- ---- its names ----
+
+abbrev pub proxy_name : Kind → List ℕ
+proxy_name Qmi = codes "qmi-proxy"
+proxy_name Mbim = codes "mbim-proxy"
+
+-- the socket on which it listens where none is named
+abbrev pub proxy_socket : Kind → List ℕ
+proxy_socket Qmi = codes "/tmp/qmi-proxy.sock"
+proxy_socket Mbim = codes "/tmp/mbim-proxy.sock"
 
 -- ---- the options ----
 
@@ -30,8 +42,8 @@ proxy_spelling option.Turns = valued (codes "turns")
 unfoldable pub proxy_options : List ProxyOption
 proxy_options = option.Device ∷ option.Socket ∷ option.Bridge ∷ option.NoExit ∷ option.EmptyTimeout ∷ option.Time ∷ option.Turns ∷ []
 
-unfoldable pub proxy_app : App
-proxy_app = with_options proxy_spelling (without_options (codes "qmi-proxy")) proxy_options
+unfoldable pub proxy_app : Kind → App
+proxy_app kind = with_options proxy_spelling (without_options (proxy_name kind)) proxy_options
 
 -- ---- their values ----
 
@@ -40,21 +52,21 @@ abbrev pub empty_time : Bool → ℕ → Option ℕ
 empty_time stays seconds = if stays || seconds == 0 then None else Some (seconds * 1000)
 
 -- the proxy that these values describe, if each of them reads
-unfoldable pub proxy_values : List Row → Option ToolCommand
-proxy_values rows = do
+unfoldable pub proxy_values : Kind → List Row → Option ToolCommand
+proxy_values kind rows = do
   device ← option_and_then (device_in true) (value_given proxy_spelling rows option.Device)
-  socket ← path_or (codes "/tmp/qmi-proxy.sock") (value_given proxy_spelling rows option.Socket)
+  socket ← path_or (proxy_socket kind) (value_given proxy_spelling rows option.Socket)
   bridge ← path_or (codes "/tmp/modemkit.bridge") (value_given proxy_spelling rows option.Bridge)
   seconds ← number_or 30 0 86400 (value_given proxy_spelling rows option.EmptyTimeout)
   time ← number_or 30000 1 86400000 (value_given proxy_spelling rows option.Time)
   turns ← number_or (10 ^ 12) 0 (10 ^ 12) (value_given proxy_spelling rows option.Turns)
-  Some (Proxy Qmi device socket bridge (empty_time (is_given proxy_spelling rows option.NoExit) seconds) time turns)
+  Some (Proxy kind device socket bridge (empty_time (is_given proxy_spelling rows option.NoExit) seconds) time turns)
 
 -- ---- what the words ask for ----
 
 -- a device must be named, and then each value must read
-unfoldable pub proxy_asked : List Row → Result ToolCommand UsageKind
-proxy_asked rows = if is_given proxy_spelling rows option.Device then or_value (proxy_values rows) else Err kind.NoDevice
+unfoldable pub proxy_asked : Kind → List Row → Result ToolCommand UsageKind
+proxy_asked kind rows = if is_given proxy_spelling rows option.Device then or_value (proxy_values kind rows) else Err usage.NoDevice
 
-unfoldable pub proxy_in : List Text → Result ToolCommand UsageKind
-proxy_in words = read_by proxy_app proxy_asked words
+unfoldable pub proxy_in : Kind → List Text → Result ToolCommand UsageKind
+proxy_in kind words = read_by (proxy_app kind) (proxy_asked kind) words

@@ -5,6 +5,8 @@ use Rattle.clap.specs.Walk.{Row, Text}
 use Rattle.qmi_requests.specs.declared.QmiRequest.{QmiRequest}
 use Rattle.tool_words.specs.Answers.{or_value, read_by}
 use Rattle.tool_words.specs.Given.{is_given, value_given}
+use Rattle.kit_bytes.specs.declared.Kind.TheVariants.{Qmi}
+use Rattle.tool_words.specs.Proxy.{proxy_socket}
 use Rattle.tool_words.specs.QmiCommands.{command_spelling, describes, line_of, qmi_commands}
 use Rattle.tool_words.specs.Reading.{with_options, without_options}
 use Rattle.tool_words.specs.Sole.{sole, those_given}
@@ -44,7 +46,7 @@ opens_device asks proxied = asks && not proxied
 unfoldable pub settings_in : Bool → List Row → Option QmiSettings
 settings_in asks rows = do
   device ← optional (device_in (opens_device asks (is_given setting_spelling rows setting.DeviceOpenProxy))) (value_given setting_spelling rows setting.Device)
-  socket ← path_or (codes "/tmp/qmi-proxy.sock") (value_given setting_spelling rows setting.Socket)
+  socket ← path_or (proxy_socket Qmi) (value_given setting_spelling rows setting.Socket)
   bridge ← path_or (codes "/tmp/modemkit.bridge") (value_given setting_spelling rows setting.Bridge)
   cid ← optional (number_within 1 254) (value_given setting_spelling rows setting.ClientCid)
   Some (record {

@@ -2,7 +2,7 @@ ghost use Rattle.std.specs.Prelude.{◌≡◌, map, string_bytes};
 ghost use Rattle.tool_words.specs.Command.{command_in, tool_named};
 ghost use Rattle.tool_words.specs.Answers.{Answers};
 
-use crate::proxy::proxy_command;
+use crate::proxy::{proxy_command, proxy_name};
 use crate::qmicli::qmicli_command;
 use crate::{UsageKind, WordFault};
 use kit_bytes::{Kind, PathText};
@@ -48,17 +48,20 @@ pub enum ToolCommand {
 #[derive(Clone, Copy, Debug, PartialEq, Eq)]
 enum Tool {
     Qmicli,
-    QmiProxy,
+    /// The proxy for a kind of modem.
+    Proxy(Kind),
 }
 
 #[tactic(auto, unfolding(crate::specs::Command::tool_named))]
 fn tool_named(word: &str) -> Option<Tool>
     ensures { result ≡ tool_named word.now }
 {
-    match word {
-        "qmicli" => Some(Tool::Qmicli),
-        "qmi-proxy" => Some(Tool::QmiProxy),
-        _ => None,
+    if word == "qmicli" {
+        Some(Tool::Qmicli)
+    } else if word == proxy_name(Kind::Qmi) {
+        Some(Tool::Proxy(Kind::Qmi))
+    } else {
+        None
     }
 }
 
@@ -72,7 +75,7 @@ pub fn command_of(alloc: Global, words: &[String]) -> Result<ToolCommand, WordFa
     }
     match tool_named(words[0].as_str()) {
         Some(Tool::Qmicli) => qmicli_command(alloc, words),
-        Some(Tool::QmiProxy) => proxy_command(alloc, words),
+        Some(Tool::Proxy(kind)) => proxy_command(alloc, kind, words),
         None => Err(WordFault::Usage(UsageKind::UnknownTool)),
     }
 }

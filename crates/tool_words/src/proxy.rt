@@ -1,7 +1,7 @@
 ghost use Rattle.std.specs.Prelude.{◌≡◌, ◌≤◌, true, IfOk, map, string_bytes, option_and_then, option_map};
 ghost use Rattle.clap.specs.Words.{app_of, found_of, rows_of};
 ghost use Rattle.tool_words.specs.Answers.{Answers};
-ghost use Rattle.tool_words.specs.Proxy.{empty_time, proxy_app, proxy_asked, proxy_in, proxy_options, proxy_spelling, proxy_values};
+ghost use Rattle.tool_words.specs.Proxy.{empty_time, proxy_app, proxy_asked, proxy_in, proxy_name, proxy_options, proxy_socket, proxy_spelling, proxy_values};
 ghost use Rattle.tool_words.specs.Values.{Gives, device_in};
 
 use crate::given::{is_given, value_given};
@@ -13,7 +13,27 @@ use clap::{ArgMatches, Command};
 use kit_bytes::{Kind, PathText};
 use std::alloc::{AllocError, Global};
 
-/// An option of `qmi-proxy`.
+/// The name of the proxy for a kind of modem.
+pub fn proxy_name(kind: Kind) -> &'static str
+    ensures { result.now ≡ proxy_name kind }
+{
+    match kind {
+        Kind::Qmi => "qmi-proxy",
+        Kind::Mbim => "mbim-proxy",
+    }
+}
+
+/// The socket on which a proxy listens where none is named.
+pub fn proxy_socket(kind: Kind) -> &'static str
+    ensures { result.now ≡ proxy_socket kind }
+{
+    match kind {
+        Kind::Qmi => "/tmp/qmi-proxy.sock",
+        Kind::Mbim => "/tmp/mbim-proxy.sock",
+    }
+}
+
+/// An option of a proxy.
 #[derive(Clone, Copy, Debug, PartialEq, Eq)]
 pub enum ProxyOption {
     Device,
@@ -69,10 +89,11 @@ fn options() -> &'static [ProxyOption]
     PROXY_OPTIONS.as_slice()
 }
 
-fn proxy_reader<'a>(alloc: Global) -> Result<Command<'a>, AllocError>
-    ensures { IfOk result (λ command. app_of command ≡ proxy_app) }
+fn proxy_reader<'a>(alloc: Global, kind: Kind) -> Result<Command<'a>, AllocError>
+    ensures { IfOk result (λ command. app_of command ≡ proxy_app kind) }
 {
-    let command = add_options(alloc, without_options(alloc, "qmi-proxy"), options())?;
+    let name: &'a str = proxy_name(kind);
+    let command = add_options(alloc, without_options(alloc, name), options())?;
     Ok(command)
 }
 
@@ -97,12 +118,12 @@ fn empty_time(stays: bool, seconds: u64) -> Option<u64>
 }
 
 #[tactic(auto, unfolding(crate::specs::Proxy::proxy_values))]
-fn values(alloc: Global, matches: &ArgMatches<'_>) -> Result<ToolCommand, WordFault>
-    ensures { Gives (proxy_values (rows_of (found_of matches.now))) result }
+fn values(alloc: Global, kind: Kind, matches: &ArgMatches<'_>) -> Result<ToolCommand, WordFault>
+    ensures { Gives (proxy_values kind (rows_of (found_of matches.now))) result }
 {
     let device = modem(alloc, value_given(matches, ProxyOption::Device))?;
     let socket = value_given(matches, ProxyOption::Socket);
-    let socket = path_or(alloc, "/tmp/qmi-proxy.sock", socket)?;
+    let socket = path_or(alloc, proxy_socket(kind), socket)?;
     let bridge = value_given(matches, ProxyOption::Bridge);
     let bridge = path_or(alloc, "/tmp/modemkit.bridge", bridge)?;
     let stays = is_given(matches, ProxyOption::NoExit);
@@ -113,7 +134,7 @@ fn values(alloc: Global, matches: &ArgMatches<'_>) -> Result<ToolCommand, WordFa
     let turns = value_given(matches, ProxyOption::Turns);
     let turns = number_or(1_000_000_000_000, 0, 1_000_000_000_000, turns)?;
     Ok(ToolCommand::Proxy {
-        kind: Kind::Qmi,
+        kind,
         device,
         socket,
         bridge,
@@ -124,19 +145,19 @@ fn values(alloc: Global, matches: &ArgMatches<'_>) -> Result<ToolCommand, WordFa
 }
 
 #[tactic(auto, unfolding(crate::specs::Proxy::proxy_asked))]
-fn asked(alloc: Global, matches: &ArgMatches<'_>) -> Result<ToolCommand, WordFault>
-    ensures { Answers (proxy_asked (rows_of (found_of matches.now))) result }
+fn asked(alloc: Global, kind: Kind, matches: &ArgMatches<'_>) -> Result<ToolCommand, WordFault>
+    ensures { Answers (proxy_asked kind (rows_of (found_of matches.now))) result }
 {
     if !is_given(matches, ProxyOption::Device) {
         return Err(WordFault::Usage(UsageKind::NoDevice));
     }
-    values(alloc, matches)
+    values(alloc, kind, matches)
 }
 
-/// The proxy that the words of `qmi-proxy` ask for.
-pub fn proxy_command(alloc: Global, words: &[String]) -> Result<ToolCommand, WordFault>
-    ensures { Answers (proxy_in (map string_bytes words.now)) result }
+/// The proxy that its words ask for.
+pub fn proxy_command(alloc: Global, kind: Kind, words: &[String]) -> Result<ToolCommand, WordFault>
+    ensures { Answers (proxy_in kind (map string_bytes words.now)) result }
 {
-    let matches = read_words(proxy_reader(alloc)?, words)?;
-    asked(alloc, &matches)
+    let matches = read_words(proxy_reader(alloc, kind)?, words)?;
+    asked(alloc, kind, &matches)
 }

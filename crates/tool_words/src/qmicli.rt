@@ -6,12 +6,13 @@ ghost use Rattle.tool_words.specs.Values.{Gives, device_in, number_within, optio
 
 use crate::given::{is_given, sole_command, value_given};
 use crate::options::ToolOption;
+use crate::proxy::proxy_socket;
 use crate::qmi_commands::{QmiCommand, describes, qmi_commands, request};
 use crate::reader::{add_options, read_words, without_options};
 use crate::values::{device, number_within, or_fault, path, path_or};
 use crate::{ToolCommand, UsageKind, WordFault};
 use clap::{ArgMatches, Command};
-use kit_bytes::PathText;
+use kit_bytes::{Kind, PathText};
 use qmi_requests::QmiRequest;
 use std::alloc::{AllocError, Global};
 
@@ -135,7 +136,7 @@ fn settings_given(
     let device = value_given(matches, QmiSetting::Device);
     let device = device_if_given(alloc, opens_device(asks, proxied), device)?;
     let socket = value_given(matches, QmiSetting::Socket);
-    let socket = path_or(alloc, "/tmp/qmi-proxy.sock", socket)?;
+    let socket = path_or(alloc, proxy_socket(Kind::Qmi), socket)?;
     let bridge = value_given(matches, QmiSetting::Bridge);
     let bridge = path_or(alloc, "/tmp/modemkit.bridge", bridge)?;
     let cid = cid_if_given(value_given(matches, QmiSetting::ClientCid))?;

@@ -8,6 +8,7 @@ returns c =
     rw (
       ← c.value_given.ensures,
       c.in_ok-device.ensures,
+      ← c.proxy_socket.ensures,
       ← c.value_given-socket.ensures,
       c.in_ok-socket.ensures,
       ← c.value_given-bridge.ensures,

@@ -10,6 +10,7 @@ returns c =
       ← c.opens_device.ensures,
       ← c.value_given-device.ensures,
       c.in_ok-device.ensures,
+      ← c.proxy_socket.ensures,
       ← c.value_given-socket.ensures,
       c.in_ok-socket.ensures,
       ← c.value_given-bridge.ensures,
