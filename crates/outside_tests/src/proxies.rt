@@ -1,8 +1,10 @@
 use crate::steps::{assert_bytes, assert_calls, assert_listens, gives, modem_gives};
+use file_io::MemFiles;
 use hub_io::{Hub, HubCall, HubEvent, HubTurn, MemHub, MioHub, ServeEnd, Settings};
 use kit_bytes::Text;
 use kit_io::MemSink;
-use program::{Status, run_proxy};
+use link_io::MemLink;
+use program::Status;
 use qmi_serving::serve_qmi;
 use std::alloc::{AllocError, Global};
 use std::fs::Files;
@@ -69,11 +71,16 @@ fn words(alloc: Global, line: &[&str]) -> Result<Vec<String>, AllocError> {
     Ok(words)
 }
 
-/// Runs a proxy with these words over a hub. Its status, and what it writes.
+/// Runs the program with these words over a hub. Its status, and what it writes.
 fn run(alloc: Global, line: &[&str], hub: &mut MemHub) -> Result<(Status, MemSink), AllocError> {
     let words = words(alloc, line)?;
+    let mut out = MemSink::new(alloc, Vec::new(alloc), 1_000)?;
     let mut err = MemSink::new(alloc, Vec::new(alloc), 1_000)?;
-    let status = run_proxy(alloc, &words, &mut err, hub);
+    let mut link = MemLink::new(alloc, Vec::new(alloc), 10, 1_000)?;
+    let mut files = MemFiles::new(alloc, Vec::new(alloc), 10, 1_000)?;
+    let status = program::run(
+        alloc, &words, &mut out, &mut err, &mut link, hub, &mut files,
+    );
     Ok((status, err))
 }
 

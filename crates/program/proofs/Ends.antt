@@ -8,14 +8,13 @@ use Rattle.program.specs.Status.{status_of}
 -- only a command whose link failed ends so
 pub link_fault_is : (end : RunEnd) → status_of end ≡ status.LinkFault → end ≡ run.LinkFault
 link_fault_is run.Done e = absurd (cc)
-link_fault_is (run.Denied error) e = absurd (cc)
+link_fault_is (run.Denied function code) e = absurd (cc)
 link_fault_is run.LinkFault e = refl
 link_fault_is run.LinkEnd e = absurd (cc)
 link_fault_is run.TimedOut e = absurd (cc)
 link_fault_is (run.Broken place) e = absurd (cc)
 link_fault_is run.Flooded e = absurd (cc)
-link_fault_is (run.Tables fault) e = absurd (cc)
-link_fault_is run.LongTables e = absurd (cc)
+link_fault_is (run.TableFault fault) e = absurd (cc)
 link_fault_is run.ReadFault e = absurd (cc)
 link_fault_is run.WriteFault e = absurd (cc)
 link_fault_is run.OutOfMemory e = absurd (cc)

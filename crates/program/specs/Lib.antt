@@ -1,4 +1,3 @@
-pub mod Words
 pub mod Status
-pub mod Tool
+pub mod Running
 pub mod Serving

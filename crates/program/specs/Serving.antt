@@ -1,9 +1,10 @@
 -- What the program does as a proxy, read off its hub's record. Lists of calls have the newest first.
 use Rattle.std.specs.Prelude.{◌≡◌, ◌⊎◌, ℕ, Bool, true, false, List, [], ◌∷◌, ◌++◌, Option, Some}
 use Rattle.std.specs.Str.{encode_utf8_all}
-use Rattle.hub_io.specs.Record.{Call, Opened, Since}
-use Rattle.tool_words.specs.declared.command.ToolCommand.{ToolCommand}
-use Rattle.tool_words.specs.declared.command.ToolCommand.TheVariants.{Proxy}
+use Rattle.hub_io.specs.Record.{Call, Opened}
+use Rattle.kit_bytes.specs.declared.Kind.{Kind}
+use Rattle.kit_bytes.specs.declared.Kind.TheVariants as kind
+use Rattle.tool_words.specs.declared.fault.UsageKind.TheVariants.{UnknownTool}
 use Rattle.hub_io.specs.declared.settings.ServeEnd.{ServeEnd}
 use Rattle.hub_io.specs.declared.settings.Settings.{Settings}
 use Rattle.proxy_serving.specs.Ends.{EndsSo}
@@ -48,13 +49,13 @@ pub record ServesOpened (asked : Asked) (result : Status) (calls : List Call) : 
   pub status : result ≡ status_of_end why
 
 -- or it couldn't be opened, or no memory was there before
-abbrev pub ServesProxy : Asked → Status → List Call → Type 0
-ServesProxy asked result calls =
+abbrev pub ServesQmi : Asked → Status → List Call → Type 0
+ServesQmi asked result calls =
     ServesOpened asked result calls
     ⊎ ((result ≡ status.HubFault) × (calls ≡ opening asked false ∷ []))
     ⊎ ((result ≡ status.OutOfMemory) × (calls ≡ []))
 
--- the same of what a command asks; one of another tool asks nothing of a hub
-abbrev pub ServesCommand : ToolCommand → Option (List Call) → Status → Option (List Call) → Type 0
-ServesCommand (Proxy kind device socket bridge empty time turns) before result after = Since before after (ServesProxy (asked_in device socket empty time turns) result)
-ServesCommand _ before result after = Since before after (λ calls. calls ≡ [])
+-- a proxy of this kind served; there is none for MBIM
+abbrev pub ServesProxy : Kind → Asked → Status → List Call → Type 0
+ServesProxy kind.Qmi asked result calls = ServesQmi asked result calls
+ServesProxy kind.Mbim asked result calls = (result ≡ status.Usage UnknownTool) × (calls ≡ [])

@@ -1,5 +1,5 @@
 -- How a run of the program ends: its exit status, and the line that tells of it.
-use Rattle.std.specs.Prelude.{ℕ, List, [], ◌++◌, codes, decimal}
+use Rattle.std.specs.Prelude.{◌≡◌, ℕ, Bool, List, [], ◌++◌, Option, Some, None, codes, decimal, if◌then◌else◌}
 use Rattle.hub_io.specs.declared.settings.ServeEnd.{ServeEnd}
 use Rattle.hub_io.specs.declared.settings.ServeEnd.TheVariants as end
 use Rattle.message_tables.specs.declared.fault.TableFault.{TableFault}
@@ -29,19 +29,24 @@ error_line what which = codes "error: " ++ what ++ which ++ codes "\n"
 unfoldable pub object_line : List ℕ → List ℕ → List ℕ → List ℕ
 object_line what which number = codes "error: " ++ what ++ which ++ codes " in " ++ number ++ codes "\n"
 
--- why descriptions aren't read; objects are counted from 0
-abbrev pub tables_line : TableFault → List ℕ
-tables_line table.Json = error_line (codes "tables: json") []
-tables_line (table.Member at name) = object_line (codes "tables: member ") (member_text name) (decimal at)
-tables_line (table.Format at) = object_line (codes "tables: format") [] (decimal at)
-tables_line (table.Twice at) = object_line (codes "tables: twice") [] (decimal at)
-tables_line (table.Deep at) = object_line (codes "tables: deep") [] (decimal at)
-tables_line table.OutOfMemory = error_line (codes "out of memory") []
+-- a modem's refusal, or one of its driver
+abbrev pub denied_text : Bool → List ℕ
+denied_text function = if function then codes "function error " else codes "denied "
+
+-- why descriptions aren't read; objects are counted from 0, and a file without a fault of its own is too long
+abbrev pub tables_line : Option TableFault → List ℕ
+tables_line None = error_line (codes "tables: long") []
+tables_line (Some table.Json) = error_line (codes "tables: json") []
+tables_line (Some (table.Member at name)) = object_line (codes "tables: member ") (member_text name) (decimal at)
+tables_line (Some (table.Format at)) = object_line (codes "tables: format") [] (decimal at)
+tables_line (Some (table.Twice at)) = object_line (codes "tables: twice") [] (decimal at)
+tables_line (Some (table.Deep at)) = object_line (codes "tables: deep") [] (decimal at)
+tables_line (Some table.OutOfMemory) = error_line (codes "out of memory") []
 
 -- the line that tells how a run ended: none where all went well
 abbrev pub line_of : Status → List ℕ
 line_of status.Done = []
-line_of (status.Denied error) = error_line (codes "denied ") (decimal error)
+line_of (status.Denied function code) = error_line (denied_text function) (decimal code)
 line_of (status.Usage why) = error_line (codes "usage: ") (kind_word why)
 line_of status.LinkFault = error_line (codes "link fault") []
 line_of status.LinkEnd = error_line (codes "link ended") []
@@ -49,8 +54,7 @@ line_of status.TimedOut = error_line (codes "timed out") []
 line_of (status.Broken place) = error_line (codes "broken at ") (decimal place)
 line_of status.Flooded = error_line (codes "flooded") []
 line_of status.WriteFault = error_line (codes "write fault") []
-line_of (status.Tables fault) = tables_line fault
-line_of status.LongTables = error_line (codes "tables: long") []
+line_of (status.TableFault fault) = tables_line fault
 line_of status.ReadFault = error_line (codes "read fault") []
 line_of status.HubFault = error_line (codes "hub fault") []
 line_of status.TurnsSpent = error_line (codes "turns spent") []
@@ -58,7 +62,7 @@ line_of status.OutOfMemory = error_line (codes "out of memory") []
 
 abbrev pub code_of : Status → ℕ
 code_of status.Done = 0
-code_of (status.Denied error) = 1
+code_of (status.Denied function code) = 1
 code_of (status.Usage why) = 2
 code_of status.LinkFault = 3
 code_of status.LinkEnd = 4
@@ -66,8 +70,7 @@ code_of status.TimedOut = 5
 code_of (status.Broken place) = 6
 code_of status.Flooded = 7
 code_of status.WriteFault = 8
-code_of (status.Tables fault) = 9
-code_of status.LongTables = 9
+code_of (status.TableFault fault) = 9
 code_of status.ReadFault = 10
 code_of status.HubFault = 13
 code_of status.TurnsSpent = 14
@@ -76,17 +79,22 @@ code_of status.OutOfMemory = 70
 -- how a run ends whose command ended so
 abbrev pub status_of : RunEnd → Status
 status_of run.Done = status.Done
-status_of (run.Denied error) = status.Denied error
+status_of (run.Denied function code) = status.Denied function code
 status_of run.LinkFault = status.LinkFault
 status_of run.LinkEnd = status.LinkEnd
 status_of run.TimedOut = status.TimedOut
 status_of (run.Broken place) = status.Broken place
 status_of run.Flooded = status.Flooded
-status_of (run.Tables fault) = status.Tables fault
-status_of run.LongTables = status.LongTables
+status_of (run.TableFault fault) = status.TableFault fault
 status_of run.ReadFault = status.ReadFault
 status_of run.WriteFault = status.WriteFault
 status_of run.OutOfMemory = status.OutOfMemory
+
+-- a command's end is such, and the status tells of it
+pub record EndsAs (result : Status) (Is : RunEnd → Type 0) : Type 0 where
+  pub ends : RunEnd
+  pub is : Is ends
+  pub status : result ≡ status_of ends
 
 -- how a run ends whose serving ended so
 abbrev pub status_of_end : ServeEnd → Status

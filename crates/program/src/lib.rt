@@ -6,10 +6,7 @@ mod proxy;
 mod report;
 mod status;
 mod tool;
-mod words;
 
 pub use dispatch::run;
-pub use proxy::run_proxy;
 pub use report::{give_up, refuse};
 pub use status::Status;
-pub use tool::run_tool;

@@ -1,7 +1,7 @@
-ghost use Rattle.std.specs.Prelude.{◌≡◌, OnOk};
+ghost use Rattle.std.specs.Prelude.{◌≡◌, OnOk, Some};
 ghost use Rattle.kit_io.specs.Causes.{Rose, HasCause};
 ghost use Rattle.kit_io.specs.Told.{Grows};
-ghost use Rattle.program.specs.Status.{error_line, line_of, object_line, tables_line};
+ghost use Rattle.program.specs.Status.{denied_text, error_line, line_of, object_line, tables_line};
 
 use crate::Status;
 use crate::status::kind_word;
@@ -45,8 +45,9 @@ fn write_line<E: Sink>(status: Status, err: &mut E) -> Result<(), WriteFault>
 {
     match status {
         Status::Done => Ok(()),
-        Status::Denied { error } => {
-            write_error(b"denied ", Buffer::new().format(error).as_bytes(), err)
+        Status::Denied { function, code } => {
+            let mut number = Buffer::new();
+            write_error(denied_text(function), number.format(code).as_bytes(), err)
         }
         Status::Usage { kind } => write_error(b"usage: ", kind_word(kind).as_bytes(), err),
         Status::LinkFault => write_error(b"link fault", b"", err),
@@ -57,12 +58,22 @@ fn write_line<E: Sink>(status: Status, err: &mut E) -> Result<(), WriteFault>
         }
         Status::Flooded => write_error(b"flooded", b"", err),
         Status::WriteFault => write_error(b"write fault", b"", err),
-        Status::Tables { fault } => write_fault_of_tables(fault, err),
-        Status::LongTables => write_error(b"tables: long", b"", err),
+        Status::TableFault { fault: None } => write_error(b"tables: long", b"", err),
+        Status::TableFault { fault: Some(fault) } => write_fault_of_tables(fault, err),
         Status::ReadFault => write_error(b"read fault", b"", err),
         Status::HubFault => write_error(b"hub fault", b"", err),
         Status::TurnsSpent => write_error(b"turns spent", b"", err),
         Status::OutOfMemory => write_error(b"out of memory", b"", err),
+    }
+}
+
+fn denied_text(function: bool) -> &'static [u8]
+    ensures { result.now ≡ denied_text function }
+{
+    if function {
+        b"function error "
+    } else {
+        b"denied "
     }
 }
 
@@ -79,7 +90,7 @@ fn write_error<E: Sink>(what: &[u8], which: &[u8], err: &mut E) -> Result<(), Wr
 
 #[tactic(auto, using(kit_io::proofs::Told::growing))]
 fn write_fault_of_tables<E: Sink>(fault: TableFault, err: &mut E) -> Result<(), WriteFault>
-    ensures line { OnOk result (Grows (E.taken err.old) (tables_line fault) (E.taken err.new)) }
+    ensures line { OnOk result (Grows (E.taken err.old) (tables_line (Some fault)) (E.taken err.new)) }
     ensures cause { HasCause (E.faults err.old) (E.faults err.new) result }
 {
     let mut number = Buffer::new();

@@ -10,8 +10,8 @@ use tool_words::UsageKind;
 #[derive(Clone, Copy, Debug, PartialEq, Eq)]
 pub enum Status {
     Done,
-    /// The modem refused the request, with this error of QMI.
-    Denied { error: u16 },
+    /// The modem refused the request with this code, by a function error or in its answer.
+    Denied { function: bool, code: u32 },
     /// The words are refused.
     Usage { kind: UsageKind },
     /// A call on the link failed.
@@ -26,10 +26,8 @@ pub enum Status {
     Flooded,
     /// The text couldn't be written.
     WriteFault,
-    /// The descriptions of messages aren't read, for this reason.
-    Tables { fault: TableFault },
-    /// They are too long.
-    LongTables,
+    /// The descriptions of messages aren't read, for this fault or since they are too long.
+    TableFault { fault: Option<TableFault> },
     /// A file couldn't be read.
     ReadFault,
     /// A call on the hub failed.
@@ -71,7 +69,7 @@ impl Status {
             Status::Broken { .. } => 6,
             Status::Flooded => 7,
             Status::WriteFault => 8,
-            Status::Tables { .. } | Status::LongTables => 9,
+            Status::TableFault { .. } => 9,
             Status::ReadFault => 10,
             Status::HubFault => 13,
             Status::TurnsSpent => 14,
@@ -88,14 +86,13 @@ impl From<RunEnd> for Status {
     fn from(end: RunEnd) -> Self {
         match end {
             RunEnd::Done => Status::Done,
-            RunEnd::Denied { error } => Status::Denied { error },
+            RunEnd::Denied { function, code } => Status::Denied { function, code },
             RunEnd::LinkFault => Status::LinkFault,
             RunEnd::LinkEnd => Status::LinkEnd,
             RunEnd::TimedOut => Status::TimedOut,
             RunEnd::Broken { place } => Status::Broken { place },
             RunEnd::Flooded => Status::Flooded,
-            RunEnd::Tables { fault } => Status::Tables { fault },
-            RunEnd::LongTables => Status::LongTables,
+            RunEnd::TableFault { fault } => Status::TableFault { fault },
             RunEnd::ReadFault => Status::ReadFault,
             RunEnd::WriteFault => Status::WriteFault,
             RunEnd::OutOfMemory => Status::OutOfMemory,

@@ -42,7 +42,7 @@ PrintsText text before _ after = ⊥
 
 -- nothing is printed of a refusal
 abbrev pub PrintsAnswer : QmiAnswer → List ℕ → Option (List ℕ) → RunEnd → Option (List ℕ) → Type 0
-PrintsAnswer (Failure error) text before ends after = (ends ≡ run.Denied error) × Grows before [] after
+PrintsAnswer (Failure error) text before ends after = (ends ≡ run.Denied false error) × Grows before [] after
 PrintsAnswer (Success fields) text before ends after = PrintsText text before ends after
 
 abbrev pub Prints : QmiEnd → Option (List ℕ) → RunEnd → Option (List ℕ) → Type 0

@@ -50,19 +50,19 @@ tables_text messages = or_ok (flat_map message_line messages)
 abbrev pub PrintsTables : List ℕ → Option (List ℕ) → RunEnd → Option (List ℕ) → Type 0
 PrintsTables text before run.Done after = (messages : List MessageForm) × (tables_in text ≡ Ok messages) × Grows before (tables_text messages) after
 PrintsTables text before run.WriteFault after = (messages : List MessageForm) × (tables_in text ≡ Ok messages) × GrowsByFront before (tables_text messages) after
-PrintsTables text before (run.Tables fault) after = (tables_in text ≡ Err fault) × Grows before [] after
+PrintsTables text before (run.TableFault (Some fault)) after = (tables_in text ≡ Err fault) × Grows before [] after
 PrintsTables text before run.OutOfMemory after = Grows before [] after
 PrintsTables text before _ after = ⊥
 
 -- how a command ends whose file isn't read
 abbrev pub end_of_file : FileFault → RunEnd
 end_of_file file.ReadFault = run.ReadFault
-end_of_file file.Long = run.LongTables
+end_of_file file.Long = run.TableFault None
 end_of_file file.OutOfMemory = run.OutOfMemory
 
 abbrev pub end_of_tables : TableFault → RunEnd
 end_of_tables table.OutOfMemory = run.OutOfMemory
-end_of_tables fault = run.Tables fault
+end_of_tables fault = run.TableFault (Some fault)
 
 abbrev pub SaysTables : Result (List ℕ) FileFault → Option (List ℕ) → RunEnd → Option (List ℕ) → Type 0
 SaysTables (Ok text) before ends after = PrintsTables text before ends after

@@ -61,7 +61,10 @@ fn print_end<O: Sink>(alloc: Global, end: &QmiEnd, out: &mut O) -> RunEnd
     ensures link_fault { ¬ (result ≡ RunEnd.LinkFault) }
 {
     match &end.answer {
-        QmiAnswer::Failure(error) => RunEnd::Denied { error: *error },
+        QmiAnswer::Failure(error) => RunEnd::Denied {
+            function: false,
+            code: u32::from(*error),
+        },
         QmiAnswer::Success(_) => print_text(alloc, end, out),
     }
 }

@@ -10,8 +10,8 @@ pub enum RunEnd {
     /// Its text was printed.
     Done,
     /// The modem refused the request, or the one that gets a client id or opens a proxy's device, with
-    /// this error of QMI.
-    Denied { error: u16 },
+    /// this code, by a function error or in its answer.
+    Denied { function: bool, code: u32 },
     /// A call on the link failed.
     LinkFault,
     /// The modem ended the link before its answer.
@@ -22,10 +22,8 @@ pub enum RunEnd {
     Broken { place: u64 },
     /// Too many messages came without the answer.
     Flooded,
-    /// The descriptions of messages aren't read, for this reason.
-    Tables { fault: TableFault },
-    /// They are too long.
-    LongTables,
+    /// The descriptions of messages aren't read, for this fault or since they are too long.
+    TableFault { fault: Option<TableFault> },
     /// Their file couldn't be read.
     ReadFault,
     /// The text couldn't be written.
@@ -58,7 +56,7 @@ impl From<FileFault> for RunEnd {
     fn from(fault: FileFault) -> Self {
         match fault {
             FileFault::ReadFault => RunEnd::ReadFault,
-            FileFault::Long => RunEnd::LongTables,
+            FileFault::Long => RunEnd::TableFault { fault: None },
             FileFault::OutOfMemory => RunEnd::OutOfMemory,
         }
     }
@@ -72,7 +70,7 @@ impl From<TableFault> for RunEnd {
     fn from(fault: TableFault) -> Self {
         match fault {
             TableFault::OutOfMemory => RunEnd::OutOfMemory,
-            fault => RunEnd::Tables { fault },
+            fault => RunEnd::TableFault { fault: Some(fault) },
         }
     }
 }

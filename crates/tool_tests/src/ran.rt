@@ -1,7 +1,7 @@
 use file_io::{FileAnswer, MemFiles};
 use kit_io::{MemSink, SinkAnswer};
 use link_io::{LinkAnswer, Made, MemLink};
-use program::{Status, run_tool};
+use program::Status;
 use std::alloc::{AllocError, Global};
 use std::process::Abort;
 

@@ -4,7 +4,7 @@ use Rattle.hub_io.specs.Record.{Call, Opened, Records}
 use Rattle.hub_io.proofs.Record.{since-starts, since-grows, since-joins}
 use Rattle.proxy_serving.specs.Ends.{EndsSo}
 use Rattle.qmi_serving.specs.Serving.{proxy_of}
-use Rattle.program.specs.Serving.{ServesProxy, asked_with, opening, setup_in}
+use Rattle.program.specs.Serving.{ServesQmi, asked_with, opening, setup_in}
 use Rattle.program.proofs.proxy.serve_at.Goals as goal
 
 -- the hub was opened and served
@@ -15,7 +15,7 @@ returns-in-Ok-clause-serves g c =
     let Opens : List ℕ → List ℕ → Type 0 = λ path device. Records (g.H.Hub.calls c.args.hub.now) (Opened path (Some device) true) (g.H.Hub.calls c.open.new.self) in
     let Open : List Call → Type 0 = λ calls. calls ≡ opening asked true ∷ [] in
     let Ends : List Call → Type 0 = EndsSo (proxy_of (setup_in asked)) asked.empty asked.turns c.serve_qmi.result in
-    since-joins _ _ _ Open Ends (ServesProxy asked c.from.result)
+    since-joins _ _ _ Open Ends (ServesQmi asked c.from.result)
     (λ earlier later opened ends. inl (record {
       served = later;
       whole = ap (λ (l : List Call). later ++ l) opened;
@@ -32,6 +32,6 @@ returns-in-Err-clause-serves g c =
     let asked = asked_with c.args.socket.now c.args.settings.now in
     let socket : c.as_str.result.now ≡ encode_utf8_all c.args.socket.now = c.as_str.ensures ∙ ap encode_utf8_all c.value.ensures.same in
     let Opens : List ℕ → List ℕ → Type 0 = λ path device. Records (g.H.Hub.calls c.args.hub.now) (Opened path (Some device) false) (g.H.Hub.calls c.open.new.self) in
-    since-grows (g.H.Hub.calls c.args.hub.now) _ _ _ (λ calls. calls ≡ []) (ServesProxy asked _)
+    since-grows (g.H.Hub.calls c.args.hub.now) _ _ _ (λ calls. calls ≡ []) (ServesQmi asked _)
     (λ calls none. inr (inl (refl, ap (λ (l : List Call). opening asked false ∷ l) none)))
     (since-starts (g.H.Hub.calls c.args.hub.now) (λ calls. calls ≡ []) refl) (subst (λ (path : List ℕ). Opens path asked.device) socket (subst (Opens c.as_str.result.now) c.requires c.in-Err.ensures.calls))
