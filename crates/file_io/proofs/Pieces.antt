@@ -4,6 +4,7 @@ use Rattle.std.proofs.lemmas.Grind.{common_steps}
 use Rattle.std.proofs.lemmas.List.{map_push, append-nil}
 use Rattle.std.proofs.lemmas.List.Elements.{All-push}
 use Rattle.std.specs.List.{concat}
+use Rattle.kit_bytes.proofs.Lists.{concat-push}
 use Rattle.kit_io.specs.Told.{Grows}
 use Rattle.kit_io.proofs.Told.{Grows-none, Grows-append}
 use Rattle.file_io.specs.declared.reading.TheConstants.{FILE_LIMIT}
@@ -17,10 +18,6 @@ pub record HasRead (before now : Option (List Call)) (bytes : List ℕ) : Type 0
   pub each : All (λ piece. 0 < length piece) pieces
   pub whole : concat pieces ≡ bytes
   pub grows : Grows before (map Gave pieces) now
-
-concat-push : (pieces : List (List ℕ)) (piece : List ℕ) → concat (pieces ++ piece ∷ []) ≡ concat pieces ++ piece
-concat-push [] piece = append-nil piece
-concat-push (first ∷ pieces) piece = ap (λ (l : List ℕ). first ++ l) (concat-push pieces piece) ∙ sym (append_assoc first (concat pieces) piece)
 
 pub HasRead-none : (before : Option (List Call)) → HasRead before before []
 HasRead-none before = record { pieces = []; each = search rules; whole = refl; grows = Grows-none before }
