@@ -4,15 +4,6 @@ use Rattle.std.proofs.lemmas.List.{append-nil, map_push, take_more}
 use Rattle.std.proofs.lemmas.Grind.{flat_map-append}
 use Rattle.std.specs.List.{flat_map}
 
--- of lists that look alike up to a place, the next elements may be taken in
-pub map-more : {A B C : Type 0} (f : A → C) (g : B → C) (made : List A) (xs : List B) (i : ℕ) (a : A) (x : B) → map f made ≡ map g (take i xs) → i < length xs → f a ≡ g (get_or xs i x)
-    → map f (made ++ a ∷ []) ≡ map g (take (i + 1) xs)
-map-more f g made xs i a x alike within same =
-    let pushed = map_push f made a in
-    let taken = ap (map g) (take_more xs i x within) in
-    let last = map_push g (take i xs) (get_or xs i x) in
-    cc
-
 -- what a list gives up to a place, and what its next element gives
 pub flat_map-more : {A B C : Type 0} (f : B → List C) (view : A → B) (xs : List A) (i : ℕ) (x : A) (old new : List C) → i < length xs → old ≡ flat_map f (map view (take i xs))
     → new ≡ old ++ f (view (get_or xs i x)) → new ≡ flat_map f (map view (take (i + 1) xs))

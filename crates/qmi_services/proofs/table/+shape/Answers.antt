@@ -1,6 +1,6 @@
 use Rattle.qmi_shapes.specs.View.{field_view}
 use Rattle.qmi_services.specs.View.{field_format_view}
-use Rattle.qmi_services.proofs.Lists.{map-more}
+use Rattle.kit_bytes.proofs.Lists.{map-more}
 use Rattle.qmi_services.proofs.table.+shape.Goals as goal
 
 pub shape_fields-loop-field-preserved : goal.shape_fields-loop-field-preserved
