@@ -200,7 +200,7 @@ part_of : (done : List NamedForm) (here : NamedForm) (rest : List NamedForm) →
 part_of [] here rest are = are.0
 part_of (named ∷ done) here rest are = part_of done here rest are.1
 
-depth_in : (done : List NamedForm) (here : NamedForm) (rest : List NamedForm) → depth here.form ≤ fields_depth (fields_of (done ++ here ∷ rest))
+pub depth_in : (done : List NamedForm) (here : NamedForm) (rest : List NamedForm) → depth here.form ≤ fields_depth (fields_of (done ++ here ∷ rest))
 depth_in [] here rest = omega arith
 depth_in (named ∷ done) here rest = omega (arith, depth_in done here rest)
 

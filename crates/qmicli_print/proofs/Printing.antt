@@ -12,7 +12,7 @@ use Rattle.qmi_values.specs.Value.{Value, number, integer, text, elements, membe
 use Rattle.qmi_values.proofs.Spellings.{list_of-values_of}
 use Rattle.qmi_values.specs.View.{val_view}
 use Rattle.qmi_values.proofs.Depth.{depth, fields_depth}
-use Rattle.qmi_values.proofs.Readings.{around}
+use Rattle.qmi_values.proofs.Readings.{around, depth_in}
 use Rattle.qmi_shapes.proofs.Views.{view-form}
 use Rattle.qmicli_print.specs.Printed.{each_text, list_text, value_text, fields_text}
 use Rattle.qmicli_print.specs.Texts.{heading, deeper}
@@ -46,10 +46,6 @@ fields_text-take (n ∷ named) indent [] (suc count) is = absurd (omega (arith, 
 fields_text-take (n ∷ named) indent (v ∷ values) zero is = absurd (omega (arith, is))
 fields_text-take (n ∷ named) indent (v ∷ values) (suc count) is =
     ap (λ (l : List ℕ). value_text n.form indent (encode_utf8_all n.name) v ++ l) (fields_text-take named indent values count (omega (arith, is)))
-
-depth_in : (done : List NamedForm) (here : NamedForm) (rest : List NamedForm) → depth here.form ≤ fields_depth (fields_of (done ++ here ∷ rest))
-depth_in [] here rest = omega arith
-depth_in (named ∷ done) here rest = omega (arith, depth_in done here rest)
 
 view-name : (f : ShapeField) → (field_view f).name ≡ f.name
 view-name f = search (rules, the_lemmas)
