@@ -1,4 +1,4 @@
-use qmux_frame::{Head, result_reply, set_number};
+use qmux_frame::{Head, MessageKind, NewMessage, Sender, control, result_reply, set_number};
 use std::test::Fail;
 
 // Proxy Open, which names the device /dev/cdc-wdm0: service 0, number 1, message id 0xFF00.
@@ -71,4 +71,41 @@ fn results_are_replied(rt: HostRuntime) {
         result_reply(&Head::read(&MODEL), 7).bytes(),
         invalid_client.as_slice()
     );
+}
+
+#[test]
+fn messages_are_written(rt: HostRuntime) -> Result<(), Fail> {
+    let open = NewMessage {
+        sender: Sender::Host,
+        service: 0,
+        client: 0,
+        flags: MessageKind::Request.flags(0),
+        number: 1,
+        message: control::PROXY_OPEN,
+    };
+    let bytes = open.write(rt.alloc(), &OPEN[12..])?;
+    assert_eq!(rt; bytes.as_slice(), OPEN.as_slice());
+
+    // The response to it, which tells of success.
+    let done = [
+        0x01, 0x12, 0x00, 0x80, 0x00, 0x00, 0x01, 0x01, 0x00, 0xFF, 0x07, 0x00, 0x02, 0x04, 0x00,
+        0x00, 0x00, 0x00, 0x00,
+    ];
+    let answer = NewMessage {
+        sender: Sender::Modem,
+        flags: MessageKind::Response.flags(0),
+        ..open
+    };
+    let bytes = answer.write(rt.alloc(), &done[12..])?;
+    assert_eq!(rt; bytes.as_slice(), done.as_slice());
+
+    let model = NewMessage {
+        service: 2,
+        client: 5,
+        message: 0x0022,
+        ..open
+    };
+    let bytes = model.write(rt.alloc(), &[])?;
+    assert_eq!(rt; bytes.as_slice(), MODEL.as_slice());
+    Ok(())
 }
