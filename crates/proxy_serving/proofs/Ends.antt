@@ -31,7 +31,6 @@ module _ {p : Proxy} {limit : Option ℕ} {calls : List Call} (turns more : ℕ)
     earlier = early.earlier;
     whole = early.whole;
     goes_on = goes_on_further turns more within early.goes_on;
-    offers = early.offers;
-    reopens = early.reopens;
+    done = early.done;
     counted = omega (arith, early.counted);
   })

@@ -5,15 +5,15 @@ use Rattle.proxy_history.specs.Events.{Joined, Now}
 use Rattle.hub_io.specs.Record.{Call, ToldStop, NextFailed, Told, events}
 use Rattle.hub_io.specs.declared.settings.ServeEnd.{ServeEnd}
 use Rattle.hub_io.specs.declared.settings.ServeEnd.TheVariants as end
-use Rattle.proxy_serving.specs.Serving.{Proxy, SendsWhatWaits, TakesTheFirst, OffersBeforeEachNext, AllIsOffered, hang_ups, due_hang_ups, hanging_up, IsNoOpening, ReopensBeforeEachNext, Reopens, turns_in, IsNoEnd, NeverIdle, is_idle}
+use Rattle.proxy_serving.specs.Serving.{Proxy, SendsWhatWaits, TakesTheFirst, AllIsDone, DoesAllBeforeEachNext, AllIsOffered, hang_ups, due_hang_ups, hanging_up, IsNoOpening, reopenings, due_reopenings, turns_in, IsNoEnd, NeverIdle, is_idle}
 
--- what was sent, taken, offered, hung up and opened again is what the definitions say, and the hub wasn't opened
+-- what was sent, taken, offered, hung up and opened again is what the definitions say, and the hub wasn't opened; all hang-ups are done, and the modem is opened no more often than it is to be
 pub record Serves (p : Proxy) (calls : List Call) : Type 0 where
   pub sends : SendsWhatWaits p calls
   pub takes : TakesTheFirst p calls
-  pub offers : OffersBeforeEachNext p calls
+  pub does_all : DoesAllBeforeEachNext p calls
   pub hangs_up : hang_ups calls ≡ due_hang_ups p calls
-  pub reopens : Reopens p calls
+  pub reopens : reopenings calls ≤ due_reopenings p calls
   pub no_opening : AllByRecursion IsNoOpening calls
 
 -- nothing has ended it either: the hub didn't, somebody was there within so long, and the hub was asked at most so often
@@ -48,8 +48,7 @@ pub record EndsEarly (p : Proxy) (limit : Option ℕ) (turns : ℕ) (calls : Lis
   pub earlier : List Call
   pub whole : calls ≡ Told (Joined conn) ∷ earlier
   pub goes_on : GoesOn p limit turns earlier
-  pub offers : OffersBeforeEachNext p calls
-  pub reopens : ReopensBeforeEachNext p calls
+  pub done : AllIsDone p earlier
   pub counted : turns_in calls ≤ turns
 
 abbrev pub RanOut : Proxy → Option ℕ → ℕ → List Call → Type 0

@@ -79,16 +79,6 @@ pub record AllIsOffered (p : Proxy) (calls : List Call) : Type 0 where
   pub clients : AllByRecursion (IsOffered p calls) (p.present (events calls))
   pub modem : IsModemOffered p calls
 
--- each time that the hub was asked for what comes next, all that waited had been offered
-abbrev pub OffersBeforeEachNext : Proxy → List Call → Type 0
-OffersBeforeEachNext p [] = Unit {0}
-OffersBeforeEachNext p (Told event ∷ calls) = AllIsOffered p calls × OffersBeforeEachNext p calls
-OffersBeforeEachNext p (ToldRoom c ∷ calls) = AllIsOffered p calls × OffersBeforeEachNext p calls
-OffersBeforeEachNext p (ToldModemRoom ∷ calls) = AllIsOffered p calls × OffersBeforeEachNext p calls
-OffersBeforeEachNext p (ToldStop ∷ calls) = AllIsOffered p calls × OffersBeforeEachNext p calls
-OffersBeforeEachNext p (NextFailed ∷ calls) = AllIsOffered p calls × OffersBeforeEachNext p calls
-OffersBeforeEachNext p (_ ∷ calls) = OffersBeforeEachNext p calls
-
 -- ---- hanging up ----
 
 -- the connections that are to be hung up: those that the proxy ended, and those whose sending failed
@@ -137,20 +127,23 @@ due_reopenings p (ToldRoom c ∷ calls) = 0
 due_reopenings p (ToldModemRoom ∷ calls) = 0
 due_reopenings p (_ ∷ calls) = due_reopenings p calls
 
--- each time that the hub was asked for what comes next, the modem had been opened again as often as it was to be
-abbrev pub ReopensBeforeEachNext : Proxy → List Call → Type 0
-ReopensBeforeEachNext p [] = Unit {0}
-ReopensBeforeEachNext p (Told event ∷ calls) = (reopenings calls ≡ due_reopenings p calls) × ReopensBeforeEachNext p calls
-ReopensBeforeEachNext p (ToldRoom c ∷ calls) = (reopenings calls ≡ due_reopenings p calls) × ReopensBeforeEachNext p calls
-ReopensBeforeEachNext p (ToldModemRoom ∷ calls) = (reopenings calls ≡ due_reopenings p calls) × ReopensBeforeEachNext p calls
-ReopensBeforeEachNext p (ToldStop ∷ calls) = (reopenings calls ≡ due_reopenings p calls) × ReopensBeforeEachNext p calls
-ReopensBeforeEachNext p (NextFailed ∷ calls) = (reopenings calls ≡ due_reopenings p calls) × ReopensBeforeEachNext p calls
-ReopensBeforeEachNext p (_ ∷ calls) = ReopensBeforeEachNext p calls
+-- ---- before the hub is asked for what comes next ----
 
--- and never more often
-pub record Reopens (p : Proxy) (calls : List Call) : Type 0 where
-  pub before_next : ReopensBeforeEachNext p calls
-  pub no_more : reopenings calls ≤ due_reopenings p calls
+-- all that waits was offered, just those were hung up that are to be, and the modem was opened again as often as it is to be
+pub record AllIsDone (p : Proxy) (calls : List Call) : Type 0 where
+  pub offered : AllIsOffered p calls
+  pub hung_up : hang_ups calls ≡ due_hang_ups p calls
+  pub reopened : reopenings calls ≡ due_reopenings p calls
+
+-- each time that the hub was asked for what comes next, all was done
+abbrev pub DoesAllBeforeEachNext : Proxy → List Call → Type 0
+DoesAllBeforeEachNext p [] = Unit {0}
+DoesAllBeforeEachNext p (Told event ∷ calls) = AllIsDone p calls × DoesAllBeforeEachNext p calls
+DoesAllBeforeEachNext p (ToldRoom c ∷ calls) = AllIsDone p calls × DoesAllBeforeEachNext p calls
+DoesAllBeforeEachNext p (ToldModemRoom ∷ calls) = AllIsDone p calls × DoesAllBeforeEachNext p calls
+DoesAllBeforeEachNext p (ToldStop ∷ calls) = AllIsDone p calls × DoesAllBeforeEachNext p calls
+DoesAllBeforeEachNext p (NextFailed ∷ calls) = AllIsDone p calls × DoesAllBeforeEachNext p calls
+DoesAllBeforeEachNext p (_ ∷ calls) = DoesAllBeforeEachNext p calls
 
 -- ---- ends ----
 

@@ -10,7 +10,7 @@ use Rattle.hub_io.specs.Record.{Call, Told, ToldRoom, ToldModemRoom, ToldStop, N
 use Rattle.qmi_proxy.specs.Setup.{Setup}
 use Rattle.qmi_proxy.specs.History.{history, text_for}
 use Rattle.qmi_state.specs.Core.{Core, Stands}
-use Rattle.proxy_serving.specs.Serving.{IsFront, AllIsOffered, taken_by, is_blocked, hang_ups, due_hang_ups, turns_in, NeverIdle, emptied_at, is_modem_blocked, reopenings, due_reopenings}
+use Rattle.proxy_serving.specs.Serving.{IsFront, AllIsOffered, AllIsDone, taken_by, is_blocked, hang_ups, due_hang_ups, turns_in, NeverIdle, emptied_at, is_modem_blocked, reopenings, due_reopenings}
 use Rattle.proxy_serving.proofs.Offering.{AreBlocked, differs_from_all, blocked-sent_none, blocked-sent_none_on, blocked_but, blocked_others, all_on, all_joined}
 use Rattle.proxy_serving.specs.Ends.{Serves, GoesOn}
 use Rattle.qmi_serving.specs.Serving.{proxy_of}
@@ -29,6 +29,10 @@ module _ {s : Setup} {turns : ℕ} {server : Server} {calls : List Call} (going 
   none_due : names_left server.core ≡ [] → hang_ups calls ≡ due_hang_ups (proxy_of s) calls
   none_due before = ap (λ (l : List ℕ). reverse l ++ hang_ups calls) (sym before) ∙ going.hangs_up
 
+  -- all was done before the hub is asked for what comes next
+  pub all_done : reopenings calls ≡ due_reopenings (proxy_of s) calls → AllIsOffered (proxy_of s) calls → names_left server.core ≡ [] → AllIsDone (proxy_of s) calls
+  all_done in_time offered none = record { offered = offered; hung_up = none_due none; reopened = in_time }
+
   -- the next dropped connection is hung up
   pub serving-hung_up : (c : ℕ) (now : Server) → names_left server.core ≡ c ∷ names_left now.core → Stands s (events calls) now.core → AreBlocked calls now.blocked → now.modem_blocked ≡ server.modem_blocked → now.emptied ≡ server.emptied
       → IsServing s turns now (HungUp c ∷ calls)
@@ -37,12 +41,12 @@ module _ {s : Setup} {turns : ℕ} {server : Server} {calls : List Call} (going 
     stands = stands_for now.core (events calls) (events (HungUp c ∷ calls)) (events-hung_up c calls) stands;
     sends = going.sends;
     takes = going.takes;
-    offers = going.offers;
+    does_all = going.does_all;
     hangs_up =
         sym (append_assoc (reverse (names_left now.core)) (c ∷ []) (hang_ups calls))
         ∙ ap (λ (l : List ℕ). l ++ hang_ups calls) (sym (reverse-append (c ∷ []) (names_left now.core)) ∙ ap reverse (sym left))
         ∙ going.hangs_up;
-    reopens = record { before_next = going.reopens.before_next; no_more = going.reopens.no_more };
+    reopens = going.reopens;
     no_opening = (tt, going.no_opening);
     no_end = (tt, going.no_end);
     counted = going.counted;
@@ -59,9 +63,9 @@ module _ {s : Setup} {turns : ℕ} {server : Server} {calls : List Call} (going 
     stands = stands_for now.core (events calls) (events (Sent c bytes 0 ∷ calls)) (events-sent_none c bytes calls) (subst (Stands s (events calls)) (sym core) going.stands);
     sends = (front, going.sends);
     takes = takes-sent_none s c bytes calls going.takes;
-    offers = going.offers;
+    does_all = going.does_all;
     hangs_up = ap (λ (k : Core). reverse (names_left k) ++ hang_ups calls) core ∙ going.hangs_up;
-    reopens = record { before_next = going.reopens.before_next; no_more = going.reopens.no_more };
+    reopens = going.reopens;
     no_opening = (tt, going.no_opening);
     no_end = (tt, going.no_end);
     counted = going.counted;
@@ -80,9 +84,9 @@ module _ {s : Setup} {turns : ℕ} {server : Server} {calls : List Call} (going 
     stands = stands_for now.core (Took c taken ∷ events calls) (events (Sent c bytes taken ∷ calls)) (events-sent c bytes taken calls some) stands;
     sends = (front, going.sends);
     takes = takes-sent s c bytes taken calls (events-sent c bytes taken calls some) there front within going.takes;
-    offers = going.offers;
+    does_all = going.does_all;
     hangs_up = ap (λ (l : List ℕ). reverse l ++ hang_ups calls) after ∙ none_due before;
-    reopens = record { before_next = going.reopens.before_next; no_more = going.reopens.no_more };
+    reopens = going.reopens;
     no_opening = (tt, going.no_opening);
     no_end = (tt, going.no_end);
     counted = going.counted;
@@ -100,9 +104,9 @@ module _ {s : Setup} {turns : ℕ} {server : Server} {calls : List Call} (going 
     stands = stands;
     sends = (front, going.sends);
     takes = takes-failed s c bytes calls going.takes;
-    offers = going.offers;
+    does_all = going.does_all;
     hangs_up = ap (λ (l : List ℕ). reverse l ++ c ∷ hang_ups calls) after ∙ ap (λ (l : List ℕ). c ∷ l) (none_due before);
-    reopens = record { before_next = going.reopens.before_next; no_more = going.reopens.no_more };
+    reopens = going.reopens;
     no_opening = (tt, (tt, going.no_opening));
     no_end = (tt, (tt, going.no_end));
     counted = going.counted;
@@ -120,10 +124,10 @@ module _ {s : Setup} {turns : ℕ} {server : Server} {calls : List Call} (going 
     stands = stands;
     sends = going.sends;
     takes = takes-told s known event calls may going.takes;
-    offers = (offered, going.offers);
+    does_all = (all_done in_time offered before, going.does_all);
     hangs_up =
         ap (λ (l : List ℕ). reverse l ++ hang_ups calls) after ∙ ap (λ (l : List ℕ). reverse (dropped (history s (event ∷ events calls))) ++ l) (none_due before);
-    reopens = record { before_next = (in_time, going.reopens.before_next); no_more = omega arith };
+    reopens = omega arith;
     no_opening = (tt, going.no_opening);
     no_end = (tt, going.no_end);
     counted = ap (λ (n : ℕ). n + 1) going.counted;
@@ -133,16 +137,16 @@ module _ {s : Setup} {turns : ℕ} {server : Server} {calls : List Call} (going 
   }
 
   -- the hub told that a client's socket takes bytes again
-  pub serving-room : (c : ℕ) (now : Server) → reopenings calls ≡ due_reopenings (proxy_of s) calls → AllIsOffered (proxy_of s) calls → now.core ≡ server.core → now.blocked ≡ without c server.blocked → now.modem_blocked ≡ server.modem_blocked → now.emptied ≡ server.emptied
+  pub serving-room : (c : ℕ) (now : Server) → reopenings calls ≡ due_reopenings (proxy_of s) calls → AllIsOffered (proxy_of s) calls → names_left server.core ≡ [] → now.core ≡ server.core → now.blocked ≡ without c server.blocked → now.modem_blocked ≡ server.modem_blocked → now.emptied ≡ server.emptied
       → IsServing s (turns + 1) now (ToldRoom c ∷ calls)
   unfolding hang_ups due_hang_ups events turns_in taken_by is_modem_blocked reopenings due_reopenings
-  serving-room c now in_time offered core blocked modem emptied = record {
+  serving-room c now in_time offered before core blocked modem emptied = record {
     stands = subst (Stands s (events calls)) (sym core) going.stands;
     sends = going.sends;
     takes = going.takes;
-    offers = (offered, going.offers);
+    does_all = (all_done in_time offered before, going.does_all);
     hangs_up = ap (λ (k : Core). reverse (names_left k) ++ hang_ups calls) core ∙ going.hangs_up;
-    reopens = record { before_next = (in_time, going.reopens.before_next); no_more = omega arith };
+    reopens = omega arith;
     no_opening = (tt, going.no_opening);
     no_end = (tt, going.no_end);
     counted = ap (λ (n : ℕ). n + 1) going.counted;
@@ -151,16 +155,16 @@ module _ {s : Setup} {turns : ℕ} {server : Server} {calls : List Call} (going 
     emptied = emptied ∙ going.emptied;
   }
 
-  pub serving-modem_room : (now : Server) → reopenings calls ≡ due_reopenings (proxy_of s) calls → AllIsOffered (proxy_of s) calls → now.core ≡ server.core → now.blocked ≡ server.blocked → now.modem_blocked ≡ false → now.emptied ≡ server.emptied
+  pub serving-modem_room : (now : Server) → reopenings calls ≡ due_reopenings (proxy_of s) calls → AllIsOffered (proxy_of s) calls → names_left server.core ≡ [] → now.core ≡ server.core → now.blocked ≡ server.blocked → now.modem_blocked ≡ false → now.emptied ≡ server.emptied
       → IsServing s (turns + 1) now (ToldModemRoom ∷ calls)
   unfolding hang_ups due_hang_ups is_blocked events turns_in taken_by is_modem_blocked reopenings due_reopenings
-  serving-modem_room now in_time offered core blocked modem emptied = record {
+  serving-modem_room now in_time offered before core blocked modem emptied = record {
     stands = subst (Stands s (events calls)) (sym core) going.stands;
     sends = going.sends;
     takes = going.takes;
-    offers = (offered, going.offers);
+    does_all = (all_done in_time offered before, going.does_all);
     hangs_up = ap (λ (k : Core). reverse (names_left k) ++ hang_ups calls) core ∙ going.hangs_up;
-    reopens = record { before_next = (in_time, going.reopens.before_next); no_more = omega arith };
+    reopens = omega arith;
     no_opening = (tt, going.no_opening);
     no_end = (tt, going.no_end);
     counted = ap (λ (n : ℕ). n + 1) going.counted;
@@ -179,9 +183,9 @@ module _ {s : Setup} {turns : ℕ} {server : Server} {calls : List Call} (going 
     stands = subst (Stands s (events calls)) (sym core) going.stands;
     sends = (front, going.sends);
     takes = going.takes;
-    offers = going.offers;
+    does_all = going.does_all;
     hangs_up = ap (λ (k : Core). reverse (names_left k) ++ hang_ups calls) core ∙ going.hangs_up;
-    reopens = record { before_next = going.reopens.before_next; no_more = going.reopens.no_more };
+    reopens = going.reopens;
     no_opening = (tt, going.no_opening);
     no_end = (tt, going.no_end);
     counted = going.counted;
@@ -199,9 +203,9 @@ module _ {s : Setup} {turns : ℕ} {server : Server} {calls : List Call} (going 
     stands = stands_for now.core (ModemTook taken ∷ events calls) (events (SentModem bytes taken ∷ calls)) (events-sent_modem bytes taken calls some) stands;
     sends = (front, going.sends);
     takes = takes-by s (ModemTook taken) calls (SentModem bytes taken ∷ calls) (events-sent_modem bytes taken calls some) (λ d. refl) (λ d. refl) going.takes;
-    offers = going.offers;
+    does_all = going.does_all;
     hangs_up = ap (λ (l : List ℕ). reverse l ++ hang_ups calls) after ∙ none_due before;
-    reopens = record { before_next = going.reopens.before_next; no_more = going.reopens.no_more };
+    reopens = going.reopens;
     no_opening = (tt, going.no_opening);
     no_end = (tt, going.no_end);
     counted = going.counted;
@@ -219,10 +223,10 @@ module _ {s : Setup} {turns : ℕ} {server : Server} {calls : List Call} (going 
     stands = stands;
     sends = (front, going.sends);
     takes = takes-by s ModemGone calls (SendModemFailed bytes ∷ calls) refl (λ d. refl) (λ d. refl) going.takes;
-    offers = going.offers;
+    does_all = going.does_all;
     hangs_up =
         ap (λ (l : List ℕ). reverse l ++ hang_ups calls) after ∙ ap (λ (l : List ℕ). reverse (dropped (history s (ModemGone ∷ events calls))) ++ l) (none_due before);
-    reopens = record { before_next = going.reopens.before_next; no_more = going.reopens.no_more };
+    reopens = going.reopens;
     no_opening = (tt, going.no_opening);
     no_end = (tt, going.no_end);
     counted = going.counted;
@@ -240,10 +244,10 @@ module _ {s : Setup} {turns : ℕ} {server : Server} {calls : List Call} (going 
     stands = stands;
     sends = going.sends;
     takes = takes-by s ModemBack calls (Reopened ∷ calls) refl (λ d. refl) (λ d. refl) going.takes;
-    offers = going.offers;
+    does_all = going.does_all;
     hangs_up =
         ap (λ (l : List ℕ). reverse l ++ hang_ups calls) after ∙ ap (λ (l : List ℕ). reverse (dropped (history s (ModemBack ∷ events calls))) ++ l) (none_due before);
-    reopens = record { before_next = going.reopens.before_next; no_more = omega (arith, not_yet, due) };
+    reopens = omega (arith, not_yet, due);
     no_opening = (tt, going.no_opening);
     no_end = (tt, going.no_end);
     counted = going.counted;
@@ -259,9 +263,9 @@ module _ {s : Setup} {turns : ℕ} {server : Server} {calls : List Call} (going 
     stands = going.stands;
     sends = going.sends;
     takes = going.takes;
-    offers = going.offers;
+    does_all = going.does_all;
     hangs_up = going.hangs_up;
-    reopens = record { before_next = going.reopens.before_next; no_more = omega (arith, not_yet, due) };
+    reopens = omega (arith, not_yet, due);
     no_opening = (tt, going.no_opening);
     no_end = (tt, going.no_end);
     counted = going.counted;
@@ -272,7 +276,7 @@ module _ {s : Setup} {turns : ℕ} {server : Server} {calls : List Call} (going 
 
   -- once all hang-ups are done
   pub serves : names_left server.core ≡ [] → Serves (proxy_of s) calls
-  serves none = record { sends = going.sends; takes = going.takes; offers = going.offers; hangs_up = none_due none; reopens = going.reopens; no_opening = going.no_opening }
+  serves none = record { sends = going.sends; takes = going.takes; does_all = going.does_all; hangs_up = none_due none; reopens = going.reopens; no_opening = going.no_opening }
 
   pub goes_on : {limit : Option ℕ} → names_left server.core ≡ [] → NeverIdle (proxy_of s) limit calls → GoesOn (proxy_of s) limit turns calls
   goes_on none awake = record { serves = serves none; no_end = going.no_end; awake = awake; counted = omega (arith, going.counted) }
@@ -280,8 +284,8 @@ module _ {s : Setup} {turns : ℕ} {server : Server} {calls : List Call} (going 
   -- the last call was to stop, or failed
   pub serves-stop : reopenings calls ≡ due_reopenings (proxy_of s) calls → AllIsOffered (proxy_of s) calls → names_left server.core ≡ [] → Serves (proxy_of s) (ToldStop ∷ calls)
   unfolding hang_ups due_hang_ups taken_by events reopenings due_reopenings
-  serves-stop in_time offered none = record { sends = going.sends; takes = going.takes; offers = (offered, going.offers); hangs_up = none_due none; reopens = record { before_next = (in_time, going.reopens.before_next); no_more = going.reopens.no_more }; no_opening = (tt, going.no_opening) }
+  serves-stop in_time offered none = record { sends = going.sends; takes = going.takes; does_all = (all_done in_time offered none, going.does_all); hangs_up = none_due none; reopens = going.reopens; no_opening = (tt, going.no_opening) }
 
   pub serves-failed : reopenings calls ≡ due_reopenings (proxy_of s) calls → AllIsOffered (proxy_of s) calls → names_left server.core ≡ [] → Serves (proxy_of s) (NextFailed ∷ calls)
   unfolding hang_ups due_hang_ups taken_by events reopenings due_reopenings
-  serves-failed in_time offered none = record { sends = going.sends; takes = going.takes; offers = (offered, going.offers); hangs_up = none_due none; reopens = record { before_next = (in_time, going.reopens.before_next); no_more = going.reopens.no_more }; no_opening = (tt, going.no_opening) }
+  serves-failed in_time offered none = record { sends = going.sends; takes = going.takes; does_all = (all_done in_time offered none, going.does_all); hangs_up = none_due none; reopens = going.reopens; no_opening = (tt, going.no_opening) }

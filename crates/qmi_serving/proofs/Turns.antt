@@ -15,13 +15,13 @@ use Rattle.proxy_serving.proofs.Ends.{goes_on_further, ends_with_further, ends_i
 use Rattle.qmi_proxy.specs.Setup.{Setup}
 use Rattle.qmi_proxy.specs.History.{history}
 use Rattle.qmi_state.specs.Core.{Core, Leftover, Stands, StandsAfter, IsJoined}
-use Rattle.proxy_serving.specs.Serving.{Proxy, OffersBeforeEachNext, IsOffered, is_blocked, hang_ups, due_hang_ups, hanging_up, turns_in, NeverIdle, is_idle, emptied_at, ReopensBeforeEachNext, reopenings, due_reopenings}
+use Rattle.proxy_serving.specs.Serving.{Proxy, IsOffered, is_blocked, hang_ups, due_hang_ups, hanging_up, turns_in, NeverIdle, is_idle, emptied_at, reopenings, due_reopenings}
 use Rattle.proxy_serving.specs.Ends.{Serves, EndsWith, EndsIdle, EndsSpent, EndsSo, RanOut}
 use Rattle.qmi_serving.specs.Serving.{proxy_of, emptied_after, is_idle_at, end_at, misses_modem}
 use Rattle.qmi_serving.specs.Progress.{IsServing, HasOffered, IsReady, IsOpened, HasTold, AfterMeeting, AfterTurn, EndsNow, names_left, MayBeTold, AfterEvent}
 use Rattle.qmi_serving.specs.declared.server.Server.{Server}
 use Rattle.qmi_serving.proofs.Cores.{count_is, emptied_is, none_left}
-use Rattle.qmi_serving.proofs.Going.{serves, goes_on, serves-stop, serves-failed, serving-told, serving-room, serving-modem_room}
+use Rattle.qmi_serving.proofs.Going.{all_done, serves, goes_on, serves-stop, serves-failed, serving-told, serving-room, serving-modem_room}
 use Rattle.qmi_serving.proofs.Places.{none_offered}
 use Rattle.qmi_serving.proofs.Takings.{takes-none}
 
@@ -155,16 +155,13 @@ module _ {s : Setup} {limit : Option ℕ} {turns : ℕ} {server : Server} {event
   told-unmet none joined =
       let who = who_joined event joined in
       let whole : told ≡ Told (Joined who.0) ∷ has.earlier = has.whole ∙ ap (λ (e : Event). Told e ∷ has.earlier) who.1 in
-      let Offers : List Call → Type 0 = OffersBeforeEachNext (proxy_of s) in
-      let Reopens : List Call → Type 0 = ReopensBeforeEachNext (proxy_of s) in
       let Counted : List Call → Type 0 = λ calls. turns_in calls ≤ turns + 1 in
       inr (record {
         conn = who.0;
         earlier = has.earlier;
         whole = whole;
         goes_on = goes_on_further turns (turns + 1) (omega arith) (goes_on has.ready.serving none has.ready.awake);
-        offers = subst Offers (sym whole) (has.ready.offered, has.ready.serving.offers);
-        reopens = subst Reopens (sym whole) (has.ready.in_time, has.ready.serving.reopens.before_next);
+        done = all_done has.ready.serving has.ready.in_time has.ready.offered none;
         counted = subst Counted (sym whole) (omega (arith, has.ready.serving.counted));
       })
 
@@ -216,19 +213,19 @@ module _ {s : Setup} {limit : Option ℕ} {turns : ℕ} {server : Server} {event
 -- ---- the hub told something else ----
 
 module _ {s : Setup} {limit : Option ℕ} {turns : ℕ} {server : Server} {told : List Call} where
-  pub told-room : (c : ℕ) (now : Server) → HasTold s limit turns server (ToldRoom c) told → now.core ≡ server.core → now.blocked ≡ without c server.blocked → now.modem_blocked ≡ server.modem_blocked → now.emptied ≡ server.emptied
+  pub told-room : (c : ℕ) (now : Server) → names_left server.core ≡ [] → HasTold s limit turns server (ToldRoom c) told → now.core ≡ server.core → now.blocked ≡ without c server.blocked → now.modem_blocked ≡ server.modem_blocked → now.emptied ≡ server.emptied
       → HasOffered s limit (turns + 1) 0 now told
   unfolding reopenings due_reopenings
-  told-room c now has core blocked modem emptied =
+  told-room c now none has core blocked modem emptied =
       let P : List Call → Type 0 = HasOffered s limit (turns + 1) 0 now in
-      subst P (sym has.whole) (none_offered (serving-room has.ready.serving c now has.ready.in_time has.ready.offered core blocked modem emptied) has.ready.awake refl)
+      subst P (sym has.whole) (none_offered (serving-room has.ready.serving c now has.ready.in_time has.ready.offered none core blocked modem emptied) has.ready.awake refl)
 
-  pub told-modem_room : (now : Server) → HasTold s limit turns server ToldModemRoom told → now.core ≡ server.core → now.blocked ≡ server.blocked → now.modem_blocked ≡ false → now.emptied ≡ server.emptied
+  pub told-modem_room : (now : Server) → names_left server.core ≡ [] → HasTold s limit turns server ToldModemRoom told → now.core ≡ server.core → now.blocked ≡ server.blocked → now.modem_blocked ≡ false → now.emptied ≡ server.emptied
       → HasOffered s limit (turns + 1) 0 now told
   unfolding reopenings due_reopenings
-  told-modem_room now has core blocked modem emptied =
+  told-modem_room now none has core blocked modem emptied =
       let P : List Call → Type 0 = HasOffered s limit (turns + 1) 0 now in
-      subst P (sym has.whole) (none_offered (serving-modem_room has.ready.serving now has.ready.in_time has.ready.offered core blocked modem emptied) has.ready.awake refl)
+      subst P (sym has.whole) (none_offered (serving-modem_room has.ready.serving now has.ready.in_time has.ready.offered none core blocked modem emptied) has.ready.awake refl)
 
   pub told-stop : names_left server.core ≡ [] → HasTold s limit turns server ToldStop told → EndsWith (proxy_of s) limit (turns + 1) ToldStop told
   unfolding turns_in
@@ -326,9 +323,9 @@ opened-ready {s = s} {server = server} limit opened =
         stands = opened.stands;
         sends = tt;
         takes = takes-none s;
-        offers = tt;
+        does_all = tt;
         hangs_up = ap (λ (l : List ℕ). reverse l ++ []) none;
-        reopens = record { before_next = tt; no_more = omega arith };
+        reopens = omega arith;
         no_opening = tt;
         no_end = tt;
         counted = refl;
@@ -346,4 +343,4 @@ opened-ready {s = s} {server = server} limit opened =
 
 pub nothing_done : (s : Setup) (limit : Option ℕ) (turns : ℕ) → RanOut (proxy_of s) limit turns []
 unfolding hang_ups due_hang_ups turns_in reopenings due_reopenings
-nothing_done s limit turns = inl (record { serves = record { sends = tt; takes = takes-none s; offers = tt; hangs_up = refl; reopens = record { before_next = tt; no_more = omega arith }; no_opening = tt }; no_end = tt; awake = tt; counted = omega arith })
+nothing_done s limit turns = inl (record { serves = record { sends = tt; takes = takes-none s; does_all = tt; hangs_up = refl; reopens = omega arith; no_opening = tt }; no_end = tt; awake = tt; counted = omega arith })

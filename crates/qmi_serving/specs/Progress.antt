@@ -10,7 +10,7 @@ use Rattle.hub_io.specs.declared.settings.ServeEnd.{ServeEnd}
 use Rattle.hub_io.specs.declared.settings.ServeEnd.TheVariants as end
 use Rattle.qmi_proxy.specs.Setup.{Setup}
 use Rattle.qmi_proxy.specs.History.{history}
-use Rattle.proxy_serving.specs.Serving.{SendsWhatWaits, TakesTheFirst, OffersBeforeEachNext, AllIsOffered, IsOffered, is_blocked, is_modem_blocked, hang_ups, due_hang_ups, hanging_up, IsNoOpening, reopenings, due_reopenings, Reopens, turns_in, IsNoEnd, NeverIdle, emptied_at}
+use Rattle.proxy_serving.specs.Serving.{SendsWhatWaits, TakesTheFirst, DoesAllBeforeEachNext, AllIsOffered, IsOffered, is_blocked, is_modem_blocked, hang_ups, due_hang_ups, hanging_up, IsNoOpening, reopenings, due_reopenings, turns_in, IsNoEnd, NeverIdle, emptied_at}
 use Rattle.qmi_state.specs.Core.{Core, Leftover, Stands, greatest_after}
 use Rattle.proxy_serving.specs.Ends.{GoesOn, RanOut, EndsWith, EndsIdle, EndsSo}
 use Rattle.qmi_serving.specs.Serving.{proxy_of}
@@ -29,9 +29,9 @@ pub record IsServing (s : Setup) (turns : ℕ) (server : Server) (calls : List C
   pub stands : Stands s (events calls) server.core
   pub sends : SendsWhatWaits (proxy_of s) calls
   pub takes : TakesTheFirst (proxy_of s) calls
-  pub offers : OffersBeforeEachNext (proxy_of s) calls
+  pub does_all : DoesAllBeforeEachNext (proxy_of s) calls
   pub hangs_up : reverse (names_left server.core) ++ hang_ups calls ≡ due_hang_ups (proxy_of s) calls
-  pub reopens : Reopens (proxy_of s) calls
+  pub reopens : reopenings calls ≤ due_reopenings (proxy_of s) calls
   pub no_opening : AllByRecursion IsNoOpening calls
   pub no_end : AllByRecursion IsNoEnd calls
   pub counted : turns_in calls ≡ turns
