@@ -2,7 +2,11 @@
 use Rattle.std.proofs.Common.{◌≡◌, ℕ, ◌+◌, Bool, true, false, not, ◌&&◌, ◌||◌, ◌==◌, nat_lt, if◌then◌else◌, List, [], ◌∷◌, ◌++◌, length, map, refl, ap, sym, ◌∙◌, append_assoc, All, Option, Some, None}
 use Rattle.std.proofs.lemmas.Bool.{eqb-true, eq-eqb, or_left, or_right}
 use Rattle.std.proofs.lemmas.List.Elements.{All-nil, All-cons, All-head, All-tail, All-append}
+use Rattle.qmux_frame.specs.declared.kind.MessageKind.{MessageKind}
+use Rattle.qmux_frame.specs.declared.kind.MessageKind.TheVariants as kind
 use Rattle.qmux_frame.specs.Head.{is_control, client_of}
+use Rattle.qmux_frame.specs.Kind.{framed_kind}
+use Rattle.qmux_frame.specs.Control.{is_sync}
 use Rattle.proxy_history.specs.Limits.{outbox_limit}
 use Rattle.proxy_history.specs.Items.{ModemSays, ModemFails, item_if}
 use Rattle.proxy_history.specs.Facts.{Fact, Request, EventBegan, Admitted, Ended, NotAdmitted, BadStream, NoRoom, Closed, Judged, Drained, Forwarded, Answered, IdHeld, Late, Expired, Aborted, Indicated, Stray, Granted, Freed, Reset, ModemLost}
@@ -14,7 +18,6 @@ use Rattle.proxy_history.specs.Noting.{end_overfull, each_pending, receivers_of}
 use Rattle.proxy_history.proofs.Growing as growing
 use Rattle.proxy_history.proofs.Numbers.{contains_other}
 use Rattle.qmi_proxy.specs.Setup.{Setup}
-use Rattle.qmi_proxy.specs.Messages.{Kind, IsResponse, IsIndication, IsNeither, kind_of, is_sync}
 use Rattle.qmi_proxy.specs.Text.{note, text, blank, view_of, rendering}
 use Rattle.qmi_proxy.specs.FromModem.{IdChange, NoChange, Grants, Collides, Frees, id_change, holder_of_brought, answer, answer_or_late, respond, first_answered_by, in_expiry_order, abort_all, lose, receivers, tell, indicate, hear_as}
 use Rattle.qmi_proxy.specs.History.{add, add_all}
@@ -101,15 +104,16 @@ module _ (device : List ℕ) where
       (further past _ _ (aborted past) (further (abort_all device past) _ _ (added Reset (abort_all device past) refl) (told m (Reset ∷ abort_all device past))))
       (either (not (is_control m) && client_of m == 0) past _ _ (added Stray past refl) (told m past))
 
-  heard : (kind : Kind) (m : List ℕ) (past : List Fact) → Adds past (hear_as kind device m past)
-  heard IsResponse m past = responded (first_answered_by m (in_use past)) m past
-  heard IsIndication m past = indicated m past
-  heard IsNeither m past = added Stray past refl
+  heard : (told : Option MessageKind) (m : List ℕ) (past : List Fact) → Adds past (hear_as told device m past)
+  heard (Some kind.Response) m past = responded (first_answered_by m (in_use past)) m past
+  heard (Some kind.Indication) m past = indicated m past
+  heard (Some kind.Request) m past = added Stray past refl
+  heard None m past = added Stray past refl
 
 -- the messages of a piece, and the loss behind a stream that went bad
 module _ (s : Setup) where
   pub said : (m : List ℕ) (past : List Fact) → Adds past (add s (ModemSays m) past)
-  said m past = heard s.device (kind_of m) m past
+  said m past = heard s.device (framed_kind m) m past
 
   failed : (bad : Bool) (past : List Fact) → Adds past (add_all s (item_if bad ModemFails) past)
   unfolding add_all

@@ -1,7 +1,9 @@
 -- An answer stands in its sender's queue at the end of its event.
 use Rattle.std.proofs.Common.{◌≡◌, ℕ, Bool, true, false, ◌&&◌, if◌then◌else◌, List, [], ◌∷◌, ◌++◌, map, refl, ap, sym, ◌∙◌, subst, Option, Some, Contains}
 use Rattle.std.proofs.lemmas.Bool.{not-true, not-false, true≢false}
+use Rattle.qmux_frame.specs.declared.kind.MessageKind.TheVariants as kind
 use Rattle.qmux_frame.specs.Frame.{size_of}
+use Rattle.qmux_frame.specs.Kind.{framed_kind}
 use Rattle.proxy_history.specs.Events.{Event, ModemPiece}
 use Rattle.proxy_history.specs.Items.{ModemSays, ModemFails, item_if, modem_items}
 use Rattle.proxy_history.specs.Streams.{messages_of_piece, is_bad, modem_stream}
@@ -11,7 +13,6 @@ use Rattle.proxy_history.specs.Requests.{pending}
 use Rattle.proxy_history.specs.Rendering.{Rendering, put, put_unless, Grows}
 use Rattle.proxy_history.specs.Noting.{end_overfull, receivers_of}
 use Rattle.qmi_proxy.specs.Setup.{Setup}
-use Rattle.qmi_proxy.specs.Messages.{IsResponse, kind_of}
 use Rattle.qmi_proxy.specs.Text.{note, text, blank, rendering}
 use Rattle.qmi_proxy.specs.FromModem.{IdChange, NoChange, Grants, Collides, Frees, id_change, holder_of_brought, is_answered_by, answer, hear_modem}
 use Rattle.qmi_proxy.specs.History.{add_all, history}
@@ -111,7 +112,7 @@ module _ (s : Setup) (r : Request) (m : List ℕ) (past heard after : List Fact)
 
 pub answers_stand : (s : Setup) (events : List Event) (core : Core) (stream piece : List ℕ) (earlier later : List (List ℕ)) (m : List ℕ) (r : Request)
     → Stands s events core → modem_stream size_of s.starts_away events ≡ Some stream
-    → messages_of_piece size_of stream piece ≡ earlier ++ m ∷ later → kind_of m ≡ IsResponse
+    → messages_of_piece size_of stream piece ≡ earlier ++ m ∷ later → framed_kind m ≡ Some kind.Response
     → Contains (pending (facts_before s events earlier)) r → is_answered_by m r ≡ true
     → IsAnswered s.device r m (facts_before s events earlier) (history s (ModemPiece piece ∷ events))
 unfolding history

@@ -2,7 +2,9 @@
 -- Lists of events and of facts have the newest first; requests and bytes have the oldest first.
 use Rattle.std.specs.Prelude.{◌≡◌, ℕ, ◌+◌, ◌<◌, Bool, true, false, not, List, ◌∷◌, ◌++◌, map, Some, All, Contains}
 use Rattle.std.specs.List.{concat}
+use Rattle.qmux_frame.specs.declared.kind.MessageKind.TheVariants as kind
 use Rattle.qmux_frame.specs.Frame.{size_of}
+use Rattle.qmux_frame.specs.Kind.{framed_kind}
 use Rattle.proxy_history.specs.Events.{Event, Piece, ModemPiece}
 use Rattle.proxy_history.specs.Items.{Says}
 use Rattle.proxy_history.specs.Streams.{stream, modem_stream, messages_of_piece}
@@ -12,7 +14,6 @@ use Rattle.proxy_history.specs.Requests.{in_use, pending}
 use Rattle.proxy_history.specs.Modem.{modem_queue}
 use Rattle.proxy_history.specs.Rendering.{Rendering, put}
 use Rattle.qmi_proxy.specs.Setup.{Setup}
-use Rattle.qmi_proxy.specs.Messages.{IsResponse, kind_of}
 use Rattle.qmi_proxy.specs.Text.{rendering}
 use Rattle.qmi_proxy.specs.Clients.{wire, number_for, verdict_on}
 use Rattle.qmi_proxy.specs.FromModem.{is_answered_by}
@@ -81,6 +82,6 @@ pub record IsAnswered (device : List ℕ) (r : Request) (m : List ℕ) (past aft
 abbrev pub AnswersStand : Type 0
 AnswersStand = (s : Setup) (events : List Event) (core : Core) (stream piece : List ℕ) (earlier later : List (List ℕ)) (m : List ℕ) (r : Request)
     → Stands s events core → modem_stream size_of s.starts_away events ≡ Some stream
-    → messages_of_piece size_of stream piece ≡ earlier ++ m ∷ later → kind_of m ≡ IsResponse
+    → messages_of_piece size_of stream piece ≡ earlier ++ m ∷ later → framed_kind m ≡ Some kind.Response
     → Contains (pending (facts_before s events earlier)) r → is_answered_by m r ≡ true
     → IsAnswered s.device r m (facts_before s events earlier) (history s (ModemPiece piece ∷ events))

@@ -2,7 +2,11 @@
 -- begin an event, lose the modem or tell what it took are given by themselves.
 use Rattle.std.proofs.Common.{◌≡◌, ℕ, ◌+◌, Bool, true, false, not, ◌&&◌, ◌==◌, max, nat_lt, if◌then◌else◌, List, [], ◌∷◌, ◌++◌, length, refl, Option, Some, None}
 use Rattle.std.specs.List.{AllByRecursion}
+use Rattle.qmux_frame.specs.declared.kind.MessageKind.{MessageKind}
+use Rattle.qmux_frame.specs.declared.kind.MessageKind.TheVariants as kind
 use Rattle.qmux_frame.specs.Head.{is_control, client_of}
+use Rattle.qmux_frame.specs.Kind.{framed_kind}
+use Rattle.qmux_frame.specs.Control.{is_sync}
 use Rattle.proxy_history.specs.Limits.{connection_limit}
 use Rattle.proxy_history.specs.Items.{Item, Joins, Says, Garbles, Leaves, ModemSays, ModemFails, ModemReturns, ClockShows, Takes, ModemTakes}
 use Rattle.proxy_history.specs.Facts.{Fact, Request, Verdict, Own, Foreign, Away, Full, Forward, EventBegan, Admitted, Ended, NotAdmitted, BadStream, NoRoom, Closed, Judged, Drained, Forwarded, Answered, IdHeld, Late, Expired, Aborted, Indicated, Stray, Granted, Freed, Reset, ModemLost, ModemReturned, ModemDrained, TimeIs}
@@ -12,7 +16,7 @@ use Rattle.proxy_history.specs.Modem.{now}
 use Rattle.proxy_history.specs.Noting.{join, end_overfull, each_pending, receivers_of}
 use Rattle.proxy_history.specs.Unanswered.{due}
 use Rattle.qmi_proxy.specs.Setup.{Setup}
-use Rattle.qmi_proxy.specs.Messages.{Kind, IsResponse, IsIndication, IsNeither, kind_of, is_sync, uses_id, used_service, used_client}
+use Rattle.qmi_proxy.specs.Messages.{uses_id, used_service, used_client}
 use Rattle.qmi_proxy.specs.Text.{note, text, blank, rendering}
 use Rattle.qmi_proxy.specs.Clients.{number_for, forward, grant_if, judge, verdict_on, request_of}
 use Rattle.qmi_proxy.specs.FromModem.{IdChange, NoChange, Grants, Collides, Frees, id_change, holder_of_brought, answer, answer_or_late, respond, first_answered_by, in_expiry_order, abort_all, tick, receivers, tell, indicate, hear_as}
@@ -122,11 +126,12 @@ module _ (s : Setup) (P : List Fact → Type 0)
       either (is_sync m) _ _ (tells m (Reset ∷ abort_all s.device past) (noted Reset (abort_all s.device past) refl (aborts past p)))
       (either (not (is_control m) && client_of m == 0) _ _ (noted Stray past refl p) (tells m past p))
 
-  hears : (kind : Kind) (m : List ℕ) (past : List Fact) → P past → P (hear_as kind s.device m past)
+  hears : (heard : Option MessageKind) (m : List ℕ) (past : List Fact) → P past → P (hear_as heard s.device m past)
   unfolding end_overfull
-  hears IsResponse m past p = responds (first_answered_by m (in_use past)) m past p
-  hears IsIndication m past p = indicates m past p
-  hears IsNeither m past p = noted Stray past refl p
+  hears (Some kind.Response) m past p = responds (first_answered_by m (in_use past)) m past p
+  hears (Some kind.Indication) m past p = indicates m past p
+  hears (Some kind.Request) m past p = noted Stray past refl p
+  hears None m past p = noted Stray past refl p
 
   -- ---- items ----
 
@@ -136,7 +141,7 @@ module _ (s : Setup) (P : List Fact → Type 0)
   kept (Says c m) past other p = either (is_present c past) _ past (judges c m (number_for m past) (verdict_on s c m past) past p) p
   kept (Garbles c) past other p = either (is_present c past) _ past (noted (Ended c BadStream) past refl p) p
   kept (Leaves c) past other p = either (is_present c past) _ past (noted (Ended c Closed) past refl p) p
-  kept (ModemSays m) past other p = hears (kind_of m) m past p
+  kept (ModemSays m) past other p = hears (framed_kind m) m past p
   kept ModemFails past other p = absurd (cc)
   kept ModemReturns past other p = noted ModemReturned past refl p
   kept (ClockShows time) past other p = ticks time past p
