@@ -192,7 +192,7 @@ module _ (s : Setup) (events : List Event) (core : Core) (earlier : List (List �
   heard = ap (λ answered. hear_as answered s.device m past) response
 
   -- the sender still waits, so this is what the modem's message does
-  pub replied : (r : Request) → Contains (pending past) r → is_answered_by m r ≡ true → hear_modem s.device m past ≡ answer s.device r m (id_change r.conn r.message m (holder_of_brought m past)) past
+  replied : (r : Request) → Contains (pending past) r → is_answered_by m r ≡ true → hear_modem s.device m past ≡ answer s.device r m (id_change r.conn r.message m (holder_of_brought m past)) past
   replied r at answers =
       let used : Contains (in_use past) r = in_use_from_pending past r at in
       let found : first_answered_by m (in_use past) ≡ Some r = first_is m (in_use past) r (λ q at_q is. one_is_answered past m q r regular at_q used is answers) used answers in

@@ -14,6 +14,7 @@ use Rattle.proxy_history.specs.Connections.{contains, present, is_present, dropp
 use Rattle.proxy_history.specs.Requests.{in_use, pending, is_pending}
 use Rattle.proxy_history.specs.View.{Entry, Response, Refused, Indication, HeldId, NoAnswer, entry_if, view}
 use Rattle.proxy_history.specs.Rendering.{Rendering, render, put, put_unless, Grows}
+use Rattle.proxy_history.specs.HungUp.{is_beginning}
 use Rattle.proxy_history.specs.Noting.{end_overfull, each_pending, receivers_of}
 use Rattle.proxy_history.proofs.Growing as growing
 use Rattle.proxy_history.proofs.Numbers.{contains_other}
@@ -197,11 +198,12 @@ module _ (client : ℕ) where
   contains_pushed [] d = elim (client == d) as (λ b. (b || false) ≡ b) [ true ↦ refl | false ↦ refl ]
   contains_pushed (x ∷ xs) d = elim (client == x) as (λ b. (b || contains client (xs ++ d ∷ [])) ≡ ((b || contains client xs) || client == d)) [ true ↦ refl | false ↦ contains_pushed xs d ]
 
-  ended_more : (fact : Fact) (past : List Fact) → contains client (dropped (fact ∷ past)) ≡ true → IsEndedForRoom client past → IsEndedForRoom client (fact ∷ past)
-  ended_more fact past hung_up ended = record {
+  ended_more : (fact : Fact) (past : List Fact) → is_beginning fact ≡ false → contains client (dropped (fact ∷ past)) ≡ true → IsEndedForRoom client past → IsEndedForRoom client (fact ∷ past)
+  ended_more fact past on hung_up ended = record {
     later = fact ∷ ended.later;
     earlier = ended.earlier;
     whole = ap (λ (l : List Fact). fact ∷ l) ended.whole;
+    since = All-cons (λ (f : Fact). is_beginning f ≡ false) fact ended.later on ended.since;
     hung_up = hung_up;
   }
 
@@ -214,11 +216,12 @@ module _ (client : ℕ) where
           later = [];
           earlier = past;
           whole = ap (λ (x : ℕ). Ended x NoRoom ∷ past) same;
+          since = All-nil (λ (f : Fact). is_beginning f ≡ false);
           hung_up = contains_pushed (dropped past) c ∙ or_right (contains client (dropped past)) (client == c) (eq-eqb client c (sym same));
         }
         | false ↦ λ e.
             let ended = owed (sym (contains_other c client (present past) e) ∙ gone) in
-            ended_more (Ended c NoRoom) past (contains_pushed (dropped past) c ∙ or_left (contains client (dropped past)) (client == c) ended.hung_up) ended
+            ended_more (Ended c NoRoom) past refl (contains_pushed (dropped past) c ∙ or_left (contains client (dropped past)) (client == c) ended.hung_up) ended
       ]
       in step (c == client) refl
 
@@ -228,7 +231,7 @@ module _ (client : ℕ) where
   fact_owed (Admitted c) past is owed gone = absurd (cc)
   fact_owed (Ended c NoRoom) past is owed gone = ended_owed c past owed gone
   fact_owed (Ended c why) past is owed gone = absurd (cc)
-  fact_owed fact past is owed gone = let ended = owed gone in ended_more fact past ended.hung_up ended
+  fact_owed fact past is owed gone = let ended = owed gone in ended_more fact past refl ended.hung_up ended
 
   pub all_owed : (later past : List Fact) → AreOfModem later → IsOwed past → IsOwed (later ++ past)
   all_owed [] past all owed gone = owed gone

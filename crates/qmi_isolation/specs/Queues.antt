@@ -1,10 +1,11 @@
 -- What stands in the queues at the end of an event, whatever the event brings behind it.
 -- Lists of events and of facts have the newest first; requests and bytes have the oldest first.
-use Rattle.std.specs.Prelude.{◌≡◌, ℕ, ◌+◌, ◌<◌, Bool, true, false, not, List, ◌∷◌, ◌++◌, map, Some, All, Contains}
+use Rattle.std.specs.Prelude.{◌≡◌, ℕ, ◌+◌, ◌<◌, ◌≤◌, true, false, List, ◌∷◌, ◌++◌, length, map, Some, All, Contains}
 use Rattle.std.specs.List.{concat}
 use Rattle.qmux_frame.specs.declared.kind.MessageKind.TheVariants as kind
 use Rattle.qmux_frame.specs.Frame.{size_of}
 use Rattle.qmux_frame.specs.Kind.{framed_kind}
+use Rattle.proxy_history.specs.Limits.{outbox_limit}
 use Rattle.proxy_history.specs.Events.{Event, Piece, ModemPiece}
 use Rattle.proxy_history.specs.Items.{Says}
 use Rattle.proxy_history.specs.Streams.{stream, modem_stream, messages_of_piece}
@@ -12,7 +13,8 @@ use Rattle.proxy_history.specs.Facts.{Fact, Request, Forward, EventBegan, Ended,
 use Rattle.proxy_history.specs.Connections.{contains, is_present, dropped, message_count}
 use Rattle.proxy_history.specs.Requests.{in_use, pending}
 use Rattle.proxy_history.specs.Modem.{modem_queue}
-use Rattle.proxy_history.specs.Rendering.{Rendering, put}
+use Rattle.proxy_history.specs.Rendering.{Rendering}
+use Rattle.proxy_history.specs.HungUp.{is_beginning}
 use Rattle.qmi_proxy.specs.Setup.{Setup}
 use Rattle.qmi_proxy.specs.Text.{rendering}
 use Rattle.qmi_proxy.specs.Clients.{wire, number_for, verdict_on}
@@ -40,6 +42,7 @@ pub record IsQueued (c : ℕ) (m : List ℕ) (past after : List Fact) : Type 0 w
   pub queue : modem_queue wire after ≡ modem_queue wire past ++ concat (map wire (request ∷ others))
 
 -- `core` met these events, and then this piece of the client c came; a message of it that is forwarded stands in the modem's queue once the whole piece was met
+-- No piece of a client loses the modem, and the modem takes nothing meanwhile; so nothing else is asked of the event.
 abbrev pub ForwardedRequestsAreQueued : Type 0
 ForwardedRequestsAreQueued = (s : Setup) (events : List Event) (core : Core) (c : ℕ) (piece : List ℕ) (earlier later : List (List ℕ)) (m : List ℕ)
     → Stands s events core → messages_of_piece size_of (stream c events) piece ≡ earlier ++ m ∷ later
@@ -49,9 +52,9 @@ ForwardedRequestsAreQueued = (s : Setup) (events : List Event) (core : Core) (c 
 
 -- ---- answers ----
 
--- the bytes fit the client's queue
-abbrev pub finds_room : List ℕ → Rendering → Bool
-finds_room bytes before = not (put bytes before).is_over
+-- so many bytes would wait with these
+abbrev pub waiting_with : List ℕ → Rendering → ℕ
+waiting_with bytes before = length before.waiting + length bytes
 
 -- the bytes stand behind all that was there, and wait; more may stand behind them
 pub record StandsBehind (bytes : List ℕ) (before after : Rendering) : Type 0 where
@@ -62,18 +65,19 @@ pub record StandsBehind (bytes : List ℕ) (before after : Rendering) : Type 0 w
 abbrev pub GetsNothing : Rendering → Rendering → Type 0
 GetsNothing before after = (after.bytes ≡ before.bytes) × (after.waiting ≡ before.waiting)
 
--- the connection was ended for want of room in the last event, and is to be hung up
+-- since the last event began the connection was ended for want of room, and it is to be hung up
 pub record IsEndedForRoom (c : ℕ) (facts : List Fact) : Type 0 where
   pub later : List Fact
   pub earlier : List Fact
   pub whole : facts ≡ later ++ Ended c NoRoom ∷ earlier
+  pub since : All (λ fact. is_beginning fact ≡ false) later
   pub hung_up : contains c (dropped facts) ≡ true
 
 -- what the sender of a request is due for this answer stands in its queue where it finds room, and else the sender is ended and gets nothing
 pub record IsAnswered (device : List ℕ) (r : Request) (m : List ℕ) (past after : List Fact) : Type 0 where
-  pub stands : finds_room (due r m past) (rendering device r.conn past) ≡ true
+  pub stands : waiting_with (due r m past) (rendering device r.conn past) ≤ outbox_limit
       → StandsBehind (due r m past) (rendering device r.conn past) (rendering device r.conn after)
-  pub ended : finds_room (due r m past) (rendering device r.conn past) ≡ false
+  pub ended : outbox_limit < waiting_with (due r m past) (rendering device r.conn past)
       → (is_present r.conn after ≡ false) × GetsNothing (rendering device r.conn past) (rendering device r.conn after)
   -- want of room is all that ends a sender here, be it for this answer or for something that comes behind it
   pub why : is_present r.conn after ≡ false → IsEndedForRoom r.conn after

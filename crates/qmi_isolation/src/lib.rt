@@ -1,4 +1,5 @@
-//! What the clients of the QMI proxy have of each other: laws of its history.
+//! What the clients of the QMI proxy have of each other, and what stands in the queues when an event is
+//! over: laws of its history.
 //!
 //! `qmi_core` keeps what the history says, so they hold of each client's bytes in a running proxy.
 #![tactic(auto)]
