@@ -4,7 +4,7 @@ use indexmap::IndexMap;
 use std::alloc::{AllocError, Global};
 use std::marker::Model;
 
-/// A list of messages, none of which has the service, the id and the kind of another.
+/// A list of messages, each found by its service, its id and its kind.
 #[derive(Debug, Drop)]
 pub struct Tables {
     messages: IndexMap<MessageKey, Message>,

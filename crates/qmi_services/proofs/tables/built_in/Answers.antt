@@ -1,8 +1,7 @@
 use Rattle.std.proofs.Common.{◌≡◌, [], false, List, sym, ◌∙◌, ap, subst}
 use Rattle.std.specs.List.{flat_map}
 use Rattle.message_tables.specs.Messages.{MessageForm}
-use Rattle.message_tables.specs.View.{messages_in}
-use Rattle.message_tables.specs.WellMade.{AreSound, again_behind}
+use Rattle.message_tables.specs.WellMade.{again_behind}
 use Rattle.qmi_services.specs.BuiltIn.{forms_of}
 use Rattle.qmi_services.proofs.Sound.{sound}
 use Rattle.qmi_services.proofs.tables.built_in.Goals as goal
