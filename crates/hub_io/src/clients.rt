@@ -33,8 +33,8 @@ pub(crate) fn name_after(last: u64, place: usize) -> Option<u64>
     next.checked_add(ahead as u64)
 }
 
-/// The names of the clients that are there, and the greatest that was told. Of two names that are 128
-/// apart one is there at most.
+/// The names of the clients that are there, and the greatest that was told. Of names that are 128
+/// apart only the one that came last is there.
 #[derive(Debug, Drop)]
 pub(crate) struct Names {
     greatest: u64,

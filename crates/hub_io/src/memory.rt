@@ -58,8 +58,8 @@ pub enum HubCall {
 /// `Stop`, and behind the end of the second each call does all that it is to do.
 ///
 /// A `next` also fails where its turn can't be told: the name of who joins doesn't rise, a client that
-/// isn't there tells something, or a piece has no bytes. Who joins takes the place of a client whose
-/// name is 128 less, or so many times that.
+/// isn't there tells something, or a piece has no bytes. Of clients whose names are 128 apart only
+/// the one that joined last is there.
 #[derive(Debug, Drop)]
 pub struct MemHub {
     // What is still to come of each script, the next one last.

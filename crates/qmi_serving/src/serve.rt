@@ -150,9 +150,9 @@ fn serve<H: Hub>(
 /// Serves the clients of a QMI proxy over a hub that is open, and says why it ended.
 ///
 /// Where the hub tells what was done to it: each sending was handed a front of what the proxy's
-/// definitions have waiting for that client, all that waited was offered each time before the hub
-/// was asked for more, and just those connections were hung up that the proxy ended or whose sending
-/// failed.
+/// definitions have waiting for that client. Each time before the hub was asked for more, all that
+/// waited was offered, and just those connections were hung up that the proxy ended or whose sending
+/// failed. The serving ended at once where the hub said so or failed, and never opened it.
 pub fn serve_qmi<H: Hub>(alloc: Global, hub: &mut H, settings: &Settings) -> ServeEnd
     ensures served { Since (H.calls hub.old) (H.calls hub.new) (EndsSo (proxy_of (setup_for settings.now)) settings.now.empty settings.now.turns result) }
     ensures later { H.faults hub.old ≤ H.faults hub.new }
