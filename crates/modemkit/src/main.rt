@@ -7,12 +7,17 @@ use hub_io::MioHub;
 use kit_io::StdSink;
 use link_io::UnixLink;
 use program::{give_up, refuse, run};
+use std::net::Net;
+use std::os::fd::{AsFd, BorrowedFd, OwnedFd};
 use std::process::ExitCode;
 use std::{env, io};
 
 fn main(rt: HostRuntime) -> ExitCode {
     let mut out = StdSink::new(rt.stdout());
     let mut err = StdSink::new(rt.stderr());
+    let Ok(_kept) = stand_ins(&rt) else {
+        return ExitCode::from(give_up(&mut err).code());
+    };
     let mut link = UnixLink::new(&rt);
     let mut files = StdFiles::new(&rt);
     let Ok(mut hub) = MioHub::new(&rt, rt.alloc()) else {
@@ -36,4 +41,22 @@ fn main(rt: HostRuntime) -> ExitCode {
 // The words behind the program's name.
 fn read_words(rt: &HostRuntime) -> io::Result<Vec<String>> {
     Ok(env::args(rt)?.skip(1).collect(rt.alloc())?)
+}
+
+// Sockets that lead nowhere, in place of the standard streams that were closed from the start. Else
+// the modem's socket could become one of them, and what is written there would go to the modem.
+fn stand_ins(rt: &HostRuntime) -> io::Result<[Option<OwnedFd>; 3]> {
+    Ok([
+        stand_in(rt, rt.stdin().as_fd())?,
+        stand_in(rt, rt.stdout().as_fd())?,
+        stand_in(rt, rt.stderr().as_fd())?,
+    ])
+}
+
+// It gets the least number that is free: that of the stream, where those before it are taken.
+fn stand_in(rt: &HostRuntime, stream: BorrowedFd<'_>) -> io::Result<Option<OwnedFd>> {
+    match stream.try_clone_to_owned() {
+        Ok(_open) => Ok(None),
+        Err(_closed) => Ok(Some(rt.unix_socket()?)),
+    }
 }
