@@ -25,12 +25,13 @@ module _ {p : Proxy} {limit : Option ℕ} {calls : List Call} (turns more : ℕ)
   }
 
   pub ran_out_further : RanOut p limit turns calls → RanOut p limit more calls
-  ran_out_further (inl on) = inl (goes_on_further turns more within on)
-  ran_out_further (inr early) = inr (record {
+  ran_out_further (inl none) = inl none
+  ran_out_further (inr (inl unnoted)) = inr (inl (record { conn = unnoted.conn; bytes = unnoted.bytes; earlier = unnoted.earlier; whole = unnoted.whole; goes_on = goes_on_further turns more within unnoted.goes_on }))
+  ran_out_further (inr (inr early)) = inr (inr (record {
     conn = early.conn;
     earlier = early.earlier;
     whole = early.whole;
     goes_on = goes_on_further turns more within early.goes_on;
     done = early.done;
     counted = omega (arith, early.counted);
-  })
+  }))

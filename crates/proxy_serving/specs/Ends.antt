@@ -1,8 +1,8 @@
 -- What a serving promises, and why it ends. Lists of calls and of events have the newest first. The limit is how long nobody may be there.
-use Rattle.std.specs.Prelude.{◌≡◌, ◌⊎◌, ℕ, ◌≤◌, ◌∷◌, ◌++◌, true, Option, List}
+use Rattle.std.specs.Prelude.{◌≡◌, ◌⊎◌, ℕ, ◌≤◌, [], ◌∷◌, ◌++◌, true, Option, List}
 use Rattle.std.specs.List.{AllByRecursion}
 use Rattle.proxy_history.specs.Events.{Joined, Now}
-use Rattle.hub_io.specs.Record.{Call, ToldStop, NextFailed, Told, events}
+use Rattle.hub_io.specs.Record.{Call, ToldStop, NextFailed, Told, Sent, events}
 use Rattle.hub_io.specs.declared.settings.ServeEnd.{ServeEnd}
 use Rattle.hub_io.specs.declared.settings.ServeEnd.TheVariants as end
 use Rattle.proxy_serving.specs.Serving.{Proxy, SendsWhatWaits, TakesTheFirst, AllIsDone, DoesAllBeforeEachNext, AllIsOffered, hang_ups, due_hang_ups, hanging_up, IsNoOpening, reopenings, due_reopenings, turns_in, IsNoEnd, NeverIdle, is_idle}
@@ -42,6 +42,14 @@ pub record EndsIdle (p : Proxy) (limit : Option ℕ) (turns : ℕ) (calls : List
   pub serves : Serves p calls
   pub counted : turns_in calls ≤ turns
 
+-- it went on, and its last call was a sending of which nothing was taken; there was no memory to note that
+pub record EndsUnnoted (p : Proxy) (limit : Option ℕ) (turns : ℕ) (calls : List Call) : Type 0 where
+  pub conn : ℕ
+  pub bytes : List ℕ
+  pub earlier : List Call
+  pub whole : calls ≡ Sent conn bytes 0 ∷ earlier
+  pub goes_on : GoesOn p limit turns calls
+
 -- it went on until its last call, which told that a client joined, for whom there was no memory
 pub record EndsEarly (p : Proxy) (limit : Option ℕ) (turns : ℕ) (calls : List Call) : Type 0 where
   pub conn : ℕ
@@ -51,8 +59,9 @@ pub record EndsEarly (p : Proxy) (limit : Option ℕ) (turns : ℕ) (calls : Lis
   pub done : AllIsDone p earlier
   pub counted : turns_in calls ≤ turns
 
+-- memory ran out before any call, or at one of these
 abbrev pub RanOut : Proxy → Option ℕ → ℕ → List Call → Type 0
-RanOut p limit turns calls = GoesOn p limit turns calls ⊎ EndsEarly p limit turns calls
+RanOut p limit turns calls = (calls ≡ []) ⊎ EndsUnnoted p limit turns calls ⊎ EndsEarly p limit turns calls
 
 -- all turns were taken, and all that waits was offered
 pub record EndsSpent (p : Proxy) (limit : Option ℕ) (turns : ℕ) (calls : List Call) : Type 0 where

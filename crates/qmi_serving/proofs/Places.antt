@@ -12,7 +12,7 @@ use Rattle.qmi_proxy.specs.History.{history, text_for}
 use Rattle.proxy_serving.specs.Serving.{IsFront, IsOffered, is_blocked, NeverIdle, reopenings, due_reopenings}
 use Rattle.proxy_serving.proofs.Offering.{AreBlocked, is_among, both_on, all_joined, all_on, blocked-sent_none}
 use Rattle.qmi_state.specs.Core.{StandsAfter, queue_of, names_of}
-use Rattle.proxy_serving.specs.Ends.{GoesOn}
+use Rattle.proxy_serving.specs.Ends.{EndsUnnoted}
 use Rattle.qmi_serving.specs.Serving.{proxy_of, emptied_after}
 use Rattle.qmi_serving.specs.Progress.{IsServing, HasOffered, IsAt, names_left, OffersClients}
 use Rattle.qmi_serving.specs.declared.server.Server.{Server}
@@ -81,11 +81,11 @@ module _ {s : Setup} {limit : Option ℕ} {turns count c : ℕ} {server : Server
   }
 
   -- memory ran out for noting that it took nothing
-  pub at-sent_none_unnoted : (bytes : List ℕ) → IsFront bytes (queue_of c server.core) → names_left server.core ≡ [] → GoesOn (proxy_of s) limit turns (Sent c bytes 0 ∷ calls)
+  pub at-sent_none_unnoted : (bytes : List ℕ) → IsFront bytes (queue_of c server.core) → names_left server.core ≡ [] → EndsUnnoted (proxy_of s) limit turns (Sent c bytes 0 ∷ calls)
   at-sent_none_unnoted bytes front none =
       let now : Server = record { core = server.core; blocked = server.blocked ++ c ∷ []; modem_blocked = server.modem_blocked; emptied = server.emptied } in
       let serving = serving-sent_none at.serving c bytes now (front_of_waiting bytes front) refl refl refl refl in
-      goes_on serving none at.awake
+      record { conn = c; bytes = bytes; earlier = calls; whole = refl; goes_on = goes_on serving none at.awake }
 
   pub at-sent : (bytes : List ℕ) (taken : ℕ) (now : Server) → (taken == 0) ≡ false → taken ≤ length bytes → IsFront bytes (queue_of c server.core) → contains c server.blocked ≡ false → names_left server.core ≡ []
       → StandsAfter s (Took c taken ∷ events calls) now.core → now.blocked ≡ server.blocked → now.modem_blocked ≡ server.modem_blocked → now.emptied ≡ emptied_after server.core server.emptied now.core

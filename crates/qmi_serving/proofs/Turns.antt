@@ -156,14 +156,14 @@ module _ {s : Setup} {limit : Option ℕ} {turns : ℕ} {server : Server} {event
       let who = who_joined event joined in
       let whole : told ≡ Told (Joined who.0) ∷ has.earlier = has.whole ∙ ap (λ (e : Event). Told e ∷ has.earlier) who.1 in
       let Counted : List Call → Type 0 = λ calls. turns_in calls ≤ turns + 1 in
-      inr (record {
+      inr (inr (record {
         conn = who.0;
         earlier = has.earlier;
         whole = whole;
         goes_on = goes_on_further turns (turns + 1) (omega arith) (goes_on has.ready.serving none has.ready.awake);
         done = all_done has.ready.serving has.ready.in_time has.ready.offered none;
         counted = subst Counted (sym whole) (omega (arith, has.ready.serving.counted));
-      })
+      }))
 
   module _ {now : Server} (names : List ℕ) (none_before : names_left server.core ≡ []) (serving : IsServing s (turns + 1) now (hanging_up names ++ told)) (none : names_left now.core ≡ []) where
     events_are : events (hanging_up names ++ told) ≡ event ∷ events has.earlier
@@ -342,5 +342,4 @@ opened-ready {s = s} {server = server} limit opened =
     }
 
 pub nothing_done : (s : Setup) (limit : Option ℕ) (turns : ℕ) → RanOut (proxy_of s) limit turns []
-unfolding hang_ups due_hang_ups turns_in reopenings due_reopenings
-nothing_done s limit turns = inl (record { serves = record { sends = tt; takes = takes-none s; does_all = tt; hangs_up = refl; reopens = omega arith; no_opening = tt }; no_end = tt; awake = tt; counted = omega arith })
+nothing_done s limit turns = inl refl

@@ -12,7 +12,7 @@ use Rattle.qmi_proxy.specs.Setup.{Setup}
 use Rattle.qmi_proxy.specs.History.{history}
 use Rattle.proxy_serving.specs.Serving.{SendsWhatWaits, TakesTheFirst, DoesAllBeforeEachNext, AllIsOffered, IsOffered, is_blocked, is_modem_blocked, hang_ups, due_hang_ups, hanging_up, IsNoOpening, reopenings, due_reopenings, turns_in, IsNoEnd, NeverIdle, emptied_at}
 use Rattle.qmi_state.specs.Core.{Core, Leftover, Stands, greatest_after}
-use Rattle.proxy_serving.specs.Ends.{GoesOn, RanOut, EndsWith, EndsIdle, EndsSo}
+use Rattle.proxy_serving.specs.Ends.{EndsUnnoted, RanOut, EndsWith, EndsIdle, EndsSo}
 use Rattle.qmi_serving.specs.Serving.{proxy_of}
 use Rattle.qmi_serving.specs.declared.next.Next.{Next}
 use Rattle.qmi_serving.specs.declared.next.Next.TheVariants as next
@@ -111,12 +111,12 @@ TellsNext before _ after = after ≡ before
 -- all before the next place were offered what waits for them, or memory ran out
 abbrev pub AfterOffer : Result ℕ AllocError → Setup → Option ℕ → ℕ → Server → List Call → Type 0
 AfterOffer (Ok next) s limit turns server calls = HasOffered s limit turns next server calls
-AfterOffer (Err e) s limit turns server calls = GoesOn (proxy_of s) limit turns calls
+AfterOffer (Err e) s limit turns server calls = EndsUnnoted (proxy_of s) limit turns calls
 
 -- all clients were, or memory ran out
 abbrev pub AfterOffers : {T : Type 0} → Result T AllocError → Setup → Option ℕ → ℕ → Server → List Call → Type 0
 AfterOffers (Ok t) s limit turns server calls = OffersClients s limit turns server calls
-AfterOffers (Err e) s limit turns server calls = GoesOn (proxy_of s) limit turns calls
+AfterOffers (Err e) s limit turns server calls = EndsUnnoted (proxy_of s) limit turns calls
 
 -- from the next place on as many are there as were behind this one
 abbrev pub OneIsDone : ℕ → Result ℕ AllocError → Core → Core → Type 0
@@ -180,12 +180,12 @@ EndsServing (Err e) s limit turns calls = RanOut (proxy_of s) limit turns calls
 abbrev pub AfterModem : Result Bool AllocError → Setup → Option ℕ → ℕ → Server → List Call → Type 0
 AfterModem (Ok true) s limit turns server calls = IsReady s limit turns server calls
 AfterModem (Ok false) s limit turns server calls = HasOffered s limit turns 0 server calls
-AfterModem (Err e) s limit turns server calls = GoesOn (proxy_of s) limit turns calls
+AfterModem (Err e) s limit turns server calls = EndsUnnoted (proxy_of s) limit turns calls
 
 -- everybody was offered all, or memory ran out
 abbrev pub AfterAll : {T : Type 0} → Result T AllocError → Setup → Option ℕ → ℕ → Server → List Call → Type 0
 AfterAll (Ok t) s limit turns server calls = IsReady s limit turns server calls
-AfterAll (Err e) s limit turns server calls = GoesOn (proxy_of s) limit turns calls
+AfterAll (Err e) s limit turns server calls = EndsUnnoted (proxy_of s) limit turns calls
 
 abbrev pub AfterReopening : {T : Type 0} → Result T AllocError → Setup → Option ℕ → ℕ → Server → List Call → Type 0
 AfterReopening (Ok t) s limit turns server calls = HasOffered s limit turns 0 server calls

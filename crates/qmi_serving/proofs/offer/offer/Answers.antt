@@ -8,7 +8,7 @@ use Rattle.proxy_serving.proofs.Offering.{AreBlocked, contains-any, still_withou
 use Rattle.std.proofs.lemmas.Result.{err_from_is_err_and}
 use Rattle.qmi_core.specs.Core.{Core, Leftover, Stands, queue_of, takes, leaves}
 use Rattle.qmi_serving.specs.Progress.{IsAt, HasOffered}
-use Rattle.proxy_serving.specs.Ends.{GoesOn}
+use Rattle.proxy_serving.specs.Ends.{EndsUnnoted}
 use Rattle.qmi_serving.specs.Serving.{proxy_of, emptied_after}
 use Rattle.qmi_serving.specs.declared.server.Server.{Server}
 use Rattle.qmi_serving.proofs.Cores.{names_taken, count_taken, count_left, away_left, greatest_left, asked_left, queue_taken}
@@ -39,7 +39,7 @@ returns-in_err-add-in-Ok-eq0-clause-carries g c = λ s limit turns.
     let front : IsFront bytes (queue_of c.args.conn c.loop-conn.server.core) = subst (IsFront bytes) queue (whole_front bytes some) in
     let no_names = ap (map (λ (d : Leftover). d.name)) c.loop-conn.invariant.asked in
     let p = err_from_is_err_and c.from_residual.result c.from_residual.ensures.1 in
-    let After : ℕ → List Call → Type 0 = λ n calls. GoesOn (proxy_of s) limit turns (Sent c.args.conn bytes n ∷ calls) in
+    let After : ℕ → List Call → Type 0 = λ n calls. EndsUnnoted (proxy_of s) limit turns (Sent c.args.conn bytes n ∷ calls) in
     rw (p.1, p.2)
     (Carries-then (c.loop-conn.invariant.carried s limit turns)
     (Carries-call _ _ _ _ _ c.in-Ok-eq0.ensures.calls (λ calls at. subst (λ (n : ℕ). After n calls) (sym none) (at-sent_none_unnoted at bytes front no_names))))

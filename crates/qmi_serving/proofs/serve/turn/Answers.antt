@@ -1,10 +1,10 @@
-use Rattle.std.proofs.Common.{List, Some, None, ◌+◌, map, refl, ap, inl}
+use Rattle.std.proofs.Common.{List, Some, None, ◌+◌, map, refl, ap, inl, inr}
 use Rattle.std.proofs.lemmas.Result.{err_from_is_err_and}
 use Rattle.hub_io.specs.Record.{Call}
 use Rattle.proxy_serving.proofs.Carrying.{Carries-none, Carries-call, Carries-then}
 use Rattle.qmi_core.specs.Core.{Leftover}
 use Rattle.qmi_serving.specs.Progress.{call_of}
-use Rattle.proxy_serving.specs.Ends.{GoesOn, RanOut}
+use Rattle.proxy_serving.specs.Ends.{EndsUnnoted, RanOut}
 use Rattle.qmi_serving.specs.Serving.{proxy_of}
 use Rattle.qmi_serving.proofs.Turns.{told-failed, tells, meets}
 use Rattle.qmi_serving.proofs.serve.turn.Goals as goal
@@ -35,7 +35,7 @@ returns-in_err-offer_all-clause-carries g c = λ s turns.
     (Carries-then
     (Carries-then (tells s limit turns c.args.server.now (call_of c.read-next.result) _ _ _ c.read-next.ensures.call c.in-Ok.ensures.calls)
     (meets s limit turns _ c.meet_next.new.server _ _ c.in_ok-end.field-0 None c.in_default.is (c.in_ok-end.ensures.carries s turns)))
-    (Carries-then (c.in_err-offer_all.ensures.carries s limit (turns + 1)) (Carries-none (GoesOn (proxy_of s) limit (turns + 1)) RunsOut _ (λ calls on. inl on))))
+    (Carries-then (c.in_err-offer_all.ensures.carries s limit (turns + 1)) (Carries-none (EndsUnnoted (proxy_of s) limit (turns + 1)) RunsOut _ (λ calls unnoted. inr (inl unnoted)))))
 
 pub returns-clause-carries : goal.returns-clause-carries
 returns-clause-carries g c = λ s turns.
