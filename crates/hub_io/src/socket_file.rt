@@ -79,21 +79,18 @@ pub(crate) struct Listening<'a, R: Files> {
 }
 
 impl<'a, R: Net + Files> Listening<'a, R> {
-    /// Has a socket of its owner alone stand at the path, in place of the left-over one. It is made
+    /// Has a socket of its owner alone stand at the path, in place of one that was left. It is made
     /// elsewhere, so that it listens and has its rights before anybody finds it.
-    pub(crate) fn start(
-        rt: &'a R,
-        alloc: Global,
-        path: &str,
-        left_over: Option<FileId>,
-    ) -> io::Result<Self> {
+    pub(crate) fn start(rt: &'a R, alloc: Global, path: &str) -> io::Result<Self> {
         let text = String::from_str(alloc, path)?;
         let folder = OwnFolder::beside(rt, alloc, path)?;
         let made = folder.socket.as_str();
         let listener = UnixListener::bind(rt, made)?;
         fs::set_permissions(rt, made, Permissions::from_mode(0o600))?;
         let file = FileId::at(rt, made)?;
-        remove(rt, path, left_over);
+        if let Some(left) = left_over(rt, path)? {
+            remove(rt, path, left);
+        }
         // unlike a renaming, this replaces nothing that came meanwhile
         fs::hard_link(rt, made, path)?;
         Ok(Listening {
@@ -113,7 +110,7 @@ impl<R: Files> Drop for Listening<'_, R> {
             file,
             listener,
         } = self;
-        remove(rt, path.as_str(), Some(file));
+        remove(rt, path.as_str(), file);
         // behind the removal: no other file has this number as long as the socket is open
         drop(listener);
         drop(path);
@@ -121,9 +118,8 @@ impl<R: Files> Drop for Listening<'_, R> {
 }
 
 // Removes a file, where it still stands at the path.
-fn remove<R: Files>(rt: &R, path: &str, file: Option<FileId>) {
-    if let Some(file) = file
-        && let Ok(found) = FileId::at(rt, path)
+fn remove<R: Files>(rt: &R, path: &str, file: FileId) {
+    if let Ok(found) = FileId::at(rt, path)
         && found == file
     {
         let _ = fs::remove_file(rt, path);

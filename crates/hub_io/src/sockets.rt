@@ -9,7 +9,7 @@ ghost use Rattle.hub_io.specs.declared.hub.HubEvent.TheVariants.{Joined};
 use crate::clients::{Names, PLACES, place_of};
 use crate::modem::Modem;
 use crate::peer::{Gave, Peer};
-use crate::socket_file::{FileId, Listening, are_same, left_over};
+use crate::socket_file::{Listening, are_same, left_over};
 use crate::ticker::Ticker;
 use crate::{HubEvent, NEXT_ROOM};
 use kit_bytes::Text;
@@ -77,12 +77,12 @@ impl<'a, R: Net + Clock + Files> Sockets<'a, R> {
     pub(crate) fn open(&mut self, socket: &str, device: Option<&Target>) -> io::Result<()>
         ensures names { self.new.names ≡ self.old.names }
     {
-        let left_over = self.look(socket, device)?;
+        self.look(socket, device)?;
         if let Some(Target::Socket(path)) = device {
             self.device = Some(Text::from_str(self.alloc, path.as_str())?);
             self.open_device()?;
         }
-        let mut listening = Listening::start(self.rt, self.alloc, socket, left_over)?;
+        let mut listening = Listening::start(self.rt, self.alloc, socket)?;
         let registry = self.poll.registry();
         registry.register(&mut listening.listener, LISTENER, Interest::READABLE)?;
         self.listening = Some(listening);
@@ -90,14 +90,16 @@ impl<'a, R: Net + Clock + Files> Sockets<'a, R> {
         Ok(())
     }
 
-    /// The socket that may be replaced, where the path isn't the device's.
-    fn look(&self, socket: &str, device: Option<&Target>) -> io::Result<Option<FileId>> {
+    /// Fails where no socket may be made at the path: it is the device's, or something stands there
+    /// that may not be replaced.
+    fn look(&self, socket: &str, device: Option<&Target>) -> io::Result<()> {
         if let Some(Target::Socket(path)) = device
             && are_same(self.rt, socket, path.as_str())
         {
             return Err(ErrorKind::AlreadyExists.into());
         }
-        left_over(self.rt, socket)
+        left_over(self.rt, socket)?;
+        Ok(())
     }
 
     /// Connects to the device that was named at the opening.
