@@ -1,6 +1,7 @@
 -- What the filters over facts keep: what a fact began and no later fact ends. First of all, the requests.
 use Rattle.std.proofs.Common.{◌≡◌, ◌↔◌, Bool, true, false, not, List, [], ◌∷◌, ◌++◌, refl, ap, sym, ◌∙◌, ⊎_elim, All, Contains, filter, subst, append-nil}
 use Rattle.std.proofs.lemmas.List.Elements.{All-nil, All-cons, All-head, All-tail, Contains-append_left, Contains-append_right, Contains-append_cases, Contains-push}
+use Rattle.std.proofs.lemmas.Bool.{not-true}
 use Rattle.proxy_history.specs.Facts.{Fact, Request, Ended, Forwarded, Answered, IdHeld, Late, Expired, Aborted, Reset, ModemLost}
 use Rattle.proxy_history.specs.Requests.{in_use, pending}
 use Rattle.proxy_history.specs.Laws.{GoesOn, IsForwardedAndGoesOn, frees_number, ends_waiting}
@@ -15,10 +16,6 @@ forwarded_is : (fact : Fact) (r : Request) → Contains (forwarded fact) r → f
 unfolding forwarded
 forwarded_is (Forwarded q) r at = ⊎_elim (λ (is : q ≡ r). ap (λ (x : Request). Forwarded x) is) (λ (none : Contains [] r). absurd (Contains-nil r none)) (Contains-cons_cases r q [] at)
 forwarded_is _ r at = absurd (Contains-nil r at)
-
-goes_on_is : (b : Bool) → not b ≡ true → b ≡ false
-goes_on_is true e = absurd (cc)
-goes_on_is false e = refl
 
 -- what is begun by facts, and kept until a fact ends it
 module _ {X : Type 0} (begins : X → Fact) (begun : Fact → List X) (ends : X → Fact → Bool) (keeps : List Fact → List X)
@@ -36,7 +33,7 @@ module _ {X : Type 0} (begins : X → Fact) (begun : Fact → List X) (ends : X 
         later = fact ∷ before.later;
         earlier = before.earlier;
         whole = ap (λ (l : List Fact). fact ∷ l) before.whole;
-        none = All-cons (λ f. ends x f ≡ false) fact before.later (goes_on_is (ends x fact) (Contains-filter_passes (λ y. not (ends y fact)) (keeps past) x old)) before.none;
+        none = All-cons (λ f. ends x f ≡ false) fact before.later (not-true (ends x fact) (Contains-filter_passes (λ y. not (ends y fact)) (keeps past) x old)) before.none;
       })
       (λ (new : Contains (begun fact) x). record {
         later = [];

@@ -46,7 +46,7 @@ without_less x (z ∷ zs) e =
     ]
     in step (x == z) e
 
-free_used : (k top : ℕ) (used : List ℕ) (n : ℕ) → contains n used ≡ true → free_from (suc k) top used n ≡ free_from k top used (following top n)
+pub free_used : (k top : ℕ) (used : List ℕ) (n : ℕ) → contains n used ≡ true → free_from (suc k) top used n ≡ free_from k top used (following top n)
 unfolding free_from
 free_used k top used n e = rw (e, free_from) refl
 

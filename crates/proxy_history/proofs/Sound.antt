@@ -3,6 +3,7 @@ use Rattle.std.proofs.Common.{◌≡◌, ℕ, zero, ◌+◌, ◌≤◌, Bool, tr
 use Rattle.std.specs.List.{AllByRecursion}
 use Rattle.std.proofs.lemmas.Bool.Decides.{nat_tests}
 use Rattle.std.proofs.lemmas.List.Elements.{All-nil, All-cons, All-filter, All-weaker, All-contains_itself, Contains-append_right, All-from_recursion, recursion_from_All}
+use Rattle.std.proofs.lemmas.Bool.{or_right}
 use Rattle.proxy_history.specs.Limits.{connection_limit}
 use Rattle.proxy_history.specs.Facts.{NotAdmitted, NoRoom, Fact, Request, Admitted, Ended, Forwarded, Expired, Aborted, TimeIs}
 use Rattle.proxy_history.specs.Connections.{contains, without, present, is_present}
@@ -21,10 +22,6 @@ use Rattle.proxy_history.proofs.GoesOn.{in_use-exactly, pending-exactly}
 pub both_left : (a b : Bool) → (a && b) ≡ true → a ≡ true
 both_left true b e = refl
 both_left false b e = e
-
-pub or_right : (a b : Bool) → b ≡ true → (a || b) ≡ true
-or_right true b e = refl
-or_right false b e = e
 
 pub party_from_present : (c : ℕ) (past : List Fact) → IsPresent c past → IsParty c past
 party_from_present c past there = or_right (c == 0) (is_present c past) there

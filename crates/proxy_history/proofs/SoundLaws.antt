@@ -4,6 +4,7 @@ use Rattle.std.proofs.lemmas.Bool.Decides.{nat_tests}
 use Rattle.std.proofs.lemmas.List.Elements.{All-nil, All-cons, All-head, All-tail, All-filter, All-weaker, All-push, All-contains, filter_passes, Contains-get_or}
 use Rattle.std.proofs.lemmas.List.Kept.{AllPairs-filter}
 use Rattle.std.proofs.lemmas.List.Quantifiers.{all_pairs_push}
+use Rattle.std.proofs.lemmas.Bool.{or_left, or_right, not-true}
 use Rattle.proxy_history.specs.Facts.{Why, NotAdmitted, BadStream, NoRoom, Closed, Fact, Request, Admitted, Ended, Judged, Drained, Forwarded, Answered, IdHeld, Late, Expired, Aborted, Indicated, Granted, Freed, Reset, ModemLost}
 use Rattle.proxy_history.specs.Connections.{contains, without, present, is_present}
 use Rattle.proxy_history.specs.Requests.{in_use, pending, number_after, last_number, of_space, numbers_of, numbers_in_use, following}
@@ -13,17 +14,13 @@ use Rattle.proxy_history.specs.Laws.{IsFirstFree}
 use Rattle.proxy_history.specs.Sound.{IsPresent, IsParty, IsSound, Differ, begins_anew, is_end, HasNoEnd, EndsWithItsEnd}
 use Rattle.proxy_history.proofs.Lists.{Contains-nil, Contains-cons, Contains-cons_cases}
 use Rattle.proxy_history.proofs.Numbers.{number_after-free, number_after-none, contains_other}
-use Rattle.proxy_history.proofs.Sound.{or_right, contains-without_self, serial_within, forwarded_from_in_use, next_of}
+use Rattle.proxy_history.proofs.Sound.{contains-without_self, serial_within, forwarded_from_in_use, next_of}
 
 -- ---- lists of names ----
 
 contains-append : (x : ℕ) (xs ys : List ℕ) → contains x (xs ++ ys) ≡ (contains x xs || contains x ys)
 contains-append x [] ys = refl
 contains-append x (y ∷ xs) ys = elim (x == y) as (λ b. (b || contains x (xs ++ ys)) ≡ ((b || contains x xs) || contains x ys)) [ true ↦ refl | false ↦ contains-append x xs ys ]
-
-or_left : (a b : Bool) → a ≡ true → (a || b) ≡ true
-or_left true b e = refl
-or_left false b e = absurd (cc)
 
 either_both : {X : Type 0} (P Q R : X → Type 0) (xs : List X) → ((x : X) → P x → Q x → R x) → All P xs → All Q xs → All R xs
 either_both P Q R xs f a b k d lt = f (get_or xs k d) (a k d lt) (b k d lt)
@@ -63,7 +60,7 @@ party_joins c d past party =
 party_leaves : (c d : ℕ) (why : Why) (past : List Fact) → IsParty d past → not (c == d) ≡ true → IsParty d (Ended c why ∷ past)
 unfolding present
 party_leaves c d why past party other =
-    let differs : (c == d) ≡ false = elim (c == d) as (λ b. not b ≡ true → b ≡ false) [ true ↦ λ e. absurd (cc) | false ↦ λ e. refl ] other in
+    let differs : (c == d) ≡ false = not-true (c == d) other in
     ap (λ (b : Bool). d == 0 || b) (contains_other c d (present past) differs) ∙ party
 
 module _ (limit top : ℕ → ℕ) where
