@@ -2,12 +2,13 @@
 use Rattle.std.proofs.Common.{◌-◌, ◌⊎◌, ⊎_elim, inl, inr, Any, length-append, ◌≡◌, ℕ, zero, suc, ◌+◌, ◌<◌, ◌≤◌, min, Bool, true, false, not, cond, ◌&&◌, ◌||◌, List, [], ◌∷◌, ◌++◌, length, map, filter, get_or, set, take, take_all, subst, refl, ap, sym, ◌∙◌, arith, Some, None, find, ◌==◌, nat_le, nat_lt}
 use Rattle.std.specs.List.{AllByRecursion, IsDistinct, position, position_or_len, remove, list_any}
 use Rattle.std.proofs.lemmas.Bool.Decides.{nat_tests}
-use Rattle.std.proofs.lemmas.Bool.{eqb-true}
+use Rattle.std.proofs.lemmas.Bool.{eqb-true, or_parts, and_parts}
 use Rattle.std.proofs.lemmas.List.Quantifiers.{position-Some, Any-push}
 use Rattle.std.proofs.lemmas.List.{take_more, get_or_append_left}
 use Rattle.std.proofs.lemmas.List.Folds.{find_at}
 use Rattle.std.proofs.lemmas.List.Elements.{All-head, All-tail, All-push, All-weaker, All-map, All-more}
 use Rattle.std.proofs.lemmas.Option.{slice_get-get_or, slice_get_past}
+use Rattle.proxy_history.proofs.Numbers.{free_used}
 use Rattle.proxy_history.specs.Connections.{contains}
 use Rattle.proxy_history.specs.Requests.{following, free_from}
 use Rattle.number_space.specs.declared.space.Row.{Row}
@@ -52,14 +53,6 @@ first_or_later a b = grind arith
 
 one_more : (i : ℕ) → 1 + i ≡ suc i
 one_more i = omega arith
-
-neither : (a b : Bool) → (a || b) ≡ false → (a ≡ false) × (b ≡ false)
-neither true b e = absurd (cc)
-neither false b e = (refl, e)
-
-waits : (b p : Bool) → (b && p) ≡ true → p ≡ true
-waits true p e = e
-waits false p e = absurd (cc)
 
 -- the first so many mapped
 pub map_front : {X : Type 0} → (X → X) → ℕ → List X → List X
@@ -106,12 +99,8 @@ unfolding free_from
 free_stops zero top used n free = refl
 free_stops (suc steps) top used n free = rw (free, free_from) refl
 
-free_on : (steps top : ℕ) (used : List ℕ) (n : ℕ) → contains n used ≡ true → free_from (suc steps) top used n ≡ free_from steps top used (following top n)
-unfolding free_from
-free_on steps top used n taken = rw (taken, free_from) refl
-
 pub free_goes_on : (steps fewer top : ℕ) (used : List ℕ) (n : ℕ) → steps ≡ fewer + 1 → contains n used ≡ true → free_from steps top used n ≡ free_from fewer top used (following top n)
-free_goes_on steps fewer top used n more taken = let suc_is : steps ≡ suc fewer = omega arith in ap (λ k. free_from k top used n) suc_is ∙ free_on fewer top used n taken
+free_goes_on steps fewer top used n more taken = let suc_is : steps ≡ suc fewer = omega arith in ap (λ k. free_from k top used n) suc_is ∙ free_used fewer top used n taken
 
 pub free_ends : (steps top : ℕ) (used : List ℕ) (n : ℕ) → steps ≡ 0 → free_from steps top used n ≡ n
 unfolding free_from
@@ -212,7 +201,7 @@ module _ {T : Type 0} where
   unfolding IsDistinct
   distinct_push [] new free distinct = (tt, tt)
   distinct_push (row ∷ rows) new free distinct =
-      let apart = neither (new.number == row.number) (contains new.number (numbers rows)) free in
+      let apart = or_parts (new.number == row.number) (contains new.number (numbers rows)) free in
       (apart_push row.number rows new apart.0 distinct.0, distinct_push rows new apart.1 distinct.1)
 
   pub numbers_settled : (test : Row T → Bool) (rows : List (Row T)) → numbers (map (settled_where test) rows) ≡ numbers rows
@@ -241,7 +230,7 @@ module _ {T : Type 0} where
   none_due_settled test earliest rows none =
       All-map (λ (r : Row T). r.pending ≡ true → earliest ≤ r.deadline) (settled_where test) rows
       (All-weaker (λ (r : Row T). r.pending ≡ true → earliest ≤ r.deadline) (λ (r : Row T). (not (test r) && r.pending) ≡ true → earliest ≤ r.deadline)
-      (λ r bound pending. bound (waits (not (test r)) r.pending pending)) rows none)
+      (λ r bound pending. bound (and_parts (not (test r)) r.pending pending).1) rows none)
 
   pub none_due_more : (time earlier : ℕ) (rows : List (Row T)) (i : ℕ) (row : Row T) → i < length rows → row ≡ get_or rows i row → NoneIsDueBefore time (take i rows) →
       earlier ≤ time → (row.pending ≡ true → earlier ≤ row.deadline) → NoneIsDueBefore earlier (take (i + 1) rows)

@@ -2,7 +2,7 @@
 use Rattle.std.proofs.Common.{◌≡◌, ◌↔◌, ℕ, Bool, true, false, not, cond, List, [], ◌∷◌, ◌++◌, refl, ap, sym, ◌∙◌, arith, Option, Some, None, ⊎_elim, subst, All, Contains, ◌==◌}
 use Rattle.std.proofs.lemmas.List.Elements.{All-nil, All-cons, All-head, All-tail, Contains-append_left, Contains-append_cases, Contains-push}
 use Rattle.std.proofs.lemmas.Bool.Decides.{nat_tests}
-use Rattle.std.proofs.lemmas.Bool.{eqb-true, eq-eqb}
+use Rattle.std.proofs.lemmas.Bool.{eqb-true, eq-eqb, true≢false}
 use Rattle.proxy_history.proofs.Lists.{Contains-nil, Contains-cons, Contains-cons_cases}
 use Rattle.number_space.specs.declared.space.Row.{Row}
 use Rattle.number_space.specs.Table.{Table, numbers, without, next_number, gives_number, expires_row, first_due}
@@ -38,10 +38,7 @@ module _ {T : Type 0} where
       in step (answered == row.number) refl
     where
       clash : (a n m : ℕ) → (n == a) ≡ false → (a == m) ≡ true → m ≡ n → ⊥
-      clash a n m other same is = let e : a ≡ m = eqb-true a m same in let f : n ≡ a = sym (e ∙ is) in differ (sym (eq-eqb n a f) ∙ other)
-        where
-          differ : true ≡ false → ⊥
-          differ e = cc
+      clash a n m other same is = let e : a ≡ m = eqb-true a m same in let f : n ≡ a = sym (e ∙ is) in true≢false (sym (eq-eqb n a f) ∙ other)
 
   was_there : (answered number : ℕ) (rows : List (Row T)) → Contains (numbers (without answered rows)) number → Contains (numbers rows) number × ((number == answered) ≡ false)
   was_there answered number [] at = absurd (Contains-nil number at)
