@@ -2,6 +2,7 @@
 use Rattle.std.proofs.Common.{◌≡◌, ℕ, zero, suc, ◌+◌, ◌*◌, ◌<◌, ◌≤◌, Bool, true, false, cond, ◌&&◌, ◌||◌, List, [], ◌∷◌, ◌++◌, length, take, drop, filter, get_or, subst, refl, ap, sym, arith, ◌==◌, nat_lt}
 use Rattle.std.specs.List.{AllByRecursion}
 use Rattle.std.proofs.lemmas.Bool.Decides.{nat_tests}
+use Rattle.kit_bytes.proofs.Lists.{all_weaker, all_filter}
 use Rattle.proxy_history.specs.ClientIds.{Grant, is_of}
 use Rattle.holders.specs.Grants.{is_before, is_behind, AreInOrder, AreBytes}
 
@@ -47,15 +48,6 @@ is_of-is s i g of = (grind (arith, nat_tests, of), grind (arith, nat_tests, of))
 -- ---- lists ----
 
 module _ {X : Type 0} where
-  pub all_filter : (P : X → Type 0) (p : X → Bool) (xs : List X) → AllByRecursion P xs → AllByRecursion P (filter p xs)
-  all_filter P p [] all = tt
-  all_filter P p (x ∷ xs) all =
-      elim (p x) as (λ b. AllByRecursion P (cond b (x ∷ filter p xs) (filter p xs))) [ true ↦ (all.0, all_filter P p xs all.1) | false ↦ all_filter P p xs all.1 ]
-
-  pub all_weaker : (P Q : X → Type 0) → ((x : X) → P x → Q x) → (xs : List X) → AllByRecursion P xs → AllByRecursion Q xs
-  all_weaker P Q weaker [] all = tt
-  all_weaker P Q weaker (x ∷ xs) all = (weaker x all.0, all_weaker P Q weaker xs all.1)
-
   pub all_at : (P : X → Type 0) (xs : List X) (k : ℕ) (d : X) → AllByRecursion P xs → k < length xs → P (get_or xs k d)
   all_at P [] k d all within = absurd (omega arith)
   all_at P (x ∷ xs) zero d all within = all.0

@@ -4,9 +4,12 @@ use Rattle.std.proofs.lemmas.List.{get_or_default}
 use Rattle.std.proofs.lemmas.Bool.{eqb-true}
 use Rattle.std.specs.List.{AllByRecursion, AllWithin, list_any}
 use Rattle.std.specs.List.Sorted.{IsPartitionedBy}
+use Rattle.std.proofs.Math.Nat.{eq-or-lt_of_le}
+use Rattle.std.proofs.Math.Bool.{not-not}
+use Rattle.kit_bytes.proofs.Lists.{all_weaker}
 use Rattle.proxy_history.specs.ClientIds.{Grant, is_of, holder_in, holds_some, is_other}
 use Rattle.holders.specs.Grants.{is_before, is_behind, is_of_service, AreInOrder, AreBytes, IsFoundAt, IsPlaceOf, granted, grants, grants_if, is_taken}
-use Rattle.holders.proofs.Order.{of_not_before, of_not_behind, before_not_of, before_not_behind, behind_not_of, behind_not_before, behind_else, before_of_behind, before_before, behind_both, behind_behind, is_of-is, all_at, all_weaker, all_insert, kept_all, kept_none, few_ids}
+use Rattle.holders.proofs.Order.{of_not_before, of_not_behind, before_not_of, before_not_behind, behind_not_of, behind_not_before, behind_else, before_of_behind, before_before, behind_both, behind_behind, is_of-is, all_at, all_insert, kept_all, kept_none, few_ids}
 
 -- ---- what a binary search finds ----
 
@@ -20,15 +23,12 @@ in_order_at (g ∷ grants) (suc j) (suc k) d ordered less within = in_order_at g
 pub partitioned : (s i : ℕ) (grants : List Grant) → AreInOrder grants → IsPartitionedBy (is_before s i) grants
 partitioned s i grants ordered = λ j k d le within before. both j k d le within before
   where
-    below : (j k : ℕ) → j ≤ k → (j ≡ k) ⊎ (j < k)
-    below j k le = grind arith
-
     both : (j k : ℕ) (d : Grant) → j ≤ k → k < length grants → is_before s i (get_or grants k d) ≡ true → is_before s i (get_or grants j d) ≡ true
     both j k d le within before =
         ⊎_elim
         (λ (same : j ≡ k). ap (λ (n : ℕ). is_before s i (get_or grants n d)) same ∙ before)
         (λ (less : j < k). before_before s i (get_or grants j d) (get_or grants k d) (in_order_at grants j k d ordered less within) before)
-        (below j k le)
+        (eq-or-lt_of_le le)
 
 -- no grant that isn't before is of the id
 pub place_none : (s i place : ℕ) (grants : List Grant) → place ≡ length grants → AllWithin (λ g. is_before s i g ≡ true) grants 0 place → IsPlaceOf s i grants place
@@ -46,12 +46,9 @@ place_other s i place grants row ordered within is other before rest = record {
   behind = λ k d low high. ⊎_elim
       (λ (same : place ≡ k). ap (λ (n : ℕ). is_behind s i (get_or grants n d)) (sym same) ∙ here d)
       (λ (less : place < k). behind_behind s i (get_or grants place d) (get_or grants k d) (here d) (in_order_at grants place k d ordered less high))
-      (below place k low);
+      (eq-or-lt_of_le low);
 }
   where
-    below : (j k : ℕ) → j ≤ k → (j ≡ k) ⊎ (j < k)
-    below j k le = grind arith
-
     row_at : (d : Grant) → get_or grants place d ≡ row
     row_at d = get_or_default grants place d row within ∙ sym is
 
@@ -149,13 +146,9 @@ in_order_insert s i (suc place) (g ∷ grants) new service client ordered at =
 
 -- ---- what granting makes of a list ----
 
-not_not : (b : Bool) → not (not b) ≡ b
-not_not true = refl
-not_not false = refl
-
 pub found_free : (conn s i place : ℕ) (rows : List Grant) (d : Grant) → AreInOrder rows → IsFoundAt s i rows place → ((get_or rows place d).conn == conn) ≡ not (is_taken conn s i rows)
 found_free conn s i place rows d ordered found =
-    sym (ap (λ (h : Option ℕ). not (is_other conn h)) (found_holder s i place rows d ordered found) ∙ not_not ((get_or rows place d).conn == conn))
+    sym (ap (λ (h : Option ℕ). not (is_other conn h)) (found_holder s i place rows d ordered found) ∙ not-not ((get_or rows place d).conn == conn))
 
 pub found_grants : (conn s i place : ℕ) (rows : List Grant) (d : Grant) → AreInOrder rows → IsFoundAt s i rows place → rows ≡ grants conn s i rows
 found_grants conn s i place rows d ordered found =

@@ -3,11 +3,13 @@ use Rattle.std.proofs.Common.{◌≡◌, ℕ, Bool, true, false, not, cond, ◌&
 use Rattle.std.specs.List.{AllByRecursion}
 use Rattle.std.proofs.lemmas.Bool.Decides.{nat_tests}
 use Rattle.std.proofs.lemmas.List.Elements.{Contains-append_left, Contains-append_right, Contains-append_cases, Contains-push}
+use Rattle.std.proofs.lemmas.Bool.{not-true, true≢false, or_right}
+use Rattle.kit_bytes.proofs.Lists.{all_weaker, all_filter}
 use Rattle.proxy_history.specs.ClientIds.{Grant, is_of, holder_in, holds_some, is_other}
 use Rattle.proxy_history.proofs.Lists.{Contains-nil, Contains-cons, Contains-cons_cases, Contains-filter, Contains-filter_from, Contains-filter_passes}
 use Rattle.holders.specs.Grants.{is_before, is_behind, is_of_service, AreInOrder, granted, grants_if, grants, is_taken}
 use Rattle.holders.specs.Calls.{IsOnce, TellTheSame, granted_last, granted_last_unless}
-use Rattle.holders.proofs.Order.{before_not_of, behind_not_of, behind_else, is_of-is, all_filter, all_weaker}
+use Rattle.holders.proofs.Order.{before_not_of, behind_not_of, behind_else, is_of-is}
 
 -- ---- each id once ----
 
@@ -60,16 +62,12 @@ same_filter p xs ys tell = record {
   once = once_filter p xs tell.once;
 }
 
-pub not_is : (b : Bool) → not b ≡ true → b ≡ false
-not_is true e = absurd (cc)
-not_is false e = refl
-
 last_to_order : (conn s i : ℕ) (xs ys : List Grant) → ((g : Grant) → Contains xs g → Contains ys g) → (g : Grant) → Contains (granted_last conn s i xs) g → Contains (granted conn s i ys) g
 last_to_order conn s i xs ys same g at =
     ⊎_elim
     (λ (old : Contains (filter (λ h. not (is_of s i h)) xs) g).
     let here : Contains ys g = same g (Contains-filter_from (λ h. not (is_of s i h)) xs g old) in
-    let other : is_of s i g ≡ false = not_is (is_of s i g) (Contains-filter_passes (λ h. not (is_of s i h)) xs g old) in
+    let other : is_of s i g ≡ false = not-true (is_of s i g) (Contains-filter_passes (λ h. not (is_of s i h)) xs g old) in
     let sides : (b : Bool) → is_before s i g ≡ b → Contains (granted conn s i ys) g =
     λ b. elim b as (λ b. is_before s i g ≡ b → Contains (granted conn s i ys) g) [
       | true ↦ λ e. Contains-append_left (filter (is_before s i) ys) _ g (Contains-filter (is_before s i) ys g here e)
@@ -142,12 +140,9 @@ not_there : (s i conn : ℕ) (xs : List Grant) → AllByRecursion (λ h. is_of s
 not_there s i conn [] others at = Contains-nil _ at
 not_there s i conn (g ∷ xs) others at =
     ⊎_elim
-    (λ (is : g ≡ record { conn = conn; service = s; client = i }). let clash : true ≡ false = sym (equal_of s i) ∙ sym (ap (is_of s i) is) ∙ others.0 in differ clash)
+    (λ (is : g ≡ record { conn = conn; service = s; client = i }). let clash : true ≡ false = sym (equal_of s i) ∙ sym (ap (is_of s i) is) ∙ others.0 in true≢false clash)
     (λ (rest : Contains xs (record { conn = conn; service = s; client = i })). not_there s i conn xs others.1 rest)
     (Contains-cons_cases (record { conn = conn; service = s; client = i }) g xs at)
-  where
-    differ : true ≡ false → ⊥
-    differ e = cc
 
 pub contains_holder : (s i conn : ℕ) (xs : List Grant) → IsOnce xs → Contains xs (record { conn = conn; service = s; client = i }) → holder_in s i xs ≡ Some conn
 unfolding IsOnce
@@ -191,12 +186,8 @@ contains_some conn s [] g of at = absurd (Contains-nil g at)
 contains_some conn s (h ∷ xs) g of at =
     ⊎_elim
     (λ (is : h ≡ g). ap (λ (k : Grant). is_of_service conn s k || holds_some conn s xs) is ∙ ap (λ b. b || holds_some conn s xs) of)
-    (λ (rest : Contains xs g). either (is_of_service conn s h) (holds_some conn s xs) (contains_some conn s xs g of rest))
+    (λ (rest : Contains xs g). or_right (is_of_service conn s h) (holds_some conn s xs) (contains_some conn s xs g of rest))
     (Contains-cons_cases g h xs at)
-  where
-    either : (a b : Bool) → b ≡ true → (a || b) ≡ true
-    either true b e = refl
-    either false b e = e
 
 pub same_some : (conn s : ℕ) (xs ys : List Grant) → TellTheSame xs ys → holds_some conn s ys ≡ holds_some conn s xs
 same_some conn s xs ys tell = both (holds_some conn s ys) (holds_some conn s xs) refl refl

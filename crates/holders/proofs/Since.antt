@@ -1,6 +1,6 @@
 -- The ids that are held after a list of calls.
 use Rattle.std.proofs.Common.{◌≡◌, ◌↔◌, ℕ, Bool, true, false, not, List, [], ◌∷◌, ◌++◌, filter, refl, ap, sym, ◌∙◌, Some, ⊎_elim, subst, All, Contains, ◌==◌}
-use Rattle.std.proofs.lemmas.Bool.{eqb-true}
+use Rattle.std.proofs.lemmas.Bool.{eqb-true, not-true}
 use Rattle.std.proofs.lemmas.List.Elements.{All-nil, All-cons, All-head, All-tail, Contains-append_left, Contains-append_cases, Contains-push}
 use Rattle.proxy_history.specs.ClientIds.{Grant, is_of, holder_in, is_other}
 use Rattle.proxy_history.proofs.Lists.{Contains-nil, Contains-cons_cases, Contains-filter, Contains-filter_from, Contains-filter_passes}
@@ -8,7 +8,7 @@ use Rattle.holders.specs.Grants.{is_of_both, is_taken}
 use Rattle.holders.specs.Calls.{Call, Grants, Releases, Leaves, Clears, IsOnce, granted_last, granted_last_unless, held_after}
 use Rattle.holders.specs.Laws.{ends, IsGrantedAndNotEnded}
 use Rattle.holders.proofs.Order.{is_of-is}
-use Rattle.holders.proofs.Sets.{once_filter, once_granted, holder_contains, contains_holder, not_is}
+use Rattle.holders.proofs.Sets.{once_filter, once_granted, holder_contains, contains_holder}
 
 once_unless : (b : Bool) (conn s i : ℕ) (held : List Grant) → IsOnce held → IsOnce (granted_last_unless b conn s i held)
 once_unless true conn s i held once = once
@@ -59,9 +59,9 @@ held_since : (calls : List Call) (g : Grant) → Contains (held_after calls) g �
 held_since [] g at = absurd (Contains-nil g at)
 held_since (Grants conn s i ∷ past) g at = granted_since g conn s i past (held_since past g) (is_taken conn s i (held_after past)) refl at
 held_since (Releases conn s i ∷ past) g at =
-    since_more g (Releases conn s i) past (not_is (is_of_both conn s i g) (Contains-filter_passes (λ h. not (is_of_both conn s i h)) (held_after past) g at)) (held_since past g (Contains-filter_from (λ h. not (is_of_both conn s i h)) (held_after past) g at))
+    since_more g (Releases conn s i) past (not-true (is_of_both conn s i g) (Contains-filter_passes (λ h. not (is_of_both conn s i h)) (held_after past) g at)) (held_since past g (Contains-filter_from (λ h. not (is_of_both conn s i h)) (held_after past) g at))
 held_since (Leaves conn ∷ past) g at =
-    since_more g (Leaves conn) past (not_is (conn == g.conn) (Contains-filter_passes (λ h. not (conn == h.conn)) (held_after past) g at)) (held_since past g (Contains-filter_from (λ h. not (conn == h.conn)) (held_after past) g at))
+    since_more g (Leaves conn) past (not-true (conn == g.conn) (Contains-filter_passes (λ h. not (conn == h.conn)) (held_after past) g at)) (held_since past g (Contains-filter_from (λ h. not (conn == h.conn)) (held_after past) g at))
 held_since (Clears ∷ past) g at = absurd (Contains-nil g at)
 
 -- ---- and the other way round ----
