@@ -2,10 +2,11 @@
 use Rattle.std.proofs.Common.{◌≡◌, Bool, true, false, not, cond, ◌&&◌, List, [], ◌∷◌, ◌++◌, map, filter, refl, ap, sym, ◌∙◌, ◌==◌}
 use Rattle.std.proofs.lemmas.List.{map-append}
 use Rattle.std.proofs.lemmas.List.Elements.{filter-append}
+use Rattle.std.proofs.lemmas.Simd.{map-map}
 use Rattle.proxy_history.specs.Facts.{Fact, Request, Ended, Forwarded, Answered, IdHeld, Late, Expired, Aborted, Reset, ModemLost}
 use Rattle.proxy_history.specs.Requests.{in_use, pending}
 use Rattle.qmi_state.specs.Desk.{Ask, asks, silenced_if}
-use Rattle.qmi_state.proofs.Lists.{map_map, filter_map_is}
+use Rattle.qmi_state.proofs.Lists.{filter_map_is}
 
 abbrev pub request_in : Ask → Request
 request_in a = a.request
@@ -53,7 +54,7 @@ waiting_filtered p (a ∷ list) =
     in step (p a.request) a.waits refl refl
 
 silenced_requests : (p : Ask → Bool) (list : List Ask) → map request_in list ≡ map request_in (map (λ a. silenced_if (p a) a) list)
-silenced_requests p list = sym (map_map request_in (λ (a : Ask). silenced_if (p a) a) list)
+silenced_requests p list = sym (map-map request_in (λ (a : Ask). silenced_if (p a) a) list)
 
 pub in_use_is : (past : List Fact) → in_use past ≡ map request_in (asks past)
 unfolding in_use asks

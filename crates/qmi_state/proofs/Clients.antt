@@ -3,6 +3,7 @@ use Rattle.std.proofs.Common.{◌≡◌, ℕ, ◌<◌, ◌≤◌, Bool, true, fa
 use Rattle.std.specs.List.{AllByRecursion}
 use Rattle.std.proofs.lemmas.List.{length-map, map-append}
 use Rattle.std.proofs.lemmas.Bool.Decides.{nat_tests}
+use Rattle.std.proofs.lemmas.Simd.{map-map}
 use Rattle.framing.specs.Cutting.{Cutting, cut}
 use Rattle.qmux_frame.specs.Frame.{size_of}
 use Rattle.proxy_history.specs.Limits.{connection_limit}
@@ -19,7 +20,7 @@ use Rattle.qmi_proxy.specs.History.{add_all}
 use Rattle.qmi_state.specs.Desk.{asks, gives_up, ids}
 use Rattle.qmi_state.specs.Core.{Account, Session, Leftover, Core, account_of, session_of, leftover_of, AreNames, session_in}
 use Rattle.qmi_state.specs.Transitions.{Exchange, exchange_in, update, drops, new_account, new_session, joins, joins_if, leaves, leaves_if, takes, collected, Hearing, hears, hearing_of, goes_on, brought, brings, brings_to, brings_if}
-use Rattle.qmi_state.proofs.Lists.{map_pointwise, map_map, without_above, contains_without}
+use Rattle.qmi_state.proofs.Lists.{map_pointwise, without_above, contains_without}
 use Rattle.qmi_state.proofs.Names.{names_more, names_still, above_absent}
 use Rattle.qmi_state.proofs.Updates.{update_found, update_none, update_twice, without_update, update_is}
 use Rattle.qmi_state.proofs.Accounts.{drained_own, drained_other, collected_account, admitted_own, admitted_other, refused_own, refused_other}
@@ -88,7 +89,7 @@ module _ (s : Setup) (greatest : ℕ) where
     sessions =
         ap (update c (with_rest rest)) K.sessions
         ∙ update_is (session_of s.device rests past) (session_name s.device rests past) c (with_rest rest) (present past) K.names.distinct
-        ∙ map_map (λ (t : Session). if c == t.name then with_rest rest t else t) (session_of s.device rests past) (present past)
+        ∙ map-map (λ (t : Session). if c == t.name then with_rest rest t else t) (session_of s.device rests past) (present past)
         ∙ map_pointwise _ _ (λ d. sym (session_rest s.device rests past c rest d)) (present past);
     leftovers = K.leftovers;
     desk = K.desk;

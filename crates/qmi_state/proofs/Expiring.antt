@@ -1,7 +1,7 @@
 -- What the clock and a loss make of the requests that wait.
 use Rattle.std.proofs.Common.{◌≡◌, ℕ, zero, ◌≤◌, nat_le, Bool, true, false, not, cond, ◌&&◌, ◌||◌, ◌==◌, List, [], ◌∷◌, ◌++◌, length, map, filter, find, refl, ap, sym, ◌∙◌, subst, arith, Contains, Some, None, if◌then◌else◌}
 use Rattle.std.specs.List.{AllByRecursion}
-use Rattle.std.proofs.lemmas.Bool.{eqb-true}
+use Rattle.std.proofs.lemmas.Bool.{eqb-true, ne_eqb}
 use Rattle.proxy_history.specs.Facts.{Fact, Request, Ended, NoRoom, Expired, Aborted}
 use Rattle.proxy_history.specs.Connections.{present, contains}
 use Rattle.proxy_history.specs.Requests.{pending, is_pending, has_request, of_space}
@@ -153,16 +153,11 @@ distinct_waiting (a ∷ list) different =
       | false ↦ rest
     ]
   where
-    ne : (m n : ℕ) → (m ≡ n → ⊥) → (m == n) ≡ false
-    ne m n h =
-        let step : (b : Bool) → (m == n) ≡ b → b ≡ false = λ b. elim b as (λ b. (m == n) ≡ b → b ≡ false) [ true ↦ λ e. absurd (h (eqb-true m n e)) | false ↦ λ e. refl ]
-        in step (m == n) refl
-
     others : (list : List Ask) → AllByRecursion (λ (b : Ask). Differ a.request b.request) list → AllByRecursion (λ (q : Request). (a.request.serial == q.serial) ≡ false) (waiting list)
     others [] all = tt
     others (b ∷ list) all =
         elim b.waits as (λ w. AllByRecursion (λ (q : Request). (a.request.serial == q.serial) ≡ false) (map request_in (cond w (b ∷ filter waits_in list) (filter waits_in list)))) [
-          | true ↦ (ne a.request.serial b.request.serial all.0.0, others list all.1)
+          | true ↦ (ne_eqb a.request.serial b.request.serial all.0.0, others list all.1)
           | false ↦ others list all.1
         ]
 

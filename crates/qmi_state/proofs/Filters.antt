@@ -2,10 +2,10 @@
 use Rattle.std.proofs.Common.{◌≡◌, ◌≤◌, Bool, true, false, cond, ◌&&◌, ◌||◌, ◌==◌, List, [], ◌∷◌, length, filter, refl, ap, sym, ◌∙◌, arith}
 use Rattle.std.specs.List.{AllByRecursion}
 use Rattle.std.proofs.lemmas.Bool.Decides.{nat_tests}
-use Rattle.std.proofs.lemmas.Bool.{eq-eqb}
+use Rattle.std.proofs.lemmas.Bool.{eq-eqb, or_right}
+use Rattle.kit_bytes.proofs.Lists.{all_passing}
 use Rattle.proxy_history.specs.Facts.{Request}
 use Rattle.proxy_history.specs.Requests.{has_request}
-use Rattle.qmi_state.proofs.Alls.{all_passing}
 
 pub filter_both : {X : Type 0} (p q : X → Bool) (xs : List X) → filter p (filter q xs) ≡ filter (λ x. q x && p x) xs
 filter_both p q [] = refl
@@ -67,13 +67,9 @@ module _ (p : Request → Bool) where
       let Has : Bool → Type 0 = λ (b : Bool). has_request r (cond b (q ∷ filter p requests) (filter p requests)) ≡ true → (r.serial == q.serial || has_request r requests) ≡ true in
       let step : (b : Bool) → Has b = λ b. elim b as Has [
         | true ↦ λ e. elim (r.serial == q.serial) as (λ t. (t || has_request r (filter p requests)) ≡ true → (t || has_request r requests) ≡ true) [ true ↦ λ e. refl | false ↦ λ e. has_filtered r requests e ] e
-        | false ↦ λ e. or_true (r.serial == q.serial) (has_filtered r requests e)
+        | false ↦ λ e. or_right (r.serial == q.serial) _ (has_filtered r requests e)
       ]
       in step (p q) e
-    where
-      or_true : (a : Bool) {b : Bool} → b ≡ true → (a || b) ≡ true
-      or_true true e = refl
-      or_true false e = e
 
   -- what a filter keeps is what passes it
   pub has_passing : (requests : List Request) → AreDistinct requests → AllByRecursion (λ (q : Request). p q ≡ has_request q (filter p requests)) requests

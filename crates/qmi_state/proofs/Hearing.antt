@@ -1,6 +1,7 @@
 -- What a message of a client makes of a core.
 use Rattle.std.proofs.Common.{◌≡◌, ℕ, ◌+◌, Bool, true, false, not, ◌&&◌, ◌||◌, ◌==◌, List, ◌∷◌, ◌++◌, length, map, filter, refl, ap, sym, ◌∙◌, subst, arith, Option, Some, None, if◌then◌else◌}
-use Rattle.std.proofs.lemmas.Bool.{eqb-true}
+use Rattle.std.proofs.lemmas.Bool.{eqb-true, or_parts}
+use Rattle.std.proofs.lemmas.Simd.{map-map}
 use Rattle.qmux_frame.specs.Head.{is_control}
 use Rattle.qmux_frame.specs.Reply.{with_number}
 use Rattle.proxy_history.specs.Facts.{Fact, Request, Verdict, Forward, Ended, NoRoom, Judged, Forwarded, Granted}
@@ -24,7 +25,7 @@ use Rattle.qmi_state.specs.Core.{Account, Session, account_of, session_in, sessi
 use Rattle.qmi_state.specs.Transitions.{Exchange, update, drops, lacks_room, reply_as, holder_at, verdict_of, Hearing}
 use Rattle.qmi_state.proofs.Asks.{request_in, in_use_is}
 use Rattle.qmi_state.proofs.Ids.{holder_is}
-use Rattle.qmi_state.proofs.Lists.{map_map, filter_map_is}
+use Rattle.qmi_state.proofs.Lists.{filter_map_is}
 use Rattle.qmi_state.proofs.Updates.{update_found, without_update}
 use Rattle.qmi_state.proofs.Accounts.{judged, judged_own, judged_other, forwarded_same}
 use Rattle.qmi_state.proofs.Desks.{desk_forwarded}
@@ -35,8 +36,8 @@ use Rattle.qmi_state.proofs.Keeping.{Keeps, exchange, on_account, with_account, 
 
 numbers_used : (space : ℕ) (past : List Fact) → map (λ row. row.number) (rows_of space (asks past)) ≡ numbers_in_use space past
 numbers_used space past =
-    map_map (λ (row : Row). row.number) row_of (filter (λ (a : Ask). a.request.space == space) (asks past))
-    ∙ sym (map_map (λ (r : Request). r.number) request_in (filter (λ (a : Ask). a.request.space == space) (asks past)))
+    map-map (λ (row : Row). row.number) row_of (filter (λ (a : Ask). a.request.space == space) (asks past))
+    ∙ sym (map-map (λ (r : Request). r.number) request_in (filter (λ (a : Ask). a.request.space == space) (asks past)))
     ∙ ap (map (λ (r : Request). r.number)) (sym (filter_map_is (λ (r : Request). r.space == space) request_in (asks past)))
     ∙ ap (λ (l : List Request). map (λ (r : Request). r.number) (filter (λ (r : Request). r.space == space) l)) (sym (in_use_is past))
 
@@ -182,14 +183,10 @@ module _ (s : Setup) (greatest : ℕ) (rests : ℕ → List ℕ) where
       -- the reply finds room
       pub heard_is : lacks_room reply a ≡ false → change a ≡ (reply_hearing verdict).account
       heard_is room =
-          let was : a.is_over ≡ false = left_false a.is_over _ room in
+          let was : a.is_over ≡ false = (or_parts a.is_over _ room).0 in
           ap (λ (b : Bool). let after : Account = record { opened = is_opening s.device m verdict || a.opened; waiting = if b then a.waiting else a.waiting ++ reply; is_over = b } in after) room
           ∙ ap (λ (b : Bool). let after : Account = record { opened = is_opening s.device m verdict || a.opened; waiting = a.waiting ++ reply; is_over = b } in after) (sym was)
           ∙ sym (ap (λ (b : Bool). let after : Account = record { opened = (not b && is_opening s.device m verdict) || a.opened; waiting = if b then a.waiting else a.waiting ++ reply; is_over = a.is_over } in after) room)
-        where
-          left_false : (t u : Bool) → (t || u) ≡ false → t ≡ false
-          left_false true u e = absurd (cc)
-          left_false false u e = refl
 
       pub kept_room : lacks_room reply a ≡ false → Kept facts (exchange (update c (with_account (reply_hearing verdict).account) x.sessions) x.dropped x.desk)
       kept_room room =

@@ -2,7 +2,7 @@
 use Rattle.std.proofs.Common.{◌≡◌, ℕ, zero, Bool, true, false, not, cond, ◌&&◌, ◌||◌, ◌==◌, nat_lt, List, [], ◌∷◌, ◌++◌, filter, refl, ap, sym, ◌∙◌, subst, ⊎_elim, arith, Contains, Some, append-nil, if◌then◌else◌}
 use Rattle.std.specs.List.{AllByRecursion}
 use Rattle.std.proofs.lemmas.Bool.Decides.{nat_tests}
-use Rattle.std.proofs.lemmas.Bool.{eqb-true, eq-eqb}
+use Rattle.std.proofs.lemmas.Bool.{eqb-true, eq-eqb, and_parts, or_right}
 use Rattle.std.proofs.lemmas.List.Elements.{filter-append, All-contains, All-weaker, All-contains_itself, recursion_from_All}
 use Rattle.proxy_history.specs.Facts.{Fact, Ended, Granted, Freed, Reset, ModemLost}
 use Rattle.proxy_history.specs.ClientIds.{Grant, is_of, held, holder, holder_in, holds_some}
@@ -35,17 +35,13 @@ same_filter p true (g ∷ grants) all = ap (λ (t : Bool). cond t (g ∷ filter 
 same_filter p false [] all = refl
 same_filter p false (g ∷ grants) all = ap (λ (t : Bool). cond t (g ∷ filter p grants) (filter p grants)) all.0 ∙ same_filter p false grants all.1
 
-both_true : (a b : Bool) → (a && b) ≡ true → (a ≡ true) × (b ≡ true)
-both_true true b e = (refl, e)
-both_true false b e = absurd (cc)
-
 -- the grants of one id all pass a test of ids, or none does
 tested : (s i : ℕ) (test : ℕ → ℕ → Bool) (grants : List Grant) → of s i (filter (λ g. test g.service g.client) grants) ≡ (if test s i then of s i grants else [])
 tested s i test grants =
     filter_swap (is_of s i) (λ (g : Grant). test g.service g.client) grants
     ∙ same_filter (λ (g : Grant). test g.service g.client) (test s i) (of s i grants)
     (all_of s i (λ g. test g.service g.client ≡ test s i)
-    (λ g e. let parts = both_true (g.service == s) (g.client == i) e in ap (λ (n : ℕ). test n g.client) (eqb-true g.service s parts.0) ∙ ap (test s) (eqb-true g.client i parts.1)) grants)
+    (λ g e. let parts = and_parts (g.service == s) (g.client == i) e in ap (λ (n : ℕ). test n g.client) (eqb-true g.service s parts.0) ∙ ap (test s) (eqb-true g.client i parts.1)) grants)
 
 before_id : ℕ → ℕ → ℕ → ℕ → Bool
 before_id service client s i = nat_lt s service || (s == service && nat_lt i client)
@@ -61,7 +57,7 @@ one_side service client s i other = grind (arith, nat_tests, other)
 neither_side : (service client s i : ℕ) → (service == s && (client == i)) ≡ true → (before_id service client s i ≡ false) × (behind_id service client s i ≡ false)
 unfolding before_id behind_id
 neither_side service client s i same =
-    let parts = both_true (service == s) (client == i) same in
+    let parts = and_parts (service == s) (client == i) same in
     let service_same : service ≡ s = eqb-true service s parts.0 in
     let client_same : client ≡ i = eqb-true client i parts.1 in
     (grind (arith, nat_tests, service_same, client_same), grind (arith, nat_tests, service_same, client_same))
@@ -169,11 +165,7 @@ some_from c s [] g at e = absurd (Contains-nil g at)
 some_from c s (h ∷ grants) g at e =
     ⊎_elim
     (λ (is : h ≡ g). ap (λ (b : Bool). b || holds_some c s grants) (ap (λ (x : Grant). x.conn == c && (x.service == s)) is ∙ e))
-    (λ (later : Contains grants g). or_true (h.conn == c && (h.service == s)) (some_from c s grants g later e)) (Contains-cons_cases g h grants at)
-  where
-    or_true : (a : Bool) {b : Bool} → b ≡ true → (a || b) ≡ true
-    or_true true e = refl
-    or_true false e = e
+    (λ (later : Contains grants g). or_right (h.conn == c && (h.service == s)) _ (some_from c s grants g later e)) (Contains-cons_cases g h grants at)
 
 some_moved : (c s : ℕ) (one other : List Grant) → ((s i : ℕ) → of s i one ≡ of s i other) → holds_some c s one ≡ true → holds_some c s other ≡ true
 some_moved c s one other same e = let found = held_one c s one e in some_from c s other found.0 (moved one other same found.0 found.1) found.2

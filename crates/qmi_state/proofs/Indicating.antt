@@ -3,8 +3,10 @@ use Rattle.std.proofs.Common.{◌≡◌, ℕ, Bool, true, false, not, cond, ◌|
 use Rattle.std.specs.List.{AllByRecursion, IsDistinct}
 use Rattle.std.proofs.lemmas.Bool.Decides.{nat_tests}
 use Rattle.std.proofs.lemmas.Bool.{eqb-true, eq-eqb}
-use Rattle.std.proofs.lemmas.List.{map-append}
-use Rattle.std.proofs.lemmas.List.Elements.{All-from_recursion, recursion_from_All}
+use Rattle.std.proofs.lemmas.List.{map-append, map-id}
+use Rattle.std.proofs.lemmas.List.Elements.{All-from_recursion, recursion_from_All, filter_agree}
+use Rattle.std.proofs.lemmas.Simd.{map-map}
+use Rattle.kit_bytes.proofs.Lists.{all_passing}
 use Rattle.qmux_frame.specs.Head.{service_of, is_control, client_of}
 use Rattle.proxy_history.specs.Facts.{Fact, Ended, NoRoom, Indicated}
 use Rattle.proxy_history.specs.Connections.{present, dropped, contains, without}
@@ -23,8 +25,7 @@ use Rattle.qmi_state.specs.Desk.{Desk, desk_of, gives_up, asks, ids}
 use Rattle.qmi_state.specs.Core.{Account, Session, Leftover, account_of, session_of, leftover_of, AreNames, session_in}
 use Rattle.qmi_state.specs.Transitions.{Exchange, update, without_session, drops, lacks_room, gets, tells, tells_to, tells_if, tells_all, opened_ones, holders_of, tells_holder, indicates}
 use Rattle.qmi_state.proofs.Ids.{holder_is, some_is}
-use Rattle.qmi_state.proofs.Alls.{all_passing}
-use Rattle.qmi_state.proofs.Lists.{map_pointwise, map_map, filter_map_is, map_on_filter, apart_more, ne_apart}
+use Rattle.qmi_state.proofs.Lists.{map_pointwise, filter_map_is, map_on_filter, apart_more, ne_apart}
 use Rattle.qmi_state.proofs.Names.{names_without, distinct_filter}
 use Rattle.qmi_state.proofs.Updates.{update_is, without_is}
 use Rattle.qmi_state.proofs.Accounts.{put_to, overfull, indicated_is}
@@ -172,7 +173,7 @@ module _ (device : List ℕ) (greatest : ℕ) (rests : ℕ → List ℕ) where
         sessions =
             ap (update c (gets m)) A.sessions
             ∙ update_is (sess rests A.before) named c (gets m) (present past) A.names.distinct
-            ∙ map_map (λ (t : Session). if c == t.name then gets m t else t) (sess rests A.before) (present past)
+            ∙ map-map (λ (t : Session). if c == t.name then gets m t else t) (sess rests A.before) (present past)
             ∙ map_pointwise (λ d. if c == d then gets m (sess rests A.before d) else sess rests A.before d) (sess rests after) got (present past);
         leftovers = A.leftovers;
         desk = A.desk;
@@ -252,32 +253,24 @@ module _ (device : List ℕ) (greatest : ℕ) (rests : ℕ → List ℕ) where
 
     -- ---- those that are open ----
 
-    map_itself : (xs : List ℕ) → map (λ x. x) xs ≡ xs
-    map_itself [] = refl
-    map_itself (x ∷ xs) = ap (λ (l : List ℕ). x ∷ l) (map_itself xs)
-
     opened_is : (past : List Fact) (x : Exchange) → Kept past x → opened_ones x.sessions ≡ open_ones device past
     unfolding session_of
     opened_is past x K =
         ap opened_ones K.sessions
         ∙ ap (map (λ (t : Session). t.name)) (filter_map_is (λ (t : Session). t.account.opened) (session_of device rests past) (present past))
-        ∙ map_map (λ (t : Session). t.name) (session_of device rests past) (filter (λ (c : ℕ). is_open device (view_of c past)) (present past))
-        ∙ map_itself (filter (λ (c : ℕ). is_open device (view_of c past)) (present past))
+        ∙ map-map (λ (t : Session). t.name) (session_of device rests past) (filter (λ (c : ℕ). is_open device (view_of c past)) (present past))
+        ∙ map-id (filter (λ (c : ℕ). is_open device (view_of c past)) (present past))
 
     -- ---- those that hold an id of the service ----
 
     names_are : (past : List Fact) (x : Exchange) → Kept past x → map (λ (t : Session). t.name) x.sessions ≡ present past
     unfolding session_of
-    names_are past x K = ap (map (λ (t : Session). t.name)) K.sessions ∙ map_map (λ (t : Session). t.name) (session_of device rests past) (present past) ∙ map_itself (present past)
+    names_are past x K = ap (map (λ (t : Session). t.name)) K.sessions ∙ map-map (λ (t : Session). t.name) (session_of device rests past) (present past) ∙ map-id (present past)
 
     holders_are : (service : ℕ) (past : List Fact) (x : Exchange) → Kept past x → holders_of service x.desk.held x.sessions ≡ filter (λ c. holds_some c service (held past)) (present past)
     holders_are service past x K =
         ap (λ (d : Desk). holders_of service d.held x.sessions) K.desk ∙ ap (filter (λ (c : ℕ). holds_some c service (ids past))) (names_are past x K)
-        ∙ filter_same (λ c. holds_some c service (ids past)) (λ c. holds_some c service (held past)) (λ c. some_is c service past) (present past)
-      where
-        filter_same : (p q : ℕ → Bool) → ((c : ℕ) → p c ≡ q c) → (xs : List ℕ) → filter p xs ≡ filter q xs
-        filter_same p q same [] = refl
-        filter_same p q same (x ∷ xs) = ap (λ (b : Bool). cond b (x ∷ filter p xs) (filter p xs)) (same x) ∙ ap (λ (l : List ℕ). cond (q x) (x ∷ l) l) (filter_same p q same xs)
+        ∙ filter_agree (λ c. holds_some c service (ids past)) (λ c. holds_some c service (held past)) (λ c. some_is c service past) (present past)
 
     -- ---- the one that holds the id ----
 

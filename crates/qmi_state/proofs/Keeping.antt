@@ -2,7 +2,8 @@
 use Rattle.std.proofs.Common.{◌≡◌, ℕ, Bool, true, false, not, cond, ◌&&◌, ◌||◌, List, [], ◌∷◌, ◌++◌, map, refl, ap, sym, ◌∙◌, subst, Option, Some, None, find, ◌==◌, if◌then◌else◌}
 use Rattle.std.specs.List.{AllByRecursion}
 use Rattle.std.proofs.lemmas.List.{map-append}
-use Rattle.std.proofs.lemmas.Bool.{eqb-true}
+use Rattle.std.proofs.lemmas.Bool.{eqb-true, or_parts}
+use Rattle.std.proofs.lemmas.Simd.{map-map}
 use Rattle.proxy_history.specs.Facts.{Fact, Ended, Why, BadStream, NoRoom, Closed}
 use Rattle.proxy_history.specs.Connections.{present, dropped, contains, without}
 use Rattle.qmi_proxy.specs.Text.{rendering}
@@ -10,7 +11,7 @@ use Rattle.qmi_state.specs.Regular.{Regular}
 use Rattle.qmi_state.specs.Desk.{Desk, desk_of, gives_up}
 use Rattle.qmi_state.specs.Core.{Account, Session, Leftover, account_of, session_of, leftover_of, AreNames, session_in}
 use Rattle.qmi_state.specs.Transitions.{Exchange, update, without_session, drops, lacks_room, gets, tells, tells_to, tells_if}
-use Rattle.qmi_state.proofs.Lists.{map_pointwise, map_map, filter_map_is, map_apart, apart_more, apart_still}
+use Rattle.qmi_state.proofs.Lists.{map_pointwise, filter_map_is, map_apart, apart_more, apart_still}
 use Rattle.qmi_state.proofs.Names.{names_without}
 use Rattle.qmi_state.proofs.Updates.{update_is, without_is, update_each, update_found, without_update}
 use Rattle.qmi_state.proofs.Accounts.{put_to, closed, spoilt, overfull}
@@ -70,7 +71,7 @@ module _ (device : List ℕ) (rests : ℕ → List ℕ) (later earlier : List Fa
 
   sessions_changed : (xs : List ℕ) → map (session_of device rests later) xs ≡ update_each c (on_account change) (map (session_of device rests earlier) xs)
   sessions_changed xs =
-      map_pointwise _ _ named_changed xs ∙ sym (map_map (λ (s : Session). if c == s.name then on_account change s else s) (session_of device rests earlier) xs)
+      map_pointwise _ _ named_changed xs ∙ sym (map-map (λ (s : Session). if c == s.name then on_account change s else s) (session_of device rests earlier) xs)
 
 module _ (device : List ℕ) (greatest : ℕ) (rests : ℕ → List ℕ) where
   abbrev pub IsKept : List Fact → Exchange → Type 0
@@ -208,13 +209,9 @@ module _ (device : List ℕ) (greatest : ℕ) (rests : ℕ → List ℕ) where
 
   pub gotten : (bytes : List ℕ) (t : Session) → lacks_room bytes t.account ≡ false → on_account (put_to bytes) t ≡ gets bytes t
   gotten bytes t room =
-      let was : t.account.is_over ≡ false = left_false t.account.is_over _ room in
+      let was : t.account.is_over ≡ false = (or_parts t.account.is_over _ room).0 in
       ap (λ (b : Bool). let u : Session = record t { account = record { opened = t.account.opened; waiting = if b then t.account.waiting else t.account.waiting ++ bytes; is_over = b } } in u) room
       ∙ ap (λ (b : Bool). let u : Session = record t { account = record { opened = t.account.opened; waiting = t.account.waiting ++ bytes; is_over = b } } in u) (sym was)
-    where
-      left_false : (a b : Bool) → (a || b) ≡ false → a ≡ false
-      left_false true b e = absurd (cc)
-      left_false false b e = refl
 
   module _ (later past : List Fact) (x : Exchange) (c : ℕ) (bytes : List ℕ) (desk : Desk)
       (own : account_of device later c ≡ put_to bytes (account_of device past c))

@@ -5,7 +5,6 @@ pub mod Asks
 pub mod Apart
 pub mod Rows
 pub mod Desks
-pub mod Alls
 pub mod Regulars
 pub mod Filters
 pub mod Ids

@@ -2,16 +2,13 @@
 use Rattle.std.proofs.Common.{◌≡◌, ℕ, ◌<◌, ◌≤◌, Bool, true, false, not, cond, ◌||◌, List, [], ◌∷◌, ◌++◌, map, filter, refl, ap, sym, ◌∙◌, arith, ◌==◌}
 use Rattle.std.specs.List.{AllByRecursion}
 use Rattle.std.proofs.lemmas.Bool.Decides.{nat_tests}
-use Rattle.std.proofs.lemmas.Bool.{eqb-true}
+use Rattle.std.proofs.lemmas.Bool.{eqb-true, true≢false}
 use Rattle.proxy_history.specs.Connections.{contains, without}
+pub use Rattle.proxy_history.proofs.Sound.{contains-without_self as contains_without}
 
 pub map_pointwise : {X Y : Type 0} (f g : X → Y) → ((x : X) → f x ≡ g x) → (xs : List X) → map f xs ≡ map g xs
 map_pointwise f g h [] = refl
 map_pointwise f g h (x ∷ xs) = rw (h x, map_pointwise f g h xs) refl
-
-pub map_map : {X Y Z : Type 0} (f : Y → Z) (g : X → Y) (xs : List X) → map f (map g xs) ≡ map (λ x. f (g x)) xs
-map_map f g [] = refl
-map_map f g (x ∷ xs) = ap (λ t. f (g x) ∷ t) (map_map f g xs)
 
 pub filter_map_is : {X Y : Type 0} (p : Y → Bool) (f : X → Y) (xs : List X) → filter p (map f xs) ≡ map f (filter (λ x. p (f x)) xs)
 filter_map_is p f [] = refl
@@ -36,11 +33,6 @@ without_above c last lt (x ∷ xs) h =
     let ne : (c == x) ≡ false = grind (arith, nat_tests, h.0) in
     rw (ne, without_above c last lt xs h.1) refl
 
-pub known_filter : (P : ℕ → Type 0) (p : ℕ → Bool) (xs : List ℕ) → AllByRecursion P xs → AllByRecursion P (filter p xs)
-known_filter P p [] h = tt
-known_filter P p (x ∷ xs) h =
-    elim (p x) as (λ b. AllByRecursion P (cond b (x ∷ filter p xs) (filter p xs))) [ true ↦ (h.0, known_filter P p xs h.1) | false ↦ known_filter P p xs h.1 ]
-
 pub contains_filter : (d : ℕ) (p : ℕ → Bool) (xs : List ℕ) → contains d xs ≡ false → contains d (filter p xs) ≡ false
 contains_filter d p [] e = refl
 contains_filter d p (x ∷ xs) e =
@@ -53,28 +45,15 @@ contains_filter d p (x ∷ xs) e =
       | false ↦ rest
     ]
 
-pub contains_without : (c : ℕ) (xs : List ℕ) → contains c (without c xs) ≡ false
-contains_without c [] = refl
-contains_without c (x ∷ xs) =
-    let step : (b : Bool) → (c == x) ≡ b → contains c (cond (not b) (x ∷ without c xs) (without c xs)) ≡ false =
-    λ b. elim b as (λ b. (c == x) ≡ b → contains c (cond (not b) (x ∷ without c xs) (without c xs)) ≡ false) [
-      | true ↦ λ e. contains_without c xs
-      | false ↦ λ e. rw (e, contains_without c xs) refl
-    ]
-    in step (c == x) refl
-
 -- none that is apart is one that is there
 pub ne_apart : (c d : ℕ) (ps : List ℕ) → contains c ps ≡ true → contains d ps ≡ false → (c == d) ≡ false
 ne_apart c d ps there out =
     let step : (b : Bool) → (c == d) ≡ b → b ≡ false =
     λ b. elim b as (λ b. (c == d) ≡ b → b ≡ false) [
-      | true ↦ λ e. let same : c ≡ d = eqb-true c d e in absurd (differ (sym there ∙ ap (λ x. contains x ps) same ∙ out))
+      | true ↦ λ e. let same : c ≡ d = eqb-true c d e in absurd (true≢false (sym there ∙ ap (λ x. contains x ps) same ∙ out))
       | false ↦ λ e. refl
     ]
     in step (c == d) refl
-  where
-    differ : true ≡ false → ⊥
-    differ e = cc
 
 pub map_apart : {X : Type 0} (c : ℕ) (ps : List ℕ) (f g : ℕ → X) → ((d : ℕ) → (c == d) ≡ false → f d ≡ g d) → contains c ps ≡ true →
     (xs : List ℕ) → AllByRecursion (λ d. contains d ps ≡ false) xs → map f xs ≡ map g xs

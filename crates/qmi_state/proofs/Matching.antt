@@ -1,7 +1,7 @@
 -- The request that a response answers is the one of its number in its space.
 use Rattle.std.proofs.Common.{◌≡◌, ℕ, zero, Bool, true, false, cond, ◌&&◌, ◌||◌, ◌==◌, List, [], ◌∷◌, map, filter, find, refl, ap, sym, ◌∙◌, subst, ⊎_elim, arith, Contains, AllPairs, Option, Some, None, if◌then◌else◌}
 use Rattle.std.specs.List.{AllByRecursion}
-use Rattle.std.proofs.lemmas.Bool.{eqb-true, eq-eqb}
+use Rattle.std.proofs.lemmas.Bool.{eqb-true, eq-eqb, false_from_ne_true, and_parts}
 use Rattle.std.proofs.lemmas.List.Elements.{recursion_from_All}
 use Rattle.qmux_frame.specs.Head.{service_of, client_of, number_of}
 use Rattle.proxy_history.specs.Facts.{Fact, Request}
@@ -34,10 +34,6 @@ are_different past R = different_from (asks past) (subst (AllPairs Differ) (in_u
 pub all_placed : (past : List Fact) → Regular past → AllByRecursion (λ a. IsPlaced a.request) (asks past)
 all_placed past R = all_map IsPlaced request_in (asks past) (subst (AllByRecursion IsPlaced) (in_use_is past) R.placed)
 
-false_where : (b : Bool) → (b ≡ true → ⊥) → b ≡ false
-false_where true h = absurd (h refl)
-false_where false h = refl
-
 -- ---- whether the sender waits ----
 
 abbrev pub waiting : List Ask → List Request
@@ -46,7 +42,7 @@ waiting list = map request_in (filter waits_in list)
 none_has : (r : Request) (list : List Ask) → AllByRecursion (λ (b : Ask). Differ r b.request) list → has_request r (waiting list) ≡ false
 none_has r [] all = refl
 none_has r (b ∷ list) all =
-    let differs : (r.serial == b.request.serial) ≡ false = false_where (r.serial == b.request.serial) (λ e. all.0.0 (eqb-true r.serial b.request.serial e)) in
+    let differs : (r.serial == b.request.serial) ≡ false = false_from_ne_true (r.serial == b.request.serial) (λ e. all.0.0 (eqb-true r.serial b.request.serial e)) in
     elim b.waits as (λ w. has_request r (map request_in (cond w (b ∷ filter waits_in list) (filter waits_in list))) ≡ false) [
       | true ↦ ap (λ (t : Bool). t || has_request r (waiting list)) differs ∙ none_has r list all.1
       | false ↦ none_has r list all.1
@@ -64,7 +60,7 @@ waits_flag (b ∷ list) a different at =
     ]))
     (λ (later : Contains list a).
     let apart : Differ b.request a.request = by_place list later different.0 in
-    let differs : (a.request.serial == b.request.serial) ≡ false = false_where (a.request.serial == b.request.serial) (λ e. apart.0 (sym (eqb-true a.request.serial b.request.serial e))) in
+    let differs : (a.request.serial == b.request.serial) ≡ false = false_from_ne_true (a.request.serial == b.request.serial) (λ e. apart.0 (sym (eqb-true a.request.serial b.request.serial e))) in
     elim b.waits as (λ w. has_request a.request (map request_in (cond w (b ∷ filter waits_in list) (filter waits_in list))) ≡ a.waits) [
       | true ↦ ap (λ (t : Bool). t || has_request a.request (waiting list)) differs ∙ waits_flag list a different.1 later
       | false ↦ waits_flag list a different.1 later
@@ -105,21 +101,17 @@ pub data Search (m : List ℕ) (list : List Ask) : Type 0 where
 same_space : (q m : List ℕ) → service_of q ≡ service_of m → space_of q ≡ space_of m
 same_space q m same = ap (λ (n : ℕ). if n == 0 then control_space else service_space) same
 
-both_true : (a b : Bool) → (a && b) ≡ true → (a ≡ true) × (b ≡ true)
-both_true true b e = (refl, e)
-both_true false b e = absurd (cc)
-
 -- what is answered is in the space of the message and has its number
 answered_is : (m : List ℕ) (q : Request) → IsPlaced q → is_answered_by m q ≡ true → (q.space ≡ space_of m) × (q.number ≡ number_of m)
 answered_is m q placed e =
-    let parts = both_true (service_of q.message == service_of m && (client_of q.message == client_of m)) (q.number == number_of m) e in
-    let heads = both_true (service_of q.message == service_of m) (client_of q.message == client_of m) parts.0 in
+    let parts = and_parts (service_of q.message == service_of m && (client_of q.message == client_of m)) (q.number == number_of m) e in
+    let heads = and_parts (service_of q.message == service_of m) (client_of q.message == client_of m) parts.0 in
     (placed.0 ∙ same_space q.message m (eqb-true (service_of q.message) (service_of m) heads.0), eqb-true q.number (number_of m) parts.1)
 
 none_answered : (m : List ℕ) (r : Request) (list : List Ask) → r.space ≡ space_of m → r.number ≡ number_of m → AllByRecursion (λ (b : Ask). Differ r b.request) list → AllByRecursion (λ (b : Ask). IsPlaced b.request) list → first_answered_by m (map request_in list) ≡ None
 none_answered m r [] space number all placed = refl
 none_answered m r (b ∷ list) space number all placed =
-    let isnt : is_answered_by m b.request ≡ false = false_where (is_answered_by m b.request) (λ e. let at = answered_is m b.request placed.0 e in all.0.1 (space ∙ sym at.0) (number ∙ sym at.1)) in
+    let isnt : is_answered_by m b.request ≡ false = false_from_ne_true (is_answered_by m b.request) (λ e. let at = answered_is m b.request placed.0 e in all.0.1 (space ∙ sym at.0) (number ∙ sym at.1)) in
     ap (λ (t : Bool). if t then Some b.request else first_answered_by m (map request_in list)) isnt ∙ none_answered m r list space number all.1 placed.1
 
 module _ (m : List ℕ) where
@@ -173,10 +165,10 @@ module _ (m : List ℕ) where
               later_found b list
               (ap (λ (t : Bool). cond t (find (λ (row : Row). number_of m == row.number) (row_of b ∷ rows_of (space_of m) list)) (row_numbered (number_of m) (rows_of (space_of m) list))) i
               ∙ ap (λ (t : Bool). cond t (Some (row_of b)) (row_numbered (number_of m) (rows_of (space_of m) list))) e)
-              (false_where (is_answered_by m b.request) (λ answered. let at = answered_is m b.request placed.0 answered in let is : (number_of m == b.request.number) ≡ true = eq-eqb (number_of m) b.request.number (sym at.1) in absurd (cc))) rest
+              (false_from_ne_true (is_answered_by m b.request) (λ answered. let at = answered_is m b.request placed.0 answered in let is : (number_of m == b.request.number) ≡ true = eq-eqb (number_of m) b.request.number (sym at.1) in absurd (cc))) rest
         ] e
         | false ↦ λ i e.
             later_found b list (ap (λ (t : Bool). cond t (find (λ (row : Row). number_of m == row.number) (row_of b ∷ rows_of (space_of m) list)) (row_numbered (number_of m) (rows_of (space_of m) list))) i)
-            (false_where (is_answered_by m b.request) (λ answered. let at = answered_is m b.request placed.0 answered in let is : (b.request.space == space_of m) ≡ true = eq-eqb b.request.space (space_of m) at.0 in absurd (cc))) rest
+            (false_from_ne_true (is_answered_by m b.request) (λ answered. let at = answered_is m b.request placed.0 answered in let is : (b.request.space == space_of m) ≡ true = eq-eqb b.request.space (space_of m) at.0 in absurd (cc))) rest
       ]
       in step (b.request.space == space_of m) (number_of m == b.request.number) refl refl

@@ -2,16 +2,16 @@
 use Rattle.std.proofs.Common.{◌≡◌, ℕ, ◌<◌, ◌≤◌, Bool, true, false, not, cond, List, [], ◌∷◌, ◌++◌, filter, refl, arith, ◌==◌}
 use Rattle.std.specs.List.{AllByRecursion, IsDistinct}
 use Rattle.std.proofs.lemmas.Bool.Decides.{nat_tests}
+use Rattle.kit_bytes.proofs.Lists.{all_filter}
 use Rattle.proxy_history.specs.Connections.{contains, without}
 use Rattle.qmi_state.specs.Core.{AreNames}
-use Rattle.qmi_state.proofs.Lists.{known_filter}
 
 pub distinct_filter : (p : ℕ → Bool) (xs : List ℕ) → IsDistinct (λ x y. x == y) xs → IsDistinct (λ x y. x == y) (filter p xs)
 unfolding IsDistinct
 distinct_filter p [] h = tt
 distinct_filter p (x ∷ xs) h =
     elim (p x) as (λ b. IsDistinct (λ x y. x == y) (cond b (x ∷ filter p xs) (filter p xs))) [
-      | true ↦ (known_filter (λ y. (x == y) ≡ false) p xs h.0, distinct_filter p xs h.1)
+      | true ↦ (all_filter (λ y. (x == y) ≡ false) p xs h.0, distinct_filter p xs h.1)
       | false ↦ distinct_filter p xs h.1
     ]
 
@@ -34,7 +34,7 @@ known_still c greatest above (x ∷ xs) h = (omega (arith, h.0), known_still c g
 
 pub names_without : (greatest c : ℕ) (xs : List ℕ) → AreNames greatest xs → AreNames greatest (without c xs)
 names_without greatest c xs names = record {
-  known = known_filter (λ x. x ≤ greatest) (λ x. not (c == x)) xs names.known;
+  known = all_filter (λ x. x ≤ greatest) (λ x. not (c == x)) xs names.known;
   distinct = distinct_filter (λ x. not (c == x)) xs names.distinct;
 }
 

@@ -1,5 +1,6 @@
 -- The messages of a piece, and what follows them.
 use Rattle.std.proofs.Common.{◌≡◌, ℕ, ◌+◌, Bool, true, false, not, List, [], ◌∷◌, map, refl, ap, sym, ◌∙◌, subst, Option, Some, None, if◌then◌else◌}
+use Rattle.std.proofs.lemmas.Bool.{true≢false}
 use Rattle.proxy_history.specs.Items.{Item, Says, Garbles}
 use Rattle.proxy_history.specs.Facts.{Fact, Request, Verdict, Own, Foreign, Away, Full, Forward, Ended, Judged, Forwarded, Why, BadStream, NoRoom}
 use Rattle.proxy_history.specs.Connections.{present, contains, message_count}
@@ -93,13 +94,10 @@ module _ (s : Setup) (greatest : ℕ) (rests : ℕ → List ℕ) where
         record {
           keeps = subst (λ (b : Bool). Kept facts (settled_if b c h x)) (sym none) (kept_over s greatest rests c m past x a there K is verdict over);
           there = not_there c NoRoom (Judged c place m verdict ∷ past) ∙ sym none;
-          account = λ e. absurd (clash (sym e ∙ none));
+          account = λ e. absurd (true≢false (sym e ∙ none));
           time = refl;
           away = refl;
         }
-      where
-        clash : true ≡ false → ⊥
-        clash e = cc
     replied_if verdict false room =
         let h : Hearing = reply_hearing s greatest rests c m past x a there K is verdict in
         let facts : List Fact = Judged c place m verdict ∷ past in

@@ -2,8 +2,9 @@
 use Rattle.std.proofs.Common.{◌≡◌, ℕ, ◌+◌, ◌<◌, ◌≤◌, Bool, true, false, not, ◌||◌, ◌==◌, List, [], ◌∷◌, ◌++◌, length, filter, refl, ap, sym, ◌∙◌, subst, arith, if◌then◌else◌, Contains, All}
 use Rattle.std.specs.List.{AllByRecursion}
 use Rattle.std.proofs.lemmas.Bool.Decides.{nat_tests}
-use Rattle.std.proofs.lemmas.Bool.{eqb-true, eq-eqb}
+use Rattle.std.proofs.lemmas.Bool.{eqb-true, eq-eqb, not-true}
 use Rattle.std.proofs.lemmas.List.{length-append}
+use Rattle.kit_bytes.proofs.Lists.{all_weaker, all_passing, all_push}
 use Rattle.proxy_history.specs.Limits.{connection_limit}
 use Rattle.proxy_history.specs.Facts.{Fact, Request, Why, NotAdmitted, BadStream, NoRoom, Closed, EventBegan, Admitted, Ended, Judged, Drained, Forwarded, Answered, IdHeld, Late, Expired, Aborted, Indicated, Stray, Granted, Freed, Reset, ModemLost, ModemReturned, ModemDrained, TimeIs, Verdict}
 use Rattle.proxy_history.specs.Connections.{present, contains, message_count}
@@ -16,7 +17,6 @@ use Rattle.qmi_proxy.specs.Spaces.{limit_of, top_of}
 use Rattle.qmi_proxy.specs.Text.{view_of, blank}
 use Rattle.qmi_proxy.specs.Clients.{wire}
 use Rattle.qmi_state.specs.Regular.{IsPlaced, IsAsked, Regular}
-use Rattle.qmi_state.proofs.Alls.{all_weaker, all_passing, all_push}
 use Rattle.qmi_state.proofs.Lists.{ne_apart}
 
 -- ---- views ----
@@ -204,10 +204,6 @@ regular_judged past c place m verdict there R = record {
 
 -- ---- connections ----
 
-not_false : (b : Bool) → not b ≡ true → b ≡ false
-not_false true e = absurd (cc)
-not_false false e = refl
-
 -- a connection ends that was there
 module _ (past : List Fact) (c : ℕ) (why : Why) (R : Regular past)
     (same : (d : ℕ) → (c == d) ≡ false → SentSame (view_of d (Ended c why ∷ past)) (view_of d past)) where
@@ -217,8 +213,8 @@ module _ (past : List Fact) (c : ℕ) (why : Why) (R : Regular past)
     sound = (follows, R.sound);
     placed = R.placed;
     asked = all_passing (λ (q : Request). not (c == q.conn)) (IsAsked past) (IsAsked (Ended c why ∷ past))
-        (λ q other asked. let differs = not_false (c == q.conn) other in asked_as (Ended c why ∷ past) past q (contains_other c q.conn (present past) differs ∙ asked.0) (same q.conn differs) asked) (pending past) R.asked;
-    counted = all_passing (λ (d : ℕ). not (c == d)) (Counted past) (Counted (Ended c why ∷ past)) (λ d other h. h ∙ sym (same d (not_false (c == d) other)).count) (present past) R.counted;
+        (λ q other asked. let differs = not-true (c == q.conn) other in asked_as (Ended c why ∷ past) past q (contains_other c q.conn (present past) differs ∙ asked.0) (same q.conn differs) asked) (pending past) R.asked;
+    counted = all_passing (λ (d : ℕ). not (c == d)) (Counted past) (Counted (Ended c why ∷ past)) (λ d other h. h ∙ sym (same d (not-true (c == d) other)).count) (present past) R.counted;
     drained = R.drained;
   }
 

@@ -2,7 +2,8 @@
 use Rattle.std.proofs.Common.{◌≡◌, ℕ, ◌≤◌, Bool, true, false, not, cond, ◌||◌, ◌==◌, List, [], ◌∷◌, map, filter, refl, ap, sym, ◌∙◌, subst, arith}
 use Rattle.std.specs.List.{AllByRecursion}
 use Rattle.std.proofs.lemmas.Bool.Decides.{nat_tests}
-use Rattle.std.proofs.lemmas.Bool.{eqb-true}
+use Rattle.std.proofs.lemmas.Bool.{eqb-true, true≢false}
+use Rattle.kit_bytes.proofs.Lists.{all_weaker}
 use Rattle.proxy_history.specs.Facts.{Fact, Request, Why, Ended}
 use Rattle.proxy_history.specs.Connections.{present, contains}
 use Rattle.proxy_history.specs.Requests.{pending, last_number}
@@ -15,7 +16,6 @@ use Rattle.qmi_state.specs.Regular.{IsAsked, Regular}
 use Rattle.qmi_state.specs.Desk.{Desk, Ask, asks, silenced_if, rows_of, desk_of, ids}
 use Rattle.qmi_state.proofs.Asks.{request_in, waits_in, pending_is}
 use Rattle.qmi_state.proofs.Ids.{ids_are_parties}
-use Rattle.qmi_state.proofs.Alls.{all_weaker}
 use Rattle.qmi_state.proofs.Lists.{ne_apart}
 use Rattle.qmi_state.proofs.Matching.{waiting}
 
@@ -42,16 +42,13 @@ module _ (c : ℕ) where
   not_party past d some absent party =
       let step : (b : Bool) → (c == d) ≡ b → b ≡ false =
       λ b. elim b as (λ b. (c == d) ≡ b → b ≡ false) [
-        | true ↦ λ e. absurd (clash (sym (subst (λ (n : ℕ). (n == 0 || contains n (present past)) ≡ true) (sym (eqb-true c d e)) party) ∙ nobody))
+        | true ↦ λ e. absurd (true≢false (sym (subst (λ (n : ℕ). (n == 0 || contains n (present past)) ≡ true) (sym (eqb-true c d e)) party) ∙ nobody))
         | false ↦ λ e. refl
       ]
       in step (c == d) refl
     where
       nobody : (c == 0 || contains c (present past)) ≡ false
       nobody = let positive : (c == 0) ≡ false = grind (arith, nat_tests, some) in ap (λ (b : Bool). b || contains c (present past)) positive ∙ absent
-
-      clash : true ≡ false → ⊥
-      clash e = cc
 
 pub desk_of_stranger : (past : List Fact) (c : ℕ) (why : Why) → 1 ≤ c → contains c (present past) ≡ false → Regular past → desk_of (Ended c why ∷ past) ≡ desk_of past
 unfolding asks last_number ids to_modem modem_drained
