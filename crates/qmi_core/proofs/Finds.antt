@@ -5,6 +5,7 @@ use Rattle.std.specs.List.Sorted.{IsPartitionedBy}
 use Rattle.std.proofs.lemmas.Bool.Decides.{nat_tests}
 use Rattle.std.proofs.lemmas.Bool.{eqb-true}
 use Rattle.std.proofs.lemmas.List.{get_or_default}
+use Rattle.std.proofs.Math.Nat.{eq-or-lt_of_le}
 use Rattle.qmi_state.specs.Desk.{gives_up}
 use Rattle.qmi_state.specs.Core.{Session, session_in}
 use Rattle.qmi_state.specs.Transitions.{Exchange, update, without_session, drops, lacks_room, gets, tells, tells_to, tells_if}
@@ -95,15 +96,12 @@ is_below c s = nat_lt s.name c
 pub partitioned : (c : ℕ) (sessions : List Session) → AreRising sessions → IsPartitionedBy (is_below c) sessions
 partitioned c sessions rising = λ j k d le within before. both j k d le within before
   where
-    below : (j k : ℕ) → j ≤ k → (j ≡ k) ⊎ (j < k)
-    below j k le = grind arith
-
     both : (j k : ℕ) (d : Session) → j ≤ k → k < length sessions → is_below c (get_or sessions k d) ≡ true → is_below c (get_or sessions j d) ≡ true
     both j k d le within before =
         ⊎_elim
         (λ (same : j ≡ k). ap (λ (n : ℕ). is_below c (get_or sessions n d)) same ∙ before)
         (λ (less : j < k). let lower = rising_at sessions j k d rising less within in grind (arith, nat_tests, lower, before))
-        (below j k le)
+        (eq-or-lt_of_le le)
 
 -- what a binary search finds
 pub search_found : (c : ℕ) (sessions : List Session) (place : ℕ) (s : Session) → place < length sessions → StandsAt s sessions place → c ≡ s.name → AllWithin (λ t. is_below c t ≡ true) sessions 0 place → IsFirst c sessions place
@@ -123,13 +121,10 @@ search_end c sessions place all before = none_named c sessions (λ k d lt. let l
 pub search_other : (c : ℕ) (sessions : List Session) (place : ℕ) (s : Session) → AreRising sessions → place < length sessions → StandsAt s sessions place → (c == s.name) ≡ false
     → AllWithin (λ t. is_below c t ≡ true) sessions 0 place → AllWithin (λ t. is_below c t ≡ false) sessions place (length sessions) → session_in c sessions ≡ None
 search_other c sessions place s rising within at other before rest =
-    none_named c sessions (λ k d lt. ⊎_elim (λ (low : k < place). low_one k d low) (λ (high : place ≤ k). ⊎_elim (λ (same : place ≡ k). here_at k d same) (λ (above : place < k). high_one k d above lt) (split place k high)) (sides k))
+    none_named c sessions (λ k d lt. ⊎_elim (λ (low : k < place). low_one k d low) (λ (high : place ≤ k). ⊎_elim (λ (same : place ≡ k). here_at k d same) (λ (above : place < k). high_one k d above lt) (eq-or-lt_of_le high)) (sides k))
   where
     sides : (k : ℕ) → (k < place) ⊎ (place ≤ k)
     sides k = grind arith
-
-    split : (j k : ℕ) → j ≤ k → (j ≡ k) ⊎ (j < k)
-    split j k le = grind arith
 
     here : (d : Session) → get_or sessions place d ≡ s
     here d = get_or_default sessions place d s within ∙ sym at
@@ -145,8 +140,3 @@ search_other c sessions place s rising within at other before rest =
         let not_low : is_below c (get_or sessions place d) ≡ false = rest place d (omega arith) within in
         let less = rising_at sessions place k d rising above lt in
         grind (arith, nat_tests, not_low, less)
-
-pub differs : (m n : ℕ) → (m ≡ n → ⊥) → (m == n) ≡ false
-differs m n h =
-    let step : (b : Bool) → (m == n) ≡ b → b ≡ false = λ b. elim b as (λ b. (m == n) ≡ b → b ≡ false) [ true ↦ λ e. absurd (h (eqb-true m n e)) | false ↦ λ e. refl ]
-    in step (m == n) refl

@@ -1,5 +1,6 @@
 -- A core from its board.
 use Rattle.std.proofs.Common.{◌≡◌, ℕ, max, Bool, true, false, not, List, [], ◌∷◌, ◌++◌, length, nat_lt, refl, ap, sym, ◌∙◌, subst, Option, Some, None, is_some, if◌then◌else◌}
+use Rattle.std.proofs.lemmas.Bool.{not-true, not-false}
 use Rattle.framing.specs.Cutting.{Cutting, cut}
 use Rattle.qmux_frame.specs.Frame.{size_of}
 use Rattle.proxy_history.specs.Events.{Event}
@@ -87,18 +88,10 @@ module _ (setup : Setup) (b : Board) (time : ℕ) (away : Bool) (rest : List ℕ
         ∙ ap (modem_brings piece) was
 
     pub heard_is : (rest_after : List ℕ) → true ≡ not (is_invalid (size_of (cut size_of pushed).rest)) → rest_after ≡ (cut size_of pushed).rest → core_with setup now time away rest_after ≡ modem_brings piece old
-    heard_is rest_after good is = ap (core_with setup now time away) is ∙ hears_is false (by_test (is_invalid (size_of (cut size_of pushed).rest)) good)
-      where
-        by_test : (t : Bool) → true ≡ not t → t ≡ false
-        by_test true e = e
-        by_test false e = refl
+    heard_is rest_after good is = ap (core_with setup now time away) is ∙ hears_is false (not-true (is_invalid (size_of (cut size_of pushed).rest)) (sym good))
 
     pub spoilt_is : (rest_after : List ℕ) (end : Core) → false ≡ not (is_invalid (size_of (cut size_of pushed).rest)) → end ≡ loses (core_with setup now time away rest_after) → end ≡ modem_brings piece old
-    spoilt_is rest_after end bad is = is ∙ hears_is true (by_test (is_invalid (size_of (cut size_of pushed).rest)) bad)
-      where
-        by_test : (t : Bool) → false ≡ not t → t ≡ true
-        by_test true e = refl
-        by_test false e = e
+    spoilt_is rest_after end bad is = is ∙ hears_is true (not-false (is_invalid (size_of (cut size_of pushed).rest)) (sym bad))
 
 -- the next that was dropped
 pub next_is : (setup : Setup) (b now : Board) (time : ℕ) (away : Bool) (rest : List ℕ) (old : Core) → core_with setup b time away rest ≡ old → (result : Option ℕ) → BoardDropped b now result → NextDropped old (core_with setup now time away rest) result

@@ -3,7 +3,7 @@ use Rattle.std.proofs.Common.{◌≡◌, ℕ, zero, suc, ◌+◌, ◌<◌, ◌�
 use Rattle.std.specs.List.{AllByRecursion, remove}
 use Rattle.std.proofs.lemmas.List.{length-set}
 use Rattle.std.proofs.lemmas.Bool.Decides.{nat_tests}
-use Rattle.std.proofs.lemmas.Bool.{eqb-true, eq-eqb}
+use Rattle.std.proofs.lemmas.Bool.{eqb-true, eq-eqb, not-true, not-false}
 use Rattle.qmux_frame.specs.Head.{service_of, is_control, client_of}
 use Rattle.proxy_history.specs.ClientIds.{Grant, holder_in, holds_some}
 use Rattle.holders.specs.Grants.{leaves}
@@ -160,18 +160,10 @@ module _ (audience : Option ℕ) (bytes : List ℕ) (i : ℕ) (old : Board) (s :
   turn_by is = ap (λ (n : ℕ). tells_from audience bytes n old.exchange) next_place ∙ passed_by audience bytes i old.exchange s inside at is
 
   room_from : true ≡ not (lacks_room bytes s.account) → lacks_room bytes s.account ≡ false
-  room_from e = by_test (lacks_room bytes s.account) e
-    where
-      by_test : (b : Bool) → true ≡ not b → b ≡ false
-      by_test true e = e
-      by_test false e = refl
+  room_from e = not-true (lacks_room bytes s.account) (sym e)
 
   over_from : false ≡ not (lacks_room bytes s.account) → lacks_room bytes s.account ≡ true
-  over_from e = by_test (lacks_room bytes s.account) e
-    where
-      by_test : (b : Bool) → false ≡ not b → b ≡ true
-      by_test true e = refl
-      by_test false e = e
+  over_from e = not-false (lacks_room bytes s.account) (sym e)
 
   module _ (rising : AreRising old.exchange.sessions) (is : is_chosen audience old.exchange.desk.held s ≡ true) (new : Board) (made : new ≡ within (tells_at i bytes s) old) where
     pub turn_on : true ≡ not (lacks_room bytes s.account)

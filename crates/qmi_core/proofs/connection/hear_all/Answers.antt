@@ -1,4 +1,5 @@
 use Rattle.std.proofs.Common.{◌≡◌, ℕ, Bool, true, false, not, ◌&&◌, List, [], ap, sym, ◌∙◌}
+use Rattle.std.proofs.lemmas.Bool.{false≢true}
 use Rattle.framing.specs.Cutting.{Cutting, cut}
 use Rattle.framing.proofs.Standing.{part_is}
 use Rattle.framing.proofs.Cuts.{cut-partial, cut-bad}
@@ -33,11 +34,8 @@ returns-then-not-hear c =
       goes_on = ap (λ (b : Bool). b && not (is_invalid (size_of (cut size_of c.args.cutter.now.rest).rest))) (over ∙ ap (λ (h : Hearing). h.has_room) all);
       client = c.hear.ensures.account ∙ ap (λ (h : Hearing). h.account) all;
       desk = c.hear.ensures.desk ∙ ap (λ (h : Hearing). h.desk) all;
-      rest = λ e. absurd (clash e);
+      rest = λ e. absurd (false≢true e);
     }
-  where
-    clash : false ≡ true → ⊥
-    clash e = cc
 
 pub returns-in-NeedMore : goal.returns-in-NeedMore
 returns-in-NeedMore c =
@@ -64,8 +62,5 @@ returns-in-Bad c =
       goes_on = sym (ap (λ (b : Bool). (hears device c.args.terms.now.away c.args.terms.now.deadline c.args.name (cut size_of c.args.cutter.now.rest).messages c.args.client.now c.args.desk.now).has_room && not b) bad ∙ ap (λ (h : Hearing). h.has_room && false) (sym all));
       client = ap (λ (h : Hearing). h.account) all;
       desk = ap (λ (h : Hearing). h.desk) all;
-      rest = λ e. absurd (clash e);
+      rest = λ e. absurd (false≢true e);
     }
-  where
-    clash : false ≡ true → ⊥
-    clash e = cc

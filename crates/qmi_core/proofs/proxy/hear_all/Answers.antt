@@ -1,4 +1,5 @@
 use Rattle.std.proofs.Common.{◌≡◌, ℕ, true, false, not, List, [], ap, sym, ◌∙◌}
+use Rattle.std.proofs.lemmas.Bool.{false≢true}
 use Rattle.framing.specs.Cutting.{Cutting, cut}
 use Rattle.framing.proofs.Standing.{part_is}
 use Rattle.framing.proofs.Cuts.{cut-partial, cut-bad}
@@ -38,8 +39,5 @@ returns-in-Bad c =
     record {
       good = sym (ap not bad);
       heard = modem_heard_none c.loop-span.cutter.rest c.loop-span.board part ∙ c.loop-span.invariant.heard;
-      rest = λ e. absurd (clash e);
+      rest = λ e. absurd (false≢true e);
     }
-  where
-    clash : false ≡ true → ⊥
-    clash e = cc

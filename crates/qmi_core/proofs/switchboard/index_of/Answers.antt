@@ -1,7 +1,8 @@
 use Rattle.std.proofs.Common.{◌≡◌, ◌<◌, ◌==◌, ◌∙◌, sym, length, true, false, arith, rules}
 use Rattle.std.specs.List.Sorted.{IsPartitionPoint}
 use Rattle.std.proofs.lemmas.List.Sorted.{IsPartitionPoint-from_clause}
-use Rattle.qmi_core.proofs.Finds.{is_below, partitioned, search_found, search_end, search_other, differs}
+use Rattle.std.proofs.lemmas.Bool.{ne_eqb}
+use Rattle.qmi_core.proofs.Finds.{is_below, partitioned, search_found, search_end, search_other}
 use Rattle.qmi_core.proofs.switchboard.index_of.Goals as goal
 
 pub returns-then-place-connections-clause-absent : goal.returns-then-place-connections-clause-absent
@@ -24,5 +25,5 @@ returns-else-name-clause-absent c =
     IsPartitionPoint-from_clause (is_below c.args.name) c.args.connections.now c.partition_point-place.result c.partition_point-place.ensures.partitioned (partitioned c.args.name c.args.connections.now c.requires) (λ a r f' k. search rules)
     in
     let within : c.partition_point-place.result < length c.args.connections.now = omega (arith, c.partition_point-place.ensures.bound, c.if-place-connections.false) in
-    let other : (c.args.name == c.index-connections-place.result.name) ≡ false = differs c.args.name c.index-connections-place.result.name (λ e. c.if-name.false (e ∙ sym c.name.ensures)) in
+    let other : (c.args.name == c.index-connections-place.result.name) ≡ false = ne_eqb c.args.name c.index-connections-place.result.name (λ e. c.if-name.false (e ∙ sym c.name.ensures)) in
     λ _. search_other c.args.name c.args.connections.now c.partition_point-place.result c.index-connections-place.result c.requires within c.index-connections-place.is other point.0 point.1
