@@ -1,0 +1,63 @@
+//! Runs worked rows, which are text in the files that its words name, and tells each difference
+//! between what a row says and what is found. `tool.rt`, `story.rt`, `format.rt` and `tables.rt` say what
+//! lines each kind of a row has.
+#![tactic(auto)]
+
+mod asked;
+mod calls;
+mod files;
+mod format;
+mod found;
+mod proxy;
+mod ran;
+mod story;
+mod tables;
+mod tool;
+
+use crate::found::Place;
+use anyhow::{Context, Result, bail};
+use row_text::{Row, Rows, read_rows};
+use std::process::ExitCode;
+use std::{env, fs};
+
+fn main(rt: HostRuntime) -> Result<ExitCode> {
+    let mut differ = false;
+    for file in env::args(&rt)?.skip(1) {
+        differ |= !run_file(&rt, &file)?;
+    }
+    Ok(if differ {
+        ExitCode::FAILURE
+    } else {
+        ExitCode::SUCCESS
+    })
+}
+
+// Whether each row of a file is what is found.
+fn run_file(rt: &HostRuntime, file: &str) -> Result<bool> {
+    let text = fs::read_to_string(rt, file).context(format_args!("{file}"))?;
+    let rows = read_rows(rt.alloc(), file, &text)?;
+    let mut differing = 0u64;
+    for row in rows.as_slice() {
+        if !run_row(rt, file, &rows, row)? {
+            differing = differing.saturating_add(1);
+        }
+    }
+    let count = rows.as_slice().len();
+    println!(rt; "{file}: {count} rows, {differing} differ")?;
+    Ok(differing == 0)
+}
+
+// Whether a row is what is found.
+fn run_row(rt: &HostRuntime, file: &str, rows: &Rows<'_>, row: &Row<'_>) -> Result<bool> {
+    let place = Place {
+        file,
+        number: row.first.number,
+    };
+    match row.first.key {
+        "words" => tool::is_as_told(rt, rt.alloc(), place, rows, row),
+        "story" => story::is_as_told(rt, rt.alloc(), file, rows, row),
+        "format" => format::is_as_told(rt, rt.alloc(), place, rows, row),
+        "tables" => tables::is_as_told(rt, rt.alloc(), file, row),
+        _ => bail!("{place}: no kind of a row"),
+    }
+}

@@ -1,0 +1,54 @@
+use crate::calls::link_script;
+use crate::files::script_of;
+use crate::tool::ToolRow;
+use file_io::MemFiles;
+use hub_io::MemHub;
+use kit_io::MemSink;
+use link_io::MemLink;
+use program::{Status, refuse, run};
+use std::alloc::{AllocError, Global};
+
+/// What a run of the program left behind.
+#[derive(Drop)]
+pub struct Ran {
+    pub status: Status,
+    pub out: MemSink,
+    pub err: MemSink,
+    pub link: MemLink,
+    pub files: MemFiles,
+}
+
+/// Runs the program over an outside that answers as the row tells. What its link gives comes in one
+/// piece a take, or byte by byte.
+pub fn run_row(alloc: Global, row: &ToolRow, whole: bool) -> Result<Ran, AllocError> {
+    let mut link = link_of(alloc, row, whole)?;
+    let mut files = MemFiles::new(alloc, script_of(alloc, &row.files)?, 2_000, 20_000_000)?;
+    let mut hub = MemHub::new(alloc, Vec::new(alloc), Vec::new(alloc), 10, 10_000)?;
+    let mut out = MemSink::new(alloc, Vec::from_slice(alloc, &row.sink)?, 10_000)?;
+    let mut err = MemSink::new(alloc, Vec::new(alloc), 1_000)?;
+    let status = if row.unread {
+        refuse(&mut err)
+    } else {
+        run(
+            alloc, &row.words, &mut out, &mut err, &mut link, &mut hub, &mut files,
+        )
+    };
+    Ok(Ran {
+        status,
+        out,
+        err,
+        link,
+        files,
+    })
+}
+
+// A link with room for all calls that the row tells of, and some more.
+fn link_of(alloc: Global, row: &ToolRow, whole: bool) -> Result<MemLink, AllocError> {
+    let script = link_script(alloc, &row.calls, whole)?;
+    let mut bytes = 10_000usize;
+    for call in &row.calls {
+        bytes = bytes.saturating_add(call.bytes.len());
+    }
+    let room = script.len().saturating_add(1_000);
+    MemLink::new(alloc, script, room, bytes)
+}
