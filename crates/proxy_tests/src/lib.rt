@@ -1,4 +1,4 @@
-//! Tests of a proxy's core, and of the tables that it keeps.
+//! Tests of the tables that a proxy's core keeps.
 #![tactic(auto)]
 
 #[cfg(test)]
@@ -7,5 +7,3 @@ mod grants;
 mod numbers;
 #[cfg(test)]
 mod outboxes;
-#[cfg(test)]
-mod qmi;
