@@ -1,9 +1,9 @@
 use file_io::{
-    FILE_LIMIT, FileAnswer, FileFault, Files, Made, MemFiles, READ_ROOM, Side, StdFiles, read_file,
+    FileAnswer, FileFault, Files, Made, MemFiles, READ_ROOM, Side, StdFiles, read_file,
 };
 use kit_bytes::Octets;
 use kit_io::Failed;
-use std::alloc::{AllocError, Global};
+use std::alloc::Global;
 use std::fs;
 use std::test::Fail;
 
@@ -85,78 +85,9 @@ fn files_in_memory_follow_their_script(rt: HostRuntime) -> Result<(), Fail> {
     Ok(())
 }
 
-/// The script of files of which one opens and gives these pieces, and then answers so.
-fn giving(
-    alloc: Global,
-    pieces: &[&[u8]],
-    last: FileAnswer,
-) -> Result<Vec<FileAnswer>, AllocError> {
-    let mut script = vec![in alloc; FileAnswer::Does]?;
-    for piece in pieces {
-        script.push(FileAnswer::Gives(Vec::from_slice(alloc, piece)?))?;
-    }
-    script.push(last)?;
-    Ok(script)
-}
-
-/// The script of files of which one opens and gives as many bytes as a file may have.
-fn giving_all(alloc: Global, last: FileAnswer) -> Result<Vec<FileAnswer>, AllocError> {
-    let mut script = vec![in alloc; FileAnswer::Does]?;
-    for _ in 0..FILE_LIMIT / READ_ROOM {
-        script.push(FileAnswer::Gives(vec![in alloc; 7; READ_ROOM]?))?;
-    }
-    script.push(last)?;
-    Ok(script)
-}
-
 /// The bytes of a file, or why it isn't read whole.
 fn read<F: Files>(alloc: Global, files: &mut F, path: &str) -> Result<Vec<u8>, FileFault> {
     read_file(alloc, files, path).map(Octets::into_vec)
-}
-
-/// What the reading of a file by this script gives, and how many calls it took.
-fn reading(
-    alloc: Global,
-    script: Vec<FileAnswer>,
-) -> Result<(Result<Vec<u8>, FileFault>, Option<usize>), AllocError> {
-    let mut files = MemFiles::new(alloc, script, 2_000, 20_000_000)?;
-    let bytes = read(alloc, &mut files, "a.json");
-    Ok((bytes, files.log().len()))
-}
-
-#[test]
-fn a_file_is_read_up_to_its_end(rt: HostRuntime) -> Result<(), Fail> {
-    let alloc = rt.alloc();
-    // it is opened, gives two pieces and then none, and is closed
-    let whole = giving(alloc, &[b"mo", b"dem"], FileAnswer::Does)?;
-    let bytes = Vec::from_slice(alloc, b"modem")?;
-    assert_eq!(rt; reading(alloc, whole)?, (Ok(bytes), Some(5)));
-    let refused = vec![in alloc; FileAnswer::Fails]?;
-    assert_eq!(rt;
-        reading(alloc, refused)?,
-        (Err(FileFault::ReadFault), Some(1))
-    );
-    let broken = giving(alloc, &[b"mo"], FileAnswer::Fails)?;
-    assert_eq!(rt;
-        reading(alloc, broken)?,
-        (Err(FileFault::ReadFault), Some(4))
-    );
-    Ok(())
-}
-
-#[test]
-fn a_longer_file_is_refused(rt: HostRuntime) -> Result<(), Fail> {
-    let alloc = rt.alloc();
-    let whole = reading(alloc, giving_all(alloc, FileAnswer::Does)?)?;
-    let length = whole.0.map(|bytes| bytes.len());
-    assert_eq!(rt; (length, whole.1), (Ok(16_777_216), Some(1_027)));
-    // a byte more, at which the reading ends
-    let longer = giving_all(alloc, FileAnswer::Gives(vec![in alloc; 7]?))?;
-    assert_eq!(rt;
-        reading(alloc, longer)?,
-        (Err(FileFault::Long), Some(1_027))
-    );
-    Ok(())
 }
 
 #[test]
