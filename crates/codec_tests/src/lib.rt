@@ -8,8 +8,6 @@ mod cutting;
 #[cfg(test)]
 mod heads;
 #[cfg(test)]
-mod tables;
-#[cfg(test)]
 mod texts;
 #[cfg(test)]
 mod tlvs;
