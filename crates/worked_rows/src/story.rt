@@ -21,7 +21,7 @@ use std::alloc::{AllocError, Global};
 #[derive(Drop)]
 struct Story {
     proxy: Proxy,
-    // Whether bytes come in one piece, and not byte by byte.
+    // Whether bytes come in one piece, and up to 1,024 not byte by byte.
     whole: bool,
     // How often the next event happens.
     times: u32,
@@ -34,7 +34,8 @@ enum Whom {
     Client(u64),
 }
 
-/// Whether a story is what is found, also where all bytes come byte by byte. Tells what differs.
+/// Whether a story is what is found, also where bytes come byte by byte, up to 1,024 at a time. Tells
+/// what differs.
 pub fn is_as_told<R: Print>(
     rt: &R,
     alloc: Global,
@@ -185,7 +186,12 @@ impl Story {
         if bytes.is_empty() {
             return self.proxy.meet(piece_of(whom, bytes));
         }
-        let most = if self.whole { LONGEST_PIECE } else { 1 };
+        // a long message byte by byte would take too long
+        let most = if self.whole || bytes.len() > 1_024 {
+            LONGEST_PIECE
+        } else {
+            1
+        };
         for piece in bytes.chunks(most) {
             self.proxy.meet(piece_of(whom, piece))?;
         }
