@@ -55,7 +55,7 @@ ServesQmi asked result calls =
     ⊎ ((result ≡ status.HubFault) × (calls ≡ opening asked false ∷ []))
     ⊎ ((result ≡ status.OutOfMemory) × (calls ≡ []))
 
--- a proxy of this kind served; there is none for MBIM
+-- a proxy of this kind served; there is none for MBIM, so nothing is opened
 abbrev pub ServesProxy : Kind → Asked → Status → List Call → Type 0
 ServesProxy kind.Qmi asked result calls = ServesQmi asked result calls
-ServesProxy kind.Mbim asked result calls = (result ≡ status.Usage UnknownTool) × (calls ≡ [])
+ServesProxy kind.Mbim asked result calls = ((result ≡ status.Usage UnknownTool) ⊎ (result ≡ status.OutOfMemory)) × (calls ≡ [])

@@ -1,0 +1,15 @@
+use Rattle.std.proofs.Common.{◌≡◌, [], inl, inr, refl}
+use Rattle.kit_bytes.specs.declared.Kind.{Kind}
+use Rattle.kit_bytes.specs.declared.Kind.TheVariants as kind
+use Rattle.hub_io.proofs.Record.{since-starts}
+use Rattle.program.specs.declared.status.Status.TheVariants as status
+use Rattle.program.specs.Serving.{Asked, ServesProxy}
+use Rattle.program.proofs.dispatch.run_command.Goals as goal
+
+no_memory : (kind : Kind) (asked : Asked) → ServesProxy kind asked status.OutOfMemory []
+no_memory kind.Qmi asked = inr (inr (refl, refl))
+no_memory kind.Mbim asked = (inr refl, refl)
+
+-- there was no memory for the settings of a proxy
+pub returns-clause-runs : goal.returns-clause-runs
+returns-clause-runs g c = rw (c.in-Proxy.is) (since-starts (g.H.Hub.calls c.args.hub.now) _ (no_memory c.in-Proxy.kind _))
