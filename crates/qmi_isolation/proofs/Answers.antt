@@ -27,7 +27,7 @@ use Rattle.qmi_proxy.specs.History.{history}
 use Rattle.qmi_state.specs.Regular.{IsPlaced, IsAsked, Regular}
 use Rattle.qmi_state.specs.Core.{Core, Stands, greatest_name, rests_of}
 use Rattle.qmi_state.proofs.Heads.{framed_long, number_last}
-use Rattle.qmi_state.proofs.Apart.{apart_in_use}
+use Rattle.qmi_state.proofs.Answered.{one_is_answered, first_is, found_is}
 use Rattle.qmi_state.proofs.Keeping.{exchange}
 use Rattle.qmi_state.proofs.Modem.{responses_framed, kept_heard_all}
 use Rattle.qmi_state.proofs.Steps.{keeps_read}
@@ -43,52 +43,8 @@ regular_before s events core earlier S =
 
 -- ---- which request is answered ----
 
-eqb_parts : (a b : Bool) → (a && b) ≡ true → (a ≡ true) × (b ≡ true)
-eqb_parts true b e = (refl, e)
-eqb_parts false b e = absurd (cc)
-
--- two requests in use that a message answers are one
-one_is_answered : (past : List Fact) (m : List ℕ) (q r : Request) → Regular past → Contains (in_use past) q → Contains (in_use past) r
-    → is_answered_by m q ≡ true → is_answered_by m r ≡ true → q ≡ r
-one_is_answered past m q r R at_q at_r answers_q answers_r =
-    let parts_q = eqb_parts (service_of q.message == service_of m && (client_of q.message == client_of m)) (q.number == number_of m) answers_q in
-    let parts_r = eqb_parts (service_of r.message == service_of m && (client_of r.message == client_of m)) (r.number == number_of m) answers_r in
-    let service_q : service_of q.message ≡ service_of m = eqb-true _ _ (eqb_parts (service_of q.message == service_of m) (client_of q.message == client_of m) parts_q.0).0 in
-    let service_r : service_of r.message ≡ service_of m = eqb-true _ _ (eqb_parts (service_of r.message == service_of m) (client_of r.message == client_of m) parts_r.0).0 in
-    let placed : (p : Request) → Contains (in_use past) p → p.space ≡ space_of p.message = λ p at. (All-contains IsPlaced (in_use past) p (All-from_recursion IsPlaced (in_use past) R.placed) at).0 in
-    let space_as : (p : Request) → p.space ≡ space_of p.message → service_of p.message ≡ service_of m → p.space ≡ space_of m =
-    λ p here same. here ∙ ap (λ (n : ℕ). if n == 0 then control_space else service_space) same in
-    let space : r.space ≡ q.space = space_as r (placed r at_r) service_r ∙ sym (space_as q (placed q at_q) service_q) in
-    let number : r.number ≡ q.number = eqb-true r.number (number_of m) parts_r.1 ∙ sym (eqb-true q.number (number_of m) parts_q.1) in
-    (apart_in_use past q r R.sound at_q at_r).number (eq-eqb r.space q.space space) (eq-eqb r.number q.number number)
-
--- the first request that is answered is the one that is
-first_is : (m : List ℕ) (list : List Request) (r : Request) → ((q : Request) → Contains list q → is_answered_by m q ≡ true → q ≡ r) → Contains list r → is_answered_by m r ≡ true → first_answered_by m list ≡ Some r
-first_is m [] r one at answers = absurd (Contains-nil r at)
-first_is m (q ∷ list) r one at answers =
-    let step : (b : Bool) → is_answered_by m q ≡ b → (if b then Some q else first_answered_by m list) ≡ Some r =
-    λ b. elim b as (λ b. is_answered_by m q ≡ b → (if b then Some q else first_answered_by m list) ≡ Some r) [
-      | true ↦ λ is. ap (λ (x : Request). Some x) (one q (zero, omega arith, refl) is)
-      | false ↦ λ isnt. first_is m list r (λ p at_p is. one p (Contains-cons p q list at_p) is) (⊎_elim (λ (same : q ≡ r). absurd (not_both isnt (ap (is_answered_by m) same ∙ answers))) (λ (later : Contains list r). later) (Contains-cons_cases r q list at)) answers
-    ]
-    in step (is_answered_by m q) refl
-  where
-    not_both : {b : Bool} → b ≡ false → b ≡ true → ⊥
-    not_both e f = cc
-
--- a request that is found is one of them, and is answered
-found_is : (m : List ℕ) (list : List Request) (r : Request) → first_answered_by m list ≡ Some r → Contains list r × (is_answered_by m r ≡ true)
-found_is m [] r e = absurd (cc)
-found_is m (q ∷ list) r e =
-    let step : (b : Bool) → is_answered_by m q ≡ b → (if b then Some q else first_answered_by m list) ≡ Some r → Contains (q ∷ list) r × (is_answered_by m r ≡ true) =
-    λ b. elim b as (λ b. is_answered_by m q ≡ b → (if b then Some q else first_answered_by m list) ≡ Some r → Contains (q ∷ list) r × (is_answered_by m r ≡ true)) [
-      | true ↦ λ is same. subst (λ (x : Request). Contains (q ∷ list) x × (is_answered_by m x ≡ true)) (some_is same) ((zero, omega arith, refl), is)
-      | false ↦ λ isnt same. let rest = found_is m list r same in (Contains-cons r q list rest.0, rest.1)
-    ]
-    in step (is_answered_by m q) refl e
-  where
-    some_is : {x y : Request} → Some x ≡ Some y → x ≡ y
-    some_is e = cc
+space_in_use : (past : List Fact) → Regular past → (r : Request) → Contains (in_use past) r → r.space ≡ space_of r.message
+space_in_use past R r at = (All-contains IsPlaced (in_use past) r (All-from_recursion IsPlaced (in_use past) R.placed) at).0
 
 contained_has : (list : List Request) (r : Request) → Contains list r → has_request r list ≡ true
 contained_has [] r at = absurd (Contains-nil r at)
@@ -195,7 +151,7 @@ module _ (s : Setup) (events : List Event) (core : Core) (earlier : List (List �
   replied : (r : Request) → Contains (pending past) r → is_answered_by m r ≡ true → hear_modem s.device m past ≡ answer s.device r m (id_change r.conn r.message m (holder_of_brought m past)) past
   replied r at answers =
       let used : Contains (in_use past) r = in_use_from_pending past r at in
-      let found : first_answered_by m (in_use past) ≡ Some r = first_is m (in_use past) r (λ q at_q is. one_is_answered past m q r regular at_q used is answers) used answers in
+      let found : first_answered_by m (in_use past) ≡ Some r = first_is m (in_use past) r (λ q at_q is. one_is_answered past m q r regular.sound (space_in_use past regular) at_q used is answers) used answers in
       let waiting : is_pending r past ≡ true = contained_has (pending past) r at in
       heard ∙ ap (λ (o : Option Request). respond s.device o m past) found ∙ ap (λ (b : Bool). answer_or_late s.device b r m past) waiting
 

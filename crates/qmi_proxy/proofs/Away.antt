@@ -23,7 +23,7 @@ use Rattle.qmi_proxy.specs.FromModem.{IdChange, NoChange, Grants, Collides, Free
 use Rattle.qmi_proxy.specs.History.{add, add_all, items_of, history}
 
 module _ (away : Bool) where
-  abbrev Is : List Fact → Bool
+  abbrev pub Is : List Fact → Bool
   Is past = is_away away past
 
   either_same : (b : Bool) (facts others past : List Fact) → Is facts ≡ Is past → Is others ≡ Is past → Is (if b then facts else others) ≡ Is past
@@ -80,7 +80,7 @@ module _ (away : Bool) where
       either_same (is_sync m) _ _ past (same_tell device m (Reset ∷ abort_all device past) ∙ same_aborts device past)
       (either_same (not (is_control m) && client_of m == 0) _ _ past refl (same_tell device m past))
 
-  same_hear : (heard : Option MessageKind) (device m : List ℕ) (past : List Fact) → Is (hear_as heard device m past) ≡ Is past
+  pub same_hear : (heard : Option MessageKind) (device m : List ℕ) (past : List Fact) → Is (hear_as heard device m past) ≡ Is past
   unfolding is_away
   same_hear (Some kind.Response) device m past = same_respond device (first_answered_by m (in_use past)) m past
   same_hear (Some kind.Indication) device m past = same_indicate device m past

@@ -128,7 +128,7 @@ sound_hear_as None device m past s = (tt, s)
 
 -- ---- every item ----
 
-sound_add : (s : Setup) (item : Item) (past : List Fact) → Sound past → Sound (add s item past)
+pub sound_add : (s : Setup) (item : Item) (past : List Fact) → Sound past → Sound (add s item past)
 sound_add s (Joins c) past sound = sound_join limit_of top_of c past sound
 sound_add s (Says c m) past sound = by_test Sound (is_present c past) (hear_client s c m past) past (λ there. sound_judge s c m (verdict_on s c m past) past sound there) (λ e. sound)
 sound_add s (Garbles c) past sound = by_test Sound (is_present c past) _ past (λ there. (there, sound)) (λ e. sound)

@@ -3,6 +3,7 @@ pub mod Names
 pub mod Updates
 pub mod Asks
 pub mod Apart
+pub mod Answered
 pub mod Rows
 pub mod Desks
 pub mod Regulars

@@ -1,0 +1,165 @@
+-- Each item keeps a history fit.
+use Rattle.std.proofs.Common.{◌≡◌, ℕ, ◌+◌, ◌≤◌, Bool, true, false, not, ◌&&◌, ◌==◌, nat_lt, if◌then◌else◌, List, [], ◌∷◌, length, refl, ap, sym, ◌∙◌, arith, Option, Some, None}
+use Rattle.std.proofs.lemmas.Bool.{eqb-true}
+use Rattle.qmux_frame.specs.declared.kind.MessageKind.{MessageKind}
+use Rattle.qmux_frame.specs.declared.kind.MessageKind.TheVariants as kind
+use Rattle.qmux_frame.specs.Head.{is_control, client_of}
+use Rattle.qmux_frame.specs.Kind.{framed_kind}
+use Rattle.qmux_frame.specs.Control.{is_sync, is_release}
+use Rattle.proxy_history.specs.Limits.{connection_limit}
+use Rattle.proxy_history.specs.Items.{Item, Joins, Says, Garbles, Leaves, ModemSays, ModemFails, ModemReturns, ClockShows, Takes, ModemTakes}
+use Rattle.proxy_history.specs.Facts.{Fact, Request, Verdict, Own, Foreign, Away, Full, Forward, Admitted, Ended, NotAdmitted, Judged, Forwarded, Answered, IdHeld, Indicated, Stray, Granted, Freed, Reset}
+use Rattle.proxy_history.specs.Connections.{present, is_present, message_count}
+use Rattle.proxy_history.specs.Requests.{in_use, is_pending}
+use Rattle.proxy_history.specs.ClientIds.{held, holder, is_other}
+use Rattle.proxy_history.specs.Modem.{is_away, modem_queue}
+use Rattle.proxy_history.proofs.Sound.{forwarded_from_in_use}
+use Rattle.qmi_proxy.specs.Setup.{Setup}
+use Rattle.qmi_proxy.specs.Messages.{is_success, uses_id, used_service, used_client, byte_of, value_of}
+use Rattle.qmi_proxy.specs.OwnReplies.{own_reply}
+use Rattle.qmi_proxy.specs.Text.{note, view_of}
+use Rattle.qmi_proxy.specs.Clients.{number_for, holder_for, wire, has_room, is_number, own_or, verdict_on, request_of, grant_if, forward, judge}
+use Rattle.qmi_proxy.specs.FromModem.{IdChange, NoChange, Grants, Collides, Frees, granted_unless, id_change, brings_id, holder_of_brought, answer, answer_or_late, respond, first_answered_by, abort_all, receivers, tell, hear_as}
+use Rattle.qmi_proxy.specs.History.{add}
+use Rattle.qmi_proxy.proofs.Sound.{sound_add}
+use Rattle.qmi_state.proofs.Answered.{found_is}
+use Rattle.qmi_solo.specs.Part.{part}
+use Rattle.qmi_solo.proofs.Fit.{AreGeneral, ComesFrom, MayBe, IsFit, Fit, older, place_within}
+use Rattle.qmi_solo.proofs.Alone.{forwarded_so}
+use Rattle.qmi_solo.proofs.Actions.{self, fit_ends, aborts-part, loses-part, ticks-part}
+
+module _ (alone : Bool) (c : ℕ) (s : Setup) where
+  abbrev FitFacts : List Fact → Type 0
+  FitFacts past = IsFit alone c past
+
+  either : (b : Bool) (past one other : List Fact) → FitFacts one → FitFacts other → FitFacts (if b then one else other)
+  either true past one other x y = x
+  either false past one other x y = y
+
+  by_test : (b : Bool) (one other : List Fact) → (b ≡ true → FitFacts one) → (b ≡ false → FitFacts other) → FitFacts (if b then one else other)
+  by_test true one other x y = x refl
+  by_test false one other x y = y refl
+
+  -- ---- messages of clients ----
+
+  forwards_unheld : (own : Option ℕ) (other away goes : Bool) → own_or own (if other then Foreign else if away then Away else if not goes then Full else Forward) ≡ Forward → other ≡ false
+  forwards_unheld (Some error) other away goes e = absurd (cc)
+  forwards_unheld None true away goes e = absurd (cc)
+  forwards_unheld None false away goes e = refl
+
+  module _ (d : ℕ) (m : List ℕ) (past : List Fact) (F : Fit alone c past) (from : ComesFrom alone c d) where
+    noted_fits : (place : ℕ) (verdict : Verdict) → FitFacts (note s.device (Judged d place m verdict) past)
+    noted_fits place verdict = fit_ends alone c s.device (d ∷ []) (Judged d place m verdict ∷ past) (tt, F.fits)
+
+    abbrev before : List Fact
+    before = Judged d (message_count d past + 1) m Forward ∷ past
+
+    place_is : message_count d before ≡ message_count d past + 1
+    unfolding message_count
+    place_is = ap (λ (b : Bool). if b then message_count d past + 1 else message_count d past) (self d)
+
+    forwarded_fits : (n : ℕ) → FitFacts (Forwarded (request_of s d m n before) ∷ before)
+    forwarded_fits n = (
+      (
+        from,
+        refl,
+        λ mine.
+            let is : d ≡ c = eqb-true d c mine in (
+              ap (λ (x : ℕ). message_count x before) is,
+              λ q at.
+                  let within = place_within alone c past q F.fits (older c (Judged d (message_count d past + 1) m Forward) past q (λ e. cc) at) in
+                  let same : message_count d past ≡ message_count c past = ap (λ (x : ℕ). message_count x past) is in
+                  omega (arith, within, same, place_is),
+            ),
+      ),
+      (tt, F.fits),
+    )
+
+    granted_fits : (b : Bool) (facts : List Fact) → (b ≡ true → is_other d (holder (used_service m) (used_client m) facts) ≡ false) → FitFacts facts → FitFacts (grant_if b d m facts)
+    granted_fits true facts free fits = ((from, free refl), fits)
+    granted_fits false facts free fits = fits
+
+    forward_fits : (number : Option ℕ) → is_other d (holder_for m past) ≡ false → FitFacts (forward s d m number before)
+    unfolding held
+    forward_fits None free = (tt, F.fits)
+    forward_fits (Some n) free =
+        granted_fits (uses_id m) (Forwarded (request_of s d m n before) ∷ before)
+        (λ e. sym (ap (λ (b : Bool). is_other d (if b then holder (used_service m) (used_client m) past else None)) e) ∙ free) (forwarded_fits n)
+
+    judge_fits : (verdict : Verdict) → (verdict ≡ Forward → is_other d (holder_for m past) ≡ false) → FitFacts (judge s d m (number_for m past) verdict past)
+    judge_fits Own free = noted_fits (message_count d past + 1) Own
+    judge_fits Foreign free = noted_fits (message_count d past + 1) Foreign
+    judge_fits Away free = noted_fits (message_count d past + 1) Away
+    judge_fits Full free = noted_fits (message_count d past + 1) Full
+    judge_fits Forward free = forward_fits (number_for m past) (free refl)
+
+    says_fits : FitFacts (judge s d m (number_for m past) (verdict_on s d m past) past)
+    says_fits = judge_fits (verdict_on s d m past) (λ e. forwards_unheld (own_reply s.device (view_of d past) m) (is_other d (holder_for m past)) (is_away s.starts_away past) (is_number (number_for m past) && has_room (length (modem_queue wire past)) m) e)
+
+  -- ---- messages of the modem ----
+
+  answer_fits : (r : Request) (m : List ℕ) (change : IdChange) (past : List Fact) → FitFacts past → ((service client : ℕ) → change ≡ Grants service client → MayBe alone c (Granted r.conn service client) past) → FitFacts (answer s.device r m change past)
+  answer_fits r m NoChange past fits may = fit_ends alone c s.device (r.conn ∷ []) (Answered r m ∷ past) (tt, fits)
+  answer_fits r m (Grants service client) past fits may = fit_ends alone c s.device (r.conn ∷ []) (Answered r m ∷ Granted r.conn service client ∷ past) (tt, (may service client refl, fits))
+  answer_fits r m Collides past fits may = fit_ends alone c s.device (r.conn ∷ []) (IdHeld r ∷ past) (tt, fits)
+  answer_fits r m (Frees service client) past fits may = fit_ends alone c s.device (r.conn ∷ []) (Answered r m ∷ Freed r.conn service client ∷ past) (tt, (tt, fits))
+
+  granted_free : (collides : Bool) (brought_service brought_client service client : ℕ) → granted_unless collides brought_service brought_client ≡ Grants service client → (collides ≡ false) × (brought_service ≡ service) × (brought_client ≡ client)
+  granted_free true a b service client e = absurd (cc)
+  granted_free false a b service client e = (refl, cc, cc)
+
+  change_free : (d : ℕ) (request m : List ℕ) (past : List Fact) (service client : ℕ) → id_change d request m (holder_of_brought m past) ≡ Grants service client → is_other d (holder service client past) ≡ false
+  change_free d request m past service client =
+      let brought : IdChange = granted_unless (is_other d (holder_of_brought m past)) (byte_of 0 (value_of 0x01 m)) (byte_of 1 (value_of 0x01 m)) in
+      let other : IdChange = if is_release request && is_success m then Frees (used_service request) (used_client request) else NoChange in
+      let step : (b : Bool) → (if b then brought else other) ≡ Grants service client → is_other d (holder service client past) ≡ false =
+      λ b. elim b as (λ b. (if b then brought else other) ≡ Grants service client → is_other d (holder service client past) ≡ false) [
+        | true ↦ λ e.
+            let parts = granted_free (is_other d (holder_of_brought m past)) (byte_of 0 (value_of 0x01 m)) (byte_of 1 (value_of 0x01 m)) service client e in
+            sym (ap (λ (n : ℕ). is_other d (holder n (byte_of 1 (value_of 0x01 m)) past)) parts.1 ∙ ap (λ (n : ℕ). is_other d (holder service n past)) parts.2) ∙ parts.0
+        | false ↦ λ e. absurd (elim (is_release request && is_success m) as (λ t. (if t then Frees (used_service request) (used_client request) else NoChange) ≡ Grants service client → ⊥) [ true ↦ λ e. cc | false ↦ λ e. cc ] e)
+      ]
+      in step (brings_id request m)
+
+  respond_fits : (found : Option Request) (m : List ℕ) (past : List Fact) → FitFacts past → first_answered_by m (in_use past) ≡ found → FitFacts (respond s.device found m past)
+  respond_fits None m past fits is = (tt, fits)
+  respond_fits (Some r) m past fits is =
+      let from : ComesFrom alone c r.conn = (forwarded_so alone c past r fits (forwarded_from_in_use past r (found_is m (in_use past) r is).0)).1.0 in
+      elim (is_pending r past) as (λ b. FitFacts (answer_or_late s.device b r m past)) [
+        | true ↦ answer_fits r m (id_change r.conn r.message m (holder_of_brought m past)) past fits (λ service client e. (from, change_free r.conn r.message m past service client e))
+        | false ↦ (tt, fits)
+      ]
+
+  tell_fits : (m : List ℕ) (past : List Fact) → FitFacts past → FitFacts (tell s.device m past)
+  tell_fits m past fits = fit_ends alone c s.device (receivers s.device m past) (Indicated m (receivers s.device m past) ∷ past) (tt, fits)
+
+  hear_fits : (heard : Option MessageKind) (m : List ℕ) (past : List Fact) → Fit alone c past → FitFacts (hear_as heard s.device m past)
+  hear_fits (Some kind.Response) m past F = respond_fits (first_answered_by m (in_use past)) m past F.fits refl
+  hear_fits (Some kind.Indication) m past F =
+      either (is_sync m) past (tell s.device m (Reset ∷ abort_all s.device past)) _ (tell_fits m (Reset ∷ abort_all s.device past) (tt, (aborts-part s.device c past F).fit.fits))
+      (either (not (is_control m) && client_of m == 0) past (Stray ∷ past) (tell s.device m past) (tt, F.fits) (tell_fits m past F.fits))
+  hear_fits (Some kind.Request) m past F = (tt, F.fits)
+  hear_fits None m past F = (tt, F.fits)
+
+  -- ---- every item ----
+
+  abbrev pub MayMeet : Item → List Fact → Type 0
+  MayMeet (Joins d) past = ComesFrom alone c d × ((d == c) ≡ true → AreGeneral (part c past))
+  MayMeet (Says d m) past = ComesFrom alone c d
+  MayMeet (ModemTakes count) past = count ≤ length (modem_queue wire past)
+  MayMeet _ past = Unit {0}
+
+  add_fits : (item : Item) (past : List Fact) → Fit alone c past → MayMeet item past → FitFacts (add s item past)
+  add_fits (Joins d) past F may = either (nat_lt (length (present past)) connection_limit) past (Admitted d ∷ past) (Ended d NotAdmitted ∷ past) (may, F.fits) (tt, F.fits)
+  add_fits (Says d m) past F may = either (is_present d past) past _ past (says_fits d m past F may) F.fits
+  add_fits (Garbles d) past F may = either (is_present d past) past _ past (tt, F.fits) F.fits
+  add_fits (Leaves d) past F may = either (is_present d past) past _ past (tt, F.fits) F.fits
+  add_fits (ModemSays m) past F may = hear_fits (framed_kind m) m past F
+  add_fits ModemFails past F may = (loses-part s.device c past F).fit.fits
+  add_fits ModemReturns past F may = (tt, F.fits)
+  add_fits (ClockShows time) past F may = (ticks-part s.device c time past F).fit.fits
+  add_fits (Takes d count) past F may = either (is_present d past) past _ past (tt, F.fits) F.fits
+  add_fits (ModemTakes count) past F may = (may, F.fits)
+
+  pub fit_add : (item : Item) (past : List Fact) → Fit alone c past → MayMeet item past → Fit alone c (add s item past)
+  fit_add item past F may = record { sound = sound_add s item past F.sound; fits = add_fits item past F may }

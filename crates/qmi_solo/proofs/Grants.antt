@@ -1,0 +1,138 @@
+-- A client id is held once.
+use Rattle.std.proofs.Common.{◌≡◌, ℕ, Bool, true, false, not, cond, ◌&&◌, ◌||◌, ◌==◌, if◌then◌else◌, List, [], ◌∷◌, ◌++◌, filter, refl, ap, sym, ◌∙◌, arith, Some, None}
+use Rattle.std.specs.List.{AllByRecursion}
+use Rattle.std.proofs.lemmas.Bool.Decides.{nat_tests}
+use Rattle.std.proofs.lemmas.Bool.{eqb-true}
+use Rattle.proxy_history.specs.Facts.{Fact, Ended, Granted, Freed, Reset, ModemLost}
+use Rattle.proxy_history.specs.ClientIds.{Grant, is_of, held, holder_in, is_other, is_holder, holds_some}
+use Rattle.qmi_solo.specs.Part.{held_by}
+use Rattle.qmi_solo.proofs.Lists.{turned, grant_if}
+
+abbrev pub IsApart : Grant → Grant → Type 0
+IsApart g h = is_of g.service g.client h ≡ false
+
+abbrev pub AreUnique : List Grant → Type 0
+AreUnique [] = Unit {0}
+AreUnique (g ∷ grants) = AllByRecursion (IsApart g) grants × AreUnique grants
+
+all_filtered : (P : Grant → Type 0) (p : Grant → Bool) (grants : List Grant) → AllByRecursion P grants → AllByRecursion P (filter p grants)
+all_filtered P p [] all = tt
+all_filtered P p (g ∷ grants) all = elim (p g) as (λ b. AllByRecursion P (cond b (g ∷ filter p grants) (filter p grants))) [ true ↦ (all.0, all_filtered P p grants all.1) | false ↦ all_filtered P p grants all.1 ]
+
+all_pushed : (P : Grant → Type 0) (grants : List Grant) (g : Grant) → AllByRecursion P grants → P g → AllByRecursion P (grants ++ g ∷ [])
+all_pushed P [] g all here = (here, tt)
+all_pushed P (h ∷ grants) g all here = (all.0, all_pushed P grants g all.1 here)
+
+unique_filtered : (p : Grant → Bool) (grants : List Grant) → AreUnique grants → AreUnique (filter p grants)
+unique_filtered p [] unique = tt
+unique_filtered p (g ∷ grants) unique =
+    elim (p g) as (λ b. AreUnique (cond b (g ∷ filter p grants) (filter p grants))) [
+      | true ↦ (all_filtered (IsApart g) p grants unique.0, unique_filtered p grants unique.1)
+      | false ↦ unique_filtered p grants unique.1
+    ]
+
+unique_pushed : (grants : List Grant) (g : Grant) → AreUnique grants → AllByRecursion (λ h. IsApart h g) grants → AreUnique (grants ++ g ∷ [])
+unique_pushed [] g unique apart = (tt, tt)
+unique_pushed (h ∷ grants) g unique apart = (all_pushed (IsApart h) grants g unique.0 apart.0, unique_pushed grants g unique.1 apart.1)
+
+not_true : (b : Bool) → not b ≡ true → b ≡ false
+not_true true e = absurd (cc)
+not_true false e = refl
+
+others_apart : (service client conn : ℕ) (grants : List Grant) → AllByRecursion (λ h. IsApart h (record { conn = conn; service = service; client = client })) (filter (λ g. not (is_of service client g)) grants)
+others_apart service client conn [] = tt
+others_apart service client conn (g ∷ grants) =
+    let rest = others_apart service client conn grants in
+    let step : (b : Bool) → is_of service client g ≡ b → AllByRecursion (λ h. IsApart h (record { conn = conn; service = service; client = client })) (cond (not b) (g ∷ filter (λ g. not (is_of service client g)) grants) (filter (λ g. not (is_of service client g)) grants)) =
+    λ b. elim b as (λ b. is_of service client g ≡ b → AllByRecursion (λ h. IsApart h (record { conn = conn; service = service; client = client })) (cond (not b) (g ∷ filter (λ g. not (is_of service client g)) grants) (filter (λ g. not (is_of service client g)) grants))) [
+      | true ↦ λ e. rest
+      | false ↦ λ e. (ap (λ (t : Bool). t && (client == g.client)) (turned service g.service) ∙ ap (λ (t : Bool). g.service == service && t) (turned client g.client) ∙ e, rest)
+    ]
+    in step (is_of service client g) refl
+
+pub held_once : (facts : List Fact) → AreUnique (held facts)
+unfolding held
+held_once [] = tt
+held_once (Granted c service client ∷ past) =
+    unique_pushed (filter (λ g. not (is_of service client g)) (held past)) (record { conn = c; service = service; client = client })
+    (unique_filtered (λ g. not (is_of service client g)) (held past) (held_once past)) (others_apart service client c (held past))
+held_once (Freed c service client ∷ past) = unique_filtered _ (held past) (held_once past)
+held_once (Ended c why ∷ past) = unique_filtered _ (held past) (held_once past)
+held_once (Reset ∷ past) = tt
+held_once (ModemLost ∷ past) = tt
+held_once (_ ∷ past) = held_once past
+
+-- ---- who holds an id ----
+
+both_true : (a b : Bool) → (a && b) ≡ true → (a ≡ true) × (b ≡ true)
+both_true true b e = (refl, e)
+both_true false b e = absurd (cc)
+
+-- behind the grant of an id there is none of that id
+none_behind : (service client : ℕ) (g : Grant) (grants : List Grant) → is_of service client g ≡ true → AllByRecursion (IsApart g) grants → AllByRecursion (λ h. is_of service client h ≡ false) grants
+none_behind service client g [] is apart = tt
+none_behind service client g (h ∷ grants) is apart =
+    let parts = both_true (g.service == service) (g.client == client) is in
+    let service_is : g.service ≡ service = eqb-true g.service service parts.0 in
+    let client_is : g.client ≡ client = eqb-true g.client client parts.1 in (
+      sym (ap (λ (n : ℕ). is_of n g.client h) service_is ∙ ap (λ (n : ℕ). is_of service n h) client_is) ∙ apart.0,
+      none_behind service client g grants is apart.1,
+    )
+
+none_holds : (c service client : ℕ) (grants : List Grant) → AllByRecursion (λ h. is_of service client h ≡ false) grants → holder_in service client (held_by c grants) ≡ None
+none_holds c service client [] none = refl
+none_holds c service client (h ∷ grants) none =
+    elim (h.conn == c) as (λ b. holder_in service client (grant_if b h (held_by c grants)) ≡ None) [
+      | true ↦ ap (λ (t : Bool). if t then Some h.conn else holder_in service client (held_by c grants)) none.0 ∙ none_holds c service client grants none.1
+      | false ↦ none_holds c service client grants none.1
+    ]
+
+-- whether the client holds an id is told by what it holds
+pub holder_by : (c service client : ℕ) (grants : List Grant) → AreUnique grants → is_holder c (holder_in service client grants) ≡ is_holder c (holder_in service client (held_by c grants))
+holder_by c service client [] unique = refl
+holder_by c service client (g ∷ grants) unique =
+    let Goal : Bool → Bool → Type 0 = λ (of : Bool) (mine : Bool). is_holder c (if of then Some g.conn else holder_in service client grants) ≡ is_holder c (holder_in service client (grant_if mine g (held_by c grants))) in
+    let step : (of mine : Bool) → is_of service client g ≡ of → (g.conn == c) ≡ mine → Goal of mine =
+    λ of mine. elim of as (λ of. is_of service client g ≡ of → (g.conn == c) ≡ mine → Goal of mine) [
+      | true ↦ λ is. elim mine as (λ mine. (g.conn == c) ≡ mine → Goal true mine) [
+        | true ↦ λ e. sym (ap (λ (t : Bool). is_holder c (if t then Some g.conn else holder_in service client (held_by c grants))) is)
+        | false ↦ λ e. e ∙ sym (ap (is_holder c) (none_holds c service client grants (none_behind service client g grants is unique.0)))
+      ]
+      | false ↦ λ is. elim mine as (λ mine. (g.conn == c) ≡ mine → Goal false mine) [
+        | true ↦ λ e. holder_by c service client grants unique.1 ∙ sym (ap (λ (t : Bool). is_holder c (if t then Some g.conn else holder_in service client (held_by c grants))) is)
+        | false ↦ λ e. holder_by c service client grants unique.1
+      ]
+    ]
+    in step (is_of service client g) (g.conn == c) refl refl
+
+pub some_by : (c service : ℕ) (grants : List Grant) → holds_some c service grants ≡ holds_some c service (held_by c grants)
+some_by c service [] = refl
+some_by c service (g ∷ grants) =
+    let rest = some_by c service grants in
+    let step : (b : Bool) → (g.conn == c) ≡ b → ((b && (g.service == service)) || holds_some c service grants) ≡ holds_some c service (grant_if b g (held_by c grants)) =
+    λ b. elim b as (λ b. (g.conn == c) ≡ b → ((b && (g.service == service)) || holds_some c service grants) ≡ holds_some c service (grant_if b g (held_by c grants))) [
+      | true ↦ λ e. ap (λ (t : Bool). g.service == service || t) rest ∙ sym (ap (λ (t : Bool). (t && (g.service == service)) || holds_some c service (held_by c grants)) e)
+      | false ↦ λ e. rest
+    ]
+    in step (g.conn == c) refl
+
+-- where nobody but d holds the id, c doesn't
+pub not_held : (c d service client : ℕ) (grants : List Grant) → AreUnique grants → (d == c) ≡ false → is_other d (holder_in service client grants) ≡ false
+    → AllByRecursion (λ g. (g.conn == c) ≡ true → is_of service client g ≡ false) grants
+not_held c d service client [] unique differs holds = tt
+not_held c d service client (g ∷ grants) unique differs holds =
+    let Goal : Type 0 = AllByRecursion (λ g. (g.conn == c) ≡ true → is_of service client g ≡ false) (g ∷ grants) in
+    let step : (of : Bool) → is_of service client g ≡ of → is_other d (if of then Some g.conn else holder_in service client grants) ≡ false → Goal =
+    λ of. elim of as (λ of. is_of service client g ≡ of → is_other d (if of then Some g.conn else holder_in service client grants) ≡ false → Goal) [
+      | true ↦ λ is theirs. (
+        (λ mine. absurd (let same : (g.conn == d) ≡ true = elim (g.conn == d) as (λ b. not b ≡ false → b ≡ true) [ true ↦ λ e. refl | false ↦ λ e. absurd (cc) ] theirs in
+            let clash : (d == c) ≡ true = grind (arith, nat_tests, same, mine) in let no : true ≡ false = sym clash ∙ differs in cc)),
+        weaken grants (none_behind service client g grants is unique.0),
+      )
+      | false ↦ λ is theirs. ((λ mine. is), not_held c d service client grants unique.1 differs theirs)
+    ]
+    in step (is_of service client g) refl holds
+  where
+    weaken : (hs : List Grant) → AllByRecursion (λ h. is_of service client h ≡ false) hs → AllByRecursion (λ g. (g.conn == c) ≡ true → is_of service client g ≡ false) hs
+    weaken [] all = tt
+    weaken (h ∷ hs) all = ((λ mine. all.0), weaken hs all.1)

@@ -1,0 +1,3 @@
+pub mod Solo
+pub mod Part
+pub mod Law

@@ -1,0 +1,7 @@
+//! What a client of the QMI proxy would get if it were alone with the modem: the law that it gets the
+//! same beside others.
+#![tactic(auto)]
+
+mod laws;
+
+pub use laws::gets_the_same_alone;
