@@ -21,3 +21,4 @@ pub mod Events
 pub mod Undisturbed
 pub mod Coming
 pub mod Law
+pub mod Cores

@@ -1,3 +1,4 @@
 pub mod Solo
 pub mod Part
 pub mod Law
+pub mod Cores

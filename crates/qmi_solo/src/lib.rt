@@ -4,4 +4,4 @@
 
 mod laws;
 
-pub use laws::gets_the_same_alone;
+pub use laws::{cores_queue_the_same, gets_the_same_alone};
