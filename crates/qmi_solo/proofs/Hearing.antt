@@ -27,7 +27,8 @@ use Rattle.qmi_solo.specs.Solo.{number_at, numbered, answer_alone, names_nobody,
 use Rattle.qmi_solo.specs.Part.{as_sent, part, sent_by}
 use Rattle.qmi_solo.proofs.Fit.{IsFit, Fit}
 use Rattle.qmi_solo.proofs.Queries.{in_use-part, is_pending-part}
-use Rattle.qmi_solo.proofs.Actions.{end_known, known_answer, answer-part, late-part, known_told, told-part, tell-part, known_aborts, aborts-part}
+use Rattle.qmi_solo.proofs.Actions.{end_known, known_aborts, aborts-part}
+use Rattle.qmi_solo.proofs.Telling.{known_answer, answer-part, late-part, known_told, told-part, tell-part}
 use Rattle.qmi_solo.proofs.Alone.{held_mine, nobody_else}
 use Rattle.qmi_solo.proofs.Fair.{AreFair, fair_end, fair_each}
 use Rattle.qmi_solo.proofs.EachKind.{by_kind}
@@ -164,7 +165,7 @@ module _ (s : Setup) (c : ℕ) where
     message_too n m long is = let same = renumbered n m long in same.size ∙ is ∙ ap (λ (k : ℕ). Known k) (sym same.long)
 
     response_alike : (m : List ℕ) → IsMessage size_of m → framed_kind m ≡ Some kind.Response → (found : Option Request) → first_answered_by m (in_use past) ≡ found
-        → AreFair (part c (respond s.device found m past)) → part c (hear_modem s.device m past) ≡ part c (respond s.device found m past) → HeardAlike m (answer_alone c found m own)
+        → AreFair (part c (respond s.device found m past)) → part c (hear_modem s.device m past) ≡ part c (respond s.device found m past) → HeardAlike m (answer_alone c found m (in_use own))
     unfolding part
     response_alike m message is_answer None is fair heard = heard
     response_alike m message is_answer (Some r) is fair heard =

@@ -2,7 +2,7 @@
 use Rattle.std.proofs.Common.{◌≡◌, ℕ, ◌≤◌, Bool, true, false, ◌==◌, nat_lt, if◌then◌else◌, List, [], ◌∷◌, ◌++◌, length, map, refl, ap, sym, ◌∙◌, subst, Option, Some, None}
 use Rattle.proxy_history.specs.Limits.{connection_limit}
 use Rattle.proxy_history.specs.Items.{Joins, Says, Garbles, Leaves, Takes, item_if}
-use Rattle.proxy_history.specs.Facts.{Fact, Request, Verdict, Admitted, Ended, NotAdmitted, BadStream, Closed, Drained}
+use Rattle.proxy_history.specs.Facts.{Fact, Verdict, Admitted, Ended, NotAdmitted, BadStream, Closed, Drained}
 use Rattle.proxy_history.specs.Connections.{present, is_present}
 use Rattle.proxy_history.specs.Requests.{in_use}
 use Rattle.proxy_history.specs.Modem.{modem_queue}
@@ -12,7 +12,7 @@ use Rattle.qmux_frame.specs.declared.kind.MessageKind.TheVariants as kind
 use Rattle.qmi_proxy.specs.Clients.{number_for, wire, verdict_on, hear_client, judge}
 use Rattle.qmi_proxy.specs.FromModem.{first_answered_by}
 use Rattle.qmi_proxy.specs.History.{add, add_all}
-use Rattle.qmi_solo.specs.Solo.{answer_alone, heard_alone, numbered, number_at}
+use Rattle.qmi_solo.specs.Solo.{answer_alone, heard_alone}
 use Rattle.qmi_solo.specs.Part.{fact_if, part}
 use Rattle.qmi_solo.proofs.Fit.{ComesFrom, Fit}
 use Rattle.qmi_solo.proofs.Queries.{present-part}
@@ -155,11 +155,7 @@ module _ (s : Setup) (c : ℕ) where
   -- ---- what the modem says ----
 
   pub heard_by : (heard : Option MessageKind) (m : List ℕ) (past one two : List Fact) → in_use one ≡ in_use two → heard_alone heard s c m past one ≡ heard_alone heard s c m past two
-  heard_by (Some kind.Response) m past one two same = answered_by (first_answered_by m (in_use past))
-    where
-      answered_by : (found : Option Request) → answer_alone c found m one ≡ answer_alone c found m two
-      answered_by None = refl
-      answered_by (Some r) = ap (λ (l : List Request). if r.conn == c then numbered (number_at r.place l) m else None) same
+  heard_by (Some kind.Response) m past one two same = ap (answer_alone c (first_answered_by m (in_use past)) m) same
   heard_by (Some kind.Indication) m past one two same = refl
   heard_by (Some kind.Request) m past one two same = refl
   heard_by None m past one two same = refl

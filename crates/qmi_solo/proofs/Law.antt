@@ -27,7 +27,8 @@ use Rattle.qmi_solo.proofs.Fair.{AreFair}
 use Rattle.qmi_solo.proofs.Meeting.{Alike}
 use Rattle.qmi_solo.proofs.Undisturbed.{fair_from_view}
 use Rattle.qmi_solo.proofs.Coming.{meet_sound, items_sound, solo_names, meet_if_sound}
-use Rattle.qmi_solo.proofs.Events.{fit_event, general_event, fair_event, alike_event}
+use Rattle.qmi_solo.proofs.Events.{fit_event, general_event, fair_event}
+use Rattle.qmi_solo.proofs.AlikeEvents.{alike_event}
 
 -- ---- who joined ----
 

@@ -3,6 +3,7 @@ pub mod Grants
 pub mod Fit
 pub mod Queries
 pub mod Actions
+pub mod Telling
 pub mod Alone
 pub mod Fair
 pub mod Saying
@@ -18,6 +19,7 @@ pub mod Items
 pub mod General
 pub mod Modem
 pub mod Events
+pub mod AlikeEvents
 pub mod Undisturbed
 pub mod Coming
 pub mod Law

@@ -67,9 +67,9 @@ numbered None m = None
 numbered (Some number) m = Some (with_number number m)
 
 -- an answer carries the number that the client's request has where it is alone
-abbrev pub answer_alone : ℕ → Option Request → List ℕ → List Fact → Option (List ℕ)
-answer_alone c None m own = None
-answer_alone c (Some r) m own = if r.conn == c then numbered (number_at r.place (in_use own)) m else None
+abbrev pub answer_alone : ℕ → Option Request → List ℕ → List Request → Option (List ℕ)
+answer_alone c None m requests = None
+answer_alone c (Some r) m requests = if r.conn == c then numbered (number_at r.place requests) m else None
 
 -- an indication of another service than 0 that names no client id is for nobody
 abbrev pub names_nobody : List ℕ → Bool
@@ -81,7 +81,7 @@ is_told s c m past = is_sync m || (not (names_nobody m) && contains c (receivers
 
 -- by the kind of the message; a request, and what isn't framed, are for nobody
 abbrev pub heard_alone : Option MessageKind → Setup → ℕ → List ℕ → List Fact → List Fact → Option (List ℕ)
-heard_alone (Some kind.Response) s c m past own = answer_alone c (first_answered_by m (in_use past)) m own
+heard_alone (Some kind.Response) s c m past own = answer_alone c (first_answered_by m (in_use past)) m (in_use own)
 heard_alone (Some kind.Indication) s c m past own = if is_told s c m past then Some m else None
 heard_alone (Some kind.Request) s c m past own = None
 heard_alone None s c m past own = None
