@@ -1,5 +1,5 @@
 -- Who gets the answers and the indications of the modem.
-use Rattle.std.proofs.Common.{◌≡◌, ◌≢◌, ℕ, zero, ◌≤◌, Bool, true, false, not, ◌&&◌, ◌||◌, ◌==◌, if◌then◌else◌, List, [], ◌∷◌, length, filter, refl, ap, sym, ◌∙◌, subst, ⊎_elim, arith, All, Contains, Option, Some, None}
+use Rattle.std.proofs.Common.{◌≡◌, ◌≢◌, ℕ, ◌≤◌, Bool, true, false, not, ◌&&◌, ◌||◌, ◌==◌, if◌then◌else◌, List, [], ◌∷◌, length, filter, refl, ap, sym, ◌∙◌, subst, ⊎_elim, All, Contains, Option, Some, None}
 use Rattle.std.proofs.lemmas.Bool.{eqb-true, eq-eqb}
 use Rattle.std.proofs.lemmas.List.Elements.{All-contains, All-from_recursion}
 use Rattle.qmux_frame.specs.Head.{service_of, is_control, client_of, number_of}
@@ -15,11 +15,11 @@ use Rattle.proxy_history.specs.ClientIds.{held, holder, is_holder, is_other, hol
 use Rattle.proxy_history.specs.View.{Entry, Response, Refused, Indication, HeldId, entry_if, view}
 use Rattle.proxy_history.specs.Rendering.{render, put}
 use Rattle.proxy_history.specs.Noting.{end_overfull, receivers_of}
-use Rattle.proxy_history.proofs.Lists.{Contains-cons, Contains-cons_cases, Contains-nil}
+use Rattle.proxy_history.proofs.Lists.{Contains-cons_cases, Contains-nil}
 use Rattle.proxy_history.proofs.Sound.{in_use_from_pending, forwarded_from_in_use, waits}
 use Rattle.qmi_proxy.specs.Setup.{Setup}
 use Rattle.qmi_proxy.specs.Errors.{client_ids_exhausted}
-use Rattle.qmi_proxy.specs.Spaces.{limit_of, top_of, control_space, service_space, space_of}
+use Rattle.qmi_proxy.specs.Spaces.{limit_of, top_of, space_of}
 use Rattle.qmi_proxy.specs.Messages.{is_success, byte_of, value_of, used_service, used_client}
 use Rattle.qmi_proxy.specs.Text.{note, text, blank, view_of, rendering}
 use Rattle.qmi_proxy.specs.FromModem.{IdChange, NoChange, Frees, id_change, granted_unless, brings_id, holder_of_brought, is_answered_by, first_answered_by, answer, answer_or_late, respond, hear_as, hear_modem, open_ones, receivers, tell}
