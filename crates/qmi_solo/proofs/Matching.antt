@@ -1,6 +1,6 @@
 -- The request that an answer belongs to is found where the client is alone.
 use Rattle.std.proofs.Common.{◌≡◌, ℕ, zero, ◌≤◌, Bool, true, false, ◌&&◌, ◌==◌, if◌then◌else◌, List, [], ◌∷◌, length, refl, ap, sym, ◌∙◌, subst, ⊎_elim, arith, Contains, Some}
-use Rattle.std.proofs.lemmas.Bool.{eqb-true, eq-eqb}
+use Rattle.std.proofs.lemmas.Bool.{eqb-true, eq-eqb, and_parts}
 use Rattle.qmux_frame.specs.Head.{service_of, client_of, number_of}
 use Rattle.qmux_frame.specs.Reply.{with_number}
 use Rattle.proxy_history.specs.Facts.{Fact, Request}
@@ -8,7 +8,7 @@ use Rattle.proxy_history.specs.Requests.{in_use}
 use Rattle.proxy_history.proofs.Lists.{Contains-cons, Contains-cons_cases, Contains-nil}
 use Rattle.proxy_history.proofs.Sound.{forwarded_from_in_use}
 use Rattle.qmi_proxy.specs.FromModem.{is_answered_by, first_answered_by}
-use Rattle.qmi_state.proofs.Answered.{eqb_parts, one_is_answered, first_is}
+use Rattle.qmi_state.proofs.Answered.{one_is_answered, first_is}
 use Rattle.qmi_solo.specs.Solo.{number_at}
 use Rattle.qmi_solo.specs.Part.{as_sent, request_if, sent_by}
 use Rattle.qmi_solo.proofs.Fit.{Fit, same_place}
@@ -86,7 +86,7 @@ pub twin_answered : (c : ℕ) (own : List Fact) (m : List ℕ) (r : Request) →
 twin_answered c own m r long G T answers =
     let later : List ℕ = with_number T.request.number m in
     let alike = renumbered T.request.number m long in
-    let parts = eqb_parts (service_of r.message == service_of m && (client_of r.message == client_of m)) (r.number == number_of m) answers in
+    let parts = and_parts (service_of r.message == service_of m && (client_of r.message == client_of m)) (r.number == number_of m) answers in
     let message : T.request.message ≡ r.message = ap (λ (y : Request). y.message) T.same in
     let head : (service_of T.request.message == service_of later && (client_of T.request.message == client_of later)) ≡ true =
     ap (λ (l : List ℕ). service_of l == service_of later && (client_of l == client_of later)) message

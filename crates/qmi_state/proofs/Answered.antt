@@ -1,6 +1,6 @@
 -- Which request in use a message of the modem answers.
 use Rattle.std.proofs.Common.{◌≡◌, ℕ, zero, Bool, true, false, ◌&&◌, ◌==◌, if◌then◌else◌, List, [], ◌∷◌, refl, ap, sym, ◌∙◌, subst, ⊎_elim, arith, Contains, Some}
-use Rattle.std.proofs.lemmas.Bool.{eqb-true, eq-eqb}
+use Rattle.std.proofs.lemmas.Bool.{eqb-true, eq-eqb, and_parts}
 use Rattle.qmux_frame.specs.Head.{service_of, client_of, number_of}
 use Rattle.proxy_history.specs.Facts.{Fact, Request}
 use Rattle.proxy_history.specs.Requests.{in_use}
@@ -9,18 +9,14 @@ use Rattle.qmi_proxy.specs.Spaces.{control_space, service_space, space_of}
 use Rattle.qmi_proxy.specs.FromModem.{is_answered_by, first_answered_by}
 use Rattle.qmi_state.proofs.Apart.{IsSoundQmi, apart_in_use}
 
-pub eqb_parts : (a b : Bool) → (a && b) ≡ true → (a ≡ true) × (b ≡ true)
-eqb_parts true b e = (refl, e)
-eqb_parts false b e = absurd (cc)
-
 -- two requests in use that a message answers are one, where each stands in the space of its message
 pub one_is_answered : (past : List Fact) (m : List ℕ) (q r : Request) → IsSoundQmi past → ((p : Request) → Contains (in_use past) p → p.space ≡ space_of p.message)
     → Contains (in_use past) q → Contains (in_use past) r → is_answered_by m q ≡ true → is_answered_by m r ≡ true → q ≡ r
 one_is_answered past m q r sound placed at_q at_r answers_q answers_r =
-    let parts_q = eqb_parts (service_of q.message == service_of m && (client_of q.message == client_of m)) (q.number == number_of m) answers_q in
-    let parts_r = eqb_parts (service_of r.message == service_of m && (client_of r.message == client_of m)) (r.number == number_of m) answers_r in
-    let service_q : service_of q.message ≡ service_of m = eqb-true _ _ (eqb_parts (service_of q.message == service_of m) (client_of q.message == client_of m) parts_q.0).0 in
-    let service_r : service_of r.message ≡ service_of m = eqb-true _ _ (eqb_parts (service_of r.message == service_of m) (client_of r.message == client_of m) parts_r.0).0 in
+    let parts_q = and_parts (service_of q.message == service_of m && (client_of q.message == client_of m)) (q.number == number_of m) answers_q in
+    let parts_r = and_parts (service_of r.message == service_of m && (client_of r.message == client_of m)) (r.number == number_of m) answers_r in
+    let service_q : service_of q.message ≡ service_of m = eqb-true _ _ (and_parts (service_of q.message == service_of m) (client_of q.message == client_of m) parts_q.0).0 in
+    let service_r : service_of r.message ≡ service_of m = eqb-true _ _ (and_parts (service_of r.message == service_of m) (client_of r.message == client_of m) parts_r.0).0 in
     let space_as : (p : Request) → p.space ≡ space_of p.message → service_of p.message ≡ service_of m → p.space ≡ space_of m =
     λ p here same. here ∙ ap (λ (n : ℕ). if n == 0 then control_space else service_space) same in
     let space : r.space ≡ q.space = space_as r (placed r at_r) service_r ∙ sym (space_as q (placed q at_q) service_q) in
