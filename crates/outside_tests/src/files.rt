@@ -1,6 +1,4 @@
-use file_io::{
-    FileAnswer, FileFault, Files, Made, MemFiles, READ_ROOM, Side, StdFiles, read_file,
-};
+use file_io::{FileAnswer, FileFault, Files, Made, MemFiles, READ_ROOM, Side, StdFiles, read_file};
 use kit_bytes::Octets;
 use kit_io::Failed;
 use std::alloc::Global;
