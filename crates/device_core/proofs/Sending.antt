@@ -1,6 +1,6 @@
 -- What a session's calls send, step by step.
 use Rattle.std.proofs.Common.{◌≡◌, ◌≢◌, ℕ, ◌+◌, suc, Bool, true, false, ◌==◌, if◌then◌else◌, List, [], ◌∷◌, ◌++◌, take, All, Option, Result, Ok, Err, refl, sym, ◌∙◌, ap, subst, append_assoc}
-use Rattle.std.proofs.lemmas.Bool.{eqb-true}
+use Rattle.std.proofs.lemmas.Bool.{eqb-true, false_from_ne_true}
 use Rattle.std.proofs.lemmas.List.{append-nil}
 use Rattle.std.proofs.lemmas.List.Elements.{All-nil, All-cons, All-append, All-head, All-tail, All-weaker}
 use Rattle.std.specs.List.{flat_map}
@@ -239,12 +239,8 @@ Sends-success requests (Failure error) follows next = Sends-stops requests follo
 
 -- ---- the requests of a plan ----
 
-decided : (n : ℕ) → n ≢ 0 → (t : Bool) → (n == 0) ≡ t → (n == 0) ≡ false
-decided n other true is = absurd (other (eqb-true n 0 is))
-decided n other false is = is
-
 not_zero : (n : ℕ) → n ≢ 0 → (n == 0) ≡ false
-not_zero n other = decided n other (n == 0) refl
+not_zero n other = false_from_ne_true (n == 0) (λ is. other (eqb-true n 0 is))
 
 is_then : {A : Type 0} (x y : A) (b : Bool) → b ≡ true → x ≡ (if b then x else y)
 is_then x y b is = rw is refl

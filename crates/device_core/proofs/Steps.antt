@@ -1,5 +1,6 @@
 -- A session's steps, put together.
 use Rattle.std.proofs.Common.{◌≡◌, inl, inr, ℕ, Bool, true, false, not, List, [], ◌∷◌, ◌++◌, Option, Some, None, Result, Ok, Err, refl, sym, ◌∙◌, ap, subst}
+use Rattle.std.proofs.lemmas.Bool.{not-true, not-false}
 use Rattle.std.proofs.lemmas.List.{append-nil}
 use Rattle.std.specs.Str.{encode_utf8_all}
 use Rattle.kit_io.specs.Told.{Grows}
@@ -163,21 +164,13 @@ RepliesTo-copy {a = a} {b = b} same replies =
 
 -- ---- the answer to Release ----
 
-not_framed : (framed : Bool) → not framed ≡ true → framed ≡ false
-not_framed true is = sym is
-not_framed false is = refl
-
-not_unframed : (framed : Bool) → not framed ≡ false → framed ≡ true
-not_unframed true is = refl
-not_unframed false is = sym is
-
 module _ {head : Head} {bytes message : List ℕ} (head_is : head ≡ head_of bytes) (bytes_are : bytes ≡ message) where
   framed_is : {framed : Bool} → head.framed ≡ framed → is_framed message ≡ framed
   framed_is {framed = framed} is =
       let P : List ℕ → Type 0 = λ (m : List ℕ). is_framed m ≡ framed in subst P bytes_are (sym (ap (λ (h : Head). h.framed) head_is) ∙ is)
 
   pub end-framed : (place : ℕ) (answer : QmiAnswer) → not head.framed ≡ false → end_with answer None ≡ released place message answer
-  end-framed place answer is = rw (framed_is (not_unframed head.framed is)) refl
+  end-framed place answer is = rw (framed_is (not-false head.framed is)) refl
 
   pub end-unframed : (place : ℕ) (answer : QmiAnswer) → not head.framed ≡ true → Err (fault.Broken place) ≡ released place message answer
-  end-unframed place answer is = rw (framed_is (not_framed head.framed is)) refl
+  end-unframed place answer is = rw (framed_is (not-true head.framed is)) refl
