@@ -2,8 +2,9 @@
 use Rattle.std.proofs.Common.{if◌then◌else◌, ◌≡◌, ℕ, zero, suc, ◌+◌, Bool, true, false, ◌||◌, ◌==◌, nat_lt, List, [], ◌∷◌, ◌++◌, length, drop, map, find, slice_get, cond, Option, Some, None, refl, sym, ◌∙◌, ap, arith, is_some}
 use Rattle.std.specs.Option.{option_map}
 use Rattle.std.specs.List.{AllByRecursion, position, position_from}
-use Rattle.std.proofs.lemmas.Bool.{cond-true, cond-false, eqb-true}
+use Rattle.std.proofs.lemmas.Bool.{cond-true, cond-false, eqb-true, or_right}
 use Rattle.std.proofs.lemmas.Bool.Decides.{nat_tests}
+use Rattle.std.proofs.lemmas.Option.{same_Some}
 use Rattle.std.proofs.lemmas.List.{length-map}
 use Rattle.std.proofs.lemmas.Iterator.Adapters.{position_from-zero}
 use Rattle.proxy_history.specs.Events.{Event}
@@ -51,11 +52,7 @@ find-map f is c (d ∷ names) among =
 
 pub contains-middle : (done : List ℕ) (c : ℕ) (later : List ℕ) → contains c (done ++ c ∷ later) ≡ true
 contains-middle [] c later = let same : (c == c) ≡ true = grind (arith, nat_tests) in ap (λ (b : Bool). b || contains c later) same
-contains-middle (d ∷ done) c later = let more = contains-middle done c later in ap (λ (b : Bool). (c == d) || b) more ∙ either_true (c == d)
-  where
-    either_true : (b : Bool) → (b || true) ≡ true
-    either_true true = refl
-    either_true false = refl
+contains-middle (d ∷ done) c later = let more = contains-middle done c later in ap (λ (b : Bool). (c == d) || b) more ∙ or_right (c == d) true refl
 
 pub slice_get-at : (done todo : List ℕ) (c : ℕ) → slice_get (done ++ todo) (length done) ≡ Some c → (later : List ℕ) × (todo ≡ c ∷ later)
 slice_get-at [] [] c is = absurd (cc)
@@ -111,15 +108,12 @@ pub record Skips (f : ℕ → Session) (names : List ℕ) (from at : ℕ) : Type
   pub counted : at ≡ from + length front
   pub empty : AllByRecursion (λ d. (f d).account.waiting ≡ []) front
 
-some_eq : {A : Type 0} (x y : A) → Some x ≡ Some y → x ≡ y
-some_eq x y is = cc
-
 skips_from : (f : ℕ → Session) (names : List ℕ) (from at : ℕ) → position_from has_waiting from (map f names) ≡ Some at → Skips f names from at
 skips_from f [] from at is = absurd (cc)
 skips_from f (d ∷ names) from at is =
     let step : (b : Bool) → has_waiting (f d) ≡ b → cond b (Some from) (position_from has_waiting (from + 1) (map f names)) ≡ Some at → Skips f (d ∷ names) from at =
     λ b. elim b as (λ b. has_waiting (f d) ≡ b → cond b (Some from) (position_from has_waiting (from + 1) (map f names)) ≡ Some at → Skips f (d ∷ names) from at) [
-      | true ↦ λ waits here. record { front = []; conn = d; later = names; whole = refl; counted = sym (some_eq from at here) ∙ omega arith; empty = tt }
+      | true ↦ λ waits here. record { front = []; conn = d; later = names; whole = refl; counted = sym (same_Some from at here) ∙ omega arith; empty = tt }
       | false ↦ λ none further.
           let rest = skips_from f names (from + 1) at further in
           record {
@@ -149,7 +143,7 @@ drop-map f (d ∷ done) todo = drop-map f done todo
 
 mapped_some : (from at : ℕ) (o : Option ℕ) → option_map (λ n. from + n) o ≡ Some at → (n : ℕ) × (o ≡ Some n) × (at ≡ from + n)
 mapped_some from at None is = absurd (cc)
-mapped_some from at (Some n) is = (n, refl, sym (some_eq (from + n) at is))
+mapped_some from at (Some n) is = (n, refl, sym (same_Some (from + n) at is))
 
 mapped_none : (from : ℕ) (o : Option ℕ) → option_map (λ n. from + n) o ≡ None → o ≡ None
 mapped_none from None is = refl
@@ -220,12 +214,8 @@ count_taken c count old new is = ap (λ (core : Core). length core.sessions) is 
 
 pub contains-at : (names : List ℕ) (place c : ℕ) → slice_get names place ≡ Some c → contains c names ≡ true
 contains-at [] place c is = absurd (cc)
-contains-at (d ∷ names) zero c is = let same : c ≡ d = sym (some_eq d c is) in let test : (c == d) ≡ true = grind (arith, nat_tests) in ap (λ (b : Bool). b || contains c names) test
-contains-at (d ∷ names) (suc place) c is = ap (λ (b : Bool). (c == d) || b) (contains-at names place c is) ∙ either_true (c == d)
-  where
-    either_true : (b : Bool) → (b || true) ≡ true
-    either_true true = refl
-    either_true false = refl
+contains-at (d ∷ names) zero c is = let same : c ≡ d = sym (same_Some d c is) in let test : (c == d) ≡ true = grind (arith, nat_tests) in ap (λ (b : Bool). b || contains c names) test
+contains-at (d ∷ names) (suc place) c is = ap (λ (b : Bool). (c == d) || b) (contains-at names place c is) ∙ or_right (c == d) true refl
 
 -- ---- what a taking leaves ----
 

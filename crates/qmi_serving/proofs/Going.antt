@@ -4,6 +4,7 @@ use Rattle.proxy_history.specs.Modem.{modem_queue}
 use Rattle.std.proofs.lemmas.Bool.{false≢true}
 use Rattle.std.proofs.Common.{true, ◌≡◌, ℕ, ◌+◌, false, ◌==◌, List, [], ◌∷◌, ◌++◌, reverse, sym, ◌∙◌, ap, subst, append_assoc, Option, ◌≤◌, length, arith, refl}
 use Rattle.std.proofs.lemmas.List.{reverse-append}
+use Rattle.kit_bytes.proofs.Lists.{all_weaker}
 use Rattle.proxy_history.specs.Events.{Event, Took, Left, ModemTook, ModemGone, ModemBack}
 use Rattle.proxy_history.specs.Connections.{contains, without, dropped, is_present}
 use Rattle.hub_io.specs.Record.{Call, Told, ToldRoom, ToldModemRoom, ToldStop, NextFailed, Sent, SendFailed, HungUp, events, SentModem, SendModemFailed, Reopened, ReopenFailed}
@@ -11,7 +12,7 @@ use Rattle.qmi_proxy.specs.Setup.{Setup}
 use Rattle.qmi_proxy.specs.History.{history, text_for}
 use Rattle.qmi_state.specs.Core.{Core, Stands}
 use Rattle.proxy_serving.specs.Serving.{IsFront, AllIsOffered, AllIsDone, taken_by, is_blocked, hang_ups, due_hang_ups, turns_in, NeverIdle, emptied_at, is_modem_blocked, reopenings, due_reopenings}
-use Rattle.proxy_serving.proofs.Offering.{AreBlocked, differs_from_all, blocked-sent_none, blocked-sent_none_on, blocked_but, blocked_others, all_on, all_joined}
+use Rattle.proxy_serving.proofs.Offering.{AreBlocked, differs_from_all, blocked-sent_none, blocked-sent_none_on, blocked_but, blocked_others, all_joined}
 use Rattle.proxy_serving.specs.Ends.{Serves, GoesOn}
 use Rattle.qmi_serving.specs.Serving.{proxy_of}
 use Rattle.qmi_serving.specs.Progress.{IsServing, names_left, MayBeTold}
@@ -70,7 +71,7 @@ module _ {s : Setup} {turns : ℕ} {server : Server} {calls : List Call} (going 
     no_end = (tt, going.no_end);
     counted = going.counted;
     blocked = subst (AreBlocked (Sent c bytes 0 ∷ calls)) (sym blocked)
-        (all_joined _ server.blocked (c ∷ []) (all_on (λ d is. blocked-sent_none_on c d bytes calls is) server.blocked going.blocked) (blocked-sent_none c bytes calls, tt));
+        (all_joined _ server.blocked (c ∷ []) (all_weaker _ _ (λ d is. blocked-sent_none_on c d bytes calls is) server.blocked going.blocked) (blocked-sent_none c bytes calls, tt));
     modem_blocked = λ is. going.modem_blocked (sym modem ∙ is);
     emptied = emptied ∙ going.emptied ∙ ap (emptied_at (proxy_of s)) (sym (events-sent_none c bytes calls));
   }

@@ -1,6 +1,7 @@
 -- The modem is offered what waits for it, and opened again. Lists of calls and of events have the newest first.
 use Rattle.std.proofs.Common.{◌≡◌, inl, inr, ℕ, ◌==◌, true, false, List, [], ◌∷◌, refl, sym, ◌∙◌, subst, arith, Option}
 use Rattle.std.specs.List.{AllByRecursion}
+use Rattle.kit_bytes.proofs.Lists.{all_weaker}
 use Rattle.proxy_history.specs.Events.{Event, ModemTook, ModemGone, ModemBack}
 use Rattle.proxy_history.specs.Connections.{present}
 use Rattle.proxy_history.specs.Modem.{modem_queue}
@@ -9,7 +10,6 @@ use Rattle.qmi_proxy.specs.Setup.{Setup}
 use Rattle.qmi_proxy.specs.Clients.{wire}
 use Rattle.qmi_proxy.specs.History.{history}
 use Rattle.proxy_serving.specs.Serving.{IsFront, IsOffered, is_modem_blocked, reopenings, due_reopenings}
-use Rattle.proxy_serving.proofs.Offering.{all_on}
 use Rattle.qmi_state.specs.Core.{StandsAfter}
 use Rattle.qmi_serving.specs.Serving.{proxy_of, emptied_after}
 use Rattle.qmi_serving.specs.Progress.{HasOffered, OffersClients, IsReady, MayReopen, names_left}
@@ -41,7 +41,7 @@ module _ {s : Setup} {limit : Option ℕ} {turns : ℕ} {server : Server} {calls
     awake = all.awake;
     in_time = all.in_time;
     offered = record {
-      clients = all_on (λ d is. offered-sent_modem_none s d bytes calls is) (present (history s (events calls))) all.clients;
+      clients = all_weaker _ _ (λ d is. offered-sent_modem_none s d bytes calls is) (present (history s (events calls))) all.clients;
       modem = inr (inr refl);
     };
   }
@@ -60,7 +60,7 @@ module _ {s : Setup} {limit : Option ℕ} {turns : ℕ} {server : Server} {calls
         in_time = all.in_time;
         clients = subst Present (sym (events-sent_modem bytes taken calls some))
             (subst (AllByRecursion (IsOffered (proxy_of s) (SentModem bytes taken ∷ calls))) (sym (present-modem_took s 0 (events calls) taken))
-            (all_on (λ d is. offered-sent_modem s d bytes taken calls some is) (present (history s (events calls))) all.clients));
+            (all_weaker _ _ (λ d is. offered-sent_modem s d bytes taken calls some is) (present (history s (events calls))) all.clients));
       }
 
   pub modem-failed : (bytes : List ℕ) (now : Server) → IsFront bytes server.core.desk.waiting → names_left server.core ≡ [] → server.modem_blocked ≡ false

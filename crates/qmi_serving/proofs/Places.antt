@@ -4,13 +4,14 @@ use Rattle.std.proofs.Common.{◌≡◌, inl, inr, ℕ, zero, suc, ◌+◌, ◌<
 use Rattle.std.proofs.lemmas.List.{append-nil}
 use Rattle.std.specs.List.{AllByRecursion, IsDistinct}
 use Rattle.std.proofs.lemmas.Bool.Decides.{nat_tests}
+use Rattle.kit_bytes.proofs.Lists.{all_weaker}
 use Rattle.proxy_history.specs.Events.{Event, Took, Left}
 use Rattle.proxy_history.specs.Connections.{contains, without, present}
 use Rattle.hub_io.specs.Record.{Call, Sent, SendFailed, HungUp, events}
 use Rattle.qmi_proxy.specs.Setup.{Setup}
 use Rattle.qmi_proxy.specs.History.{history, text_for}
 use Rattle.proxy_serving.specs.Serving.{IsFront, IsOffered, is_blocked, NeverIdle, reopenings, due_reopenings}
-use Rattle.proxy_serving.proofs.Offering.{AreBlocked, is_among, both_on, all_joined, all_on, blocked-sent_none}
+use Rattle.proxy_serving.proofs.Offering.{AreBlocked, is_among, both_on, all_joined, blocked-sent_none}
 use Rattle.qmi_state.specs.Core.{StandsAfter, queue_of, names_of}
 use Rattle.proxy_serving.specs.Ends.{EndsUnnoted}
 use Rattle.qmi_serving.specs.Serving.{proxy_of, emptied_after}
@@ -129,7 +130,7 @@ module _ {s : Setup} {limit : Option ℕ} {turns count c : ℕ} {server : Server
 -- ---- from place to place ----
 
 nothing_waits : (s : Setup) (calls : List Call) (names : List ℕ) → AllByRecursion (λ d. (text_for s d (events calls)).waiting ≡ []) names → AllByRecursion (IsOffered (proxy_of s) calls) names
-nothing_waits s calls names all = all_on (λ d none. inl none) names all
+nothing_waits s calls names all = all_weaker _ _ (λ d none. inl none) names all
 
 module _ {s : Setup} {limit : Option ℕ} {turns count : ℕ} {server : Server} {calls : List Call} (so : HasOffered s limit turns count server calls) where
   -- those for which nothing waits are skipped

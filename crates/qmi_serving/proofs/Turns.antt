@@ -1,5 +1,6 @@
 -- What a turn comes to. Lists of calls and of events have the newest first.
 use Rattle.std.proofs.lemmas.Bool.{false≢true}
+use Rattle.std.proofs.lemmas.Option.{same_Some}
 use Rattle.qmi_proxy.specs.Clients.{wire}
 use Rattle.proxy_history.specs.Modem.{modem_queue, to_modem, modem_drained}
 use Rattle.std.proofs.Common.{◌≡◌, inl, inr, ℕ, ◌+◌, ◌≤◌, Bool, true, false, if◌then◌else◌, List, [], ◌∷◌, ◌++◌, map, reverse, refl, sym, ◌∙◌, ap, subst, arith, Option, Some, None, Ok}
@@ -99,14 +100,11 @@ record EndsThere (event : Event) (limit : Option ℕ) (core : Core) (emptied : �
   empty : why ≡ end.Empty
   idle : is_idle_at limit core emptied ≡ true
 
-same_some : {A : Type 0} (x y : A) → Some x ≡ Some y → x ≡ y
-same_some x y is = cc
-
 ends_there : (event : Event) (limit : Option ℕ) (core : Core) (emptied : ℕ) (why : ServeEnd) → end_at event limit core emptied ≡ Some why → EndsThere event limit core emptied why
 ends_there (Now time) limit core emptied why is =
     let step : (b : Bool) → is_idle_at limit core emptied ≡ b → (if b then Some end.Empty else None) ≡ Some why → EndsThere (Now time) limit core emptied why =
     λ b. elim b as (λ b. is_idle_at limit core emptied ≡ b → (if b then Some end.Empty else None) ≡ Some why → EndsThere (Now time) limit core emptied why) [
-      | true ↦ λ idle so. record { time = time; clock = refl; empty = sym (same_some end.Empty why so); idle = idle }
+      | true ↦ λ idle so. record { time = time; clock = refl; empty = sym (same_Some end.Empty why so); idle = idle }
       | false ↦ λ idle so. absurd (cc)
     ]
     in step (is_idle_at limit core emptied) refl is
