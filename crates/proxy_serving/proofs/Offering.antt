@@ -1,7 +1,7 @@
 -- Who is blocked, and what was offered, as the record grows. Lists of calls and of events have the newest first.
 use Rattle.std.proofs.Common.{◌≡◌, inl, inr, ℕ, zero, suc, Bool, true, false, ◌||◌, ◌==◌, List, [], ◌∷◌, ◌++◌, refl, sym, ◌∙◌, ap, subst, arith}
 use Rattle.std.proofs.lemmas.Bool.Decides.{nat_tests}
-use Rattle.std.proofs.lemmas.Bool.{cond-true, cond-false, eqb-true}
+use Rattle.std.proofs.lemmas.Bool.{cond-true, cond-false, eqb-true, or_parts}
 use Rattle.std.specs.List.{AllByRecursion, list_any}
 use Rattle.proxy_history.specs.Connections.{contains, without}
 use Rattle.hub_io.specs.Record.{Call, ToldRoom, Sent, events}
@@ -13,10 +13,6 @@ pub contains-any : (c : ℕ) (names : List ℕ) → list_any (λ d. c == d) name
 contains-any c [] = refl
 contains-any c (d ∷ names) = ap (λ (b : Bool). (c == d) || b) (contains-any c names)
 
-pub all_on : {P Q : ℕ → Type 0} → ((c : ℕ) → P c → Q c) → (names : List ℕ) → AllByRecursion P names → AllByRecursion Q names
-all_on follows [] all = tt
-all_on follows (c ∷ names) all = (follows c all.0, all_on follows names all.1)
-
 pub both_on : {P Q R : ℕ → Type 0} (names : List ℕ) → ((d : ℕ) → P d → Q d → R d) → AllByRecursion P names → AllByRecursion Q names → AllByRecursion R names
 both_on [] follows ps qs = tt
 both_on (d ∷ names) follows ps qs = (follows d ps.0 qs.0, both_on names follows ps.1 qs.1)
@@ -25,14 +21,10 @@ pub all_joined : (P : ℕ → Type 0) (names others : List ℕ) → AllByRecursi
 all_joined P [] others all more = more
 all_joined P (d ∷ names) others all more = (all.0, all_joined P names others all.1 more)
 
-either_false : (a b : Bool) → (a || b) ≡ false → (a ≡ false) × (b ≡ false)
-either_false true b is = absurd (cc)
-either_false false b is = (refl, is)
-
 -- who isn't among these has another name than each
 pub differs_from_all : (c : ℕ) (names : List ℕ) → contains c names ≡ false → AllByRecursion (λ d. (c == d) ≡ false) names
 differs_from_all c [] is = tt
-differs_from_all c (d ∷ names) is = let parts = either_false (c == d) (contains c names) is in (parts.0, differs_from_all c names parts.1)
+differs_from_all c (d ∷ names) is = let parts = or_parts (c == d) (contains c names) is in (parts.0, differs_from_all c names parts.1)
 
 pub is_among : (P : ℕ → Type 0) (c : ℕ) (names : List ℕ) → AllByRecursion P names → contains c names ≡ true → P c
 is_among P c [] all is = absurd (cc)
