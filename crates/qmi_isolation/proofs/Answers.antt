@@ -1,6 +1,6 @@
 -- Who gets the answers and the indications of the modem.
 use Rattle.std.proofs.Common.{◌≡◌, ◌≢◌, ℕ, ◌≤◌, Bool, true, false, not, ◌&&◌, ◌||◌, ◌==◌, if◌then◌else◌, List, [], ◌∷◌, length, filter, refl, ap, sym, ◌∙◌, subst, ⊎_elim, All, Contains, Option, Some, None}
-use Rattle.std.proofs.lemmas.Bool.{eqb-true, eq-eqb}
+use Rattle.std.proofs.lemmas.Bool.{eqb-true, eq-eqb, or_right, false_from_ne_true}
 use Rattle.std.proofs.lemmas.List.Elements.{All-contains, All-from_recursion}
 use Rattle.qmux_frame.specs.Head.{service_of, is_control, client_of, number_of}
 use Rattle.qmux_frame.specs.declared.kind.MessageKind.TheVariants as kind
@@ -51,12 +51,8 @@ contained_has [] r at = absurd (Contains-nil r at)
 contained_has (q ∷ list) r at =
     ⊎_elim
     (λ (same : q ≡ r). ap (λ (b : Bool). b || has_request r list) (eq-eqb r.serial q.serial (ap (λ (x : Request). x.serial) (sym same))))
-    (λ (later : Contains list r). ap (λ (b : Bool). (r.serial == q.serial) || b) (contained_has list r later) ∙ or_true (r.serial == q.serial))
+    (λ (later : Contains list r). ap (λ (b : Bool). (r.serial == q.serial) || b) (contained_has list r later) ∙ or_right (r.serial == q.serial) true refl)
     (Contains-cons_cases r q list at)
-  where
-    or_true : (b : Bool) → (b || true) ≡ true
-    or_true true = refl
-    or_true false = refl
 
 -- ---- what comes of an answer ----
 
@@ -86,11 +82,7 @@ module _ (device : List ℕ) where
         × (has_request r (in_use after) ≡ false)
 
     other_is : (c : ℕ) → c ≢ r.conn → (r.conn == c) ≡ false
-    other_is c differs = false_where (r.conn == c) (λ e. differs (sym (eqb-true r.conn c e)))
-      where
-        false_where : (b : Bool) → (b ≡ true → ⊥) → b ≡ false
-        false_where true h = absurd (h refl)
-        false_where false h = refl
+    other_is c differs = false_from_ne_true (r.conn == c) (λ e. differs (sym (eqb-true r.conn c e)))
 
     answered : (before : List Fact) → ((c : ℕ) → view_of c before ≡ view_of c past) → Delivers (with_number (number_of r.message) m) (note device (Answered r m) before)
     unfolding view in_use render

@@ -1,7 +1,7 @@
 -- A request is forwarded under a number that none has in use.
 use Rattle.std.proofs.Common.{◌≡◌, zero, Bool, true, false, cond, ◌||◌, ◌==◌, List, [], ◌∷◌, ◌++◌, refl, ap, sym, ◌∙◌, subst, arith, AllPairs}
 use Rattle.std.specs.List.{AllByRecursion}
-use Rattle.std.proofs.lemmas.Bool.{eqb-true}
+use Rattle.std.proofs.lemmas.Bool.{eqb-true, false_from_ne_true}
 use Rattle.std.proofs.lemmas.List.Elements.{All-contains, Contains-append_right}
 use Rattle.proxy_history.specs.Events.{Event}
 use Rattle.proxy_history.specs.Facts.{Fact, Request, Forwarded}
@@ -26,15 +26,11 @@ free_of (q ∷ requests) r all =
     let step : (b : Bool) → (q.space == r.space) ≡ b → contains r.number (numbers_of (cond b (q ∷ of_space r.space requests) (of_space r.space requests))) ≡ false =
     λ b. elim b as (λ b. (q.space == r.space) ≡ b → contains r.number (numbers_of (cond b (q ∷ of_space r.space requests) (of_space r.space requests))) ≡ false) [
       | true ↦ λ same.
-          ap (λ (t : Bool). t || contains r.number (numbers_of (of_space r.space requests))) (other (r.number == q.number) refl (all.0.1 (eqb-true q.space r.space same)))
+          ap (λ (t : Bool). t || contains r.number (numbers_of (of_space r.space requests))) (false_from_ne_true (r.number == q.number) (λ is. all.0.1 (eqb-true q.space r.space same) (sym (eqb-true r.number q.number is))))
           ∙ free_of requests r all.1
       | false ↦ λ differs. free_of requests r all.1
     ]
     in step (q.space == r.space) refl
-  where
-    other : (b : Bool) → (r.number == q.number) ≡ b → (q.number ≡ r.number → ⊥) → (r.number == q.number) ≡ false
-    other true is h = absurd (h (sym (eqb-true r.number q.number is)))
-    other false is h = is
 
 sound_behind : (later past : List Fact) → IsSound limit_of top_of (later ++ past) → IsSound limit_of top_of past
 sound_behind [] past sound = sound

@@ -1,6 +1,7 @@
 -- What another client does leaves a client's view as it is.
 use Rattle.std.proofs.Common.{◌≡◌, ℕ, ◌+◌, Bool, true, false, not, ◌==◌, nat_lt, if◌then◌else◌, List, [], ◌∷◌, ◌++◌, length, map, refl, ap, ◌∙◌, Option, Some, None}
 use Rattle.std.specs.List.{AllByRecursion}
+use Rattle.std.proofs.lemmas.Bool.{not-true}
 use Rattle.qmux_frame.specs.Frame.{size_of}
 use Rattle.proxy_history.specs.Limits.{connection_limit}
 use Rattle.proxy_history.specs.Events.{Event, Joined, Piece, Left, Took}
@@ -26,10 +27,6 @@ is_anothers_item c (Garbles d) = not (d == c)
 is_anothers_item c (Leaves d) = not (d == c)
 is_anothers_item c (Takes d count) = not (d == c)
 is_anothers_item c _ = false
-
-false_of_not : (b : Bool) → not b ≡ true → b ≡ false
-false_of_not true e = absurd (cc)
-false_of_not false e = refl
 
 module _ (s : Setup) (client : ℕ) where
   abbrev Same : List Fact → List Fact → Type 0
@@ -64,15 +61,15 @@ module _ (s : Setup) (client : ℕ) where
   add_same : (item : Item) (past : List Fact) → is_anothers_item client item ≡ true → Same past (add s item past)
   unfolding view
   add_same (Joins d) past other =
-      let o = false_of_not (d == client) other in
+      let o = not-true (d == client) other in
       either (nat_lt (length (present past)) connection_limit) past (Admitted d ∷ past) (Ended d NotAdmitted ∷ past)
       (ap (λ (b : Bool). let v : List Entry = if b then [] else view_of client past in v) o)
       (ap (λ (b : Bool). let v : List Entry = if b then End NotAdmitted ∷ [] else view_of client past in v) o)
-  add_same (Says d m) past other = either (is_present d past) past _ past (judge_same d m (number_for m past) (verdict_on s d m past) past (false_of_not (d == client) other)) refl
-  add_same (Garbles d) past other = either (is_present d past) past _ past (ended_same d past (false_of_not (d == client) other)).0 refl
-  add_same (Leaves d) past other = either (is_present d past) past _ past (ended_same d past (false_of_not (d == client) other)).1 refl
+  add_same (Says d m) past other = either (is_present d past) past _ past (judge_same d m (number_for m past) (verdict_on s d m past) past (not-true (d == client) other)) refl
+  add_same (Garbles d) past other = either (is_present d past) past _ past (ended_same d past (not-true (d == client) other)).0 refl
+  add_same (Leaves d) past other = either (is_present d past) past _ past (ended_same d past (not-true (d == client) other)).1 refl
   add_same (Takes d count) past other =
-      either (is_present d past) past (Drained d count ∷ past) past (ap (λ (b : Bool). entry_if b (Collected count) (view_of client past)) (false_of_not (d == client) other)) refl
+      either (is_present d past) past (Drained d count ∷ past) past (ap (λ (b : Bool). entry_if b (Collected count) (view_of client past)) (not-true (d == client) other)) refl
   add_same _ past other = absurd (cc)
 
   abbrev AreAnothers : List Item → Type 0

@@ -1,8 +1,9 @@
 -- Who waits for nothing is refused nothing.
-use Rattle.std.proofs.Common.{◌≡◌, ◌≢◌, ℕ, max, Bool, true, false, ◌==◌, nat_le, if◌then◌else◌, List, [], ◌∷◌, ◌++◌, filter, cond, refl, ap, ◌∙◌}
+use Rattle.std.proofs.Common.{◌≡◌, ◌≢◌, ℕ, max, Bool, true, false, ◌==◌, nat_le, if◌then◌else◌, List, [], ◌∷◌, ◌++◌, refl, ap, ◌∙◌}
 use Rattle.std.specs.List.{AllByRecursion}
-use Rattle.std.proofs.lemmas.Bool.{eqb-true}
+use Rattle.std.proofs.lemmas.Bool.{eqb-true, false_from_ne_true}
 use Rattle.std.proofs.lemmas.List.Elements.{recursion_from_All}
+use Rattle.kit_bytes.proofs.Lists.{all_filter}
 use Rattle.proxy_history.specs.Facts.{Fact, Request, Expired, Aborted, TimeIs}
 use Rattle.proxy_history.specs.Requests.{pending, is_pending, of_space}
 use Rattle.proxy_history.specs.Modem.{now}
@@ -21,11 +22,7 @@ module _ (device : List ℕ) (client : ℕ) where
   AreOthers requests = AllByRecursion (λ r. r.conn ≢ client) requests
 
   other : (r : Request) → r.conn ≢ client → (r.conn == client) ≡ false
-  other r differs = by_test (r.conn == client) (λ e. differs (eqb-true r.conn client e))
-    where
-      by_test : (b : Bool) → (b ≡ true → ⊥) → b ≡ false
-      by_test true h = absurd (h refl)
-      by_test false h = refl
+  other r differs = false_from_ne_true (r.conn == client) (λ e. differs (eqb-true r.conn client e))
 
   expired_same : (r : Request) (past : List Fact) → r.conn ≢ client → view_of client (note device (Expired r) past) ≡ view_of client past
   unfolding view
@@ -43,17 +40,12 @@ module _ (device : List ℕ) (client : ℕ) where
       each_same action same requests _ others.1
       ∙ elim (is_pending r past) as (λ b. view_of client (if b then action r past else past) ≡ view_of client past) [ true ↦ same r past others.0 | false ↦ refl ]
 
-  filtered : (test : Request → Bool) (requests : List Request) → AreOthers requests → AreOthers (filter test requests)
-  filtered test [] others = tt
-  filtered test (r ∷ requests) others =
-      elim (test r) as (λ b. AreOthers (cond b (r ∷ filter test requests) (filter test requests))) [ true ↦ (others.0, filtered test requests others.1) | false ↦ filtered test requests others.1 ]
-
   both : (front back : List Request) → AreOthers front → AreOthers back → AreOthers (front ++ back)
   both [] back ours theirs = theirs
   both (r ∷ front) back ours theirs = (ours.0, both front back ours.1 theirs)
 
   ordered : (requests : List Request) → AreOthers requests → AreOthers (in_expiry_order requests)
-  ordered requests others = both (of_space control_space requests) (of_space service_space requests) (filtered _ requests others) (filtered _ requests others)
+  ordered requests others = both (of_space control_space requests) (of_space service_space requests) (all_filter _ _ requests others) (all_filter _ _ requests others)
 
   module _ (past : List Fact) (idle : IsIdle client past) where
     waiting : AreOthers (pending past)
@@ -67,7 +59,7 @@ module _ (device : List ℕ) (client : ℕ) where
     ticks_same time =
         ap (render (text device))
         (each_same (λ r before. note device (Expired r) before) expired_same (in_expiry_order (due (max time (now past)) (pending past))) (TimeIs (max time (now past)) ∷ past)
-        (ordered (due (max time (now past)) (pending past)) (filtered (λ r. nat_le r.deadline (max time (now past))) (pending past) waiting)))
+        (ordered (due (max time (now past)) (pending past)) (all_filter _ (λ r. nat_le r.deadline (max time (now past))) (pending past) waiting)))
 
     pub aborted_same_bytes : rendering device client (abort_all device past) ≡ rendering device client past
     aborted_same_bytes = ap (render (text device)) aborts_same
