@@ -1,6 +1,6 @@
 -- Messages that say near their front how long they are.
 -- A framing is a function from bytes to what they say of the length of the message that they begin.
-use Rattle.std.specs.Prelude.{◌≡◌, ℕ, ◌<◌, ◌≤◌, Bool, false, ◌==◌, List, length, slice_index}
+use Rattle.std.specs.Prelude.{◌≡◌, ℕ, ◌<◌, ◌≤◌, Bool, true, false, ◌==◌, List, length, slice_index}
 use Rattle.framing.specs.declared.framing.Size.{Size}
 use Rattle.framing.specs.declared.framing.Size.TheVariants.{Unknown, Known, Invalid}
 
@@ -25,6 +25,11 @@ IsShort Invalid count = ⊥
 -- a message may go on from these bytes, and they don't hold it whole
 abbrev pub IsPartial : (List ℕ → Size) → List ℕ → Type 0
 IsPartial size bytes = IsShort (size bytes) (length bytes)
+
+abbrev pub is_invalid : Size → Bool
+is_invalid Unknown = false
+is_invalid (Known length) = false
+is_invalid Invalid = true
 
 -- no message begins like these bytes
 abbrev pub IsBad : (List ℕ → Size) → List ℕ → Type 0

@@ -1,6 +1,6 @@
-ghost use Rattle.std.specs.Prelude.{◌≡◌, ◌++◌, ◌≤◌, ℕ, List, length, take};
+ghost use Rattle.std.specs.Prelude.{◌≡◌, ◌++◌, ◌≤◌, ℕ, List, [], length, take};
 ghost use Rattle.framing.specs.declared.framing.Size.{Size};
-ghost use Rattle.framing.specs.Framing.{AreBytes, IsKept, IsPositive, IsWithin};
+ghost use Rattle.framing.specs.Framing.{AreBytes, IsKept, IsPartial, IsPositive, IsWithin};
 
 /// What the first bytes of a message say of its length.
 #[derive(Clone, Copy, Debug, PartialEq, Eq)]
@@ -34,6 +34,9 @@ pub trait Framing {
 
     // No message is empty.
     ghost positive: { (bytes : List ℕ) → IsPositive (size bytes) };
+
+    // A stream may begin.
+    ghost begins: { IsPartial size [] };
 
     // A message is at most so long, and the length is open only within so many bytes.
     ghost bounded: { (bytes : List ℕ) → AreBytes bytes → IsWithin LONGEST (size bytes) (length bytes) };

@@ -1,7 +1,8 @@
 -- The order of client ids, and lists of grants in that order.
-use Rattle.std.proofs.Common.{◌≡◌, ℕ, zero, suc, ◌+◌, ◌*◌, ◌<◌, ◌≤◌, Bool, true, false, cond, ◌&&◌, ◌||◌, List, [], ◌∷◌, ◌++◌, length, take, drop, filter, get_or, subst, refl, ap, sym, arith, ◌==◌, nat_lt}
+use Rattle.std.proofs.Common.{◌≡◌, ℕ, ◌+◌, ◌*◌, ◌<◌, ◌≤◌, Bool, true, false, ◌&&◌, ◌||◌, List, [], ◌∷◌, length, filter, subst, refl, ap, sym, arith, ◌==◌, nat_lt}
 use Rattle.std.specs.List.{AllByRecursion}
 use Rattle.std.proofs.lemmas.Bool.Decides.{nat_tests}
+use Rattle.kit_bytes.specs.Sorted.{IsInOrder}
 use Rattle.kit_bytes.proofs.Lists.{all_weaker, all_filter}
 use Rattle.proxy_history.specs.ClientIds.{Grant, is_of}
 use Rattle.holders.specs.Grants.{is_before, is_behind, AreInOrder, AreBytes}
@@ -48,16 +49,6 @@ is_of-is s i g of = (grind (arith, nat_tests, of), grind (arith, nat_tests, of))
 -- ---- lists ----
 
 module _ {X : Type 0} where
-  pub all_at : (P : X → Type 0) (xs : List X) (k : ℕ) (d : X) → AllByRecursion P xs → k < length xs → P (get_or xs k d)
-  all_at P [] k d all within = absurd (omega arith)
-  all_at P (x ∷ xs) zero d all within = all.0
-  all_at P (x ∷ xs) (suc k) d all within = all_at P xs k d all.1 (omega arith)
-
-  pub all_insert : (P : X → Type 0) (xs : List X) (place : ℕ) (new : X) → AllByRecursion P xs → P new → AllByRecursion P (take place xs ++ new ∷ drop place xs)
-  all_insert P xs zero new all here = (here, all)
-  all_insert P [] (suc place) new all here = (here, tt)
-  all_insert P (x ∷ xs) (suc place) new all here = (all.0, all_insert P xs place new all.1 here)
-
   pub kept_all : (p : X → Bool) (xs : List X) → AllByRecursion (λ x. p x ≡ true) xs → filter p xs ≡ xs
   kept_all p [] all = refl
   kept_all p (x ∷ xs) all = rw (all.0) (ap (λ t. x ∷ t) (kept_all p xs all.1))
@@ -66,21 +57,8 @@ module _ {X : Type 0} where
   kept_none p [] all = refl
   kept_none p (x ∷ xs) all = rw (all.0) (kept_none p xs all.1)
 
-pub in_order_filter : (p : Grant → Bool) (grants : List Grant) → AreInOrder grants → AreInOrder (filter p grants)
-unfolding AreInOrder
-in_order_filter p [] ordered = tt
-in_order_filter p (g ∷ grants) ordered =
-    elim (p g) as (λ b. AreInOrder (cond b (g ∷ filter p grants) (filter p grants))) [
-      | true ↦ (all_filter (λ h. is_behind g.service g.client h ≡ true) p grants ordered.0, in_order_filter p grants ordered.1)
-      | false ↦ in_order_filter p grants ordered.1
-    ]
-
 pub bytes_filter : (p : Grant → Bool) (grants : List Grant) → AreBytes grants → AreBytes (filter p grants)
 bytes_filter p grants bytes = all_filter (λ g. (g.service < 256) × (g.client < 256)) p grants bytes
-
-pub in_order_none : (grants : List Grant) → grants ≡ [] → AreInOrder grants
-unfolding AreInOrder
-in_order_none grants none = subst AreInOrder (sym none) tt
 
 pub bytes_none : (grants : List Grant) → grants ≡ [] → AreBytes grants
 bytes_none grants none = subst (λ (l : List Grant). AreBytes l) (sym none) tt
@@ -100,7 +78,7 @@ next_id a b c d byte behind =
     in either (nat_lt a c) (a == c && nat_lt b d) refl refl behind
 
 pub few_in_order : (low : ℕ) (grants : List Grant) → AreInOrder grants → AreBytes grants → low ≤ 65536 → AllByRecursion (λ g. low ≤ id_of g) grants → length grants + low ≤ 65536
-unfolding AreInOrder
+unfolding IsInOrder
 few_in_order low [] ordered bytes bound all = omega arith
 few_in_order low (g ∷ grants) ordered bytes bound all =
     let service : g.service < 256 = bytes.0.0 in

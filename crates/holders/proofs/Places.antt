@@ -1,34 +1,23 @@
 -- Where an id stands in a list of grants that is in order, or would stand.
-use Rattle.std.proofs.Common.{◌≡◌, ℕ, zero, suc, ◌+◌, ◌<◌, ◌≤◌, Bool, true, false, not, List, [], ◌∷◌, ◌++◌, length, take, drop, filter, get_or, refl, ap, sym, ◌∙◌, arith, Option, Some, None, ⊎_elim, ◌⊎◌, ◌||◌, ◌&&◌, ◌==◌, nat_lt, subst}
+use Rattle.std.proofs.Common.{◌≡◌, ℕ, zero, suc, ◌+◌, ◌<◌, Bool, true, false, not, List, [], ◌∷◌, ◌++◌, length, take, drop, filter, get_or, refl, ap, sym, ◌∙◌, arith, Option, Some, None, ⊎_elim, ◌||◌, ◌==◌}
 use Rattle.std.proofs.lemmas.List.{get_or_default}
 use Rattle.std.proofs.lemmas.Bool.{eqb-true}
 use Rattle.std.specs.List.{AllByRecursion, AllWithin, list_any}
 use Rattle.std.specs.List.Sorted.{IsPartitionedBy}
 use Rattle.std.proofs.Math.Nat.{eq-or-lt_of_le}
 use Rattle.std.proofs.Math.Bool.{not-not}
-use Rattle.kit_bytes.proofs.Lists.{all_weaker}
+use Rattle.std.proofs.lemmas.Bool.Decides.{nat_tests}
+use Rattle.kit_bytes.specs.Sorted.{IsInOrder}
+use Rattle.kit_bytes.proofs.Lists.{all_weaker, all_at, all_insert}
+use Rattle.kit_bytes.proofs.Sorted.{in_order_at, partitioned, in_order_insert}
 use Rattle.proxy_history.specs.ClientIds.{Grant, is_of, holder_in, holds_some, is_other}
-use Rattle.holders.specs.Grants.{is_before, is_behind, is_of_service, AreInOrder, AreBytes, IsFoundAt, IsPlaceOf, granted, grants, grants_if, is_taken}
-use Rattle.holders.proofs.Order.{of_not_before, of_not_behind, before_not_of, before_not_behind, behind_not_of, behind_not_before, behind_else, before_of_behind, before_before, behind_both, behind_behind, is_of-is, all_at, all_insert, kept_all, kept_none, few_ids}
+use Rattle.holders.specs.Grants.{is_before, is_behind, is_of_service, IsAhead, AreInOrder, AreBytes, IsFoundAt, IsPlaceOf, granted, grants, grants_if, is_taken}
+use Rattle.holders.proofs.Order.{of_not_before, of_not_behind, before_not_of, before_not_behind, behind_not_of, behind_not_before, behind_else, before_of_behind, before_before, behind_both, behind_behind, is_of-is, kept_all, kept_none, few_ids}
 
 -- ---- what a binary search finds ----
 
-pub in_order_at : (grants : List Grant) (j k : ℕ) (d : Grant) → AreInOrder grants → j < k → k < length grants → is_behind (get_or grants j d).service (get_or grants j d).client (get_or grants k d) ≡ true
-unfolding AreInOrder
-in_order_at [] j k d ordered less within = absurd (omega arith)
-in_order_at (g ∷ grants) j zero d ordered less within = absurd (omega arith)
-in_order_at (g ∷ grants) zero (suc k) d ordered less within = all_at (λ h. is_behind g.service g.client h ≡ true) grants k d ordered.0 (omega arith)
-in_order_at (g ∷ grants) (suc j) (suc k) d ordered less within = in_order_at grants j k d ordered.1 (omega arith) (omega arith)
-
-pub partitioned : (s i : ℕ) (grants : List Grant) → AreInOrder grants → IsPartitionedBy (is_before s i) grants
-partitioned s i grants ordered = λ j k d le within before. both j k d le within before
-  where
-    both : (j k : ℕ) (d : Grant) → j ≤ k → k < length grants → is_before s i (get_or grants k d) ≡ true → is_before s i (get_or grants j d) ≡ true
-    both j k d le within before =
-        ⊎_elim
-        (λ (same : j ≡ k). ap (λ (n : ℕ). is_before s i (get_or grants n d)) same ∙ before)
-        (λ (less : j < k). before_before s i (get_or grants j d) (get_or grants k d) (in_order_at grants j k d ordered less within) before)
-        (eq-or-lt_of_le le)
+pub halved : (s i : ℕ) (grants : List Grant) → AreInOrder grants → IsPartitionedBy (is_before s i) grants
+halved s i grants ordered = partitioned IsAhead (is_before s i) (λ g h ahead before. before_before s i g h ahead before) grants ordered
 
 -- no grant that isn't before is of the id
 pub place_none : (s i place : ℕ) (grants : List Grant) → place ≡ length grants → AllWithin (λ g. is_before s i g ≡ true) grants 0 place → IsPlaceOf s i grants place
@@ -45,7 +34,7 @@ place_other s i place grants row ordered within is other before rest = record {
   before = before;
   behind = λ k d low high. ⊎_elim
       (λ (same : place ≡ k). ap (λ (n : ℕ). is_behind s i (get_or grants n d)) (sym same) ∙ here d)
-      (λ (less : place < k). behind_behind s i (get_or grants place d) (get_or grants k d) (here d) (in_order_at grants place k d ordered less high))
+      (λ (less : place < k). behind_behind s i (get_or grants place d) (get_or grants k d) (here d) (in_order_at IsAhead grants place k d ordered less high))
       (eq-or-lt_of_le low);
 }
   where
@@ -62,7 +51,7 @@ found_behind s i place g grants found = record { within = omega (arith, found.wi
 
 -- one that stands before a grant of the id
 stands_before : (s i place : ℕ) (g : Grant) (grants : List Grant) → AreInOrder (g ∷ grants) → IsFoundAt s i (g ∷ grants) (suc place) → is_before s i g ≡ true
-unfolding AreInOrder
+unfolding IsInOrder
 stands_before s i place g grants ordered found =
     before_of_behind s i g (get_or grants place g) (all_at (λ h. is_behind g.service g.client h ≡ true) grants place g ordered.0 (omega (arith, found.within))) (found.is g)
 
@@ -83,7 +72,7 @@ place_first s i g grants at = record {
 -- ---- the holder ----
 
 pub found_holder : (s i place : ℕ) (grants : List Grant) (d : Grant) → AreInOrder grants → IsFoundAt s i grants place → holder_in s i grants ≡ Some (get_or grants place d).conn
-unfolding AreInOrder
+unfolding IsInOrder
 found_holder s i place [] d ordered found = absurd (omega (arith, found.within))
 found_holder s i zero (g ∷ grants) d ordered found = rw (found.is d) refl
 found_holder s i (suc place) (g ∷ grants) d ordered found =
@@ -108,7 +97,7 @@ grant_is conn s i g a b c =
     one ∙ two ∙ three
 
 pub found_granted : (conn s i place : ℕ) (grants : List Grant) (d : Grant) → AreInOrder grants → IsFoundAt s i grants place → (get_or grants place d).conn ≡ conn → granted conn s i grants ≡ grants
-unfolding AreInOrder
+unfolding IsInOrder
 found_granted conn s i place [] d ordered found same = absurd (omega (arith, found.within))
 found_granted conn s i zero (g ∷ grants) d ordered found same =
     let of : is_of s i g ≡ true = found.is d in
@@ -132,17 +121,16 @@ absent_granted conn s i (suc place) (g ∷ grants) at =
     let before = at.before 0 g (omega arith) (omega arith) in
     rw (before, before_not_behind s i g before) (ap (λ t. g ∷ t) (absent_granted conn s i place grants (place_behind s i place g grants at)))
 
-pub in_order_insert : (s i place : ℕ) (grants : List Grant) (new : Grant) → new.service ≡ s → new.client ≡ i → AreInOrder grants → IsPlaceOf s i grants place → AreInOrder (take place grants ++ new ∷ drop place grants)
-unfolding AreInOrder
-in_order_insert s i zero grants new service client ordered at =
-    (subst (λ (t : ℕ). AllByRecursion (λ h. is_behind t new.client h ≡ true) grants) (sym service) (subst (λ (u : ℕ). AllByRecursion (λ h. is_behind s u h ≡ true) grants) (sym client) (all_behind s i grants at)), ordered)
-in_order_insert s i (suc place) [] new service client ordered at = (tt, tt)
-in_order_insert s i (suc place) (g ∷ grants) new service client ordered at =
-    let before : is_before s i g ≡ true = at.before 0 g (omega arith) (omega arith) in
-    let behind : is_behind g.service g.client new ≡ true =
-    ap (λ (t : ℕ). nat_lt g.service t || (g.service == t && nat_lt g.client new.client)) service ∙ ap (λ (u : ℕ). nat_lt g.service s || (g.service == s && nat_lt g.client u)) client ∙ before
-    in
-    (all_insert (λ h. is_behind g.service g.client h ≡ true) grants place new ordered.0 behind, in_order_insert s i place grants new service client ordered.1 (place_behind s i place g grants at))
+ahead_of_new : (s i : ℕ) (new g : Grant) → new.service ≡ s → new.client ≡ i → is_before s i g ≡ true → IsAhead g new
+ahead_of_new s i new g service client before = grind (arith, nat_tests, service, client, before)
+
+behind_new : (s i : ℕ) (new g : Grant) → new.service ≡ s → new.client ≡ i → is_behind s i g ≡ true → IsAhead new g
+behind_new s i new g service client behind = grind (arith, nat_tests, service, client, behind)
+
+pub inserted : (s i place : ℕ) (grants : List Grant) (new : Grant) → new.service ≡ s → new.client ≡ i → AreInOrder grants → IsPlaceOf s i grants place → AreInOrder (take place grants ++ new ∷ drop place grants)
+inserted s i place grants new service client ordered at =
+    in_order_insert IsAhead grants place new
+    (λ k d low high. ahead_of_new s i new (get_or grants k d) service client (at.before k d low high)) (λ k d low high. behind_new s i new (get_or grants k d) service client (at.behind k d low high)) ordered
 
 -- ---- what granting makes of a list ----
 
@@ -178,7 +166,7 @@ length-insert (suc place) (g ∷ rows) new = omega (arith, length-insert place r
 pub absent_room : (s i place : ℕ) (rows : List Grant) → AreInOrder rows → AreBytes rows → s < 256 → i < 256 → IsPlaceOf s i rows place → length rows < 65536
 absent_room s i place rows ordered bytes service client at =
     let new : Grant = record { conn = 0; service = s; client = i } in
-    omega (arith, length-insert place rows new, few_ids (take place rows ++ new ∷ drop place rows) (in_order_insert s i place rows new refl refl ordered at) (bytes_insert place rows new bytes service client))
+    omega (arith, length-insert place rows new, few_ids (take place rows ++ new ∷ drop place rows) (inserted s i place rows new refl refl ordered at) (bytes_insert place rows new bytes service client))
 
 -- ---- some id of a service ----
 

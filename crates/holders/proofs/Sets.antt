@@ -7,6 +7,7 @@ use Rattle.std.proofs.lemmas.Bool.{not-true, true≢false, or_right}
 use Rattle.kit_bytes.proofs.Lists.{all_weaker, all_filter}
 use Rattle.proxy_history.specs.ClientIds.{Grant, is_of, holder_in, holds_some, is_other}
 use Rattle.proxy_history.proofs.Lists.{Contains-nil, Contains-cons, Contains-cons_cases, Contains-filter, Contains-filter_from, Contains-filter_passes}
+use Rattle.kit_bytes.specs.Sorted.{IsInOrder}
 use Rattle.holders.specs.Grants.{is_before, is_behind, is_of_service, AreInOrder, granted, grants_if, grants, is_taken}
 use Rattle.holders.specs.Calls.{IsOnce, TellTheSame, granted_last, granted_last_unless}
 use Rattle.holders.proofs.Order.{before_not_of, behind_not_of, behind_else, is_of-is}
@@ -32,7 +33,7 @@ once_push new [] others once = (tt, tt)
 once_push new (g ∷ xs) others once = (others_push g new xs others.0 once.0, once_push new xs others.1 once.1)
 
 pub in_order_once : (xs : List Grant) → AreInOrder xs → IsOnce xs
-unfolding AreInOrder IsOnce
+unfolding IsInOrder IsOnce
 in_order_once [] ordered = tt
 in_order_once (g ∷ xs) ordered =
     (all_weaker (λ h. is_behind g.service g.client h ≡ true) (λ h. is_of g.service g.client h ≡ false) (λ h behind. behind_not_of g.service g.client h behind) xs ordered.0, in_order_once xs ordered.1)

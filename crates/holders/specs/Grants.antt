@@ -1,6 +1,7 @@
 -- Which connection holds which client id, and what each call makes of it. The grants stand in the order of their ids.
-use Rattle.std.specs.Prelude.{◌≡◌, ℕ, ◌<◌, ◌≤◌, Bool, true, false, not, ◌&&◌, ◌||◌, ◌==◌, nat_lt, List, [], ◌∷◌, ◌++◌, length, filter, slice_index_or}
+use Rattle.std.specs.Prelude.{◌≡◌, ℕ, ◌<◌, ◌≤◌, Bool, true, false, not, ◌&&◌, ◌||◌, ◌==◌, nat_lt, List, ◌∷◌, ◌++◌, length, filter, slice_index_or}
 use Rattle.std.specs.List.{AllByRecursion, AllWithin}
+use Rattle.kit_bytes.specs.Sorted.{IsInOrder}
 use Rattle.proxy_history.specs.ClientIds.{Grant, is_of, holder_in, is_other}
 
 -- the id of the grant stands before this one: service first, then client id
@@ -10,10 +11,13 @@ is_before service client grant = nat_lt grant.service service || (grant.service 
 abbrev pub is_behind : ℕ → ℕ → Grant → Bool
 is_behind service client grant = nat_lt service grant.service || (service == grant.service && nat_lt client grant.client)
 
+-- the other grant's id stands behind this one's
+abbrev pub IsAhead : Grant → Grant → Type 0
+IsAhead grant other = is_behind grant.service grant.client other ≡ true
+
 -- each id once, and in order
-unfoldable pub AreInOrder : List Grant → Type 0
-AreInOrder [] = Unit {0}
-AreInOrder (grant ∷ grants) = AllByRecursion (λ other. is_behind grant.service grant.client other ≡ true) grants × AreInOrder grants
+abbrev pub AreInOrder : List Grant → Type 0
+AreInOrder grants = IsInOrder IsAhead grants
 
 -- services and client ids have a byte each
 abbrev pub AreBytes : List Grant → Type 0

@@ -5,9 +5,7 @@ use Rattle.std.proofs.lemmas.Bool.Decides.{nat_tests}
 use Rattle.std.proofs.lemmas.Bool.{eqb-true, or_parts, and_parts}
 use Rattle.std.proofs.lemmas.List.Quantifiers.{position-Some, Any-push}
 use Rattle.std.proofs.lemmas.List.{take_more, get_or_append_left}
-use Rattle.std.proofs.lemmas.List.Folds.{find_at}
 use Rattle.std.proofs.lemmas.List.Elements.{All-head, All-tail, All-push, All-weaker, All-map, All-more}
-use Rattle.std.proofs.lemmas.Option.{slice_get-get_or, slice_get_past}
 use Rattle.proxy_history.proofs.Numbers.{free_used}
 use Rattle.proxy_history.specs.Connections.{contains}
 use Rattle.proxy_history.specs.Requests.{following, free_from}
@@ -15,27 +13,6 @@ use Rattle.number_space.specs.declared.space.Row.{Row}
 use Rattle.number_space.specs.Table.{numbers, without, settled_where, settles_number, is_due, IsPendingUntil, IsNextAbove, NoneIsDueBefore, IsFreeThrough, StandsAt}
 
 -- ---- the first that passes a test ----
-
-pub find_first : {X : Type 0} (p : X → Bool) (xs : List X) (i : ℕ) (d : X) → position p xs ≡ Some i → find p xs ≡ Some (get_or xs i d)
-find_first p xs i d e =
-    let step : (b : Bool) → nat_lt (position_or_len p xs) (length xs) ≡ b → cond b (Some (position_or_len p xs)) None ≡ Some i → find p xs ≡ Some (get_or xs i d) =
-    λ b. elim b as (λ b. nat_lt (position_or_len p xs) (length xs) ≡ b → cond b (Some (position_or_len p xs)) None ≡ Some i → find p xs ≡ Some (get_or xs i d)) [
-      | true ↦ λ t e.
-          let within : position_or_len p xs < length xs = grind (arith, nat_tests, t) in
-          let here : position_or_len p xs ≡ i = cc in
-          find_at p xs ∙ slice_get-get_or xs (position_or_len p xs) d within ∙ ap (λ (k : ℕ). Some (get_or xs k d)) here
-      | false ↦ λ t e. absurd (cc)
-    ]
-    in step (nat_lt (position_or_len p xs) (length xs)) refl e
-
-pub find_none : {X : Type 0} (p : X → Bool) (xs : List X) → position p xs ≡ None → find p xs ≡ None
-find_none p xs e =
-    let step : (b : Bool) → nat_lt (position_or_len p xs) (length xs) ≡ b → cond b (Some (position_or_len p xs)) None ≡ None → find p xs ≡ None =
-    λ b. elim b as (λ b. nat_lt (position_or_len p xs) (length xs) ≡ b → cond b (Some (position_or_len p xs)) None ≡ None → find p xs ≡ None) [
-      | true ↦ λ t e. absurd (cc)
-      | false ↦ λ t e. let past : length xs ≤ position_or_len p xs = grind (arith, nat_tests, t) in find_at p xs ∙ slice_get_past xs (position_or_len p xs) past
-    ]
-    in step (nat_lt (position_or_len p xs) (length xs)) refl e
 
 -- a filter that drops nothing
 pub kept_whole : {X : Type 0} (p : X → Bool) (xs : List X) → find p xs ≡ None → filter (λ x. not (p x)) xs ≡ xs

@@ -12,7 +12,8 @@ use Rattle.proxy_history.specs.Laws.{IsFirstFree}
 use Rattle.proxy_history.proofs.Numbers.{number_after-free}
 use Rattle.number_space.specs.declared.space.Row.{Row}
 use Rattle.number_space.specs.Table.{Table, numbers, without, answers, settled_where, settles_number, is_due, first_due, expires_row, expires, IsSound, NoneIsDueBefore, IsFreeThrough, StandsAt}
-use Rattle.number_space.proofs.InUse.{AreDistinct, find_first, find_none, kept_whole, is_at, without_at, settles_at, distinct_filter, distinct_push, numbers_settled, none_due_settled, free_settled}
+use Rattle.kit_bytes.proofs.Lists.{find_first, find_none}
+use Rattle.number_space.proofs.InUse.{AreDistinct, kept_whole, is_at, without_at, settles_at, distinct_filter, distinct_push, numbers_settled, none_due_settled, free_settled}
 
 module _ {T : Type 0} where
   abbrev pub with_rows : Table T → List (Row T) → Table T

@@ -1,7 +1,7 @@
 //! The bytes that wait until a connection takes them.
 #![tactic(auto)]
 
-ghost use Rattle.std.specs.Prelude.{◌≡◌, ◌+◌, ◌-◌, ◌≤◌, ◌==◌, ℕ, List, ◌∷◌, length, drop, vec_len, vec_capacity, IfOk};
+ghost use Rattle.std.specs.Prelude.{◌≡◌, ◌+◌, ◌-◌, ◌≤◌, ◌==◌, ℕ, List, ◌∷◌, ◌++◌, length, drop, vec_len, vec_capacity, IfOk};
 ghost use Rattle.outbox.specs.Queue.{opened, room, has_room, queues, takes, clears};
 ghost use Rattle.outbox.specs.Calls.{Call, Queues, Takes, Clears, StandsFor};
 
@@ -83,6 +83,20 @@ impl Outbox {
         true
     }
 
+    /// Adds all bytes of both runs, one run behind the other, or none where they find no room.
+    pub fn queue_both(&mut self, head: &[u8], rest: &[u8]) -> bool
+        ensures fits { result ≡ has_room (head.now ++ rest.now) self.old }
+        ensures queue { self.new ≡ queues (head.now ++ rest.now) self.old }
+        ensures stands { (capacity : ℕ) (calls : List Call) → StandsFor capacity calls self.old → StandsFor capacity (Queues (head.now ++ rest.now) ∷ calls) self.new }
+    {
+        if head.len() + rest.len() > self.room() {
+            return false;
+        }
+        self.start = make_room(&mut self.bytes, self.start, head.len() + rest.len());
+        append_both(&mut self.bytes, head, rest);
+        true
+    }
+
     /// All the bytes that wait, the first to go first.
     pub fn front(&self) -> &[u8]
         ensures { result.now ≡ self.now.bytes }
@@ -111,6 +125,16 @@ impl Outbox {
         self.bytes.clear();
         self.start = 0;
     }
+}
+
+// Appends both runs of bytes, one behind the other.
+fn append_both(bytes: &mut Vec<u8>, head: &[u8], rest: &[u8])
+    requires { vec_len bytes.old + (length head.now + length rest.now) ≤ vec_capacity bytes.old }
+    ensures items { bytes.new.items ≡ bytes.old.items ++ (head.now ++ rest.now) }
+    ensures capacity { vec_capacity bytes.old ≤ vec_capacity bytes.new }
+{
+    append(bytes, head);
+    append(bytes, rest);
 }
 
 // Makes room for so many bytes behind the others, which may move to the front. They then begin at

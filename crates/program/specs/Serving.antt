@@ -9,7 +9,7 @@ use Rattle.hub_io.specs.declared.settings.ServeEnd.{ServeEnd}
 use Rattle.hub_io.specs.declared.settings.Settings.{Settings}
 use Rattle.proxy_serving.specs.Ends.{EndsSo}
 use Rattle.qmi_proxy.specs.Setup.{Setup}
-use Rattle.qmi_serving.specs.Serving.{proxy_of}
+use Rattle.qmi_proxy.specs.Proxy.{proxy_of}
 use Rattle.program.specs.Status.{status_of_end}
 use Rattle.program.specs.declared.status.Status.{Status}
 use Rattle.program.specs.declared.status.Status.TheVariants as status

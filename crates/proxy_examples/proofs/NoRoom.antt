@@ -3,13 +3,13 @@ use Rattle.std.proofs.Common.{◌≡◌, ℕ, ◌+◌, ◌-◌, Bool, true, fals
 use Rattle.framing.specs.Cutting.{cut_from}
 use Rattle.qmux_frame.specs.Head.{is_control}
 use Rattle.qmux_frame.specs.Reply.{result_reply}
-use Rattle.proxy_history.specs.Limits.{outbox_limit}
 use Rattle.proxy_history.specs.Facts.{Fact, Ended, NoRoom, Answered, Expired, Indicated, Freed}
 use Rattle.proxy_history.specs.Connections.{present}
 use Rattle.proxy_history.specs.ClientIds.{Grant, is_of, held, holder, holder_in}
 use Rattle.proxy_history.specs.View.{Response, view, sent_at}
 use Rattle.proxy_history.specs.Rendering.{Rendering, render, put}
 use Rattle.proxy_history.specs.Noting.{end_overfull}
+use Rattle.qmi_proxy.specs.Limits.{outbox_limit}
 use Rattle.qmi_proxy.specs.Errors.{aborted}
 use Rattle.qmi_proxy.specs.Text.{note, text, blank, rendering, view_of}
 use Rattle.qmi_proxy.specs.FromModem.{answer_or_late}
@@ -18,7 +18,7 @@ use Rattle.proxy_examples.specs.ClientIds.{released}
 use Rattle.proxy_examples.specs.Endings.{HasElevenLeft, version_request, release_request}
 
 -- more than 11 bytes don't fit
-over : (new : List ℕ) (r : Rendering) → r.is_over ≡ false → length r.waiting ≡ outbox_limit - 11 → nat_lt outbox_limit (outbox_limit - 11 + length new) ≡ true → (put new r).is_over ≡ true
+over : (new : List ℕ) (r : Rendering) → r.is_over ≡ false → length r.waiting ≡ outbox_limit - 11 → nat_lt outbox_limit (outbox_limit - 11 + length new) ≡ true → (put outbox_limit new r).is_over ≡ true
 over new r going waiting more =
     ap (λ (b : Bool). b || nat_lt outbox_limit (length r.waiting + length new)) going
     ∙ ap (λ (count : ℕ). nat_lt outbox_limit (count + length new)) waiting

@@ -1,10 +1,10 @@
 -- Examples of connections that join and end, and of a modem that is away.
 use Rattle.std.specs.Prelude.{◌≡◌, ℕ, zero, suc, ◌-◌, true, List, [], ◌∷◌, ◌++◌, take, length, codes, false}
-use Rattle.proxy_history.specs.Limits.{outbox_limit}
 use Rattle.proxy_history.specs.Events.{Event, Joined, Piece, ModemGone, ModemBack, ModemPiece}
 use Rattle.proxy_history.specs.Connections.{present, dropped}
 use Rattle.proxy_history.specs.Rendering.{Rendering, put}
 use Rattle.proxy_examples.specs.Hex.{hex}
+use Rattle.qmi_proxy.specs.Limits.{outbox_limit}
 use Rattle.qmi_proxy.specs.Setup.{Setup}
 use Rattle.qmi_proxy.specs.History as proxy
 use Rattle.proxy_examples.specs.Story.{setup, opened, get_version, version, version_internal, version_aborted, both_open, bytes_for, to_modem, history}
@@ -21,9 +21,9 @@ pub record BadStreamIsDropped : Type 0 where
 -- a refusal of 19 bytes is due to a client whose outbox has 18 bytes of room: what was queued stays, and nothing is added
 pub record FullOutboxEnds : Type 0 where
   pub full : (r : Rendering) → r.is_over ≡ false → length r.waiting ≡ outbox_limit - 18
-      → put version_aborted r ≡ record { bytes = r.bytes; waiting = r.waiting; is_over = true }
+      → put outbox_limit version_aborted r ≡ record { bytes = r.bytes; waiting = r.waiting; is_over = true }
   pub fits : (r : Rendering) → r.is_over ≡ false → length r.waiting ≡ outbox_limit - 19
-      → put version_aborted r ≡ record { bytes = r.bytes ++ version_aborted; waiting = r.waiting ++ version_aborted; is_over = false }
+      → put outbox_limit version_aborted r ≡ record { bytes = r.bytes ++ version_aborted; waiting = r.waiting ++ version_aborted; is_over = false }
 
 -- clients 1 to n
 abbrev pub joined : ℕ → List Event

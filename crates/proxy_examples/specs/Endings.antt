@@ -1,11 +1,11 @@
 -- Examples of clients that end: one that leaves, one whose stream goes bad, and one whose outbox lacks room for what is due to it.
 use Rattle.std.specs.Prelude.{◌≡◌, ◌-◌, true, false, List, [], ◌∷◌, ◌++◌, length, None}
-use Rattle.proxy_history.specs.Limits.{outbox_limit}
 use Rattle.proxy_history.specs.Events.{Event, Piece, Left, Now}
 use Rattle.proxy_history.specs.Facts.{Fact, Request, Ended, NoRoom, Answered, Expired, Indicated, Freed}
 use Rattle.proxy_history.specs.Connections.{present, is_present, dropped}
 use Rattle.proxy_history.specs.Requests.{pending, numbers_in_use}
 use Rattle.proxy_history.specs.ClientIds.{held, holder}
+use Rattle.qmi_proxy.specs.Limits.{outbox_limit}
 use Rattle.qmi_proxy.specs.Text.{note, rendering}
 use Rattle.qmi_proxy.specs.FromModem.{answer_or_late}
 use Rattle.proxy_examples.specs.Story.{setup, get_version, version, sync, both_open, to_modem, history}

@@ -1,8 +1,8 @@
 -- An example of each verdict on a client's message, and of each reply that a client's own view decides.
 use Rattle.std.specs.Prelude.{◌≡◌, ℕ, ◌-◌, true, false, List, [], ◌∷◌, ◌++◌, reverse, codes, Some, None}
-use Rattle.proxy_history.specs.Limits.{modem_outbox_limit}
 use Rattle.proxy_history.specs.Events.{Event, Joined, Piece}
 use Rattle.proxy_history.specs.Facts.{Foreign, Away, Full, Forward}
+use Rattle.qmi_proxy.specs.Limits.{modem_outbox_limit}
 use Rattle.qmi_proxy.specs.Clients.{shared_verdict_of, has_room}
 use Rattle.proxy_examples.specs.Hex.{hex}
 use Rattle.proxy_examples.specs.Story.{open_device, opened, get_version, both_open, bytes_for, to_modem}

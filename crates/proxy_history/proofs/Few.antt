@@ -1,7 +1,7 @@
 -- In a sound history no more is there or in use than may be.
 use Rattle.std.proofs.Common.{◌≡◌, ℕ, ◌+◌, ◌<◌, ◌≤◌, Bool, true, false, not, cond, ◌==◌, if◌then◌else◌, List, [], ◌∷◌, ◌++◌, length, refl, sym, ◌∙◌, arith, filter, subst, Some, None, nat_lt, length-append}
 use Rattle.std.proofs.lemmas.Bool.Decides.{nat_tests}
-use Rattle.proxy_history.specs.Limits.{connection_limit}
+use Rattle.proxy_history.specs.Limits.{Limits}
 use Rattle.proxy_history.specs.Facts.{Fact, Request, Admitted, Ended, Forwarded, Answered, IdHeld, Late, Reset, ModemLost}
 use Rattle.proxy_history.specs.Connections.{present}
 use Rattle.proxy_history.specs.Requests.{in_use, number_after, last_number, of_space, numbers_of, numbers_in_use}
@@ -50,30 +50,30 @@ found_is_few low high last used n found =
     ]
     in step (nat_lt (length used) low) refl
 
-module _ (limit top : ℕ → ℕ) where
-  pub few_are_present : (facts : List Fact) → IsSound limit top facts → length (present facts) ≤ connection_limit
+module _ (limits : Limits) where
+  pub few_are_present : (facts : List Fact) → IsSound limits facts → length (present facts) ≤ limits.connections
   unfolding present
   few_are_present [] s = omega arith
   few_are_present (Admitted c ∷ past) s = omega (arith, s.0, length-append (present past) (c ∷ []))
   few_are_present (Ended c why ∷ past) s = omega (arith, few_are_present past s.1, without_le c (present past))
   few_are_present (_ ∷ past) s = few_are_present past s.1
 
-  few_of_space : (facts : List Fact) (space : ℕ) → IsSound limit top facts → count_of space (in_use facts) ≤ limit space
+  few_of_space : (facts : List Fact) (space : ℕ) → IsSound limits facts → count_of space (in_use facts) ≤ limits.in_use space
   unfolding in_use count_of
   few_of_space [] space s = omega arith
   few_of_space (Forwarded r ∷ past) space s =
-      let few = found_is_few (limit r.space) (top r.space) (last_number r.space past) (numbers_in_use r.space past) r.number (next_of limit top r past s).number in
+      let few = found_is_few (limits.in_use r.space) (limits.top r.space) (last_number r.space past) (numbers_in_use r.space past) r.number (next_of limits r past s).number in
       let before = few_of_space past space s.1 in
       let more = count_of-push space (in_use past) r in
-      let step : (b : Bool) → (r.space == space) ≡ b → count_of space (in_use past) + (if b then 1 else 0) ≤ limit space =
-      λ b. elim b as (λ b. (r.space == space) ≡ b → count_of space (in_use past) + (if b then 1 else 0) ≤ limit space) [
+      let step : (b : Bool) → (r.space == space) ≡ b → count_of space (in_use past) + (if b then 1 else 0) ≤ limits.in_use space =
+      λ b. elim b as (λ b. (r.space == space) ≡ b → count_of space (in_use past) + (if b then 1 else 0) ≤ limits.in_use space) [
         | true ↦ λ e.
             let same : r.space ≡ space = grind (arith, nat_tests, e) in
-            let here : count_of space (in_use past) < limit space = subst (λ (x : ℕ). count_of x (in_use past) < limit x) same few in
+            let here : count_of space (in_use past) < limits.in_use space = subst (λ (x : ℕ). count_of x (in_use past) < limits.in_use x) same few in
             omega (arith, here)
         | false ↦ λ e. omega (arith, before)
       ]
-      in subst (λ (n : ℕ). n ≤ limit space) (sym more) (step (r.space == space) refl)
+      in subst (λ (n : ℕ). n ≤ limits.in_use space) (sym more) (step (r.space == space) refl)
   few_of_space (Answered r message ∷ past) space s = omega (arith, few_of_space past space s.1, count_of-filter space (λ q. not (r.serial == q.serial)) (in_use past))
   few_of_space (IdHeld r ∷ past) space s = omega (arith, few_of_space past space s.1, count_of-filter space (λ q. not (r.serial == q.serial)) (in_use past))
   few_of_space (Late r ∷ past) space s = omega (arith, few_of_space past space s.1, count_of-filter space (λ q. not (r.serial == q.serial)) (in_use past))
@@ -81,6 +81,6 @@ module _ (limit top : ℕ → ℕ) where
   few_of_space (ModemLost ∷ past) space s = omega arith
   few_of_space (_ ∷ past) space s = few_of_space past space s.1
 
-  pub few_are_in_use : (facts : List Fact) (space : ℕ) → IsSound limit top facts → length (numbers_in_use space facts) ≤ limit space
+  pub few_are_in_use : (facts : List Fact) (space : ℕ) → IsSound limits facts → length (numbers_in_use space facts) ≤ limits.in_use space
   unfolding count_of
   few_are_in_use facts space s = few_of_space facts space s

@@ -3,7 +3,6 @@ pub mod Numbers
 pub mod Streams
 pub mod Rendering
 pub mod GoesOn
-pub mod Away
 pub mod Sound
 pub mod SoundLaws
 pub mod Few
@@ -11,3 +10,11 @@ pub mod Growing
 pub mod Holding
 pub mod HungUp
 pub mod Fitting
+pub mod Adding
+pub mod Touching
+pub mod Walk
+pub mod Folds
+pub mod Counting
+pub mod Coming
+pub mod Absent
+pub mod Lawful

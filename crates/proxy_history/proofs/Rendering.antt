@@ -2,8 +2,7 @@
 use Rattle.std.proofs.Common.{◌≡◌, ℕ, ◌+◌, ◌≤◌, Bool, true, false, ◌||◌, nat_lt, if◌then◌else◌, List, [], ◌∷◌, ◌++◌, length, take, drop, refl, ap, sym, ◌∙◌, arith, append_assoc, take-append-drop, length-append, length-take-le, length-drop}
 use Rattle.std.proofs.Math.Seq.{drop-append_seam, take-append_seam}
 use Rattle.std.proofs.lemmas.Bool.Decides.{nat_tests}
-use Rattle.proxy_history.specs.Limits.{outbox_limit}
-use Rattle.proxy_history.specs.View.{Entry, Sent, Response, Refused, Indication, Collected, End}
+use Rattle.proxy_history.specs.View.{Entry, Sent, Response, Refused, Indication, OpenedWith, Shut, Collected, End}
 use Rattle.proxy_history.specs.Rendering.{Rendering, EntryText, render, put, put_unless}
 use Rattle.proxy_history.specs.Laws.{collected, collected_count, CollectsWhatWaits, IsSplitByCount}
 
@@ -11,67 +10,73 @@ put_unless-split : (over : Bool) (new front : List ℕ) (r : Rendering) → r.by
 put_unless-split true new front r split = split
 put_unless-split false new front r split = ap (λ (l : List ℕ). l ++ new) split ∙ append_assoc front r.waiting new
 
-put-split : (new front : List ℕ) (r : Rendering) → r.bytes ≡ front ++ r.waiting → (put new r).bytes ≡ front ++ (put new r).waiting
-put-split new front r split = put_unless-split (r.is_over || nat_lt outbox_limit (length r.waiting + length new)) new front r split
+put-split : (room : ℕ) (new front : List ℕ) (r : Rendering) → r.bytes ≡ front ++ r.waiting → (put room new r).bytes ≡ front ++ (put room new r).waiting
+put-split room new front r split = put_unless-split (r.is_over || nat_lt room (length r.waiting + length new)) new front r split
 
-module _ (text : List Entry → Entry → List ℕ) where
-  pub collected_and_waiting : (entries : List Entry) → (render text entries).bytes ≡ collected text entries ++ (render text entries).waiting
+module _ (room : ℕ) (text : EntryText) where
+  pub collected_and_waiting : (entries : List Entry) → (render room text entries).bytes ≡ collected room text entries ++ (render room text entries).waiting
   unfolding render collected
   collected_and_waiting [] = refl
   collected_and_waiting (Collected count ∷ entries) =
       collected_and_waiting entries
-      ∙ ap (λ (l : List ℕ). collected text entries ++ l) (sym (take-append-drop count (render text entries).waiting))
-      ∙ sym (append_assoc (collected text entries) (take count (render text entries).waiting) (drop count (render text entries).waiting))
-  collected_and_waiting (Sent message verdict ∷ entries) = put-split (text entries (Sent message verdict)) (collected text entries) (render text entries) (collected_and_waiting entries)
-  collected_and_waiting (Response place message ∷ entries) = put-split (text entries (Response place message)) (collected text entries) (render text entries) (collected_and_waiting entries)
-  collected_and_waiting (Refused place cause ∷ entries) = put-split (text entries (Refused place cause)) (collected text entries) (render text entries) (collected_and_waiting entries)
-  collected_and_waiting (Indication message ∷ entries) = put-split (text entries (Indication message)) (collected text entries) (render text entries) (collected_and_waiting entries)
+      ∙ ap (λ (l : List ℕ). collected room text entries ++ l) (sym (take-append-drop count (render room text entries).waiting))
+      ∙ sym (append_assoc (collected room text entries) (take count (render room text entries).waiting) (drop count (render room text entries).waiting))
+  collected_and_waiting (Sent message verdict ∷ entries) = put-split room (text entries (Sent message verdict)) (collected room text entries) (render room text entries) (collected_and_waiting entries)
+  collected_and_waiting (Response place message ∷ entries) = put-split room (text entries (Response place message)) (collected room text entries) (render room text entries) (collected_and_waiting entries)
+  collected_and_waiting (Refused place cause ∷ entries) = put-split room (text entries (Refused place cause)) (collected room text entries) (render room text entries) (collected_and_waiting entries)
+  collected_and_waiting (Indication message ∷ entries) = put-split room (text entries (Indication message)) (collected room text entries) (render room text entries) (collected_and_waiting entries)
+  collected_and_waiting (OpenedWith status ∷ entries) = put-split room (text entries (OpenedWith status)) (collected room text entries) (render room text entries) (collected_and_waiting entries)
+  collected_and_waiting (Shut ∷ entries) = collected_and_waiting entries
   collected_and_waiting (End why ∷ entries) = collected_and_waiting entries
 
-  length-collected : (entries : List Entry) → CollectsWhatWaits text entries → length (collected text entries) ≡ collected_count entries
+  length-collected : (entries : List Entry) → CollectsWhatWaits room text entries → length (collected room text entries) ≡ collected_count entries
   unfolding collected collected_count
   length-collected [] c = refl
   length-collected (Collected count ∷ entries) c =
-      length-append (collected text entries) (take count (render text entries).waiting)
-      ∙ ap (λ (n : ℕ). n + length (take count (render text entries).waiting)) (length-collected entries c.1)
-      ∙ ap (λ (n : ℕ). collected_count entries + n) (length-take-le count (render text entries).waiting c.0)
+      length-append (collected room text entries) (take count (render room text entries).waiting)
+      ∙ ap (λ (n : ℕ). n + length (take count (render room text entries).waiting)) (length-collected entries c.1)
+      ∙ ap (λ (n : ℕ). collected_count entries + n) (length-take-le count (render room text entries).waiting c.0)
   length-collected (Sent message verdict ∷ entries) c = length-collected entries c
   length-collected (Response place message ∷ entries) c = length-collected entries c
   length-collected (Refused place cause ∷ entries) c = length-collected entries c
   length-collected (Indication message ∷ entries) c = length-collected entries c
+  length-collected (OpenedWith status ∷ entries) c = length-collected entries c
+  length-collected (Shut ∷ entries) c = length-collected entries c
   length-collected (End why ∷ entries) c = length-collected entries c
 
-  pub split_by_count : (entries : List Entry) → CollectsWhatWaits text entries → IsSplitByCount text entries
+  pub split_by_count : (entries : List Entry) → CollectsWhatWaits room text entries → IsSplitByCount room text entries
   split_by_count entries c = record {
     collected = sym (ap (λ (l : List ℕ). take (collected_count entries) l) (collected_and_waiting entries)
-        ∙ ap (λ (n : ℕ). take n (collected text entries ++ (render text entries).waiting)) (sym (length-collected entries c))
-        ∙ take-append_seam (collected text entries) (render text entries).waiting);
+        ∙ ap (λ (n : ℕ). take n (collected room text entries ++ (render room text entries).waiting)) (sym (length-collected entries c))
+        ∙ take-append_seam (collected room text entries) (render room text entries).waiting);
     waiting = sym (ap (λ (l : List ℕ). drop (collected_count entries) l) (collected_and_waiting entries)
-        ∙ ap (λ (n : ℕ). drop n (collected text entries ++ (render text entries).waiting)) (sym (length-collected entries c))
-        ∙ drop-append_seam (collected text entries) (render text entries).waiting);
+        ∙ ap (λ (n : ℕ). drop n (collected room text entries ++ (render room text entries).waiting)) (sym (length-collected entries c))
+        ∙ drop-append_seam (collected room text entries) (render room text entries).waiting);
   }
 
 -- ---- no more waits than there is room for ----
 
-put_within : (new : List ℕ) (r : Rendering) → length r.waiting ≤ outbox_limit → length (put new r).waiting ≤ outbox_limit
-put_within new r within =
-    let step : (over full : Bool) → nat_lt outbox_limit (length r.waiting + length new) ≡ full → length (if over || full then r.waiting else r.waiting ++ new) ≤ outbox_limit =
-    λ over full. elim over as (λ over. nat_lt outbox_limit (length r.waiting + length new) ≡ full → length (if over || full then r.waiting else r.waiting ++ new) ≤ outbox_limit) [
+put_within : (room : ℕ) (new : List ℕ) (r : Rendering) → length r.waiting ≤ room → length (put room new r).waiting ≤ room
+put_within room new r within =
+    let step : (over full : Bool) → nat_lt room (length r.waiting + length new) ≡ full → length (if over || full then r.waiting else r.waiting ++ new) ≤ room =
+    λ over full. elim over as (λ over. nat_lt room (length r.waiting + length new) ≡ full → length (if over || full then r.waiting else r.waiting ++ new) ≤ room) [
       | true ↦ λ e. within
-      | false ↦ λ e. elim full as (λ full. nat_lt outbox_limit (length r.waiting + length new) ≡ full → length (if full then r.waiting else r.waiting ++ new) ≤ outbox_limit) [
+      | false ↦ λ e. elim full as (λ full. nat_lt room (length r.waiting + length new) ≡ full → length (if full then r.waiting else r.waiting ++ new) ≤ room) [
         | true ↦ λ e. within
         | false ↦ λ e. let both = length-append r.waiting new in grind (arith, nat_tests, e, both)
       ] e
     ]
-    in step r.is_over (nat_lt outbox_limit (length r.waiting + length new)) refl
+    in step r.is_over (nat_lt room (length r.waiting + length new)) refl
 
-module _ (text : EntryText) where
-  pub waiting_within : (entries : List Entry) → length (render text entries).waiting ≤ outbox_limit
+module _ (room : ℕ) (text : EntryText) where
+  pub waiting_within : (entries : List Entry) → length (render room text entries).waiting ≤ room
   unfolding render
   waiting_within [] = omega arith
-  waiting_within (Collected count ∷ entries) = let before = waiting_within entries in let left = length-drop count (render text entries).waiting in omega arith
-  waiting_within (Sent m verdict ∷ entries) = put_within (text entries (Sent m verdict)) (render text entries) (waiting_within entries)
-  waiting_within (Response place m ∷ entries) = put_within (text entries (Response place m)) (render text entries) (waiting_within entries)
-  waiting_within (Refused place cause ∷ entries) = put_within (text entries (Refused place cause)) (render text entries) (waiting_within entries)
-  waiting_within (Indication m ∷ entries) = put_within (text entries (Indication m)) (render text entries) (waiting_within entries)
+  waiting_within (Collected count ∷ entries) = let before = waiting_within entries in let left = length-drop count (render room text entries).waiting in omega arith
+  waiting_within (Sent m verdict ∷ entries) = put_within room (text entries (Sent m verdict)) (render room text entries) (waiting_within entries)
+  waiting_within (Response place m ∷ entries) = put_within room (text entries (Response place m)) (render room text entries) (waiting_within entries)
+  waiting_within (Refused place cause ∷ entries) = put_within room (text entries (Refused place cause)) (render room text entries) (waiting_within entries)
+  waiting_within (Indication m ∷ entries) = put_within room (text entries (Indication m)) (render room text entries) (waiting_within entries)
+  waiting_within (OpenedWith status ∷ entries) = put_within room (text entries (OpenedWith status)) (render room text entries) (waiting_within entries)
+  waiting_within (Shut ∷ entries) = waiting_within entries
   waiting_within (End why ∷ entries) = waiting_within entries

@@ -1,17 +1,15 @@
 -- What a proxy needs to see that its history is sound, and what follows for every sound history.
-use Rattle.std.proofs.Common.{◌≡◌, ℕ, zero, ◌+◌, ◌≤◌, Bool, true, false, not, cond, ◌&&◌, ◌||◌, ◌==◌, if◌then◌else◌, List, [], ◌∷◌, length, refl, ap, sym, ◌∙◌, ⊎_elim, arith, All, Contains, subst, nat_lt, nat_le, max}
+use Rattle.std.proofs.Common.{◌≡◌, ℕ, zero, ◌+◌, ◌≤◌, Bool, true, false, not, cond, ◌&&◌, ◌||◌, ◌==◌, if◌then◌else◌, List, [], ◌∷◌, refl, ap, sym, ◌∙◌, ⊎_elim, arith, All, Contains, subst}
 use Rattle.std.specs.List.{AllByRecursion}
 use Rattle.std.proofs.lemmas.Bool.Decides.{nat_tests}
-use Rattle.std.proofs.lemmas.List.Elements.{All-nil, All-cons, All-filter, All-weaker, All-contains_itself, Contains-append_right, All-from_recursion, recursion_from_All}
+use Rattle.std.proofs.lemmas.List.Elements.{All-nil, All-cons, All-weaker, Contains-append_right}
 use Rattle.std.proofs.lemmas.Bool.{or_right}
-use Rattle.proxy_history.specs.Limits.{connection_limit}
-use Rattle.proxy_history.specs.Facts.{NotAdmitted, NoRoom, Fact, Request, Admitted, Ended, Forwarded, Expired, Aborted, TimeIs}
-use Rattle.proxy_history.specs.Connections.{contains, without, present, is_present}
+use Rattle.proxy_history.specs.Limits.{Limits}
+use Rattle.proxy_history.specs.Facts.{NoRoom, Fact, Request, Ended, Forwarded, Expired, Aborted}
+use Rattle.proxy_history.specs.Connections.{contains, without, is_present}
 use Rattle.proxy_history.specs.Requests.{in_use, pending, is_pending, has_request, forward_count}
-use Rattle.proxy_history.specs.View.{Entry}
-use Rattle.proxy_history.specs.Modem.{now}
-use Rattle.proxy_history.specs.Noting.{join, end_overfull, note, each_pending, rendering, receivers_of}
-use Rattle.proxy_history.specs.Unanswered.{abort_all, due, expire, tick}
+use Rattle.proxy_history.specs.Wording.{Wording}
+use Rattle.proxy_history.specs.Noting.{end_overfull, note, rendering, receivers_of}
 use Rattle.proxy_history.specs.Laws.{frees_number, ends_waiting}
 use Rattle.proxy_history.specs.Sound.{IsPresent, IsParty, IsNextRequest, IsSound}
 use Rattle.proxy_history.proofs.Lists.{Contains-nil, Contains-cons, Contains-cons_cases}
@@ -69,21 +67,36 @@ forwarded_from_in_use past r at =
     subst (λ (l : List Fact). Contains l (Forwarded r)) (sym goes.whole)
     (Contains-append_right goes.later (Forwarded r ∷ goes.earlier) (Forwarded r) (zero, omega arith, refl))
 
--- ---- what is noted keeps what was there ----
+-- ---- the ends that a fact brings with it ----
 
-pub kept_by_end_overfull : (blank : List ℕ → List ℕ) (text : List Entry → Entry → List ℕ) (cs : List ℕ) (past : List Fact) (fact : Fact) → Contains past fact → Contains (end_overfull blank text cs past) fact
-unfolding end_overfull
-kept_by_end_overfull blank text [] past fact at = at
-kept_by_end_overfull blank text (c ∷ cs) past fact at =
-    kept_by_end_overfull blank text cs _ fact
-    (elim (is_present c past && (rendering blank text c past).is_over) as (λ b. Contains (if b then Ended c NoRoom ∷ past else past) fact) [ true ↦ Contains-cons fact (Ended c NoRoom) past at | false ↦ at ])
+module _ {Known : Type 0} (limits : Limits) (wording : Wording Known) (P : List Fact → Type 0) where
+  abbrev pub KeptByEnd : ℕ → Type 0
+  KeptByEnd c = (past : List Fact) → IsPresent c past → P past → P (Ended c NoRoom ∷ past)
 
-pub kept_by_note : (blank : List ℕ → List ℕ) (text : List Entry → Entry → List ℕ) (noted : Fact) (past : List Fact) (fact : Fact) → Contains past fact → Contains (note blank text noted past) fact
-kept_by_note blank text noted past fact at = kept_by_end_overfull blank text (receivers_of noted) (noted ∷ past) fact (Contains-cons fact noted past at)
+  pub kept_by_ends : (cs : List ℕ) (past : List Fact) → AllByRecursion KeptByEnd cs → P past → P (end_overfull limits wording cs past)
+  unfolding end_overfull
+  kept_by_ends [] past each p = p
+  kept_by_ends (c ∷ cs) past each p = kept_by_ends cs _ each.1 (by (is_present c past && (rendering limits wording c past).is_over) refl)
+    where
+      by : (b : Bool) → (is_present c past && (rendering limits wording c past).is_over) ≡ b → P (let after : List Fact = if b then Ended c NoRoom ∷ past else past in after)
+      by true is = each.0 past (both_left (is_present c past) (rendering limits wording c past).is_over is) p
+      by false isnt = p
 
-module _ (limit top : ℕ → ℕ) where
+  -- whoever it is that ends
+  module _ (ended : (c : ℕ) → KeptByEnd c) where
+    pub kept_by_any_ends : (cs : List ℕ) (past : List Fact) → P past → P (end_overfull limits wording cs past)
+    kept_by_any_ends cs past p = kept_by_ends cs past (all cs) p
+      where
+        all : (cs : List ℕ) → AllByRecursion KeptByEnd cs
+        all [] = tt
+        all (c ∷ cs) = (ended c, all cs)
+
+    pub kept_by_note : (fact : Fact) (past : List Fact) → P (fact ∷ past) → P (note limits wording fact past)
+    kept_by_note fact past p = kept_by_any_ends (receivers_of fact) (fact ∷ past) p
+
+module _ (limits : Limits) where
   abbrev pub Sound : List Fact → Type 0
-  Sound past = IsSound limit top past
+  Sound past = IsSound limits past
 
   forward_count-more : (fact : Fact) (past : List Fact) → forward_count past ≤ forward_count (fact ∷ past)
   unfolding forward_count
@@ -94,7 +107,7 @@ module _ (limit top : ℕ → ℕ) where
   unfolding forward_count
   forward_count-forwarded r past = refl
 
-  pub next_of : (r : Request) (past : List Fact) → Sound (Forwarded r ∷ past) → IsNextRequest limit top r past
+  pub next_of : (r : Request) (past : List Fact) → Sound (Forwarded r ∷ past) → IsNextRequest limits r past
   next_of r past s = s.0
 
   sound_tail : (fact : Fact) (past : List Fact) → Sound (fact ∷ past) → Sound past
@@ -146,76 +159,3 @@ module _ (limit top : ℕ → ℕ) where
       let q = found.0 in
       let forwarded = forwarded_from_in_use past q (in_use_from_pending past q found.1) in
       subst (λ (x : Request). Contains (pending past) x) (same_serial past q r s forwarded at (sym found.2)) found.1
-
-  -- ---- what is noted stays sound ----
-
-  pub sound_end_overfull : (blank : List ℕ → List ℕ) (text : List Entry → Entry → List ℕ) (cs : List ℕ) (past : List Fact) → Sound past → Sound (end_overfull blank text cs past)
-  unfolding end_overfull
-  sound_end_overfull blank text [] past s = s
-  sound_end_overfull blank text (c ∷ cs) past s =
-      let Next : Bool → Type 0 = λ b. Sound (if b then Ended c NoRoom ∷ past else past) in
-      let step : (b : Bool) → (is_present c past && (rendering blank text c past).is_over) ≡ b → Next b =
-      λ b. elim b as (λ b. (is_present c past && (rendering blank text c past).is_over) ≡ b → Next b) [
-        | true ↦ λ e. (both_left (is_present c past) (rendering blank text c past).is_over e, s)
-        | false ↦ λ e. s
-      ]
-      in sound_end_overfull blank text cs _ (step (is_present c past && (rendering blank text c past).is_over) refl)
-
-  pub sound_note : (blank : List ℕ → List ℕ) (text : List Entry → Entry → List ℕ) (fact : Fact) (past : List Fact) → Sound (fact ∷ past) → Sound (note blank text fact past)
-  sound_note blank text fact past s = sound_end_overfull blank text (receivers_of fact) (fact ∷ past) s
-
-  pub sound_each_pending : (action : Request → List Fact → List Fact)
-      → ((r : Request) (past : List Fact) → Sound past → Contains past (Forwarded r) → is_pending r past ≡ true → Sound (action r past))
-      → ((r : Request) (past : List Fact) (fact : Fact) → Contains past fact → Contains (action r past) fact)
-      → (requests : List Request) (past : List Fact) → Sound past → AllByRecursion (λ r. Contains past (Forwarded r)) requests → Sound (each_pending action requests past)
-  unfolding each_pending
-  sound_each_pending action acts keeps [] past s all = s
-  sound_each_pending action acts keeps (r ∷ requests) past s all =
-      let Next : List Fact → Type 0 = λ after. Sound after × ((fact : Fact) → Contains past fact → Contains after fact) in
-      let step : (b : Bool) → is_pending r past ≡ b → Next (if b then action r past else past) =
-      λ b. elim b as (λ b. is_pending r past ≡ b → Next (if b then action r past else past)) [
-        | true ↦ λ e. (acts r past s all.0 e, keeps r past)
-        | false ↦ λ e. (s, λ fact at. at)
-      ]
-      in
-      let next = step (is_pending r past) refl in
-      sound_each_pending action acts keeps requests _ next.0
-      (recursion_from_All _ requests (All-weaker (λ (q : Request). Contains past (Forwarded q)) _ (λ q at. next.1 (Forwarded q) at) requests (All-from_recursion (λ (q : Request). Contains past (Forwarded q)) requests all.1)))
-
-  pub sound_join : (c : ℕ) (past : List Fact) → Sound past → Sound (join c past)
-  sound_join c past s =
-      let step : (b : Bool) → nat_lt (length (present past)) connection_limit ≡ b → Sound (if b then Admitted c ∷ past else Ended c NotAdmitted ∷ past) =
-      λ b. elim b as (λ b. nat_lt (length (present past)) connection_limit ≡ b → Sound (if b then Admitted c ∷ past else Ended c NotAdmitted ∷ past)) [
-        | true ↦ λ e. (grind (arith, nat_tests, e), s)
-        | false ↦ λ e. (grind (arith, nat_tests, e), s)
-      ]
-      in step (nat_lt (length (present past)) connection_limit) refl
-
-  -- ---- requests that get no answer ----
-
-  all_forwarded : (past : List Fact) → All (λ r. Contains past (Forwarded r)) (pending past)
-  all_forwarded past =
-      All-weaker (Contains (pending past)) (λ (r : Request). Contains past (Forwarded r)) (λ r at. forwarded_from_in_use past r (in_use_from_pending past r at)) (pending past) (All-contains_itself (pending past))
-
-  -- an order gives no other requests than it is given
-  module _ (blank : List ℕ → List ℕ) (text : List Entry → Entry → List ℕ) (order : List Request → List Request)
-      (ordered : (P : Request → Type 0) (requests : List Request) → All P requests → AllByRecursion P (order requests)) where
-    pub sound_abort_all : (past : List Fact) → Sound past → Sound (abort_all (note blank text) order past)
-    sound_abort_all past s =
-        sound_each_pending (λ r before. note blank text (Aborted r) before)
-        (λ r before sound at is. sound_note blank text (Aborted r) before (waits before r sound at is, sound))
-        (λ r before fact at. kept_by_note blank text (Aborted r) before fact at)
-        (order (pending past)) past s (ordered (λ r. Contains past (Forwarded r)) (pending past) (all_forwarded past))
-
-    sound_expire : (time : ℕ) (past : List Fact) → Sound past → now past ≤ time → Sound (expire (note blank text) order time past)
-    sound_expire time past s later =
-        sound_each_pending (λ r before. note blank text (Expired r) before)
-        (λ r before sound at is. sound_note blank text (Expired r) before (waits before r sound at is, sound))
-        (λ r before fact at. kept_by_note blank text (Expired r) before fact at)
-        (order (due time (pending past))) (TimeIs time ∷ past) (later, s)
-        (ordered (λ r. Contains (TimeIs time ∷ past) (Forwarded r)) (due time (pending past))
-        (All-filter (λ r. nat_le r.deadline time) (λ (r : Request). Contains (TimeIs time ∷ past) (Forwarded r)) (pending past)
-        (All-weaker (λ (r : Request). Contains past (Forwarded r)) (λ (r : Request). Contains (TimeIs time ∷ past) (Forwarded r)) (λ r at. Contains-cons (Forwarded r) (TimeIs time) past at) (pending past) (all_forwarded past))))
-
-    pub sound_tick : (time : ℕ) (past : List Fact) → Sound past → Sound (tick (note blank text) order time past)
-    sound_tick time past s = sound_expire (max time (now past)) past s (omega arith)

@@ -5,11 +5,12 @@ use Rattle.std.proofs.lemmas.List.Elements.{All-nil, All-cons, All-head, All-tai
 use Rattle.std.proofs.lemmas.List.Kept.{AllPairs-filter}
 use Rattle.std.proofs.lemmas.List.Quantifiers.{all_pairs_push}
 use Rattle.std.proofs.lemmas.Bool.{or_left, or_right, not-true}
-use Rattle.proxy_history.specs.Facts.{Why, NotAdmitted, BadStream, NoRoom, Closed, Fact, Request, Admitted, Ended, Judged, Drained, Forwarded, Answered, IdHeld, Late, Expired, Aborted, Indicated, Granted, Freed, Reset, ModemLost}
+use Rattle.proxy_history.specs.Limits.{Limits}
+use Rattle.proxy_history.specs.Facts.{Why, NotAdmitted, BadStream, NoRoom, Closed, Fact, Request, Admitted, Ended, Judged, Drained, Forwarded, Answered, IdHeld, Late, Expired, Aborted, Indicated, OpeningEnded, SessionsClosed, Granted, Freed, Reset, ModemLost}
 use Rattle.proxy_history.specs.Connections.{contains, without, present, is_present}
 use Rattle.proxy_history.specs.Requests.{in_use, pending, number_after, last_number, of_space, numbers_of, numbers_in_use, following}
 use Rattle.proxy_history.specs.ClientIds.{Grant, held, is_of}
-use Rattle.proxy_history.specs.View.{Entry, Sent, Response, Refused, Indication, Collected, End, HeldId, NoAnswer, view, entry_if}
+use Rattle.proxy_history.specs.View.{Entry, Sent, Response, Refused, Indication, OpenedWith, Shut, Collected, End, HeldId, NoAnswer, view, entry_if}
 use Rattle.proxy_history.specs.Laws.{IsFirstFree}
 use Rattle.proxy_history.specs.Sound.{IsPresent, IsParty, IsSound, Differ, begins_anew, is_end, HasNoEnd, EndsWithItsEnd}
 use Rattle.proxy_history.proofs.Lists.{Contains-nil, Contains-cons, Contains-cons_cases}
@@ -63,9 +64,9 @@ party_leaves c d why past party other =
     let differs : (c == d) ≡ false = not-true (c == d) other in
     ap (λ (b : Bool). d == 0 || b) (contains_other c d (present past) differs) ∙ party
 
-module _ (limit top : ℕ → ℕ) where
+module _ (limits : Limits) where
   abbrev Sound : List Fact → Type 0
-  Sound past = IsSound limit top past
+  Sound past = IsSound limits past
 
   pub waiting_are_parties : (facts : List Fact) → Sound facts → All (λ r. IsParty r.conn facts) (pending facts)
   unfolding pending present
@@ -76,7 +77,7 @@ module _ (limit top : ℕ → ℕ) where
       (λ r p e. party_leaves c r.conn why past p e)
       (All-filter (λ q. not (c == q.conn)) (λ (r : Request). IsParty r.conn past) (pending past) (waiting_are_parties past s.1))
       (filter_passes (λ q. not (c == q.conn)) (pending past))
-  waiting_are_parties (Forwarded r ∷ past) s = All-push (λ (q : Request). IsParty q.conn past) (pending past) r (waiting_are_parties past s.1) (next_of limit top r past s).sender
+  waiting_are_parties (Forwarded r ∷ past) s = All-push (λ (q : Request). IsParty q.conn past) (pending past) r (waiting_are_parties past s.1) (next_of limits r past s).sender
   waiting_are_parties (Answered r message ∷ past) s = All-filter _ (λ (q : Request). IsParty q.conn past) (pending past) (waiting_are_parties past s.1)
   waiting_are_parties (IdHeld r ∷ past) s = All-filter _ (λ (q : Request). IsParty q.conn past) (pending past) (waiting_are_parties past s.1)
   waiting_are_parties (Late r ∷ past) s = All-filter _ (λ (q : Request). IsParty q.conn past) (pending past) (waiting_are_parties past s.1)
@@ -97,7 +98,7 @@ module _ (limit top : ℕ → ℕ) where
       (filter_passes (λ g. not (c == g.conn)) (held past))
   holders_are_parties (Granted c service client ∷ past) s =
       All-push (λ (g : Grant). IsParty g.conn past) (filter (λ g. not (is_of service client g)) (held past)) (record { conn = c; service = service; client = client })
-      (All-filter (λ g. not (is_of service client g)) (λ (g : Grant). IsParty g.conn past) (held past) (holders_are_parties past s.1)) s.0
+      (All-filter (λ g. not (is_of service client g)) (λ (g : Grant). IsParty g.conn past) (held past) (holders_are_parties past s.1)) s.0.0
   holders_are_parties (Freed c service client ∷ past) s = All-filter _ (λ (g : Grant). IsParty g.conn past) (held past) (holders_are_parties past s.1)
   holders_are_parties (Reset ∷ past) s = All-nil (λ (g : Grant). IsParty g.conn past)
   holders_are_parties (ModemLost ∷ past) s = All-nil (λ (g : Grant). IsParty g.conn past)
@@ -116,22 +117,22 @@ module _ (limit top : ℕ → ℕ) where
       ]
       in step (nat_lt (length used) low) refl
 
-  module _ (within : (space : ℕ) → limit space ≤ top space) where
-    last_within : (facts : List Fact) (space : ℕ) → Sound facts → last_number space facts ≤ top space
+  module _ (within : (space : ℕ) → limits.in_use space ≤ limits.top space) where
+    last_within : (facts : List Fact) (space : ℕ) → Sound facts → last_number space facts ≤ limits.top space
     unfolding last_number
     last_within [] space s = omega arith
     last_within (Forwarded r ∷ past) space s =
-        let free = found_is_free (limit r.space) (top r.space) (last_number r.space past) (numbers_in_use r.space past) r.number (within r.space) (last_within past r.space s.1) (next_of limit top r past s).number in
-        let step : (b : Bool) → (r.space == space) ≡ b → (if b then r.number else last_number space past) ≤ top space =
-        λ b. elim b as (λ b. (r.space == space) ≡ b → (if b then r.number else last_number space past) ≤ top space) [
-          | true ↦ λ e. let same : r.space ≡ space = grind (arith, nat_tests, e) in subst (λ (x : ℕ). r.number ≤ top x) same free.to_top
+        let free = found_is_free (limits.in_use r.space) (limits.top r.space) (last_number r.space past) (numbers_in_use r.space past) r.number (within r.space) (last_within past r.space s.1) (next_of limits r past s).number in
+        let step : (b : Bool) → (r.space == space) ≡ b → (if b then r.number else last_number space past) ≤ limits.top space =
+        λ b. elim b as (λ b. (r.space == space) ≡ b → (if b then r.number else last_number space past) ≤ limits.top space) [
+          | true ↦ λ e. let same : r.space ≡ space = grind (arith, nat_tests, e) in subst (λ (x : ℕ). r.number ≤ limits.top x) same free.to_top
           | false ↦ λ e. last_within past space s.1
         ]
         in step (r.space == space) refl
     last_within (_ ∷ past) space s = last_within past space s.1
 
-    free_of : (r : Request) (past : List Fact) → Sound (Forwarded r ∷ past) → IsFirstFree (top r.space) (following (top r.space) (last_number r.space past)) (numbers_in_use r.space past) r.number
-    free_of r past s = found_is_free (limit r.space) (top r.space) (last_number r.space past) (numbers_in_use r.space past) r.number (within r.space) (last_within past r.space s.1) (next_of limit top r past s).number
+    free_of : (r : Request) (past : List Fact) → Sound (Forwarded r ∷ past) → IsFirstFree (limits.top r.space) (following (limits.top r.space) (last_number r.space past)) (numbers_in_use r.space past) r.number
+    free_of r past s = found_is_free (limits.in_use r.space) (limits.top r.space) (last_number r.space past) (numbers_in_use r.space past) r.number (within r.space) (last_within past r.space s.1) (next_of limits r past s).number
 
     number_contained : (requests : List Request) (q : Request) (space : ℕ) → Contains requests q → q.space ≡ space → contains q.number (numbers_of (of_space space requests)) ≡ true
     number_contained [] q space at same = absurd (Contains-nil q at)
@@ -152,8 +153,8 @@ module _ (limit top : ℕ → ℕ) where
 
     differs_from_next : (r : Request) (past : List Fact) → Sound (Forwarded r ∷ past) → (q : Request) → Contains (in_use past) q → Differ q r
     differs_from_next r past s q at =
-        let low = serial_within limit top past q s.1 (forwarded_from_in_use past q at) in
-        let next = (next_of limit top r past s).serial in
+        let low = serial_within limits past q s.1 (forwarded_from_in_use past q at) in
+        let next = (next_of limits r past s).serial in
         let free = (free_of r past s).unused in (
           λ same. omega arith,
           λ space number. let used = number_contained (in_use past) q r.space at space in let clash : true ≡ false = sym used ∙ ap (λ (n : ℕ). contains n (numbers_in_use r.space past)) number ∙ free in cc,
@@ -251,6 +252,8 @@ module _ (limit top : ℕ → ℕ) where
     stays_gone (Expired r) past s gone other = (no_entry (r.conn == c) _ _ (waits_elsewhere r past s.1 gone s.0), gone)
     stays_gone (Aborted r) past s gone other = (no_entry (r.conn == c) _ _ (waits_elsewhere r past s.1 gone s.0), gone)
     stays_gone (Indicated message receivers) past s gone other = (no_entry (contains c receivers) _ _ (gone_is_no_receiver c past receivers gone s.0), gone)
+    stays_gone (OpeningEnded status receivers) past s gone other = (no_entry (contains c receivers) _ _ (gone_is_no_receiver c past receivers gone s.0), gone)
+    stays_gone (SessionsClosed receivers) past s gone other = (no_entry (contains c receivers) _ _ (gone_is_no_receiver c past receivers gone s.0), gone)
     stays_gone _ past s gone other = (refl, gone)
 
     ended_is_gone : (why : Why) (past : List Fact) → is_present c (Ended c why ∷ past) ≡ false
@@ -328,6 +331,8 @@ module _ (limit top : ℕ → ℕ) where
     fact_ends_well (Expired r) past s well = grows_well (r.conn == c) (is_present c past) (Refused r.place NoAnswer) (view blank c past) refl (waits_here r past s.1 s.0) well
     fact_ends_well (Aborted r) past s well = grows_well (r.conn == c) (is_present c past) (Refused r.place NoAnswer) (view blank c past) refl (waits_here r past s.1 s.0) well
     fact_ends_well (Indicated message receivers) past s well = grows_well (contains c receivers) (is_present c past) (Indication message) (view blank c past) refl (receives_here past receivers s.0) well
+    fact_ends_well (OpeningEnded status receivers) past s well = grows_well (contains c receivers) (is_present c past) (OpenedWith status) (view blank c past) refl (receives_here past receivers s.0) well
+    fact_ends_well (SessionsClosed receivers) past s well = grows_well (contains c receivers) (is_present c past) Shut (view blank c past) refl (receives_here past receivers s.0) well
     fact_ends_well _ past s well = well
 
     all_end_well : (facts : List Fact) → Sound facts → EndsWell facts

@@ -1,6 +1,7 @@
 -- The history of a proxy: the facts that it noted and decided. A list of facts has the newest first.
 -- A fact carries whole values, so that no question about it needs the facts before it.
 use Rattle.std.specs.Prelude.{ℕ, List}
+use Rattle.kit_bytes.specs.Subscriptions.{Pair}
 
 -- why a connection ended
 pub data Why : Type 0 where
@@ -67,6 +68,13 @@ pub data Fact : Type 0 where
   -- ---- client ids of the modem's services ----
   Granted : (conn : ℕ) → (service : ℕ) → (client : ℕ) → Fact
   Freed : (conn : ℕ) → (service : ℕ) → (client : ℕ) → Fact
+  -- ---- opening and subscribing, where clients open the modem ----
+  -- the proxy's own request to open the modem ended with this status, and these connections waited for that
+  OpeningEnded : (status : ℕ) → (receivers : List ℕ) → Fact
+  -- a loss of the modem closed these connections' sessions
+  SessionsClosed : (receivers : List ℕ) → Fact
+  -- the proxy asked the modem for this list of subscriptions
+  ListSent : (list : List Pair) → Fact
   -- ---- the modem and the clock ----
   -- the modem began anew, and knows of no request and no client id
   Reset : Fact

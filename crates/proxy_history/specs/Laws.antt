@@ -82,13 +82,13 @@ GivesFirstFree = (limit top last : ℕ) (used : List ℕ) → limit ≤ top → 
 abbrev pub GivesNoneWhereFull : Type 0
 GivesNoneWhereFull = (limit top last : ℕ) (used : List ℕ) → limit ≤ length used → number_after limit top last used ≡ None
 
--- ---- renderings ----
+-- ---- renderings, with whatever room ----
 
 -- the bytes that the client's socket took
-unfoldable pub collected : EntryText → List Entry → List ℕ
-collected text [] = []
-collected text (Collected count ∷ entries) = collected text entries ++ take count (render text entries).waiting
-collected text (_ ∷ entries) = collected text entries
+unfoldable pub collected : ℕ → EntryText → List Entry → List ℕ
+collected room text [] = []
+collected room text (Collected count ∷ entries) = collected room text entries ++ take count (render room text entries).waiting
+collected room text (_ ∷ entries) = collected room text entries
 
 -- how many bytes its socket is said to have taken
 unfoldable pub collected_count : List Entry → ℕ
@@ -97,19 +97,19 @@ collected_count (Collected count ∷ entries) = collected_count entries + count
 collected_count (_ ∷ entries) = collected_count entries
 
 -- no taking is said to be of more than what waited
-abbrev pub CollectsWhatWaits : EntryText → List Entry → Type 0
-CollectsWhatWaits text [] = Unit {0}
-CollectsWhatWaits text (Collected count ∷ entries) = (count ≤ length (render text entries).waiting) × CollectsWhatWaits text entries
-CollectsWhatWaits text (_ ∷ entries) = CollectsWhatWaits text entries
+abbrev pub CollectsWhatWaits : ℕ → EntryText → List Entry → Type 0
+CollectsWhatWaits room text [] = Unit {0}
+CollectsWhatWaits room text (Collected count ∷ entries) = (count ≤ length (render room text entries).waiting) × CollectsWhatWaits room text entries
+CollectsWhatWaits room text (_ ∷ entries) = CollectsWhatWaits room text entries
 
 abbrev pub CollectedAndWaitingAreAll : Type 0
-CollectedAndWaitingAreAll = (text : EntryText) (entries : List Entry)
-    → (render text entries).bytes ≡ collected text entries ++ (render text entries).waiting
+CollectedAndWaitingAreAll = (room : ℕ) (text : EntryText) (entries : List Entry)
+    → (render room text entries).bytes ≡ collected room text entries ++ (render room text entries).waiting
 
 -- the bytes taken are the first of all bytes, as many as the takings say, and those that wait are the others
-pub record IsSplitByCount (text : EntryText) (entries : List Entry) : Type 0 where
-  pub collected : collected text entries ≡ take (collected_count entries) (render text entries).bytes
-  pub waiting : (render text entries).waiting ≡ drop (collected_count entries) (render text entries).bytes
+pub record IsSplitByCount (room : ℕ) (text : EntryText) (entries : List Entry) : Type 0 where
+  pub collected : collected room text entries ≡ take (collected_count entries) (render room text entries).bytes
+  pub waiting : (render room text entries).waiting ≡ drop (collected_count entries) (render room text entries).bytes
 
 abbrev pub TakingsSplitTheBytes : Type 0
-TakingsSplitTheBytes = (text : EntryText) (entries : List Entry) → CollectsWhatWaits text entries → IsSplitByCount text entries
+TakingsSplitTheBytes = (room : ℕ) (text : EntryText) (entries : List Entry) → CollectsWhatWaits room text entries → IsSplitByCount room text entries

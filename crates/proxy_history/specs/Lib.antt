@@ -1,7 +1,6 @@
 pub mod Limits
 pub mod Events
 pub mod Streams
-pub mod Items
 pub mod Facts
 pub mod Connections
 pub mod Requests
@@ -9,9 +8,19 @@ pub mod ClientIds
 pub mod Modem
 pub mod View
 pub mod Rendering
+pub mod Wording
 pub mod Noting
 pub mod Unanswered
+pub mod Protocol
+pub mod Items
+pub mod History
+pub mod Coming
+pub mod Absent
 pub mod Laws
 pub mod Sound
+pub mod Adding
+pub mod Orderly
 pub mod Holding
 pub mod HungUp
+pub mod Proxy
+pub mod Lawful

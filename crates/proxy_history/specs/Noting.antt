@@ -1,15 +1,16 @@
 -- How facts are noted: what one fact brings with it. A list of facts has the newest first.
--- `blank` and `text` are the protocol's: a message without its number, and the bytes of an entry that follows some entries.
 use Rattle.std.specs.Prelude.{ℕ, ◌&&◌, nat_lt, if◌then◌else◌, List, [], ◌∷◌, length}
-use Rattle.proxy_history.specs.Limits.{connection_limit}
-use Rattle.proxy_history.specs.Facts.{Why, NotAdmitted, NoRoom, Request, Fact, Admitted, Ended, Judged, Answered, IdHeld, Expired, Aborted, Indicated}
+use Rattle.proxy_history.specs.Limits.{Limits}
+use Rattle.proxy_history.specs.Facts.{Why, NotAdmitted, NoRoom, Request, Fact, Admitted, Ended, Judged, Answered, IdHeld, Expired, Aborted, Indicated, OpeningEnded}
 use Rattle.proxy_history.specs.Connections.{present, is_present}
 use Rattle.proxy_history.specs.Requests.{is_pending}
-use Rattle.proxy_history.specs.View.{Blank, view}
-use Rattle.proxy_history.specs.Rendering.{Rendering, EntryText, render}
+use Rattle.proxy_history.specs.View.{view}
+use Rattle.proxy_history.specs.Rendering.{Rendering, render}
+use Rattle.proxy_history.specs.Wording.{Wording, text_behind}
 
-abbrev pub rendering : Blank → EntryText → ℕ → List Fact → Rendering
-rendering blank text c past = render text (view blank c past)
+-- the bytes for a connection
+abbrev pub rendering : {Known : Type 0} → Limits → Wording Known → ℕ → List Fact → Rendering
+rendering limits wording c past = render limits.outbox (text_behind wording) (view wording.blank c past)
 
 -- ---- connections ----
 
@@ -18,8 +19,8 @@ abbrev pub end : ℕ → Why → List Fact → List Fact
 end c why past = Ended c why ∷ past
 
 -- a connection is let in, or refused where there are as many as may be
-abbrev pub join : ℕ → List Fact → List Fact
-join c past = if nat_lt (length (present past)) connection_limit then Admitted c ∷ past else end c NotAdmitted past
+abbrev pub join : Limits → ℕ → List Fact → List Fact
+join limits c past = if nat_lt (length (present past)) limits.connections then Admitted c ∷ past else end c NotAdmitted past
 
 -- what a client does counts while it is there
 abbrev pub if_present : ℕ → List Fact → List Fact → List Fact
@@ -35,19 +36,20 @@ receivers_of (IdHeld r) = r.conn ∷ []
 receivers_of (Expired r) = r.conn ∷ []
 receivers_of (Aborted r) = r.conn ∷ []
 receivers_of (Indicated message receivers) = receivers
+receivers_of (OpeningEnded status receivers) = receivers
 receivers_of _ = []
 
 -- a connection that is there ends where its outbox lacks room for the bytes that came last
-abbrev pub end_if_overfull : Blank → EntryText → ℕ → List Fact → List Fact
-end_if_overfull blank text c past = if is_present c past && (rendering blank text c past).is_over then end c NoRoom past else past
+abbrev pub end_if_overfull : {Known : Type 0} → Limits → Wording Known → ℕ → List Fact → List Fact
+end_if_overfull limits wording c past = if is_present c past && (rendering limits wording c past).is_over then end c NoRoom past else past
 
-unfoldable pub end_overfull : Blank → EntryText → List ℕ → List Fact → List Fact
-end_overfull blank text [] past = past
-end_overfull blank text (c ∷ receivers) past = end_overfull blank text receivers (end_if_overfull blank text c past)
+unfoldable pub end_overfull : {Known : Type 0} → Limits → Wording Known → List ℕ → List Fact → List Fact
+end_overfull limits wording [] past = past
+end_overfull limits wording (c ∷ receivers) past = end_overfull limits wording receivers (end_if_overfull limits wording c past)
 
 -- a fact, and the ends that it brings with it
-abbrev pub note : Blank → EntryText → Fact → List Fact → List Fact
-note blank text fact past = end_overfull blank text (receivers_of fact) (fact ∷ past)
+abbrev pub note : {Known : Type 0} → Limits → Wording Known → Fact → List Fact → List Fact
+note limits wording fact past = end_overfull limits wording (receivers_of fact) (fact ∷ past)
 
 -- ---- requests ----
 

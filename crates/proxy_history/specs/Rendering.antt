@@ -1,7 +1,7 @@
 -- The bytes for one client, made from its view alone. A view has the newest entry first; bytes have the oldest first.
+-- `room` is how many bytes may wait for the client.
 use Rattle.std.specs.Prelude.{◌≡◌, ℕ, ◌+◌, Bool, false, ◌||◌, nat_lt, if◌then◌else◌, List, [], ◌∷◌, ◌++◌, length, drop}
-use Rattle.proxy_history.specs.Limits.{outbox_limit}
-use Rattle.proxy_history.specs.View.{Entry, Sent, Response, Refused, Indication, Collected, End}
+use Rattle.proxy_history.specs.View.{Entry, Sent, Response, Refused, Indication, OpenedWith, Shut, Collected, End}
 
 pub record Rendering : Type 0 where
   -- all bytes for the client so far
@@ -22,8 +22,9 @@ put_unless over new r = record {
   is_over = over;
 }
 
-abbrev pub put : List ℕ → Rendering → Rendering
-put new r = put_unless (r.is_over || nat_lt outbox_limit (length r.waiting + length new)) new r
+-- an entry's bytes are written whole or not at all
+abbrev pub put : ℕ → List ℕ → Rendering → Rendering
+put room new r = put_unless (r.is_over || nat_lt room (length r.waiting + length new)) new r
 
 abbrev pub collect : ℕ → Rendering → Rendering
 collect count r = record { bytes = r.bytes; waiting = drop count r.waiting; is_over = r.is_over }
@@ -33,14 +34,16 @@ abbrev pub EntryText : Type 0
 EntryText = List Entry → Entry → List ℕ
 
 -- `text entries entry`: the bytes of an entry that follows these entries
-unfoldable pub render : EntryText → List Entry → Rendering
-render text [] = empty
-render text (Collected count ∷ entries) = collect count (render text entries)
-render text (Sent message verdict ∷ entries) = put (text entries (Sent message verdict)) (render text entries)
-render text (Response place message ∷ entries) = put (text entries (Response place message)) (render text entries)
-render text (Refused place cause ∷ entries) = put (text entries (Refused place cause)) (render text entries)
-render text (Indication message ∷ entries) = put (text entries (Indication message)) (render text entries)
-render text (End why ∷ entries) = render text entries
+unfoldable pub render : ℕ → EntryText → List Entry → Rendering
+render room text [] = empty
+render room text (Collected count ∷ entries) = collect count (render room text entries)
+render room text (Sent message verdict ∷ entries) = put room (text entries (Sent message verdict)) (render room text entries)
+render room text (Response place message ∷ entries) = put room (text entries (Response place message)) (render room text entries)
+render room text (Refused place cause ∷ entries) = put room (text entries (Refused place cause)) (render room text entries)
+render room text (Indication message ∷ entries) = put room (text entries (Indication message)) (render room text entries)
+render room text (OpenedWith status ∷ entries) = put room (text entries (OpenedWith status)) (render room text entries)
+render room text (Shut ∷ entries) = render room text entries
+render room text (End why ∷ entries) = render room text entries
 
 -- ---- what becomes of the bytes for a client ----
 

@@ -1,8 +1,8 @@
 -- The bytes of the clients and of the modem, and the messages that they are cut into. A list of events has the newest first.
 -- `size` is the protocol's framing: what the first bytes of a message say of its length.
-use Rattle.std.specs.Prelude.{ℕ, Bool, true, false, ◌==◌, if◌then◌else◌, List, [], ◌∷◌, ◌++◌, length, drop, Option, Some, None}
+use Rattle.std.specs.Prelude.{ℕ, Bool, ◌==◌, if◌then◌else◌, List, [], ◌∷◌, ◌++◌, length, drop, Option, Some, None}
 use Rattle.framing.specs.declared.framing.Size.{Size}
-use Rattle.framing.specs.declared.framing.Size.TheVariants.{Unknown, Known, Invalid}
+pub use Rattle.framing.specs.Framing.{is_invalid}
 use Rattle.framing.specs.Cutting.{cut}
 use Rattle.proxy_history.specs.Events.{Event, Joined, Piece, ModemPiece, ModemGone, ModemBack}
 
@@ -13,11 +13,6 @@ Framing = List ℕ → Size
 -- the messages that are whole with the piece and weren't without it
 abbrev pub messages_of_piece : Framing → List ℕ → List ℕ → List (List ℕ)
 messages_of_piece size before piece = drop (length (cut size before).messages) (cut size (before ++ piece)).messages
-
-abbrev pub is_invalid : Size → Bool
-is_invalid Unknown = false
-is_invalid (Known count) = false
-is_invalid Invalid = true
 
 -- behind its whole messages the stream goes on with bytes that begin none
 abbrev pub is_bad : Framing → List ℕ → Bool

@@ -1,7 +1,7 @@
 -- What one client can know: its own messages and takings, and what came for it. A view has the newest entry first, as the facts do.
 -- No entry has a transaction number of the proxy, a connection's name or another client's message.
 use Rattle.std.specs.Prelude.{ℕ, ◌+◌, Bool, true, false, ◌==◌, if◌then◌else◌, List, [], ◌∷◌}
-use Rattle.proxy_history.specs.Facts.{Why, NotAdmitted, BadStream, Closed, Verdict, Fact, Admitted, Ended, Judged, Drained, Answered, IdHeld, Expired, Aborted, Indicated}
+use Rattle.proxy_history.specs.Facts.{Why, NotAdmitted, BadStream, Closed, Verdict, Fact, Admitted, Ended, Judged, Drained, Answered, IdHeld, Expired, Aborted, Indicated, OpeningEnded, SessionsClosed}
 use Rattle.proxy_history.specs.Connections.{contains}
 
 -- why a forwarded request got a refusal in place of an answer
@@ -17,6 +17,10 @@ pub data Entry : Type 0 where
   Response : (place : ℕ) → (message : List ℕ) → Entry
   Refused : (place : ℕ) → (cause : Cause) → Entry
   Indication : (message : List ℕ) → Entry
+  -- the client's waiting request to open the modem was answered with this status
+  OpenedWith : (status : ℕ) → Entry
+  -- a loss of the modem closed its session
+  Shut : Entry
   -- the client's socket took so many bytes
   Collected : (count : ℕ) → Entry
   End : (why : Why) → Entry
@@ -40,6 +44,8 @@ view blank c (IdHeld r ∷ past) = entry_if (r.conn == c) (Refused r.place HeldI
 view blank c (Expired r ∷ past) = entry_if (r.conn == c) (Refused r.place NoAnswer) (view blank c past)
 view blank c (Aborted r ∷ past) = entry_if (r.conn == c) (Refused r.place NoAnswer) (view blank c past)
 view blank c (Indicated message receivers ∷ past) = entry_if (contains c receivers) (Indication message) (view blank c past)
+view blank c (OpeningEnded status receivers ∷ past) = entry_if (contains c receivers) (OpenedWith status) (view blank c past)
+view blank c (SessionsClosed receivers ∷ past) = entry_if (contains c receivers) Shut (view blank c past)
 view blank c (Drained d count ∷ past) = entry_if (d == c) (Collected count) (view blank c past)
 view blank c (Ended d NotAdmitted ∷ past) = if d == c then End NotAdmitted ∷ [] else view blank c past
 view blank c (Ended d BadStream ∷ past) = entry_if (d == c) (End BadStream) (view blank c past)

@@ -1,7 +1,10 @@
 ghost use Rattle.proxy_history.specs.Sound.{RequestsInUseDiffer, WaitingArePresent, HoldersArePresent, FewArePresent, FewAreInUse, GoneViewsStay, EndsAreLast};
 ghost use Rattle.proxy_history.specs.Laws.{StreamsGoOnFromTheirRest, InUseUntilFreed, PendingUntilEnded, GivesFirstFree, GivesNoneWhereFull, CollectedAndWaitingAreAll, TakingsSplitTheBytes};
+ghost use Rattle.proxy_history.specs.Absent.{TheAbsentAddNothing, ALostModemIsAway, AModemThatReturnsIsThere};
 ghost use Rattle.proxy_history.specs.Holding.{HeldUntilEnded, HoldersWereGrantedLast};
 ghost use Rattle.proxy_history.specs.HungUp.{HungUpSinceTheEventBegan};
+ghost use Rattle.proxy_history.specs.Orderly.{OrderlyHistoriesAreSound, OthersChangeNothing, BytesOnlyGrow, JoiningStartsWithNone, TakingTakesTheFirst, NobodyThereIsOver, FewWaitForTheModem, AwayAgrees, TimeIsTheGreatest};
+ghost use Rattle.proxy_history.specs.Lawful.{OrderlyProxiesAreLawful};
 
 /// The law that what a piece brings depends on the piece and on what the stream left before it.
 pub fn streams_go_on_from_their_rest()
@@ -65,4 +68,35 @@ pub fn client_ids_are_held_until_they_end()
 /// but for those that went by themselves.
 pub fn hung_up_are_those_that_ended()
     ensures { HungUpSinceTheEventBegan }
+{}
+
+/// The law that nothing counts that a connection does while it isn't there, and that the modem is
+/// away from its loss until it returns, whatever the protocol.
+pub fn the_absent_add_nothing<Known>()
+    ensures client { TheAbsentAddNothing Known }
+    ensures lost { ALostModemIsAway Known }
+    ensures returned { AModemThatReturnsIsThere Known }
+{}
+
+/// The laws of every orderly protocol, that is of one whose own parts add no more than they may. Each
+/// fact may follow those before it. A client's bytes stay as they are whatever others do, and only
+/// grow, but where it joins, which leaves none, or its socket takes the first of them; who is there got
+/// all that was due to it. No more bytes wait for the modem than may, the facts say that it is away
+/// exactly while its stream says so, and the time is the greatest that the clock showed.
+pub fn orderly_protocols_have_these_laws<Known>()
+    ensures sound { OrderlyHistoriesAreSound Known }
+    ensures others { OthersChangeNothing Known }
+    ensures grow { BytesOnlyGrow Known }
+    ensures joining { JoiningStartsWithNone Known }
+    ensures taking { TakingTakesTheFirst Known }
+    ensures room { NobodyThereIsOver Known }
+    ensures few { FewWaitForTheModem Known }
+    ensures away { AwayAgrees Known }
+    ensures time { TimeIsTheGreatest Known }
+{}
+
+/// The law that the proxy of an orderly protocol keeps the rules by which its clients can be served
+/// over a hub, where there is an end to what it asks the modem by itself.
+pub fn orderly_proxies_are_lawful<Known>()
+    ensures { OrderlyProxiesAreLawful Known }
 {}

@@ -1,7 +1,8 @@
 -- A serving that ends within some turns ends within more of them.
 use Rattle.std.proofs.Common.{ℕ, ◌≤◌, List, Option, inl, inr, arith}
+use Rattle.proxy_history.specs.Events.{Event}
 use Rattle.hub_io.specs.Record.{Call}
-use Rattle.proxy_serving.specs.Serving.{Proxy}
+use Rattle.proxy_history.specs.Proxy.{Proxy}
 use Rattle.proxy_serving.specs.Ends.{GoesOn, EndsWith, EndsIdle, RanOut}
 
 module _ {p : Proxy} {limit : Option ℕ} {calls : List Call} (turns more : ℕ) (within : turns ≤ more) where
@@ -24,11 +25,12 @@ module _ {p : Proxy} {limit : Option ℕ} {calls : List Call} (turns more : ℕ)
     counted = omega (arith, ends.counted);
   }
 
-  pub ran_out_further : RanOut p limit turns calls → RanOut p limit more calls
+  pub ran_out_further : {lacks : Event → Type 0} → RanOut lacks p limit turns calls → RanOut lacks p limit more calls
   ran_out_further (inl none) = inl none
   ran_out_further (inr (inl unnoted)) = inr (inl (record { conn = unnoted.conn; bytes = unnoted.bytes; earlier = unnoted.earlier; whole = unnoted.whole; goes_on = goes_on_further turns more within unnoted.goes_on }))
   ran_out_further (inr (inr early)) = inr (inr (record {
-    conn = early.conn;
+    event = early.event;
+    lacking = early.lacking;
     earlier = early.earlier;
     whole = early.whole;
     goes_on = goes_on_further turns more within early.goes_on;

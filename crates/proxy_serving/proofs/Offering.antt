@@ -5,7 +5,8 @@ use Rattle.std.proofs.lemmas.Bool.{cond-true, cond-false, eqb-true, or_parts}
 use Rattle.std.specs.List.{AllByRecursion, list_any}
 use Rattle.proxy_history.specs.Connections.{contains, without}
 use Rattle.hub_io.specs.Record.{Call, ToldRoom, Sent, events}
-use Rattle.proxy_serving.specs.Serving.{Proxy, IsOffered, is_blocked}
+use Rattle.proxy_history.specs.Proxy.{Proxy}
+use Rattle.proxy_serving.specs.Serving.{IsOffered, is_blocked}
 
 -- ---- lists of names ----
 

@@ -2,23 +2,8 @@
 use Rattle.std.specs.Prelude.{◌≡◌, ◌⊎◌, ℕ, zero, suc, ◌+◌, ◌<◌, Bool, true, false, ◌&&◌, ◌==◌, nat_le, if◌then◌else◌, List, [], ◌∷◌, ◌++◌, length, take, reverse, Option, Some, None}
 use Rattle.std.specs.List.{AllByRecursion}
 use Rattle.proxy_history.specs.Events.{Event, Joined, ModemGone, ModemBack, Now}
+use Rattle.proxy_history.specs.Proxy.{Proxy}
 use Rattle.hub_io.specs.Record.{Call, Told, ToldRoom, ToldModemRoom, ToldStop, NextFailed, Sent, SendFailed, SentModem, SendModemFailed, Opened, Reopened, ReopenFailed, HungUp, events}
-
--- what a proxy's definitions say of the events that it met
-pub record Proxy : Type 0 where
-  -- all bytes for a client since it joined
-  pub text : ℕ → List Event → List ℕ
-  -- those that wait for it
-  pub waiting : ℕ → List Event → List ℕ
-  -- the bytes that wait for the modem
-  pub waiting_for_modem : List Event → List ℕ
-  pub is_away : List Event → Bool
-  -- the connections that are there, in order of joining
-  pub present : List Event → List ℕ
-  -- the connections that the last event ended, but those that went by themselves
-  pub dropped : List Event → List ℕ
-  -- the clock, in milliseconds
-  pub time : List Event → ℕ
 
 -- ---- bytes ----
 

@@ -1,11 +1,10 @@
-pub mod Rooms
+pub mod Views
+pub mod Hears
 pub mod Forwards
-pub mod Messages
 pub mod Finds
-pub mod Orders
-pub mod Boards
 pub mod Expires
 pub mod Tells
 pub mod Turns
 pub mod Responses
 pub mod Proxies
+pub mod Meets

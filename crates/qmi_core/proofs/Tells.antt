@@ -1,22 +1,20 @@
 -- An indication goes from connection to connection.
-use Rattle.std.proofs.Common.{◌≡◌, ℕ, zero, suc, ◌+◌, ◌<◌, ◌≤◌, Bool, true, false, not, cond, ◌&&◌, ◌||◌, ◌==◌, List, [], ◌∷◌, length, drop, map, filter, set, refl, ap, sym, ◌∙◌, subst, arith, Option, Some, None, if◌then◌else◌}
-use Rattle.std.specs.List.{AllByRecursion, remove}
-use Rattle.std.proofs.lemmas.List.{length-set}
+use Rattle.std.proofs.Common.{◌≡◌, ℕ, zero, suc, ◌+◌, ◌<◌, ◌≤◌, Bool, true, false, not, cond, ◌&&◌, ◌||◌, ◌==◌, List, [], ◌∷◌, length, drop, map, filter, refl, ap, sym, ◌∙◌, subst, arith, Option, Some, None, if◌then◌else◌}
+use Rattle.std.specs.List.{AllByRecursion}
+use Rattle.kit_bytes.specs.Sorted.{IsInOrder}
 use Rattle.std.proofs.lemmas.Bool.Decides.{nat_tests}
 use Rattle.std.proofs.lemmas.Bool.{eqb-true, eq-eqb, not-true, not-false}
 use Rattle.qmux_frame.specs.Head.{service_of, is_control, client_of}
 use Rattle.proxy_history.specs.ClientIds.{Grant, holder_in, holds_some}
 use Rattle.holders.specs.Grants.{leaves}
-use Rattle.qmi_state.specs.Core.{Session}
-use Rattle.qmi_state.specs.Transitions.{Exchange, lacks_room, gets, tells, tells_all, opened_ones, holders_of, tells_holder, indicates}
+use Rattle.qmi_state.specs.Core.{Session, Core, session_in}
+use Rattle.qmi_state.specs.Transitions.{Exchange, exchange_in, with_exchange, update, drops, lacks_room, gets, tells, tells_to, tells_if, tells_all, opened_ones, holders_of, tells_holder, indicates}
 use Rattle.qmi_state.proofs.Lists.{filter_map_is}
-use Rattle.qmi_core.specs.Board.{Board, within, AreRising, StandsAt, drops_at, tells_at, tells_at_if, is_chosen, chosen, tells_from}
-use Rattle.qmi_core.proofs.Finds.{first_at, told_at}
+use Rattle.qmi_core.specs.Switchboard.{AreRising, StandsAt, takes_in, is_chosen, chosen, tells_from}
+use Rattle.qmi_core.specs.View.{within}
+use Rattle.qmi_core.proofs.Finds.{found, drop_updated, drop_removed, length_removed, length_updated}
 
--- those that are open, and those that hold an id of the service
-pub open_chosen : (held : List Grant) (sessions : List Session) → chosen None held sessions ≡ opened_ones sessions
-open_chosen held sessions = refl
-
+-- those that hold an id of the service
 pub holders_chosen : (service : ℕ) (held : List Grant) (sessions : List Session) → chosen (Some service) held sessions ≡ holders_of service held sessions
 holders_chosen service held sessions = sym (filter_map_is (λ (c : ℕ). holds_some c service held) (λ (s : Session). s.name) sessions)
 
@@ -27,19 +25,8 @@ drop_here [] i s within at = absurd (omega arith)
 drop_here (t ∷ sessions) zero s within at = ap (λ (u : Session). u ∷ sessions) (sym at)
 drop_here (t ∷ sessions) (suc i) s within at = drop_here sessions i s (omega arith) at
 
-pub drop_set : (sessions : List Session) (i : ℕ) (s : Session) → drop (suc i) (set sessions i s) ≡ drop (suc i) sessions
-drop_set [] zero s = refl
-drop_set [] (suc i) s = refl
-drop_set (t ∷ sessions) zero s = refl
-drop_set (t ∷ sessions) (suc i) s = drop_set sessions i s
-
-pub drop_removed : (sessions : List Session) (i : ℕ) → i < length sessions → drop i (remove sessions i) ≡ drop (suc i) sessions
-drop_removed [] i within = absurd (omega arith)
-drop_removed (t ∷ sessions) zero within = refl
-drop_removed (t ∷ sessions) (suc i) within = drop_removed sessions i (omega arith)
-
 later_names : (sessions : List Session) (i : ℕ) (s : Session) → AreRising sessions → i < length sessions → StandsAt s sessions i → AllByRecursion (λ (t : Session). s.name < t.name) (drop (suc i) sessions)
-unfolding AreRising
+unfolding IsInOrder
 later_names [] i s rising within at = absurd (omega arith)
 later_names (t ∷ sessions) zero s rising within at = subst (λ (u : Session). AllByRecursion (λ (v : Session). u.name < v.name) sessions) (sym at) rising.0
 later_names (t ∷ sessions) (suc i) s rising within at = later_names sessions i s rising.1 (omega arith) at
@@ -113,95 +100,86 @@ module _ (audience : Option ℕ) (bytes : List ℕ) (i : ℕ) (x : Exchange) (s 
   unfolding tells_all
   first_told cs = refl
 
-  told_first : AreRising x.sessions → is_chosen audience x.desk.held s ≡ true → tells_from audience bytes i x ≡ tells_all bytes rest (tells_at i bytes s x)
-  told_first rising is =
-      here_is true is ∙ first_told rest ∙ sym (ap (tells_all bytes rest) (told_at s.name bytes x i s (first_at x.sessions i s rising within at) at))
+  told_is : AreRising x.sessions → (over : Bool) → lacks_room bytes s.account ≡ over → tells s.name bytes x ≡ tells_if over s.name bytes s x
+  told_is rising over is = ap (λ o. tells_to o s.name bytes x) (found s x.sessions i rising within at) ∙ ap (λ (b : Bool). tells_if b s.name bytes s x) is
+
+  told_first : is_chosen audience x.desk.held s ≡ true → tells_from audience bytes i x ≡ tells_all bytes rest (tells s.name bytes x)
+  told_first is = here_is true is ∙ first_told rest
 
   -- it gets the bytes
-  pub got_them : AreRising x.sessions → is_chosen audience x.desk.held s ≡ true → lacks_room bytes s.account ≡ false → tells_from audience bytes (suc i) (tells_at i bytes s x) ≡ tells_from audience bytes i x
+  pub got_them : AreRising x.sessions → is_chosen audience x.desk.held s ≡ true → lacks_room bytes s.account ≡ false → tells_from audience bytes (suc i) (tells s.name bytes x) ≡ tells_from audience bytes i x
   unfolding tells_from
   got_them rising is room =
-      let after : Exchange = record x { sessions = set x.sessions i (gets bytes s) } in
-      let one : tells_at i bytes s x ≡ after = ap (λ (b : Bool). tells_at_if b i bytes s x) room in
+      let after : Exchange = record x { sessions = update s.name (gets bytes) x.sessions } in
+      let one : tells s.name bytes x ≡ after = told_is rising false room in
       ap (tells_from audience bytes (suc i)) one
-      ∙ ap (λ (l : List Session). tells_all bytes (chosen audience x.desk.held l) after) (drop_set x.sessions i (gets bytes s))
-      ∙ ap (tells_all bytes rest) (sym one) ∙ sym (told_first rising is)
+      ∙ ap (λ (l : List Session). tells_all bytes (chosen audience x.desk.held l) after) (drop_updated s (gets bytes) x.sessions i rising within at)
+      ∙ ap (tells_all bytes rest) (sym one) ∙ sym (told_first is)
 
   -- or it is dropped
-  pub fell_out : AreRising x.sessions → is_chosen audience x.desk.held s ≡ true → lacks_room bytes s.account ≡ true → tells_from audience bytes i (tells_at i bytes s x) ≡ tells_from audience bytes i x
+  pub fell_out : AreRising x.sessions → is_chosen audience x.desk.held s ≡ true → lacks_room bytes s.account ≡ true → tells_from audience bytes i (tells s.name bytes x) ≡ tells_from audience bytes i x
   unfolding tells_from
   fell_out rising is over =
-      let after : Exchange = drops_at i s x in
-      let one : tells_at i bytes s x ≡ after = ap (λ (b : Bool). tells_at_if b i bytes s x) over in
+      let after : Exchange = drops s.name s.account.waiting x in
+      let one : tells s.name bytes x ≡ after = told_is rising true over in
       ap (tells_from audience bytes i) one
-      ∙ ap (λ (l : List Session). tells_all bytes (chosen audience (leaves s.name x.desk.held) l) after) (drop_removed x.sessions i within)
+      ∙ ap (λ (l : List Session). tells_all bytes (chosen audience (leaves s.name x.desk.held) l) after) (drop_removed s x.sessions i rising within at)
       ∙ ap (λ (l : List ℕ). tells_all bytes l after) (chosen_still audience s.name x.desk.held (drop (suc i) x.sessions) (later_names x.sessions i s rising within at))
-      ∙ ap (tells_all bytes rest) (sym one) ∙ sym (told_first rising is)
+      ∙ ap (tells_all bytes rest) (sym one) ∙ sym (told_first is)
 
--- what is left behind this place is less
-pub put_fewer : (bytes : List ℕ) (i : ℕ) (x : Exchange) (s : Session) → lacks_room bytes s.account ≡ false → length (tells_at i bytes s x).sessions ≡ length x.sessions
-put_fewer bytes i x s room = ap (λ (b : Bool). length (tells_at_if b i bytes s x).sessions) room ∙ length-set x.sessions i (gets bytes s)
+  -- what is left behind this place is less
+  pub put_fewer : AreRising x.sessions → lacks_room bytes s.account ≡ false → length (tells s.name bytes x).sessions ≡ length x.sessions
+  put_fewer rising room = ap (λ (y : Exchange). length y.sessions) (told_is rising false room) ∙ length_updated s.name (gets bytes) x.sessions
 
-pub dropped_fewer : (bytes : List ℕ) (i : ℕ) (x : Exchange) (s : Session) → i < length x.sessions → lacks_room bytes s.account ≡ true → length (tells_at i bytes s x).sessions + 1 ≡ length x.sessions
-dropped_fewer bytes i x s within over = ap (λ (b : Bool). length (tells_at_if b i bytes s x).sessions + 1) over ∙ removed x.sessions i within
-  where
-    removed : (sessions : List Session) (i : ℕ) → i < length sessions → length (remove sessions i) + 1 ≡ length sessions
-    removed [] i within = absurd (omega arith)
-    removed (t ∷ sessions) zero within = omega arith
-    removed (t ∷ sessions) (suc i) within = let rest : length (remove sessions i) + 1 ≡ length sessions = removed sessions i (omega arith) in omega arith
+  pub dropped_fewer : AreRising x.sessions → lacks_room bytes s.account ≡ true → length (tells s.name bytes x).sessions + 1 ≡ length x.sessions
+  dropped_fewer rising over = ap (λ (y : Exchange). length y.sessions + 1) (told_is rising true over) ∙ length_removed s x.sessions i rising within at
 
 -- ---- a turn of the loop ----
 
-module _ (audience : Option ℕ) (bytes : List ℕ) (i : ℕ) (old : Board) (s : Session) (inside : i < length old.exchange.sessions) (at : StandsAt s old.exchange.sessions i) where
+module _ (audience : Option ℕ) (bytes : List ℕ) (i : ℕ) (old : Core) (s : Session) (inside : i < length old.sessions) (at : StandsAt s old.sessions i) where
   next_place : i + 1 ≡ suc i
   next_place = omega arith
 
-  pub turn_by : is_chosen audience old.exchange.desk.held s ≡ false → tells_from audience bytes (i + 1) old.exchange ≡ tells_from audience bytes i old.exchange
-  turn_by is = ap (λ (n : ℕ). tells_from audience bytes n old.exchange) next_place ∙ passed_by audience bytes i old.exchange s inside at is
+  pub turn_by : is_chosen audience old.desk.held s ≡ false → within (tells_from audience bytes (i + 1)) old ≡ within (tells_from audience bytes i) old
+  turn_by is = ap (λ (n : ℕ). within (tells_from audience bytes n) old) next_place ∙ ap (λ (x : Exchange). with_exchange x old) (passed_by audience bytes i (exchange_in old) s inside at is)
 
-  room_from : true ≡ not (lacks_room bytes s.account) → lacks_room bytes s.account ≡ false
-  room_from e = not-true (lacks_room bytes s.account) (sym e)
+  module _ (rising : AreRising old.sessions) (is : is_chosen audience old.desk.held s ≡ true) (new : Core) (made : new ≡ within (tells s.name bytes) old) where
+    room_is : (b : Bool) → b ≡ takes_in bytes (session_in s.name old.sessions) → not (lacks_room bytes s.account) ≡ b
+    room_is b e = sym (e ∙ ap (takes_in bytes) (found s old.sessions i rising inside at))
 
-  over_from : false ≡ not (lacks_room bytes s.account) → lacks_room bytes s.account ≡ true
-  over_from e = not-false (lacks_room bytes s.account) (sym e)
-
-  module _ (rising : AreRising old.exchange.sessions) (is : is_chosen audience old.exchange.desk.held s ≡ true) (new : Board) (made : new ≡ within (tells_at i bytes s) old) where
-    pub turn_on : true ≡ not (lacks_room bytes s.account)
-        → (tells_from audience bytes (i + 1) new.exchange ≡ tells_from audience bytes i old.exchange) × (new.greatest ≡ old.greatest) × (length new.exchange.sessions + i < length old.exchange.sessions + (i + 1))
+    pub turn_on : true ≡ takes_in bytes (session_in s.name old.sessions) → (within (tells_from audience bytes (i + 1)) new ≡ within (tells_from audience bytes i) old) × (length new.sessions + i < length old.sessions + (i + 1))
     turn_on stays =
-        let room = room_from stays in
-        let same : length new.exchange.sessions ≡ length old.exchange.sessions = ap (λ (b : Board). length b.exchange.sessions) made ∙ put_fewer bytes i old.exchange s room in (
-          ap (λ (b : Board). tells_from audience bytes (i + 1) b.exchange) made ∙ ap (λ (n : ℕ). tells_from audience bytes n (tells_at i bytes s old.exchange)) next_place ∙ got_them audience bytes i old.exchange s inside at rising is room,
-          ap (λ (b : Board). b.greatest) made,
+        let room = not-true (lacks_room bytes s.account) (room_is true stays) in
+        let same : length new.sessions ≡ length old.sessions = ap (λ (v : Core). length v.sessions) made ∙ put_fewer audience bytes i (exchange_in old) s inside at rising room in (
+          ap (within (tells_from audience bytes (i + 1))) made ∙ ap (λ (n : ℕ). within (tells_from audience bytes n) (within (tells s.name bytes) old)) next_place
+              ∙ ap (λ (x : Exchange). with_exchange x old) (got_them audience bytes i (exchange_in old) s inside at rising is room),
           omega arith,
         )
 
-    pub turn_off : false ≡ not (lacks_room bytes s.account)
-        → (tells_from audience bytes i new.exchange ≡ tells_from audience bytes i old.exchange) × (new.greatest ≡ old.greatest) × (length new.exchange.sessions + i < length old.exchange.sessions + i)
+    pub turn_off : false ≡ takes_in bytes (session_in s.name old.sessions) → (within (tells_from audience bytes i) new ≡ within (tells_from audience bytes i) old) × (length new.sessions + i < length old.sessions + i)
     turn_off goes =
-        let over = over_from goes in
-        let fewer : length new.exchange.sessions + 1 ≡ length old.exchange.sessions = ap (λ (b : Board). length b.exchange.sessions + 1) made ∙ dropped_fewer bytes i old.exchange s inside over in (
-          ap (λ (b : Board). tells_from audience bytes i b.exchange) made ∙ fell_out audience bytes i old.exchange s inside at rising is over,
-          ap (λ (b : Board). b.greatest) made,
+        let over = not-false (lacks_room bytes s.account) (room_is false goes) in
+        let fewer : length new.sessions + 1 ≡ length old.sessions = ap (λ (v : Core). length v.sessions + 1) made ∙ dropped_fewer audience bytes i (exchange_in old) s inside at rising over in (
+          ap (within (tells_from audience bytes i)) made ∙ ap (λ (x : Exchange). with_exchange x old) (fell_out audience bytes i (exchange_in old) s inside at rising is over),
           omega arith,
         )
 
 -- ---- an indication ----
 
-pub indicated_open : (m : List ℕ) (new old : Board) → is_control m ≡ true → new ≡ within (tells_from None m 0) old → new ≡ within (indicates m) old
+pub indicated_open : (m : List ℕ) (new old : Core) → is_control m ≡ true → new ≡ within (tells_from None m 0) old → new ≡ within (indicates m) old
 indicated_open m new old control is =
-    is ∙ ap (λ (x : Exchange). let b : Board = record { exchange = x; greatest = old.greatest } in b)
-    (tells_from_first None m old.exchange ∙ sym (ap (λ (b : Bool). if b then tells_all m (opened_ones old.exchange.sessions) old.exchange
-    else if client_of m == 255 then tells_all m (holders_of (service_of m) old.exchange.desk.held old.exchange.sessions) old.exchange
-    else tells_holder (holder_in (service_of m) (client_of m) old.exchange.desk.held) m old.exchange) control))
+    is ∙ ap (λ (x : Exchange). with_exchange x old)
+    (tells_from_first None m (exchange_in old) ∙ sym (ap (λ (b : Bool). if b then tells_all m (opened_ones old.sessions) (exchange_in old)
+    else if client_of m == 255 then tells_all m (holders_of (service_of m) old.desk.held old.sessions) (exchange_in old)
+    else tells_holder (holder_in (service_of m) (client_of m) old.desk.held) m (exchange_in old)) control))
 
-pub indicated_holders : (m : List ℕ) (service : ℕ) (new old : Board) → is_control m ≡ false → client_of m ≡ 255 → service ≡ service_of m → new ≡ within (tells_from (Some service) m 0) old → new ≡ within (indicates m) old
+pub indicated_holders : (m : List ℕ) (service : ℕ) (new old : Core) → is_control m ≡ false → client_of m ≡ 255 → service ≡ service_of m → new ≡ within (tells_from (Some service) m 0) old → new ≡ within (indicates m) old
 indicated_holders m service new old control client same is =
-    is ∙ ap (λ (x : Exchange). let b : Board = record { exchange = x; greatest = old.greatest } in b)
-    (tells_from_first (Some service) m old.exchange
-    ∙ ap (λ (l : List ℕ). tells_all m l old.exchange) (holders_chosen service old.exchange.desk.held old.exchange.sessions ∙ ap (λ (n : ℕ). holders_of n old.exchange.desk.held old.exchange.sessions) same)
-    ∙ sym (ap (λ (b : Bool). if b then tells_all m (opened_ones old.exchange.sessions) old.exchange
-    else if client_of m == 255 then tells_all m (holders_of (service_of m) old.exchange.desk.held old.exchange.sessions) old.exchange
-    else tells_holder (holder_in (service_of m) (client_of m) old.exchange.desk.held) m old.exchange) control
-    ∙ ap (λ (b : Bool). if b then tells_all m (holders_of (service_of m) old.exchange.desk.held old.exchange.sessions) old.exchange
-    else tells_holder (holder_in (service_of m) (client_of m) old.exchange.desk.held) m old.exchange) (eq-eqb (client_of m) 255 client)))
+    is ∙ ap (λ (x : Exchange). with_exchange x old)
+    (tells_from_first (Some service) m (exchange_in old)
+    ∙ ap (λ (l : List ℕ). tells_all m l (exchange_in old)) (holders_chosen service old.desk.held old.sessions ∙ ap (λ (n : ℕ). holders_of n old.desk.held old.sessions) same)
+    ∙ sym (ap (λ (b : Bool). if b then tells_all m (opened_ones old.sessions) (exchange_in old)
+    else if client_of m == 255 then tells_all m (holders_of (service_of m) old.desk.held old.sessions) (exchange_in old)
+    else tells_holder (holder_in (service_of m) (client_of m) old.desk.held) m (exchange_in old)) control
+    ∙ ap (λ (b : Bool). if b then tells_all m (holders_of (service_of m) old.desk.held old.sessions) (exchange_in old)
+    else tells_holder (holder_in (service_of m) (client_of m) old.desk.held) m (exchange_in old)) (eq-eqb (client_of m) 255 client)))

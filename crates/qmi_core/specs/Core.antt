@@ -5,7 +5,7 @@ use Rattle.hub_io.specs.declared.settings.Limits.{Limits}
 use Rattle.qmi_proxy.specs.Setup.{Setup}
 use Rattle.qmi_proxy.specs.Clients.{deadline_of}
 use Rattle.qmi_state.specs.Transitions.{brings}
-pub use Rattle.qmi_state.specs.Core.{Account, Session, Leftover, Core, account_of, session_of, leftover_of, rests_of, modem_rest, greatest_name, IsSuffix, AreNames, Stands, StandsAfter, session_in, session_named, left_for, waiting_or, queue_of, is_owed, MayCome, CanStep, greatest_after, IsJoined, NextDropped, names_of}
+pub use Rattle.qmi_state.specs.Core.{Account, Session, Leftover, Core, account_of, session_of, leftover_of, rests_of, modem_rest, greatest_name, IsSuffix, AreNames, Stands, StandsAfter, session_in, session_named, left_for, waiting_or, queue_of, is_owed, MayCome, CanStep, greatest_after, NextDropped, names_of}
 pub use Rattle.qmi_state.specs.Transitions.{Exchange, exchange_in, with_exchange, joins, leaves, takes, modem_brings, goes, loses, returns, modem_takes, ticks, step}
 
 -- a piece of a client's stream

@@ -1,4 +1,8 @@
 pub mod Message
-pub mod Board
+pub mod Hearing
+pub mod View
+pub mod Switchboard
 pub mod Core
 pub mod Lending
+pub mod Face
+pub mod Shows

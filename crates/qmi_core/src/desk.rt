@@ -10,7 +10,6 @@ ghost use Rattle.qmi_state.specs.Transitions.{shared_of, refusal_of, forwards_as
 
 use crate::errors::{DEVICE_IN_USE, INTERNAL, INVALID_CLIENT_ID};
 use crate::message::Message;
-use crate::terms::Terms;
 use holders::Holders;
 use number_space::Space;
 use outbox::Outbox;
@@ -61,20 +60,26 @@ impl Desk {
 
     /// Meets a message that isn't for the proxy itself. It goes to the modem, or its sender is to be
     /// refused with an error.
-    pub fn forward(&mut self, terms: &Terms<'_>, name: u64, message: &Message<'_>) -> Option<u16>
-        ensures refusal { result ≡ refusal_of (shared_of terms.now.away name message.now self.old) }
-        ensures forwarded { self.new ≡ forwards_as (shared_of terms.now.away name message.now self.old) terms.now.deadline name message.now self.old }
+    pub fn forward(
+        &mut self,
+        away: bool,
+        deadline: u64,
+        name: u64,
+        message: &Message<'_>,
+    ) -> Option<u16>
+        ensures refusal { result ≡ refusal_of (shared_of away name message.now self.old) }
+        ensures forwarded { self.new ≡ forwards_as (shared_of away name message.now self.old) deadline name message.now self.old }
     {
         if self.is_foreign(name, message) {
             return Some(INVALID_CLIENT_ID);
         }
-        if terms.away {
+        if away {
             return Some(INTERNAL);
         }
         if !self.has_room(message) {
             return Some(DEVICE_IN_USE);
         }
-        let Some(number) = self.give(name, message, terms.deadline) else {
+        let Some(number) = self.give(name, message, deadline) else {
             return Some(DEVICE_IN_USE);
         };
         self.adopt(name, message);
@@ -117,8 +122,7 @@ impl Desk {
         ensures { self.new ≡ record self.old { waiting = self.old.waiting ++ with_number number message.now } }
     {
         let head = message.numbered(number);
-        self.outbox.queue(&head);
-        self.outbox.queue(message.rest());
+        self.outbox.queue_both(&head, message.rest());
     }
 
     // Gives the message the next number of its space.

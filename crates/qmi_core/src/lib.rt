@@ -3,13 +3,13 @@
 #![tactic(auto)]
 
 mod client;
-mod connection;
 mod desk;
-mod dropped;
 mod errors;
+mod hearing;
 mod message;
 mod proxy;
+mod serving;
+mod side;
 mod switchboard;
-mod terms;
 
 pub use proxy::QmiCore;

@@ -1,159 +1,116 @@
-ghost use Rattle.std.specs.Prelude.{◌≡◌, ◌+◌, ◌<◌, ◌≤◌, ◌++◌, [], ℕ, not, length, IfOk, IfSome, IsNone, OnOk, OnErr};
+ghost use Rattle.std.specs.Prelude.{◌≡◌, ◌+◌, ◌<◌, ◌≤◌, ◌++◌, [], not, length, position, slice_get, Some, IfOk, IfSome};
 ghost use Rattle.qmux_frame.specs.Head.{is_control, number_of};
 ghost use Rattle.qmux_frame.specs.Reply.{with_number};
-ghost use Rattle.qmi_state.specs.Desk.{desk_of};
-ghost use Rattle.qmi_state.specs.Core.{Session, session_in};
-ghost use Rattle.qmi_state.specs.Transitions.{lacks_room, brings, tells, expires_space, expires, aborts, forgets_all, responds, indicates, hears_indication, hears_modem};
-ghost use Rattle.qmi_core.specs.Board.{Board, within, AreRising, IsFirst, StandsAt, drops_at, tells_at, is_chosen, tells_from, queue_in, board_joins, board_leaves, board_takes, loses_exchange, modem_took, answers_noted, allocates, BoardDropped};
+ghost use Rattle.qmi_state.specs.Core.{Core, Session, session_in};
+ghost use Rattle.qmi_state.specs.Transitions.{brings, tells, expires_space, expires, aborts, forgets_all, responds, indicates, hears_indication, hears_modem};
+ghost use Rattle.qmi_core.specs.View.{within};
+ghost use Rattle.qmi_core.specs.Switchboard.{AreRising, StandsAt, is_chosen, takes_in, tells_from, answers_noted, allocates, opened};
+ghost use Rattle.qmi_core.specs.Core.{joins, leaves, ticks, takes, pieces, goes, loses, returns, modem_takes, queue_of, first_waiting, names_of, NextDropped};
 
-use crate::connection::Connection;
+use crate::client::Client;
 use crate::desk::Desk;
-use crate::dropped::{self, Dropped};
 use crate::errors::{ABORTED, CLIENT_IDS_EXHAUSTED};
 use crate::message::Message;
-use crate::terms::Terms;
+use crate::side::ModemSide;
+use connections::Connections;
 use framing::LONGEST_PIECE;
+use kit_bytes::Octets;
 use qmi_state::Asked;
-use qmux_frame::MessageKind;
+use qmux_frame::{MessageKind, Qmux};
 use std::alloc::{AllocError, Global};
 use std::marker::Model;
 
 /// How many connections are there at most.
-const CONNECTION_LIMIT: usize = 64;
+const CONNECTION_LIMIT: u16 = 64;
+
+/// How many bytes wait for a client at most.
+const OUTBOX_LIMIT: usize = 262_144;
 
 /// The client id of an indication that is for each client of its service.
 const EVERYBODY: u8 = 255;
 
-/// The connections, in order of joining, and the desk between them and the modem.
+/// The clients' connections, and what stands between them and the modem.
 #[derive(Drop)]
 pub struct Switchboard {
-    connections: Vec<Connection>,
-    dropped: Vec<Dropped>,
-    desk: Desk,
-    // the greatest name of a connection so far
-    greatest: u64,
+    connections: Connections<Qmux, Client>,
+    side: ModemSide,
 }
 
 impl Model for Switchboard {
-    ghost use Rattle.std.specs.Prelude.{◌+◌, ◌≤◌, vec_len, vec_capacity};
-    ghost use Rattle.qmi_core.specs.Board.{Board, AreOrdered};
+    ghost use Rattle.qmi_state.specs.Core.{Core};
+    ghost use Rattle.qmi_core.specs.View.{core_of, HasLimits};
 
-    ghost Value = { Board };
+    ghost Value = { Core };
 
-    ghost view = { λ s. record {
-      exchange = record { sessions = s.connections.items; dropped = s.dropped.items; desk = s.desk };
-      greatest = s.greatest;
-    } };
+    ghost view = { λ s. core_of s.connections s.side };
 
-    ghost invariant = { λ s. record {
-      ordered : AreOrdered s.greatest s.connections.items;
-      few : vec_len s.connections ≤ 64;
-      room : vec_len s.connections + vec_len s.dropped ≤ vec_capacity s.dropped;
-      capacity : 65 ≤ vec_capacity s.dropped;
-    } };
+    ghost invariant = { λ s. HasLimits s.connections };
 }
 
 impl Switchboard {
-    /// Nobody is there yet.
-    pub fn open(alloc: Global) -> Result<Self, AllocError>
-        ensures { IfOk result (λ board. board ≡ record { exchange = record { sessions = []; dropped = []; desk = desk_of [] }; greatest = 0 }) }
+    /// Nobody is there yet, and the modem is there.
+    pub fn open(alloc: Global, device: Octets, time_limit: u64) -> Result<Self, AllocError>
+        ensures { IfOk result (λ board. board ≡ opened device time_limit) }
     {
         Ok(Switchboard {
-            connections: Vec::new(alloc),
-            dropped: Vec::with_capacity(alloc, CONNECTION_LIMIT + 1)?,
-            desk: Desk::open(alloc)?,
-            greatest: 0,
+            connections: Connections::open(alloc, CONNECTION_LIMIT, OUTBOX_LIMIT)?,
+            side: ModemSide {
+                device,
+                time_limit,
+                time: 0,
+                away: false,
+                desk: Desk::open(alloc)?,
+            },
         })
     }
 
     /// A client connected: it is let in, or is to be hung up where as many as may be are there.
-    pub fn join(&mut self, alloc: Global, name: u64) -> Result<(), AllocError>
+    pub fn join(&mut self, name: u64)
         requires newer { self.old.greatest < name }
-        requires hung_up { self.old.exchange.dropped ≡ [] }
-        ensures ok { OnOk result (self.new ≡ board_joins name self.old) }
-        ensures err { OnErr result (self.new ≡ self.old) }
+        requires hung_up { self.old.dropped ≡ [] }
+        ensures { self.new ≡ joins name self.old }
     {
-        if self.connections.len() >= CONNECTION_LIMIT {
-            dropped::add(&mut self.dropped, Dropped::refused(name));
-            self.greatest = name;
-            return Ok(());
-        }
-        let connection = Connection::open(alloc, name)?;
-        self.connections.push(connection)?;
-        self.greatest = name;
-        Ok(())
+        self.connections.join(name, Client { opened: false });
     }
 
     /// A client is gone.
     pub fn leave(&mut self, name: u64)
-        ensures { self.new ≡ board_leaves name self.old }
+        ensures { self.new ≡ leaves name self.old }
     {
-        if let Some(index) = index_of(&self.connections, name) {
-            self.connections.remove(index);
-            self.desk.give_up(name);
+        if self.connections.leave(name) {
+            self.side.desk.give_up(name);
         }
     }
 
     /// A client's socket took the first so many of the bytes that waited for it.
     pub fn take(&mut self, name: u64, count: usize)
-        requires { count ≤ length (queue_in name self.old.exchange) }
-        ensures { self.new ≡ board_takes name count self.old }
+        requires { count ≤ length (queue_of name self.old) }
+        ensures { self.new ≡ takes name count self.old }
     {
-        if let Some(index) = index_of(&self.connections, name) {
-            let connection = &mut self.connections[index];
-            connection.take(count);
-        }
+        self.connections.take(name, count);
     }
 
     /// A piece of a client's stream.
-    pub fn bring(&mut self, terms: &Terms<'_>, name: u64, piece: &[u8])
+    pub fn bring(&mut self, name: u64, piece: &[u8])
         requires { length piece.now ≤ LONGEST_PIECE }
-        ensures { self.new ≡ within (brings terms.now.device.now terms.now.away terms.now.deadline name piece.now) self.old }
+        ensures { self.new ≡ pieces name piece.now self.old }
     {
-        if let Some(index) = index_of(&self.connections, name) {
-            let connection = &mut self.connections[index];
-            if !connection.hear(terms, piece, &mut self.desk) {
-                self.drop_at(index);
-            }
+        if !self.connections.bring(name, piece, &mut self.side) {
+            self.side.desk.give_up(name);
         }
     }
 
-    // The connection of this place is dropped, and is to be hung up.
-    fn drop_at(&mut self, index: usize)
-        requires { index < length self.old.exchange.sessions }
-        ensures { (s : Session) → StandsAt s self.old.exchange.sessions index → self.new ≡ within (drops_at index s) self.old }
+    // A client gets both runs of bytes, or is dropped where they find no room. Says whether it wasn't
+    // dropped.
+    fn tell(&mut self, name: u64, head: &[u8], rest: &[u8]) -> bool
+        ensures told { self.new ≡ within (tells name (head.now ++ rest.now)) self.old }
+        ensures stays { result ≡ takes_in (head.now ++ rest.now) (session_in name self.old.sessions) }
     {
-        let connection = self.connections.remove(index);
-        let name = connection.name();
-        self.desk.give_up(name);
-        dropped::add(
-            &mut self.dropped,
-            Dropped::new(name, connection.into_outbox()),
-        );
-    }
-
-    // Puts both runs of bytes into the outbox of the connection of this place, or drops it where they
-    // find no room. Says whether it stays.
-    fn put_at(&mut self, index: usize, head: &[u8], rest: &[u8]) -> bool
-        requires { index < length self.old.exchange.sessions }
-        ensures stays { (s : Session) → StandsAt s self.old.exchange.sessions index → result ≡ not (lacks_room (head.now ++ rest.now) s.account) }
-        ensures put { (s : Session) → StandsAt s self.old.exchange.sessions index → self.new ≡ within (tells_at index (head.now ++ rest.now) s) self.old }
-    {
-        let connection = &mut self.connections[index];
-        if connection.put(head, rest) {
+        if self.connections.tell(name, head, rest) {
             return true;
         }
-        self.drop_at(index);
+        self.side.desk.give_up(name);
         false
-    }
-
-    // A client gets both runs of bytes, or is dropped where they find no room.
-    fn tell(&mut self, name: u64, head: &[u8], rest: &[u8])
-        ensures { self.new ≡ within (tells name (head.now ++ rest.now)) self.old }
-    {
-        if let Some(index) = index_of(&self.connections, name) {
-            self.put_at(index, head, rest);
-        }
     }
 
     // A client gets these bytes, or is dropped where they find no room.
@@ -165,15 +122,15 @@ impl Switchboard {
 
     // Whether the connection of this place is one of those that an indication is for.
     fn is_chosen(&self, audience: Option<u8>, index: usize) -> bool
-        requires { index < length self.now.exchange.sessions }
-        ensures chosen { (s : Session) → StandsAt s self.now.exchange.sessions index → result ≡ is_chosen audience self.now.exchange.desk.held s }
-        ensures rising { AreRising self.now.exchange.sessions }
-        ensures few { length self.now.exchange.sessions ≤ CONNECTION_LIMIT }
+        requires { index < length self.now.sessions }
+        ensures { (s : Session) → StandsAt s self.now.sessions index → result ≡ is_chosen audience self.now.desk.held s }
     {
-        let connection = &self.connections[index];
         match audience {
-            Some(service) => self.desk.holds_any(connection.name(), service),
-            None => connection.is_open(),
+            Some(service) => self.side.desk.holds_any(self.name_at(index), service),
+            None => {
+                let client = self.connections.client_at(index);
+                client.opened
+            }
         }
     }
 
@@ -189,15 +146,15 @@ impl Switchboard {
 
     // The client of this place gets the bytes where they are for it. Gives the place of the next one.
     fn tell_at(&mut self, audience: Option<u8>, index: usize, bytes: &[u8]) -> usize
-        requires { index < length self.old.exchange.sessions }
-        ensures told { tells_from audience bytes.now result self.new.exchange ≡ tells_from audience bytes.now index self.old.exchange }
-        ensures greatest { self.new.greatest ≡ self.old.greatest }
-        ensures fewer { length self.new.exchange.sessions + index < length self.old.exchange.sessions + result }
+        requires { index < length self.old.sessions }
+        ensures told { within (tells_from audience bytes.now result) self.new ≡ within (tells_from audience bytes.now index) self.old }
+        ensures fewer { length self.new.sessions + index < length self.old.sessions + result }
     {
+        let name = self.name_at(index);
         if !self.is_chosen(audience, index) {
             return index + 1;
         }
-        if self.put_at(index, bytes, &[]) {
+        if self.tell(name, bytes, &[]) {
             return index + 1;
         }
         index
@@ -207,14 +164,22 @@ impl Switchboard {
     fn expire_space(&mut self, control: bool, time: u64)
         ensures { self.new ≡ within (expires_space control time) self.old }
     {
-        while let Some((name, asked)) = self.desk.expire(control, time) {
+        while let Some((name, asked)) = self.side.desk.expire(control, time) {
             let reply = asked.reply(ABORTED);
             self.send(name, reply.bytes());
         }
     }
 
-    /// The clock shows this time: the requests whose time has come are refused.
-    pub fn expire(&mut self, time: u64)
+    /// The clock shows this time.
+    pub fn tick(&mut self, time: u64)
+        ensures { self.new ≡ ticks time self.old }
+    {
+        self.side.time = time.max(self.side.time);
+        self.expire(self.side.time);
+    }
+
+    // The requests whose time has come are refused.
+    fn expire(&mut self, time: u64)
         ensures { self.new ≡ within (expires time) self.old }
     {
         self.expire_space(true, time);
@@ -226,23 +191,31 @@ impl Switchboard {
         ensures { self.new ≡ within (λ x. forgets_all (aborts x)) self.old }
     {
         self.expire(u64::MAX);
-        self.desk.forget();
+        self.side.desk.forget();
     }
 
-    /// The modem is lost.
+    /// The modem is lost, and away from here on.
     pub fn lose(&mut self)
-        ensures { self.new ≡ within loses_exchange self.old }
+        ensures { self.new ≡ loses self.old }
     {
         self.abort();
-        self.desk.clear_queue();
+        self.side.desk.clear_queue();
+        self.side.away = true;
+    }
+
+    /// The modem is back.
+    pub fn regain(&mut self)
+        ensures { self.new ≡ returns self.old }
+    {
+        self.side.away = false;
     }
 
     /// The modem took the first so many of the bytes that waited for it.
     pub fn take_modem(&mut self, count: usize)
-        requires { count ≤ length self.old.exchange.desk.waiting }
-        ensures { self.new ≡ within (modem_took count) self.old }
+        requires { count ≤ length self.old.desk.waiting }
+        ensures { self.new ≡ modem_takes count self.old }
     {
-        self.desk.take(count);
+        self.side.desk.take(count);
     }
 
     /// A whole message of the modem.
@@ -262,14 +235,14 @@ impl Switchboard {
     fn respond(&mut self, message: &Message<'_>)
         ensures { self.new ≡ within (responds message.now) self.old }
     {
-        let Some((name, asked, waits)) = self.desk.look(message.is_control(), message.number())
+        let Some((name, asked, waits)) = self.side.desk.look(message.is_control(), message.number())
         else {
             return;
         };
         if !asked.fits(message.service(), message.client()) {
             return;
         }
-        self.desk.free(message.is_control(), message.number());
+        self.side.desk.free(message.is_control(), message.number());
         if waits {
             self.answer(name, &asked, message);
         }
@@ -284,7 +257,7 @@ impl Switchboard {
             return self.answer_allocate(name, asked, message);
         }
         if asked.is_release() && message.is_success() {
-            self.desk.release(name, asked.service, asked.client);
+            self.side.desk.release(name, asked.service, asked.client);
         }
         self.deliver(name, asked, message);
     }
@@ -294,7 +267,7 @@ impl Switchboard {
         requires { is_control asked.now.head ≡ is_control message.now }
         ensures { self.new ≡ within (allocates name asked.now message.now) self.old }
     {
-        if self.desk.grant(name, message.byte(0), message.byte(1)) {
+        if self.side.desk.grant(name, message.byte(0), message.byte(1)) {
             self.deliver(name, asked, message);
         } else {
             let reply = asked.reply(CLIENT_IDS_EXHAUSTED);
@@ -334,79 +307,72 @@ impl Switchboard {
         if message.client() == EVERYBODY {
             return self.tell_each(Some(message.service()), message.bytes());
         }
-        if let Some(name) = self.desk.holder(message.service(), message.client()) {
+        if let Some(name) = self.side.desk.holder(message.service(), message.client()) {
             self.send(name, message.bytes());
         }
     }
 
     /// How many connections are there.
     pub fn present(&self) -> usize
-        ensures { result ≡ length self.now.exchange.sessions }
+        ensures { result ≡ length self.now.sessions }
     {
-        self.connections.len()
+        self.connections.present()
     }
 
-    /// The connections, in order of joining.
-    pub fn connections(&self) -> &[Connection]
-        ensures { result.now ≡ self.now.exchange.sessions }
+    /// The name of the connection of this place in the order of joining.
+    pub fn name_at(&self, index: usize) -> u64
+        requires { index < length self.now.sessions }
+        ensures named { (s : Session) → StandsAt s self.now.sessions index → result ≡ s.name }
+        ensures name { slice_get (names_of self.now) index ≡ Some result }
+        ensures rising { AreRising self.now.sessions }
+        ensures few { length self.now.sessions ≤ 64 }
     {
-        &self.connections
+        self.connections.name_at(index)
+    }
+
+    /// The place of the first connection, from this place on, for which bytes wait.
+    pub fn waiting_from(&self, from: usize) -> Option<usize>
+        requires { from ≤ length self.now.sessions }
+        ensures place { result ≡ first_waiting from self.now.sessions }
+        ensures within { IfSome result (λ place. (from ≤ place) × (place < length self.now.sessions)) }
+        ensures fits { IfSome result (λ place. place < usize.MAX) }
+    {
+        self.connections.waiting_from(from)
     }
 
     /// The bytes that wait for a connection that is there, or that was dropped and wasn't asked
     /// for yet; none for any other name.
     pub fn queued(&self, name: u64) -> &[u8]
-        ensures { result.now ≡ queue_in name self.now.exchange }
+        ensures { result.now ≡ queue_of name self.now }
     {
-        match index_of(&self.connections, name) {
-            Some(index) => {
-                let connection = &self.connections[index];
-                connection.queued()
-            }
-            None => dropped::queued(&self.dropped, name),
-        }
+        self.connections.queued(name)
     }
 
     /// The bytes that wait for the modem.
     pub fn queued_modem(&self) -> &[u8]
-        ensures { result.now ≡ self.now.exchange.desk.waiting }
+        ensures { result.now ≡ self.now.desk.waiting }
     {
-        self.desk.queued()
+        self.side.desk.queued()
     }
 
     /// The next connection to hang up, each once.
     pub fn next_dropped(&mut self) -> Option<u64>
-        ensures { BoardDropped self.old self.new result }
+        ensures { NextDropped self.old self.new result }
     {
-        if self.dropped.is_empty() {
-            return None;
-        }
-        let dropped = self.dropped.remove(0);
-        Some(dropped.name())
+        self.connections.next_dropped()
     }
 
-    /// The greatest name of a connection so far.
-    pub fn greatest(&self) -> u64
-        ensures { result ≡ self.now.greatest }
+    /// Whether the modem is away.
+    pub fn away(&self) -> bool
+        ensures { result ≡ self.now.away }
     {
-        self.greatest
+        self.side.away
     }
-}
 
-// Where the connection of this name stands.
-fn index_of(connections: &[Connection], name: u64) -> Option<usize>
-    requires { AreRising connections.now }
-    ensures first { IfSome result (IsFirst name connections.now) }
-    ensures absent { IsNone result → session_in name connections.now ≡ None }
-{
-    let place = connections.partition_point(|connection| connection.name() < name);
-    if place == connections.len() {
-        return None;
-    }
-    let connection = &connections[place];
-    if name == connection.name() {
-        Some(place)
-    } else {
-        None
+    /// The greatest time so far that the clock showed, in milliseconds.
+    pub fn time(&self) -> u64
+        ensures { result ≡ self.now.time }
+    {
+        self.side.time
     }
 }

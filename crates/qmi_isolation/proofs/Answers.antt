@@ -1,50 +1,59 @@
 -- Who gets the answers and the indications of the modem.
-use Rattle.std.proofs.Common.{◌≡◌, ◌≢◌, ℕ, ◌≤◌, Bool, true, false, not, ◌&&◌, ◌||◌, ◌==◌, if◌then◌else◌, List, [], ◌∷◌, length, filter, refl, ap, sym, ◌∙◌, subst, ⊎_elim, All, Contains, Option, Some, None}
+use Rattle.std.proofs.Common.{◌≡◌, ◌≢◌, ℕ, ◌≤◌, Bool, true, false, not, ◌&&◌, ◌||◌, ◌==◌, if◌then◌else◌, List, [], ◌∷◌, length, map, filter, refl, ap, sym, ◌∙◌, subst, ⊎_elim, All, Contains, Option, Some, None}
 use Rattle.std.proofs.lemmas.Bool.{eqb-true, eq-eqb, or_right, false_from_ne_true}
-use Rattle.std.proofs.lemmas.List.Elements.{All-contains, All-from_recursion}
+use Rattle.std.proofs.lemmas.List.Elements.{All-contains}
 use Rattle.qmux_frame.specs.Head.{service_of, is_control, client_of, number_of}
 use Rattle.qmux_frame.specs.declared.kind.MessageKind.TheVariants as kind
 use Rattle.qmux_frame.specs.Kind.{framed_kind}
 use Rattle.qmux_frame.specs.Control.{is_release}
 use Rattle.qmux_frame.specs.Reply.{with_number, result_reply}
 use Rattle.proxy_history.specs.Events.{Event}
-use Rattle.proxy_history.specs.Facts.{Fact, Request, Answered, IdHeld, Late, Indicated, Stray, Granted, Freed, Ended, NoRoom, EventBegan}
-use Rattle.proxy_history.specs.Connections.{contains, present, is_present}
+use Rattle.proxy_history.specs.Items.{ModemSays}
+use Rattle.proxy_history.specs.Facts.{Fact, Request, Answered, IdHeld, Late, Indicated, Stray, Granted, Freed, EventBegan}
+use Rattle.proxy_history.specs.Connections.{contains, present}
 use Rattle.proxy_history.specs.Requests.{in_use, pending, has_request, without_request, is_pending}
 use Rattle.proxy_history.specs.ClientIds.{held, holder, is_holder, is_other, holds_some}
 use Rattle.proxy_history.specs.View.{Entry, Response, Refused, Indication, HeldId, entry_if, view}
 use Rattle.proxy_history.specs.Rendering.{render, put}
-use Rattle.proxy_history.specs.Noting.{end_overfull, receivers_of}
+use Rattle.proxy_history.specs.Sound.{IsSound}
+use Rattle.proxy_history.specs.Coming.{AreSound}
+use Rattle.proxy_history.proofs.Walk.{was_asked, each_message}
+use Rattle.proxy_history.proofs.Coming.{joins_or_modem_takes}
 use Rattle.proxy_history.proofs.Lists.{Contains-cons_cases, Contains-nil}
-use Rattle.proxy_history.proofs.Sound.{in_use_from_pending, forwarded_from_in_use, waits}
+use Rattle.proxy_history.proofs.Sound.{kept_by_note, in_use_from_pending, forwarded_from_in_use, waits}
+use Rattle.qmi_proxy.specs.Limits.{qmi_limits, outbox_limit}
 use Rattle.qmi_proxy.specs.Setup.{Setup}
 use Rattle.qmi_proxy.specs.Errors.{client_ids_exhausted}
-use Rattle.qmi_proxy.specs.Spaces.{limit_of, top_of, space_of}
+use Rattle.qmi_proxy.specs.Spaces.{space_of}
 use Rattle.qmi_proxy.specs.Messages.{is_success, byte_of, value_of, used_service, used_client}
-use Rattle.qmi_proxy.specs.Text.{note, text, blank, view_of, rendering}
+use Rattle.qmi_proxy.specs.Text.{note, text, blank, view_of, rendering, qmi_wording}
 use Rattle.qmi_proxy.specs.FromModem.{IdChange, NoChange, Frees, id_change, granted_unless, brings_id, holder_of_brought, is_answered_by, first_answered_by, answer, answer_or_late, respond, hear_as, hear_modem, open_ones, receivers, tell}
-use Rattle.qmi_proxy.specs.History.{history}
-use Rattle.qmi_state.specs.Regular.{IsPlaced, IsAsked, Regular}
-use Rattle.qmi_state.specs.Core.{Core, Stands, greatest_name, rests_of}
-use Rattle.qmi_state.proofs.Heads.{framed_long, number_last}
-use Rattle.qmi_state.proofs.Answered.{one_is_answered, first_is, found_is}
-use Rattle.qmi_state.proofs.Keeping.{exchange}
-use Rattle.qmi_state.proofs.Modem.{responses_framed, kept_heard_all}
-use Rattle.qmi_state.proofs.Steps.{keeps_read}
-use Rattle.qmi_state.proofs.Answering.{asked_of_pending}
+use Rattle.qmi_proxy.specs.History.{qmi_protocol, history}
+use Rattle.qmi_proxy.specs.Regular.{IsAsked, Regular}
+use Rattle.qmux_frame.proofs.Framed.{framed_long, number_last, responses_framed}
+use Rattle.qmi_proxy.proofs.Walk.{Asks}
+use Rattle.qmi_proxy.proofs.Sound.{sound_items, begun_is_sound, items_are_asked}
+use Rattle.qmi_proxy.proofs.Regulars.{asked_of_pending, regular_begun, regular_items, histories_are_regular}
+use Rattle.qmi_proxy.proofs.Answered.{one_is_answered, first_is, found_is}
 use Rattle.qmi_isolation.specs.Laws.{facts_before, IsDelivered}
 use Rattle.qmi_isolation.proofs.Views.{noted_same}
 
 -- ---- the facts before a message of the modem ----
 
-pub regular_before : (s : Setup) (events : List Event) (core : Core) (earlier : List (List ℕ)) → Stands s events core → Regular (facts_before s events earlier)
-regular_before s events core earlier S =
-    (kept_heard_all s.device (greatest_name events) (rests_of events) s refl earlier (EventBegan ∷ history s events) (exchange core.sessions [] core.desk) (keeps_read s events core S)).regular
+pub sound_before : (s : Setup) (events : List Event) (earlier : List (List ℕ)) → IsSound qmi_limits (facts_before s events earlier)
+sound_before s events earlier = sound_items s (map (λ m. ModemSays m) earlier) (EventBegan ∷ history s events) (begun_is_sound s events)
+
+pub regular_before : (s : Setup) (events : List Event) (earlier : List (List ℕ)) → AreSound (qmi_protocol s) events → Regular (facts_before s events earlier)
+regular_before s events earlier sound =
+    regular_items s (map (λ m. ModemSays m) earlier) (EventBegan ∷ history s events) (each_message (λ item. joins_or_modem_takes item ≡ false) (λ m. ModemSays m) earlier (λ m. refl))
+    (regular_begun s (history s events) (histories_are_regular s events sound))
 
 -- ---- which request is answered ----
 
-space_in_use : (past : List Fact) → Regular past → (r : Request) → Contains (in_use past) r → r.space ≡ space_of r.message
-space_in_use past R r at = (All-contains IsPlaced (in_use past) r (All-from_recursion IsPlaced (in_use past) R.placed) at).0
+space_in_use : (s : Setup) (events : List Event) (earlier : List (List ℕ)) (r : Request) → Contains (in_use (facts_before s events earlier)) r → r.space ≡ space_of r.message
+space_in_use s events earlier r at =
+    let past : List Fact = facts_before s events earlier in
+    (was_asked (qmi_protocol s) (Asks s) past r (items_are_asked s (map (λ m. ModemSays m) earlier) events) (forwarded_from_in_use past r at)).1.space
 
 contained_has : (list : List Request) (r : Request) → Contains list r → has_request r list ≡ true
 contained_has [] r at = absurd (Contains-nil r at)
@@ -67,17 +76,14 @@ none_left r (q ∷ list) =
     in step (r.serial == q.serial) refl
 
 module _ (device : List ℕ) where
-  ended_in_use : (cs : List ℕ) (past : List Fact) → in_use (end_overfull blank (text device) cs past) ≡ in_use past
-  unfolding end_overfull in_use
-  ended_in_use [] past = refl
-  ended_in_use (c ∷ cs) past =
-      ended_in_use cs _
-      ∙ elim (is_present c past && (rendering device c past).is_over) as (λ b. in_use (if b then Ended c NoRoom ∷ past else past) ≡ in_use past) [ true ↦ refl | false ↦ refl ]
+  noted_in_use : (fact : Fact) (past : List Fact) → in_use (note device fact past) ≡ in_use (fact ∷ past)
+  unfolding in_use
+  noted_in_use fact past = kept_by_note qmi_limits (qmi_wording device) (λ after. in_use after ≡ in_use (fact ∷ past)) (λ c before there same. same) fact past refl
 
   module _ (r : Request) (m : List ℕ) (past : List Fact) (long : 12 ≤ length m) (asked : IsAsked past r) where
     -- the bytes that the sender gets behind these facts, which have its view as it was
     abbrev Delivers : List ℕ → List Fact → Type 0
-    Delivers bytes after = (rendering device r.conn after ≡ put bytes (rendering device r.conn past))
+    Delivers bytes after = (rendering device r.conn after ≡ put outbox_limit bytes (rendering device r.conn past))
         × ((c : ℕ) → c ≢ r.conn → rendering device c after ≡ rendering device c past)
         × (has_request r (in_use after) ≡ false)
 
@@ -87,28 +93,28 @@ module _ (device : List ℕ) where
     answered : (before : List Fact) → ((c : ℕ) → view_of c before ≡ view_of c past) → Delivers (with_number (number_of r.message) m) (note device (Answered r m) before)
     unfolding view in_use render
     answered before same = (
-      ap (render (text device)) (noted_same device r.conn (Answered r m) before)
-          ∙ ap (λ (b : Bool). render (text device) (entry_if b (Response r.place (blank m)) (view_of r.conn before))) (eq-eqb r.conn r.conn refl)
-          ∙ ap (λ (v : List Entry). render (text device) (Response r.place (blank m) ∷ v)) (same r.conn)
-          ∙ ap (λ (l : List ℕ). put (with_number (number_of l) (blank m)) (rendering device r.conn past)) asked.2
-          ∙ ap (λ (l : List ℕ). put l (rendering device r.conn past)) (number_last (number_of r.message) m long),
+      ap (render outbox_limit (text device)) (noted_same device r.conn (Answered r m) before)
+          ∙ ap (λ (b : Bool). render outbox_limit (text device) (entry_if b (Response r.place (blank m)) (view_of r.conn before))) (eq-eqb r.conn r.conn refl)
+          ∙ ap (λ (v : List Entry). render outbox_limit (text device) (Response r.place (blank m) ∷ v)) (same r.conn)
+          ∙ ap (λ (l : List ℕ). put outbox_limit (with_number (number_of l) (blank m)) (rendering device r.conn past)) asked.2
+          ∙ ap (λ (l : List ℕ). put outbox_limit l (rendering device r.conn past)) (number_last (number_of r.message) m long),
       λ c differs.
-          ap (render (text device)) (noted_same device c (Answered r m) before)
-          ∙ ap (λ (b : Bool). render (text device) (entry_if b (Response r.place (blank m)) (view_of c before))) (other_is c differs)
-          ∙ ap (render (text device)) (same c),
-      ap (has_request r) (ended_in_use (receivers_of (Answered r m)) (Answered r m ∷ before)) ∙ none_left r (in_use before),
+          ap (render outbox_limit (text device)) (noted_same device c (Answered r m) before)
+          ∙ ap (λ (b : Bool). render outbox_limit (text device) (entry_if b (Response r.place (blank m)) (view_of c before))) (other_is c differs)
+          ∙ ap (render outbox_limit (text device)) (same c),
+      ap (has_request r) (noted_in_use (Answered r m) before) ∙ none_left r (in_use before),
     )
 
     refused : Delivers (result_reply r.message client_ids_exhausted) (note device (IdHeld r) past)
     unfolding view in_use render
     refused = (
-      ap (render (text device)) (noted_same device r.conn (IdHeld r) past)
-          ∙ ap (λ (b : Bool). render (text device) (entry_if b (Refused r.place HeldId) (view_of r.conn past))) (eq-eqb r.conn r.conn refl)
-          ∙ ap (λ (l : List ℕ). put (result_reply l client_ids_exhausted) (rendering device r.conn past)) asked.2,
+      ap (render outbox_limit (text device)) (noted_same device r.conn (IdHeld r) past)
+          ∙ ap (λ (b : Bool). render outbox_limit (text device) (entry_if b (Refused r.place HeldId) (view_of r.conn past))) (eq-eqb r.conn r.conn refl)
+          ∙ ap (λ (l : List ℕ). put outbox_limit (result_reply l client_ids_exhausted) (rendering device r.conn past)) asked.2,
       λ c differs.
-          ap (render (text device)) (noted_same device c (IdHeld r) past)
-          ∙ ap (λ (b : Bool). render (text device) (entry_if b (Refused r.place HeldId) (view_of c past))) (other_is c differs),
-      ap (has_request r) (ended_in_use (receivers_of (IdHeld r)) (IdHeld r ∷ past)) ∙ none_left r (in_use past),
+          ap (render outbox_limit (text device)) (noted_same device c (IdHeld r) past)
+          ∙ ap (λ (b : Bool). render outbox_limit (text device) (entry_if b (Refused r.place HeldId) (view_of c past))) (other_is c differs),
+      ap (has_request r) (noted_in_use (IdHeld r) past) ∙ none_left r (in_use past),
     )
 
     -- the change of the client ids decides
@@ -129,12 +135,9 @@ module _ (device : List ℕ) where
         (byte_of 0 (value_of 0x01 m)) (byte_of 1 (value_of 0x01 m)) (used_service r.message) (used_client r.message) in
         record { sender = all.0; others = all.1; once = all.2 }
 
-module _ (s : Setup) (events : List Event) (core : Core) (earlier : List (List ℕ)) (m : List ℕ) (S : Stands s events core) (response : framed_kind m ≡ Some kind.Response) where
+module _ (s : Setup) (events : List Event) (earlier : List (List ℕ)) (m : List ℕ) (response : framed_kind m ≡ Some kind.Response) where
   abbrev past : List Fact
   past = facts_before s events earlier
-
-  regular : Regular past
-  regular = regular_before s events core earlier S
 
   heard : hear_modem s.device m past ≡ respond s.device (first_answered_by m (in_use past)) m past
   heard = ap (λ answered. hear_as answered s.device m past) response
@@ -143,7 +146,7 @@ module _ (s : Setup) (events : List Event) (core : Core) (earlier : List (List �
   replied : (r : Request) → Contains (pending past) r → is_answered_by m r ≡ true → hear_modem s.device m past ≡ answer s.device r m (id_change r.conn r.message m (holder_of_brought m past)) past
   replied r at answers =
       let used : Contains (in_use past) r = in_use_from_pending past r at in
-      let found : first_answered_by m (in_use past) ≡ Some r = first_is m (in_use past) r (λ q at_q is. one_is_answered past m q r regular.sound (space_in_use past regular) at_q used is answers) used answers in
+      let found : first_answered_by m (in_use past) ≡ Some r = first_is m (in_use past) r (λ q at_q is. one_is_answered past m q r (sound_before s events earlier) (space_in_use s events earlier) at_q used is answers) used answers in
       let waiting : is_pending r past ≡ true = contained_has (pending past) r at in
       heard ∙ ap (λ (o : Option Request). respond s.device o m past) found ∙ ap (λ (b : Bool). answer_or_late s.device b r m past) waiting
 
@@ -156,9 +159,9 @@ module _ (s : Setup) (events : List Event) (core : Core) (earlier : List (List �
       ∙ ap (λ (b : Bool). answer s.device r m (change b (is_other r.conn (holder_of_brought m past))) past) brings
       ∙ ap (λ (o : Bool). answer s.device r m (change true o) past) other
 
-  pub answers_have_one_receiver : (r : Request) → Contains (pending past) r → is_answered_by m r ≡ true → IsDelivered s.device r m past (hear_modem s.device m past)
-  answers_have_one_receiver r at answers =
-      subst (IsDelivered s.device r m past) (sym (replied r at answers)) (delivered s.device r m past (framed_long m (responses_framed m response)) (asked_of_pending past r regular at))
+  pub answers_have_one_receiver : (r : Request) → AreSound (qmi_protocol s) events → Contains (pending past) r → is_answered_by m r ≡ true → IsDelivered s.device r m past (hear_modem s.device m past)
+  answers_have_one_receiver r sound at answers =
+      subst (IsDelivered s.device r m past) (sym (replied r at answers)) (delivered s.device r m past (framed_long m (responses_framed m response)) (asked_of_pending past r (regular_before s events earlier sound) at))
 
   pub other_answers_have_none : (c : ℕ) → All (λ r. is_answered_by m r ≡ false) (pending past) → rendering s.device c (hear_modem s.device m past) ≡ rendering s.device c past
   unfolding view
@@ -181,18 +184,18 @@ module _ (s : Setup) (events : List Event) (core : Core) (earlier : List (List �
 
       waits_not : (r : Request) → Contains (in_use past) r → is_answered_by m r ≡ true → (b : Bool) → is_pending r past ≡ b → b ≡ false
       waits_not r at answers true is =
-          let isnt : is_answered_by m r ≡ false = All-contains (λ (q : Request). is_answered_by m q ≡ false) (pending past) r none (waits limit_of top_of past r regular.sound (forwarded_from_in_use past r at) is) in
+          let isnt : is_answered_by m r ≡ false = All-contains (λ (q : Request). is_answered_by m q ≡ false) (pending past) r none (waits qmi_limits past r (sound_before s events earlier) (forwarded_from_in_use past r at) is) in
           absurd (cc)
       waits_not r at answers false is = refl
 
 -- ---- indications ----
 
 pub indications_reach_their_receivers : (device m : List ℕ) (past : List Fact) (c : ℕ)
-    → rendering device c (tell device m past) ≡ (if contains c (receivers device m past) then put m (rendering device c past) else rendering device c past)
+    → rendering device c (tell device m past) ≡ (if contains c (receivers device m past) then put outbox_limit m (rendering device c past) else rendering device c past)
 unfolding view render
 indications_reach_their_receivers device m past c =
-    ap (render (text device)) (noted_same device c (Indicated m (receivers device m past)) past)
-    ∙ elim (contains c (receivers device m past)) as (λ b. render (text device) (entry_if b (Indication m) (view_of c past)) ≡ (if b then put m (rendering device c past) else rendering device c past)) [ true ↦ refl | false ↦ refl ]
+    ap (render outbox_limit (text device)) (noted_same device c (Indicated m (receivers device m past)) past)
+    ∙ elim (contains c (receivers device m past)) as (λ b. render outbox_limit (text device) (entry_if b (Indication m) (view_of c past)) ≡ (if b then put outbox_limit m (rendering device c past) else rendering device c past)) [ true ↦ refl | false ↦ refl ]
 
 contained_passes : (test : ℕ → Bool) (cs : List ℕ) (c : ℕ) → contains c (filter test cs) ≡ true → test c ≡ true
 contained_passes test [] c e = absurd (cc)

@@ -1,12 +1,22 @@
--- A client id that another client holds isn't used.
-use Rattle.std.proofs.Common.{◌≡◌, ◌≢◌, ℕ, ◌+◌, Bool, true, false, if◌then◌else◌, List, refl, ap, Option, Some, None}
-use Rattle.proxy_history.specs.Facts.{Verdict, Own, Foreign, Forward, Fact, Judged}
+-- A client id that another client holds isn't granted, and isn't used.
+use Rattle.std.proofs.Common.{◌≡◌, ◌≢◌, ℕ, ◌+◌, Bool, true, false, if◌then◌else◌, List, ◌∷◌, ◌++◌, refl, ap, subst, Option, Some, None}
+use Rattle.proxy_history.specs.Facts.{Verdict, Own, Foreign, Forward, Fact, Judged, Granted}
 use Rattle.proxy_history.specs.Connections.{message_count}
-use Rattle.proxy_history.specs.ClientIds.{is_other}
+use Rattle.proxy_history.specs.ClientIds.{holder, is_other}
+use Rattle.proxy_history.specs.Events.{Event}
+use Rattle.proxy_history.specs.Sound.{IsSound}
+use Rattle.qmi_proxy.specs.Limits.{qmi_limits}
+use Rattle.qmi_proxy.specs.History.{history}
+use Rattle.qmi_proxy.proofs.Sound.{histories_are_sound}
+use Rattle.qmi_isolation.proofs.Numbers.{sound_behind}
 use Rattle.qmi_proxy.specs.Setup.{Setup}
 use Rattle.qmi_proxy.specs.OwnReplies.{own_reply}
 use Rattle.qmi_proxy.specs.Text.{view_of, note}
 use Rattle.qmi_proxy.specs.Clients.{holder_for, shared_verdict, own_or, judge, hear_client, number_for}
+
+pub ids_are_free_when_granted : (s : Setup) (events : List Event) (later past : List Fact) (c service client : ℕ) → history s events ≡ later ++ Granted c service client ∷ past → is_other c (holder service client past) ≡ false
+ids_are_free_when_granted s events later past c service client whole =
+    (sound_behind later (Granted c service client ∷ past) (subst (IsSound qmi_limits) whole (histories_are_sound s events))).0.1
 
 module _ (s : Setup) (c : ℕ) (m : List ℕ) (past : List Fact) where
   -- it isn't forwarded where its client is judged so

@@ -1,27 +1,34 @@
 -- A request that is forwarded waits for the modem at the end of its event.
-use Rattle.std.proofs.Common.{◌≡◌, ℕ, ◌+◌, ◌<◌, ◌≤◌, Bool, true, false, not, ◌&&◌, if◌then◌else◌, List, [], ◌∷◌, ◌++◌, length, drop, map, refl, ap, sym, ◌∙◌, subst, arith, Option, Some, None, append_assoc, append-nil}
+use Rattle.std.proofs.Common.{◌≡◌, ℕ, ◌+◌, ◌<◌, ◌≤◌, Bool, true, false, if◌then◌else◌, List, [], ◌∷◌, ◌++◌, length, drop, map, refl, ap, sym, ◌∙◌, subst, arith, Option, Some, None, is_some, append_assoc, append-nil}
 use Rattle.std.specs.List.{concat, AllByRecursion}
 use Rattle.std.proofs.lemmas.Bool.{eq-eqb}
-use Rattle.std.proofs.lemmas.List.{map-append, drop-append-le, length-append}
+use Rattle.std.proofs.lemmas.List.{map-append, drop-append-le}
 use Rattle.std.proofs.lemmas.List.Folds.{concat-append}
 use Rattle.std.proofs.lemmas.List.Elements.{All-from_recursion}
 use Rattle.qmux_frame.specs.Frame.{size_of}
+use Rattle.proxy_history.specs.History as proxy
 use Rattle.proxy_history.specs.Events.{Event, Piece}
 use Rattle.proxy_history.specs.Items.{Item, Says, Garbles, item_if}
 use Rattle.proxy_history.specs.Streams.{messages_of_piece, is_bad, stream}
-use Rattle.proxy_history.specs.Facts.{Fact, Request, Verdict, Own, Foreign, Away, Full, Forward, EventBegan, Ended, BadStream, NoRoom, Judged, Forwarded, Granted}
+use Rattle.proxy_history.specs.Sound.{IsSound, MayFollow}
+use Rattle.proxy_history.specs.Coming.{AreSound}
+use Rattle.proxy_history.specs.Adding.{MayAdd}
+use Rattle.proxy_history.proofs.Walk.{each_message, behind_messages, one_if, kept_by_items}
+use Rattle.proxy_history.proofs.Coming.{joins_or_modem_takes}
+use Rattle.proxy_history.specs.Facts.{Fact, Request, Verdict, Forward, EventBegan, Ended, BadStream, NoRoom, Judged, Forwarded, Granted}
 use Rattle.proxy_history.specs.Connections.{is_present, message_count}
 use Rattle.proxy_history.specs.Requests.{in_use, forward_count}
-use Rattle.proxy_history.specs.ClientIds.{is_other}
-use Rattle.proxy_history.specs.Modem.{is_away, to_modem, modem_drained, modem_queue}
-use Rattle.proxy_history.specs.Noting.{end_overfull}
+use Rattle.proxy_history.specs.Modem.{to_modem, modem_drained, modem_queue}
+use Rattle.qmi_proxy.specs.Limits.{qmi_limits}
 use Rattle.qmi_proxy.specs.Setup.{Setup}
 use Rattle.qmi_proxy.specs.Messages.{uses_id, used_service, used_client}
-use Rattle.qmi_proxy.specs.OwnReplies.{own_reply}
-use Rattle.qmi_proxy.specs.Text.{note, text, blank, view_of, rendering}
-use Rattle.qmi_proxy.specs.Clients.{wire, number_for, holder_for, has_room, is_number, shared_verdict, own_or, verdict_on, request_of, grant_if, forward, judge, hear_client}
-use Rattle.qmi_proxy.specs.History.{add, add_all, history}
-use Rattle.qmi_state.specs.Core.{Core, Stands}
+use Rattle.qmi_proxy.specs.Clients.{wire, number_for, verdict_on, request_of, grant_if, forward, judge, hear_client}
+use Rattle.qmi_proxy.specs.History.{qmi_protocol, add, add_all, history}
+use Rattle.qmi_proxy.specs.Regular.{Regular}
+use Rattle.qmi_proxy.proofs.Verdicts.{forwarded_have_a_number}
+use Rattle.qmi_proxy.proofs.Walk.{Asks, orderly}
+use Rattle.qmi_proxy.proofs.Sound.{sound_add}
+use Rattle.qmi_proxy.proofs.Regulars.{regular_begun, regular_items, histories_are_regular}
 use Rattle.qmi_isolation.specs.Queues.{facts_before_saying, IsQueued}
 use Rattle.qmi_isolation.proofs.Splits.{splits}
 
@@ -68,26 +75,12 @@ further past between after one other = record {
   count = let first = one.count in let second = other.count in omega arith;
 }
 
-either : (b : Bool) (past one other : List Fact) → Adds past one → Adds past other → Adds past (if b then one else other)
-either true past one other a b = a
-either false past one other a b = b
-
--- ---- facts that add no request ----
-
-ended : (c : ℕ) (past : List Fact) → Adds past (Ended c BadStream ∷ past) × Adds past (Ended c NoRoom ∷ past)
-unfolding in_use to_modem modem_drained forward_count
-ended c past = (adds_none past (Ended c BadStream ∷ past) refl refl refl refl, adds_none past (Ended c NoRoom ∷ past) refl refl refl refl)
-
-judged : (c place : ℕ) (m : List ℕ) (verdict : Verdict) (past : List Fact) → Adds past (Judged c place m verdict ∷ past)
-unfolding in_use to_modem modem_drained forward_count
-judged c place m verdict past = adds_none past (Judged c place m verdict ∷ past) refl refl refl refl
+-- ---- facts ----
 
 granted : (b : Bool) (c : ℕ) (m : List ℕ) (past : List Fact) → Adds past (grant_if b c m past)
 unfolding in_use to_modem modem_drained forward_count
 granted true c m past = adds_none past (Granted c (used_service m) (used_client m) ∷ past) refl refl refl refl
 granted false c m past = same past
-
--- ---- a request ----
 
 requested : (r : Request) (past : List Fact) → r.serial ≡ forward_count past + 1 → Adds past (Forwarded r ∷ past)
 unfolding in_use to_modem modem_drained forward_count
@@ -100,56 +93,42 @@ requested r past next = record {
   count = omega arith;
 }
 
+is_clients : Item → Bool
+is_clients (Says c m) = true
+is_clients (Garbles c) = true
+is_clients _ = false
+
+-- what such an item adds is no answer, and nothing of the modem
+one_more : (item : Item) (fact : Fact) (past : List Fact) → is_clients item ≡ true → MayAdd item fact past → MayFollow qmi_limits fact past → Adds past (fact ∷ past)
+unfolding is_clients in_use to_modem modem_drained forward_count
+one_more (Says c m) (Judged d place message verdict) past clients may follows = adds_none past (Judged d place message verdict ∷ past) refl refl refl refl
+one_more (Says c m) (Forwarded r) past clients may follows = requested r past follows.serial
+one_more (Says c m) (Granted d service client) past clients may follows = adds_none past (Granted d service client ∷ past) refl refl refl refl
+one_more (Says c m) (Ended d NoRoom) past clients may follows = adds_none past (Ended d NoRoom ∷ past) refl refl refl refl
+one_more (Garbles c) (Ended d BadStream) past clients may follows = adds_none past (Ended d BadStream ∷ past) refl refl refl refl
+one_more (Says c m) _ past clients may follows = absurd may
+one_more (Garbles c) _ past clients may follows = absurd may
+one_more _ _ past clients may follows = absurd (cc)
+
 module _ (s : Setup) where
-  overfull : (cs : List ℕ) (past : List Fact) → Adds past (end_overfull blank (text s.device) cs past)
-  unfolding end_overfull
-  overfull [] past = same past
-  overfull (c ∷ cs) past = further past _ _ (either (is_present c past && (rendering s.device c past).is_over) past (Ended c NoRoom ∷ past) past (ended c past).1 (same past)) (overfull cs _)
+  abbrev AreClients : List Item → Type 0
+  AreClients items = AllByRecursion (λ item. is_clients item ≡ true) items
 
-  refused : (c : ℕ) (m : List ℕ) (verdict : Verdict) (past : List Fact) → Adds past (note s.device (Judged c (message_count c past + 1) m verdict) past)
-  refused c m verdict past = further past _ _ (judged c (message_count c past + 1) m verdict past) (overfull (c ∷ []) (Judged c (message_count c past + 1) m verdict ∷ past))
-
-  forwarded : (c : ℕ) (m : List ℕ) (number : Option ℕ) (past : List Fact) → Adds past (forward s c m number past)
-  forwarded c m None past = same past
-  forwarded c m (Some n) past = further past _ _ (requested (request_of s c m n past) past refl) (granted (uses_id m) c m (Forwarded (request_of s c m n past) ∷ past))
-
-  heard : (c : ℕ) (m : List ℕ) (number : Option ℕ) (verdict : Verdict) (past : List Fact) → Adds past (judge s c m number verdict past)
-  heard c m number Own past = refused c m Own past
-  heard c m number Foreign past = refused c m Foreign past
-  heard c m number Away past = refused c m Away past
-  heard c m number Full past = refused c m Full past
-  heard c m number Forward past = further past _ _ (judged c (message_count c past + 1) m Forward past) (forwarded c m number (Judged c (message_count c past + 1) m Forward ∷ past))
-
-  -- ---- what a piece of a client adds ----
-
-  said : (c : ℕ) (m : List ℕ) (past : List Fact) → Adds past (add s (Says c m) past)
-  said c m past = either (is_present c past) past _ past (heard c m (number_for m past) (verdict_on s c m past) past) (same past)
-
-  garbled : (c : ℕ) (bad : Bool) (past : List Fact) → Adds past (add_all s (item_if bad (Garbles c)) past)
-  unfolding add_all
-  garbled c true past = either (is_present c past) past _ past (ended c past).0 (same past)
-  garbled c false past = same past
-
-  all_said : (c : ℕ) (bad : Bool) (messages : List (List ℕ)) (past : List Fact) → Adds past (add_all s (map (λ m. Says c m) messages ++ item_if bad (Garbles c)) past)
-  unfolding add_all
-  all_said c bad [] past = garbled c bad past
-  all_said c bad (m ∷ messages) past = further past _ _ (said c m past) (all_said c bad messages (add s (Says c m) past))
+  client_adds : (items : List Item) (past : List Fact) → AreClients items → IsSound qmi_limits past → Adds past (add_all s items past)
+  client_adds items past clients sound =
+      kept_by_items (qmi_protocol s) (Asks s) (orderly s) (Adds past) (λ item. is_clients item ≡ true)
+      (λ item is fact before follows may asked adds. further past before (fact ∷ before) adds (one_more item fact before is may follows))
+      items past clients sound (same past)
 
   -- ---- the message that is forwarded ----
 
-  shared : (own : Option ℕ) (verdict : Verdict) → own_or own verdict ≡ Forward → verdict ≡ Forward
-  shared None verdict e = e
-  shared (Some error) verdict e = absurd (cc)
-
-  numbered : (foreign away : Bool) (number : Option ℕ) (room : Bool) → (if foreign then Foreign else if away then Away else if not (is_number number && room) then Full else Forward) ≡ Forward → (n : ℕ) × (number ≡ Some n)
-  numbered true away number room e = absurd (cc)
-  numbered false true number room e = absurd (cc)
-  numbered false false None room e = absurd (cc)
-  numbered false false (Some n) room e = (n, refl)
+  some_of : (number : Option ℕ) → is_some number ≡ true → (n : ℕ) × (number ≡ Some n)
+  some_of None e = absurd (cc)
+  some_of (Some n) e = (n, refl)
 
   module _ (c : ℕ) (m : List ℕ) (past after : List Fact) (there : is_present c past ≡ true) (verdict : verdict_on s c m past ≡ Forward) (rest : Adds (add s (Says c m) past) after) (drained : modem_drained past ≤ length (to_modem wire past)) where
     number : (n : ℕ) × (number_for m past ≡ Some n)
-    number = numbered (is_other c (holder_for m past)) (is_away s.starts_away past) (number_for m past) (has_room (length (modem_queue wire past)) m) (shared (own_reply s.device (view_of c past) m) (shared_verdict s c m past) verdict)
+    number = some_of (number_for m past) (forwarded_have_a_number s c m past verdict)
 
     abbrev before : List Fact
     before = Judged c (message_count c past + 1) m Forward ∷ past
@@ -213,30 +192,27 @@ module _ (s : Setup) where
 
 -- ---- the whole event ----
 
-begun_drained : (past : List Fact) → modem_drained past ≤ length (to_modem wire past) → modem_drained (EventBegan ∷ past) ≤ length (to_modem wire (EventBegan ∷ past))
-unfolding modem_drained to_modem
-begun_drained past within = within
-
-still_drained : (past after : List Fact) → Adds past after → modem_drained past ≤ length (to_modem wire past) → modem_drained after ≤ length (to_modem wire after)
-still_drained past after adds within =
-    let drained = adds.drained in
-    let longer : length (to_modem wire after) ≡ length (to_modem wire past) + length (concat (map wire adds.requests)) = ap length adds.bytes ∙ length-append (to_modem wire past) (concat (map wire adds.requests)) in
-    omega arith
-
-none_bad : (s : Setup) (c : ℕ) (messages : List (List ℕ)) (past : List Fact) → Adds past (add_all s (map (λ m. Says c m) messages) past)
-none_bad s c messages past = subst (λ (items : List Item). Adds past (add_all s items past)) (append-nil (map (λ (m : List ℕ). Says c m) messages)) (all_said s c false messages past)
-
-pub forwarded_requests_are_queued : (s : Setup) (events : List Event) (core : Core) (c : ℕ) (piece : List ℕ) (earlier later : List (List ℕ)) (m : List ℕ)
-    → Stands s events core → messages_of_piece size_of (stream c events) piece ≡ earlier ++ m ∷ later
+pub forwarded_requests_are_queued : (s : Setup) (events : List Event) (c : ℕ) (piece : List ℕ) (earlier later : List (List ℕ)) (m : List ℕ)
+    → AreSound (qmi_protocol s) events → messages_of_piece size_of (stream c events) piece ≡ earlier ++ m ∷ later
     → is_present c (facts_before_saying s events c earlier) ≡ true → verdict_on s c m (facts_before_saying s events c earlier) ≡ Forward
     → IsQueued c m (facts_before_saying s events c earlier) (history s (Piece c piece ∷ events))
-unfolding history
-forwarded_requests_are_queued s events core c piece earlier later m S brings there verdict =
+unfolding proxy.history is_clients
+forwarded_requests_are_queued s events c piece earlier later m sound brings there verdict =
     let begun : List Fact = EventBegan ∷ history s events in
     let past : List Fact = facts_before_saying s events c earlier in
     let bad : Bool = is_bad size_of (stream c events ++ piece) in
-    let after : List Fact = add_all s (map (λ m. Says c m) later ++ item_if bad (Garbles c)) (add s (Says c m) past) in
+    let end : List Item = map (λ m. Says c m) later ++ item_if bad (Garbles c) in
+    let said : List Fact = add s (Says c m) past in
+    let after : List Fact = add_all s end said in
     let whole : history s (Piece c piece ∷ events) ≡ after =
     ap (λ (messages : List (List ℕ)). add_all s (map (λ m. Says c m) messages ++ item_if bad (Garbles c)) begun) brings ∙ splits s (λ m. Says c m) (item_if bad (Garbles c)) earlier later m begun in
-    let drained : modem_drained past ≤ length (to_modem wire past) = still_drained begun past (none_bad s c earlier begun) (begun_drained (history s events) S.regular.drained) in
-    subst (IsQueued c m past) (sym whole) (queued s c m past after there verdict (all_said s c bad later (add s (Says c m) past)) drained)
+    let regular : Regular past =
+    regular_items s (map (λ m. Says c m) earlier) begun (each_message (λ item. joins_or_modem_takes item ≡ false) (λ m. Says c m) earlier (λ m. refl))
+    (regular_begun s (history s events) (histories_are_regular s events sound))
+    in
+    let rest : Adds said after =
+    client_adds s end said
+    (behind_messages (λ item. is_clients item ≡ true) (λ m. Says c m) later (item_if bad (Garbles c)) (λ m. refl) (one_if (λ item. is_clients item ≡ true) bad (Garbles c) refl))
+    (sound_add s (Says c m) past regular.sound)
+    in
+    subst (IsQueued c m past) (sym whole) (queued s c m past after there verdict rest regular.drained)

@@ -1,28 +1,26 @@
 -- The facts that the messages of the modem and its loss add, and what they leave of a client.
-use Rattle.std.proofs.Common.{◌≡◌, ℕ, ◌+◌, Bool, true, false, not, ◌&&◌, ◌||◌, ◌==◌, nat_lt, if◌then◌else◌, List, [], ◌∷◌, ◌++◌, length, map, refl, ap, sym, ◌∙◌, append_assoc, All, Option, Some, None}
+use Rattle.std.proofs.Common.{◌≡◌, ℕ, ◌+◌, Bool, true, false, not, ◌||◌, ◌==◌, nat_lt, List, [], ◌∷◌, ◌++◌, length, refl, ap, sym, ◌∙◌}
 use Rattle.std.proofs.lemmas.Bool.{eqb-true, eq-eqb, or_left, or_right}
-use Rattle.std.proofs.lemmas.List.Elements.{All-nil, All-cons, All-head, All-tail, All-append}
-use Rattle.qmux_frame.specs.declared.kind.MessageKind.{MessageKind}
-use Rattle.qmux_frame.specs.declared.kind.MessageKind.TheVariants as kind
-use Rattle.qmux_frame.specs.Head.{is_control, client_of}
-use Rattle.qmux_frame.specs.Kind.{framed_kind}
-use Rattle.qmux_frame.specs.Control.{is_sync}
-use Rattle.proxy_history.specs.Limits.{outbox_limit}
-use Rattle.proxy_history.specs.Items.{ModemSays, ModemFails, item_if}
-use Rattle.proxy_history.specs.Facts.{Fact, Request, EventBegan, Admitted, Ended, NotAdmitted, BadStream, NoRoom, Closed, Judged, Drained, Forwarded, Answered, IdHeld, Late, Expired, Aborted, Indicated, Stray, Granted, Freed, Reset, ModemLost}
+use Rattle.std.proofs.lemmas.List.Elements.{All-nil, All-cons}
+use Rattle.std.specs.List.{AllByRecursion}
+use Rattle.proxy_history.specs.Items.{Item, Joins, Says, Garbles, Leaves, ModemSays, ModemFails, ModemReturns, ClockShows, Takes, ModemTakes}
+use Rattle.proxy_history.specs.Facts.{Fact, EventBegan, Admitted, Ended, NotAdmitted, BadStream, NoRoom, Closed, Judged, Drained, Forwarded, Answered, IdHeld, Expired, Aborted, Indicated, OpeningEnded, SessionsClosed}
 use Rattle.proxy_history.specs.Connections.{contains, present, is_present, dropped}
-use Rattle.proxy_history.specs.Requests.{in_use, pending, is_pending}
-use Rattle.proxy_history.specs.View.{Entry, Response, Refused, Indication, HeldId, NoAnswer, entry_if, view}
+use Rattle.proxy_history.specs.View.{Entry, Response, Refused, Indication, OpenedWith, Shut, HeldId, NoAnswer, entry_if, view}
 use Rattle.proxy_history.specs.Rendering.{Rendering, render, put, put_unless, Grows}
 use Rattle.proxy_history.specs.HungUp.{is_beginning}
-use Rattle.proxy_history.specs.Noting.{end_overfull, each_pending, receivers_of}
+use Rattle.proxy_history.specs.Sound.{IsSound}
+use Rattle.proxy_history.specs.Adding.{Extends, MayAdd}
+use Rattle.proxy_history.proofs.Lists.{contains_filter}
+use Rattle.proxy_history.proofs.Adding.{extends_none, extends_one, extends_further, extends_keeps}
+use Rattle.proxy_history.proofs.Walk.{kept_by_items}
 use Rattle.proxy_history.proofs.Growing as growing
 use Rattle.proxy_history.proofs.Numbers.{contains_other}
+use Rattle.qmi_proxy.specs.Limits.{outbox_limit, qmi_limits}
 use Rattle.qmi_proxy.specs.Setup.{Setup}
-use Rattle.qmi_proxy.specs.Text.{note, text, blank, view_of, rendering}
-use Rattle.qmi_proxy.specs.FromModem.{IdChange, NoChange, Grants, Collides, Frees, id_change, holder_of_brought, answer, answer_or_late, respond, first_answered_by, in_expiry_order, abort_all, lose, receivers, tell, indicate, hear_as}
-use Rattle.qmi_proxy.specs.History.{add, add_all}
-use Rattle.qmi_state.proofs.Lists.{contains_filter}
+use Rattle.qmi_proxy.specs.Text.{text, blank, view_of, rendering, qmi_wording}
+use Rattle.qmi_proxy.specs.History.{qmi_protocol, add_all}
+use Rattle.qmi_proxy.proofs.Walk.{Asks, orderly}
 use Rattle.qmi_isolation.specs.Queues.{IsEndedForRoom}
 
 -- ---- which facts they are ----
@@ -37,94 +35,39 @@ is_of_modem (Drained c count) = false
 is_of_modem (Forwarded r) = false
 is_of_modem _ = true
 
-abbrev pub AreOfModem : List Fact → Type 0
-AreOfModem facts = All (λ fact. is_of_modem fact ≡ true) facts
+abbrev pub OfModem : Fact → List Fact → Type 0
+OfModem fact past = is_of_modem fact ≡ true
 
-pub record Adds (past after : List Fact) : Type 0 where
-  pub later : List Fact
-  pub whole : after ≡ later ++ past
-  pub all : AreOfModem later
+abbrev pub is_modems : Item → Bool
+is_modems (ModemSays m) = true
+is_modems ModemFails = true
+is_modems _ = false
 
-same : (past : List Fact) → Adds past past
-same past = record { later = []; whole = refl; all = All-nil (λ (fact : Fact). is_of_modem fact ≡ true) }
-
-added : (fact : Fact) (past : List Fact) → is_of_modem fact ≡ true → Adds past (fact ∷ past)
-added fact past is = record { later = fact ∷ []; whole = refl; all = All-cons (λ (f : Fact). is_of_modem f ≡ true) fact [] is (All-nil (λ (f : Fact). is_of_modem f ≡ true)) }
-
-pub further : (past between after : List Fact) → Adds past between → Adds between after → Adds past after
-further past between after one other = record {
-  later = other.later ++ one.later;
-  whole = other.whole ∙ ap (λ (l : List Fact). other.later ++ l) one.whole ∙ sym (append_assoc other.later one.later past);
-  all = All-append (λ (f : Fact). is_of_modem f ≡ true) other.later one.later other.all one.all;
-}
-
-either : (b : Bool) (past one other : List Fact) → Adds past one → Adds past other → Adds past (if b then one else other)
-either true past one other a b = a
-either false past one other a b = b
-
-module _ (device : List ℕ) where
-  overfull : (cs : List ℕ) (past : List Fact) → Adds past (end_overfull blank (text device) cs past)
-  unfolding end_overfull
-  overfull [] past = same past
-  overfull (c ∷ cs) past = further past _ _ (either (is_present c past && (rendering device c past).is_over) past (Ended c NoRoom ∷ past) past (added (Ended c NoRoom) past refl) (same past)) (overfull cs _)
-
-  noted : (fact : Fact) (past : List Fact) → is_of_modem fact ≡ true → Adds past (note device fact past)
-  noted fact past is = further past _ _ (added fact past is) (overfull (receivers_of fact) (fact ∷ past))
-
-  each : (action : Request → List Fact → List Fact) → ((r : Request) (past : List Fact) → Adds past (action r past)) → (requests : List Request) (past : List Fact) → Adds past (each_pending action requests past)
-  unfolding each_pending
-  each action adds [] past = same past
-  each action adds (r ∷ requests) past = further past _ _ (either (is_pending r past) past (action r past) past (adds r past) (same past)) (each action adds requests _)
-
-  aborted : (past : List Fact) → Adds past (abort_all device past)
-  aborted past = each (λ r before. note device (Aborted r) before) (λ r before. noted (Aborted r) before refl) (in_expiry_order (pending past)) past
-
-  lost : (past : List Fact) → Adds past (lose device past)
-  lost past = further past _ _ (aborted past) (added ModemLost (abort_all device past) refl)
-
-  answered : (r : Request) (m : List ℕ) (change : IdChange) (past : List Fact) → Adds past (answer device r m change past)
-  answered r m NoChange past = noted (Answered r m) past refl
-  answered r m (Grants service client) past = further past _ _ (added (Granted r.conn service client) past refl) (noted (Answered r m) (Granted r.conn service client ∷ past) refl)
-  answered r m Collides past = noted (IdHeld r) past refl
-  answered r m (Frees service client) past = further past _ _ (added (Freed r.conn service client) past refl) (noted (Answered r m) (Freed r.conn service client ∷ past) refl)
-
-  responded : (found : Option Request) (m : List ℕ) (past : List Fact) → Adds past (respond device found m past)
-  responded None m past = added Stray past refl
-  responded (Some r) m past =
-      elim (is_pending r past) as (λ b. Adds past (answer_or_late device b r m past)) [
-        | true ↦ answered r m (id_change r.conn r.message m (holder_of_brought m past)) past
-        | false ↦ added (Late r) past refl
-      ]
-
-  told : (m : List ℕ) (past : List Fact) → Adds past (tell device m past)
-  told m past = noted (Indicated m (receivers device m past)) past refl
-
-  indicated : (m : List ℕ) (past : List Fact) → Adds past (indicate device m past)
-  indicated m past =
-      either (is_sync m) past _ _
-      (further past _ _ (aborted past) (further (abort_all device past) _ _ (added Reset (abort_all device past) refl) (told m (Reset ∷ abort_all device past))))
-      (either (not (is_control m) && client_of m == 0) past _ _ (added Stray past refl) (told m past))
-
-  heard : (told : Option MessageKind) (m : List ℕ) (past : List Fact) → Adds past (hear_as told device m past)
-  heard (Some kind.Response) m past = responded (first_answered_by m (in_use past)) m past
-  heard (Some kind.Indication) m past = indicated m past
-  heard (Some kind.Request) m past = added Stray past refl
-  heard None m past = added Stray past refl
+of_modem : (item : Item) (fact : Fact) (past : List Fact) → is_modems item ≡ true → MayAdd item fact past → OfModem fact past
+of_modem (Joins c) _ past modems may = absurd (cc)
+of_modem (Says c m) _ past modems may = absurd (cc)
+of_modem (Garbles c) _ past modems may = absurd (cc)
+of_modem (Leaves c) _ past modems may = absurd (cc)
+of_modem ModemReturns _ past modems may = absurd (cc)
+of_modem (ClockShows time) _ past modems may = absurd (cc)
+of_modem (Takes c count) _ past modems may = absurd (cc)
+of_modem (ModemTakes count) _ past modems may = absurd (cc)
+of_modem _ EventBegan past modems may = absurd may
+of_modem _ (Admitted c) past modems may = absurd may
+of_modem _ (Ended c NotAdmitted) past modems may = absurd may
+of_modem _ (Ended c BadStream) past modems may = absurd may
+of_modem _ (Ended c Closed) past modems may = absurd may
+of_modem _ (Judged c place message verdict) past modems may = absurd may
+of_modem _ (Drained c count) past modems may = absurd may
+of_modem _ (Forwarded r) past modems may = absurd may
+of_modem _ _ past modems may = refl
 
 -- the messages of a piece, and the loss behind a stream that went bad
-module _ (s : Setup) where
-  pub said : (m : List ℕ) (past : List Fact) → Adds past (add s (ModemSays m) past)
-  said m past = heard s.device (framed_kind m) m past
-
-  failed : (bad : Bool) (past : List Fact) → Adds past (add_all s (item_if bad ModemFails) past)
-  unfolding add_all
-  failed true past = lost s.device past
-  failed false past = same past
-
-  pub all_said : (bad : Bool) (messages : List (List ℕ)) (past : List Fact) → Adds past (add_all s (map (λ m. ModemSays m) messages ++ item_if bad ModemFails) past)
-  unfolding add_all
-  all_said bad [] past = failed bad past
-  all_said bad (m ∷ messages) past = further past _ _ (said m past) (all_said bad messages (add s (ModemSays m) past))
+pub modem_adds : (s : Setup) (items : List Item) (past : List Fact) → AllByRecursion (λ item. is_modems item ≡ true) items → IsSound qmi_limits past → Extends OfModem past (add_all s items past)
+modem_adds s items past modems sound =
+    kept_by_items (qmi_protocol s) (Asks s) (orderly s) (Extends OfModem past) (λ item. is_modems item ≡ true)
+    (λ item is fact before follows may asked more. extends_further OfModem past before (fact ∷ before) more (extends_one OfModem fact before (of_modem item fact before is may)))
+    items past modems sound (extends_none OfModem past)
 
 -- ---- what they leave of a client ----
 
@@ -136,23 +79,22 @@ module _ (device : List ℕ) (client : ℕ) where
   begins_none _ is = refl
 
   -- its bytes stay, and more may come behind them
-  pub all_grow : (later past : List Fact) → AreOfModem later → Grows (rendering device client past) (rendering device client (later ++ past))
-  all_grow [] past all = growing.grows_same (rendering device client past)
-  all_grow (fact ∷ later) past all =
-      growing.grows_further blank (text device) client past (later ++ past) (fact ∷ later ++ past)
-      (all_grow later past (All-tail (λ (f : Fact). is_of_modem f ≡ true) fact later all))
-      (growing.fact_grows blank (text device) client fact (later ++ past) (begins_none fact (All-head (λ (f : Fact). is_of_modem f ≡ true) fact later all)))
+  pub all_grow : (past after : List Fact) → Extends OfModem past after → Grows (rendering device client past) (rendering device client after)
+  all_grow past after adds =
+      extends_keeps OfModem (λ now. Grows (rendering device client past) (rendering device client now))
+      (λ fact before is grown. growing.grows_further qmi_limits (qmi_wording device) client past before (fact ∷ before) grown (growing.fact_grows qmi_limits (qmi_wording device) client fact before (begins_none fact is)))
+      past after adds (growing.grows_same (rendering device client past))
 
   -- what came when its queue was full wasn't written, and nothing is written behind it
-  full : (bytes : List ℕ) (r : Rendering) → r.is_over ≡ true → put bytes r ≡ r
+  full : (bytes : List ℕ) (r : Rendering) → r.is_over ≡ true → put outbox_limit bytes r ≡ r
   full bytes r over = by_test (nat_lt outbox_limit (length r.waiting + length bytes))
     where
       by_test : (lacks : Bool) → put_unless (r.is_over || lacks) bytes r ≡ r
       by_test lacks = ap (λ (b : Bool). put_unless (b || lacks) bytes r) over ∙ ap (λ (b : Bool). let x : Rendering = record { bytes = r.bytes; waiting = r.waiting; is_over = b } in x) (sym over)
 
-  full_entry : (b : Bool) (entry : Entry) (bytes : List ℕ) (entries : List Entry) → (render (text device) entries).is_over ≡ true
-      → render (text device) (entry ∷ entries) ≡ put bytes (render (text device) entries) → render (text device) (entry_if b entry entries) ≡ render (text device) entries
-  full_entry true entry bytes entries over is = is ∙ full bytes (render (text device) entries) over
+  full_entry : (b : Bool) (entry : Entry) (bytes : List ℕ) (entries : List Entry) → (render outbox_limit (text device) entries).is_over ≡ true
+      → render outbox_limit (text device) (entry ∷ entries) ≡ put outbox_limit bytes (render outbox_limit (text device) entries) → render outbox_limit (text device) (entry_if b entry entries) ≡ render outbox_limit (text device) entries
+  full_entry true entry bytes entries over is = is ∙ full bytes (render outbox_limit (text device) entries) over
   full_entry false entry bytes entries over is = refl
 
   full_fact : (fact : Fact) (past : List Fact) → is_of_modem fact ≡ true → (rendering device client past).is_over ≡ true → rendering device client (fact ∷ past) ≡ rendering device client past
@@ -169,13 +111,15 @@ module _ (device : List ℕ) (client : ℕ) where
   full_fact (Expired r) past is over = full_entry (r.conn == client) (Refused r.place NoAnswer) _ (view_of client past) over refl
   full_fact (Aborted r) past is over = full_entry (r.conn == client) (Refused r.place NoAnswer) _ (view_of client past) over refl
   full_fact (Indicated m receivers) past is over = full_entry (contains client receivers) (Indication m) _ (view_of client past) over refl
+  full_fact (OpeningEnded status receivers) past is over = full_entry (contains client receivers) (OpenedWith status) [] (view_of client past) over refl
+  full_fact (SessionsClosed receivers) past is over =
+      elim (contains client receivers) as (λ b. render outbox_limit (text device) (entry_if b Shut (view_of client past)) ≡ render outbox_limit (text device) (view_of client past)) [ true ↦ refl | false ↦ refl ]
   full_fact _ past is over = refl
 
-  pub all_full : (later past : List Fact) → AreOfModem later → (rendering device client past).is_over ≡ true → rendering device client (later ++ past) ≡ rendering device client past
-  all_full [] past all over = refl
-  all_full (fact ∷ later) past all over =
-      let rest = all_full later past (All-tail (λ (f : Fact). is_of_modem f ≡ true) fact later all) over in
-      full_fact fact (later ++ past) (All-head (λ (f : Fact). is_of_modem f ≡ true) fact later all) (ap (λ (r : Rendering). r.is_over) rest ∙ over) ∙ rest
+  pub all_full : (past after : List Fact) → Extends OfModem past after → (rendering device client past).is_over ≡ true → rendering device client after ≡ rendering device client past
+  all_full past after adds over =
+      extends_keeps OfModem (λ now. rendering device client now ≡ rendering device client past)
+      (λ fact before is same. full_fact fact before is (ap (λ (r : Rendering). r.is_over) same ∙ over) ∙ same) past after adds refl
 
 -- who is gone stays gone
 module _ (client : ℕ) where
@@ -185,10 +129,8 @@ module _ (client : ℕ) where
   gone_stays (Ended c why) past is gone = contains_filter client (λ d. not (c == d)) (present past) gone
   gone_stays _ past is gone = gone
 
-  pub all_gone : (later past : List Fact) → AreOfModem later → is_present client past ≡ false → is_present client (later ++ past) ≡ false
-  all_gone [] past all gone = gone
-  all_gone (fact ∷ later) past all gone =
-      gone_stays fact (later ++ past) (All-head (λ (f : Fact). is_of_modem f ≡ true) fact later all) (all_gone later past (All-tail (λ (f : Fact). is_of_modem f ≡ true) fact later all) gone)
+  pub all_gone : (past after : List Fact) → Extends OfModem past after → is_present client past ≡ false → is_present client after ≡ false
+  all_gone past after adds gone = extends_keeps OfModem (λ now. is_present client now ≡ false) gone_stays past after adds gone
 
   -- who was there and is gone was ended for want of room
   abbrev pub IsOwed : List Fact → Type 0
@@ -233,7 +175,5 @@ module _ (client : ℕ) where
   fact_owed (Ended c why) past is owed gone = absurd (cc)
   fact_owed fact past is owed gone = let ended = owed gone in ended_more fact past refl ended.hung_up ended
 
-  pub all_owed : (later past : List Fact) → AreOfModem later → IsOwed past → IsOwed (later ++ past)
-  all_owed [] past all owed gone = owed gone
-  all_owed (fact ∷ later) past all owed gone =
-      fact_owed fact (later ++ past) (All-head (λ (f : Fact). is_of_modem f ≡ true) fact later all) (all_owed later past (All-tail (λ (f : Fact). is_of_modem f ≡ true) fact later all) owed) gone
+  pub all_owed : (past after : List Fact) → Extends OfModem past after → IsOwed past → IsOwed after
+  all_owed past after adds owed = extends_keeps OfModem IsOwed (λ fact before is held. fact_owed fact before is held) past after adds owed

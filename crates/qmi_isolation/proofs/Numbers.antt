@@ -9,11 +9,11 @@ use Rattle.proxy_history.specs.Connections.{contains}
 use Rattle.proxy_history.specs.Requests.{in_use, of_space, numbers_of, numbers_in_use}
 use Rattle.proxy_history.specs.Sound.{IsSound, Differ}
 use Rattle.proxy_history.proofs.SoundLaws.{in_use_differ}
+use Rattle.qmi_proxy.specs.Limits.{qmi_limits}
 use Rattle.qmi_proxy.specs.Setup.{Setup}
-use Rattle.qmi_proxy.specs.Spaces.{limit_of, top_of}
 use Rattle.qmi_proxy.specs.History.{history}
 use Rattle.qmi_proxy.proofs.Sound.{histories_are_sound}
-use Rattle.qmi_state.proofs.Apart.{head_all, tail_pairs, within}
+use Rattle.qmi_proxy.proofs.Apart.{head_all, tail_pairs, within}
 
 differ_from_last : (requests : List Request) (r : Request) → AllPairs Differ (requests ++ r ∷ []) → AllByRecursion (λ q. Differ q r) requests
 differ_from_last [] r pairs = tt
@@ -32,12 +32,12 @@ free_of (q ∷ requests) r all =
     ]
     in step (q.space == r.space) refl
 
-sound_behind : (later past : List Fact) → IsSound limit_of top_of (later ++ past) → IsSound limit_of top_of past
+pub sound_behind : (later past : List Fact) → IsSound qmi_limits (later ++ past) → IsSound qmi_limits past
 sound_behind [] past sound = sound
 sound_behind (fact ∷ later) past sound = sound_behind later past sound.1
 
 pub numbers_are_free_when_given : (s : Setup) (events : List Event) (later past : List Fact) (r : Request) → history s events ≡ later ++ Forwarded r ∷ past → contains r.number (numbers_in_use r.space past) ≡ false
 unfolding in_use
 numbers_are_free_when_given s events later past r whole =
-    let sound : IsSound limit_of top_of (Forwarded r ∷ past) = sound_behind later (Forwarded r ∷ past) (subst (IsSound limit_of top_of) whole (histories_are_sound s events)) in
-    free_of (in_use past) r (differ_from_last (in_use past) r (in_use_differ limit_of top_of within (Forwarded r ∷ past) sound))
+    let sound : IsSound qmi_limits (Forwarded r ∷ past) = sound_behind later (Forwarded r ∷ past) (subst (IsSound qmi_limits) whole (histories_are_sound s events)) in
+    free_of (in_use past) r (differ_from_last (in_use past) r (in_use_differ qmi_limits within (Forwarded r ∷ past) sound))

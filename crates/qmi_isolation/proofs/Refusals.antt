@@ -11,6 +11,7 @@ use Rattle.proxy_history.specs.Noting.{each_pending}
 use Rattle.proxy_history.specs.Unanswered.{due}
 use Rattle.proxy_history.specs.View.{Refused, NoAnswer, entry_if, view}
 use Rattle.proxy_history.specs.Rendering.{render}
+use Rattle.qmi_proxy.specs.Limits.{outbox_limit}
 use Rattle.qmi_proxy.specs.Spaces.{control_space, service_space}
 use Rattle.qmi_proxy.specs.Text.{note, text, view_of, rendering}
 use Rattle.qmi_proxy.specs.FromModem.{in_expiry_order, tick, abort_all, lose}
@@ -57,13 +58,13 @@ module _ (device : List ℕ) (client : ℕ) where
     pub ticks_same : (time : ℕ) → rendering device client (tick device time past) ≡ rendering device client past
     unfolding view
     ticks_same time =
-        ap (render (text device))
+        ap (render outbox_limit (text device))
         (each_same (λ r before. note device (Expired r) before) expired_same (in_expiry_order (due (max time (now past)) (pending past))) (TimeIs (max time (now past)) ∷ past)
         (ordered (due (max time (now past)) (pending past)) (all_filter _ (λ r. nat_le r.deadline (max time (now past))) (pending past) waiting)))
 
     pub aborted_same_bytes : rendering device client (abort_all device past) ≡ rendering device client past
-    aborted_same_bytes = ap (render (text device)) aborts_same
+    aborted_same_bytes = ap (render outbox_limit (text device)) aborts_same
 
     pub lost_same : rendering device client (lose device past) ≡ rendering device client past
     unfolding view
-    lost_same = ap (render (text device)) aborts_same
+    lost_same = ap (render outbox_limit (text device)) aborts_same

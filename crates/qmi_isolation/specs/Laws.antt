@@ -1,34 +1,27 @@
 -- What the clients of a QMI proxy have of each other: nothing. What others do leaves a client's bytes as they are, and an answer of the modem has one receiver.
 -- Lists of events and of facts have the newest first.
-use Rattle.std.specs.Prelude.{◌≡◌, ◌≢◌, ℕ, ◌+◌, Bool, true, false, not, ◌&&◌, ◌==◌, if◌then◌else◌, List, ◌∷◌, ◌++◌, map, Some, All, Contains}
+use Rattle.std.specs.Prelude.{◌≡◌, ◌≢◌, ℕ, ◌+◌, true, false, ◌&&◌, ◌==◌, if◌then◌else◌, List, ◌∷◌, ◌++◌, map, Some, All, Contains}
 use Rattle.qmux_frame.specs.declared.kind.MessageKind.TheVariants as kind
 use Rattle.qmux_frame.specs.Head.{service_of, is_control, client_of, number_of}
 use Rattle.qmux_frame.specs.Kind.{framed_kind}
 use Rattle.qmux_frame.specs.Reply.{with_number, result_reply}
-use Rattle.proxy_history.specs.Events.{Event, Joined, Piece, Left, Took}
+use Rattle.proxy_history.specs.Events.{Event, is_anothers}
 use Rattle.proxy_history.specs.Items.{ModemSays}
-use Rattle.proxy_history.specs.Facts.{Verdict, Forward, Fact, Request, EventBegan, Judged, Forwarded, IdHeld}
+use Rattle.proxy_history.specs.Facts.{Verdict, Forward, Fact, Request, EventBegan, Judged, Forwarded, IdHeld, Granted}
 use Rattle.proxy_history.specs.Connections.{contains, message_count}
 use Rattle.proxy_history.specs.Requests.{in_use, pending, has_request, numbers_in_use}
 use Rattle.proxy_history.specs.ClientIds.{holder, is_other}
 use Rattle.proxy_history.specs.Rendering.{put}
+use Rattle.proxy_history.specs.Coming.{AreSound}
+use Rattle.qmi_proxy.specs.Limits.{outbox_limit}
 use Rattle.qmi_proxy.specs.Setup.{Setup}
 use Rattle.qmi_proxy.specs.Errors.{client_ids_exhausted}
 use Rattle.qmi_proxy.specs.Text.{note, rendering}
 use Rattle.qmi_proxy.specs.Clients.{holder_for, hear_client}
 use Rattle.qmi_proxy.specs.FromModem.{is_answered_by, brings_id, holder_of_brought, hear_modem, receivers, tell, tick, abort_all, lose}
-use Rattle.qmi_proxy.specs.History.{add_all, history, text_for}
-use Rattle.qmi_state.specs.Core.{Core, Stands}
+use Rattle.qmi_proxy.specs.History.{qmi_protocol, add_all, history, text_for}
 
 -- ---- what other clients do ----
-
--- another client joins, sends, leaves or takes
-abbrev pub is_anothers : ℕ → Event → Bool
-is_anothers c (Joined d) = not (d == c)
-is_anothers c (Piece d bytes) = not (d == c)
-is_anothers c (Left d) = not (d == c)
-is_anothers c (Took d count) = not (d == c)
-is_anothers c _ = false
 
 -- whatever it is, the client's bytes stay as they are
 abbrev pub OthersChangeNothing : Type 0
@@ -49,24 +42,29 @@ due r m past =
 
 -- the sender gets it where it finds room, nobody else gets anything, and no later message answers the request
 pub record IsDelivered (device : List ℕ) (r : Request) (m : List ℕ) (past after : List Fact) : Type 0 where
-  pub sender : rendering device r.conn after ≡ put (due r m past) (rendering device r.conn past)
+  pub sender : rendering device r.conn after ≡ put outbox_limit (due r m past) (rendering device r.conn past)
   pub others : (c : ℕ) → c ≢ r.conn → rendering device c after ≡ rendering device c past
   pub once : has_request r (in_use after) ≡ false
 
--- `core` met these events, and `m` is the modem's answer to a request whose sender waits
+-- these events may come, and `m` is the modem's answer to a request whose sender waits
 abbrev pub AnswersHaveOneReceiver : Type 0
-AnswersHaveOneReceiver = (s : Setup) (events : List Event) (core : Core) (earlier : List (List ℕ)) (m : List ℕ) (r : Request)
-    → Stands s events core → framed_kind m ≡ Some kind.Response
+AnswersHaveOneReceiver = (s : Setup) (events : List Event) (earlier : List (List ℕ)) (m : List ℕ) (r : Request)
+    → AreSound (qmi_protocol s) events → framed_kind m ≡ Some kind.Response
     → Contains (pending (facts_before s events earlier)) r → is_answered_by m r ≡ true
     → IsDelivered s.device r m (facts_before s events earlier) (hear_modem s.device m (facts_before s events earlier))
 
 -- an answer that brings a client id which another client holds grants nothing: it is noted as such
 abbrev pub HeldIdsAreNotGranted : Type 0
-HeldIdsAreNotGranted = (s : Setup) (events : List Event) (core : Core) (earlier : List (List ℕ)) (m : List ℕ) (r : Request)
-    → Stands s events core → framed_kind m ≡ Some kind.Response
+HeldIdsAreNotGranted = (s : Setup) (events : List Event) (earlier : List (List ℕ)) (m : List ℕ) (r : Request)
+    → framed_kind m ≡ Some kind.Response
     → Contains (pending (facts_before s events earlier)) r → is_answered_by m r ≡ true
     → brings_id r.message m ≡ true → is_other r.conn (holder_of_brought m (facts_before s events earlier)) ≡ true
     → hear_modem s.device m (facts_before s events earlier) ≡ note s.device (IdHeld r) (facts_before s events earlier)
+
+-- so no client id is ever granted while another client holds it
+abbrev pub IdsAreFreeWhenGranted : Type 0
+IdsAreFreeWhenGranted = (s : Setup) (events : List Event) (later past : List Fact) (c service client : ℕ)
+    → history s events ≡ later ++ Granted c service client ∷ past → is_other c (holder service client past) ≡ false
 
 -- a client's message that uses a client id which another client holds isn't forwarded, and grants nothing: it is judged alone
 abbrev pub HeldIdsAreNotUsed : Type 0
@@ -75,8 +73,8 @@ HeldIdsAreNotUsed = (s : Setup) (c : ℕ) (m : List ℕ) (past : List Fact) → 
 
 -- a late answer, or one to nothing: no sender waits for it, and nobody gets it
 abbrev pub OtherAnswersHaveNone : Type 0
-OtherAnswersHaveNone = (s : Setup) (events : List Event) (core : Core) (earlier : List (List ℕ)) (m : List ℕ) (c : ℕ)
-    → Stands s events core → framed_kind m ≡ Some kind.Response
+OtherAnswersHaveNone = (s : Setup) (events : List Event) (earlier : List (List ℕ)) (m : List ℕ) (c : ℕ)
+    → framed_kind m ≡ Some kind.Response
     → All (λ r. is_answered_by m r ≡ false) (pending (facts_before s events earlier))
     → rendering s.device c (hear_modem s.device m (facts_before s events earlier)) ≡ rendering s.device c (facts_before s events earlier)
 
@@ -85,7 +83,7 @@ OtherAnswersHaveNone = (s : Setup) (events : List Event) (core : Core) (earlier 
 -- an indication is for its receivers, each once
 abbrev pub IndicationsReachTheirReceivers : Type 0
 IndicationsReachTheirReceivers = (device m : List ℕ) (past : List Fact) (c : ℕ)
-    → rendering device c (tell device m past) ≡ (if contains c (receivers device m past) then put m (rendering device c past) else rendering device c past)
+    → rendering device c (tell device m past) ≡ (if contains c (receivers device m past) then put outbox_limit m (rendering device c past) else rendering device c past)
 
 -- one for a client id is for its holder alone
 abbrev pub HoldersAloneAreTold : Type 0

@@ -5,7 +5,6 @@ use Rattle.std.specs.List.{concat}
 use Rattle.qmux_frame.specs.declared.kind.MessageKind.TheVariants as kind
 use Rattle.qmux_frame.specs.Frame.{size_of}
 use Rattle.qmux_frame.specs.Kind.{framed_kind}
-use Rattle.proxy_history.specs.Limits.{outbox_limit}
 use Rattle.proxy_history.specs.Events.{Event, Piece, ModemPiece}
 use Rattle.proxy_history.specs.Items.{Says}
 use Rattle.proxy_history.specs.Streams.{stream, modem_stream, messages_of_piece}
@@ -15,12 +14,13 @@ use Rattle.proxy_history.specs.Requests.{in_use, pending}
 use Rattle.proxy_history.specs.Modem.{modem_queue}
 use Rattle.proxy_history.specs.Rendering.{Rendering}
 use Rattle.proxy_history.specs.HungUp.{is_beginning}
+use Rattle.proxy_history.specs.Coming.{AreSound}
+use Rattle.qmi_proxy.specs.Limits.{outbox_limit}
 use Rattle.qmi_proxy.specs.Setup.{Setup}
 use Rattle.qmi_proxy.specs.Text.{rendering}
 use Rattle.qmi_proxy.specs.Clients.{wire, number_for, verdict_on}
 use Rattle.qmi_proxy.specs.FromModem.{is_answered_by}
-use Rattle.qmi_proxy.specs.History.{add_all, history}
-use Rattle.qmi_state.specs.Core.{Core, Stands}
+use Rattle.qmi_proxy.specs.History.{qmi_protocol, add_all, history}
 use Rattle.qmi_isolation.specs.Laws.{facts_before, due}
 
 -- ---- requests ----
@@ -41,11 +41,11 @@ pub record IsQueued (c : ℕ) (m : List ℕ) (past after : List Fact) : Type 0 w
   pub in_use : in_use after ≡ in_use past ++ request ∷ others
   pub queue : modem_queue wire after ≡ modem_queue wire past ++ concat (map wire (request ∷ others))
 
--- `core` met these events, and then this piece of the client c came; a message of it that is forwarded stands in the modem's queue once the whole piece was met
+-- these events may come, and then this piece of the client c comes; a message of it that is forwarded stands in the modem's queue once the whole piece was met
 -- No piece of a client loses the modem, and the modem takes nothing meanwhile; so nothing else is asked of the event.
 abbrev pub ForwardedRequestsAreQueued : Type 0
-ForwardedRequestsAreQueued = (s : Setup) (events : List Event) (core : Core) (c : ℕ) (piece : List ℕ) (earlier later : List (List ℕ)) (m : List ℕ)
-    → Stands s events core → messages_of_piece size_of (stream c events) piece ≡ earlier ++ m ∷ later
+ForwardedRequestsAreQueued = (s : Setup) (events : List Event) (c : ℕ) (piece : List ℕ) (earlier later : List (List ℕ)) (m : List ℕ)
+    → AreSound (qmi_protocol s) events → messages_of_piece size_of (stream c events) piece ≡ earlier ++ m ∷ later
     → is_present c (facts_before_saying s events c earlier) ≡ true
     → verdict_on s c m (facts_before_saying s events c earlier) ≡ Forward
     → IsQueued c m (facts_before_saying s events c earlier) (history s (Piece c piece ∷ events))
@@ -82,10 +82,10 @@ pub record IsAnswered (device : List ℕ) (r : Request) (m : List ℕ) (past aft
   -- want of room is all that ends a sender here, be it for this answer or for something that comes behind it
   pub why : is_present r.conn after ≡ false → IsEndedForRoom r.conn after
 
--- `core` met these events, and then this piece of the modem came; what it answers to a request whose sender waits stands in the sender's queue once the whole piece was met
+-- these events may come, and then this piece of the modem comes; what it answers to a request whose sender waits stands in the sender's queue once the whole piece was met
 abbrev pub AnswersStand : Type 0
-AnswersStand = (s : Setup) (events : List Event) (core : Core) (stream piece : List ℕ) (earlier later : List (List ℕ)) (m : List ℕ) (r : Request)
-    → Stands s events core → modem_stream size_of s.starts_away events ≡ Some stream
+AnswersStand = (s : Setup) (events : List Event) (stream piece : List ℕ) (earlier later : List (List ℕ)) (m : List ℕ) (r : Request)
+    → AreSound (qmi_protocol s) events → modem_stream size_of s.starts_away events ≡ Some stream
     → messages_of_piece size_of stream piece ≡ earlier ++ m ∷ later → framed_kind m ≡ Some kind.Response
     → Contains (pending (facts_before s events earlier)) r → is_answered_by m r ≡ true
     → IsAnswered s.device r m (facts_before s events earlier) (history s (ModemPiece piece ∷ events))

@@ -1,4 +1,4 @@
-ghost use Rattle.qmi_isolation.specs.Laws.{OthersChangeNothing, AnswersHaveOneReceiver, OtherAnswersHaveNone, HeldIdsAreNotGranted, HeldIdsAreNotUsed, IndicationsReachTheirReceivers, HoldersAloneAreTold, TheIdleAreNotRefused, NumbersAreFreeWhenGiven};
+ghost use Rattle.qmi_isolation.specs.Laws.{OthersChangeNothing, AnswersHaveOneReceiver, OtherAnswersHaveNone, HeldIdsAreNotGranted, IdsAreFreeWhenGranted, HeldIdsAreNotUsed, IndicationsReachTheirReceivers, HoldersAloneAreTold, TheIdleAreNotRefused, NumbersAreFreeWhenGiven};
 ghost use Rattle.qmi_isolation.specs.Queues.{ForwardedRequestsAreQueued, AnswersStand};
 
 /// The law that what other clients do, whatever it is, leaves a client's bytes as they are.
@@ -17,9 +17,11 @@ pub fn answers_have_one_receiver()
 
 /// The law that neither an answer nor a message takes a client id from the client that holds it. An
 /// answer of the modem to an Allocate which brings it for another client grants nothing, and is refused
-/// to its sender; another client's message which uses it isn't forwarded.
+/// to its sender; another client's message which uses it isn't forwarded. So none is granted while
+/// another client holds it.
 pub fn held_ids_are_not_granted()
     ensures answers { HeldIdsAreNotGranted }
+    ensures free { IdsAreFreeWhenGranted }
     ensures requests { HeldIdsAreNotUsed }
 {}
 

@@ -7,3 +7,7 @@ pub mod Queue
 pub mod Verdicts
 pub mod HungUp
 pub mod Refusals
+pub mod Regulars
+pub mod Apart
+pub mod Answered
+pub mod Lawful

@@ -1,173 +1,209 @@
--- What every fact that is noted keeps, is kept by everything that a QMI proxy meets. Some facts stand apart: those that forward a request,
--- begin an event, lose the modem or tell what it took are given by themselves.
-use Rattle.std.proofs.Common.{◌≡◌, ℕ, ◌+◌, Bool, true, false, not, ◌&&◌, ◌==◌, max, nat_lt, if◌then◌else◌, List, [], ◌∷◌, ◌++◌, length, refl, Option, Some, None}
-use Rattle.std.specs.List.{AllByRecursion}
+-- What each part of a QMI proxy adds to its history: one lemma for each, on which all laws of the history rest.
+use Rattle.std.proofs.Common.{◌≡◌, ℕ, ◌+◌, ◌≤◌, Bool, true, false, not, ◌&&◌, ◌==◌, if◌then◌else◌, List, [], ◌∷◌, length, refl, ap, sym, arith, All, Contains, filter, ⊎_elim, inl, Option, Some, None}
+use Rattle.std.proofs.lemmas.Bool.{eq-eqb}
+use Rattle.std.proofs.lemmas.Bool.Decides.{nat_tests}
+use Rattle.std.proofs.lemmas.List.Elements.{All-filter, All-contains, Contains-append_cases}
 use Rattle.qmux_frame.specs.declared.kind.MessageKind.{MessageKind}
 use Rattle.qmux_frame.specs.declared.kind.MessageKind.TheVariants as kind
-use Rattle.qmux_frame.specs.Head.{is_control, client_of}
+use Rattle.qmux_frame.specs.Head.{is_control, client_of, is_framed}
+use Rattle.qmux_frame.specs.Reply.{with_number}
 use Rattle.qmux_frame.specs.Kind.{framed_kind}
 use Rattle.qmux_frame.specs.Control.{is_sync}
-use Rattle.proxy_history.specs.Limits.{connection_limit}
-use Rattle.proxy_history.specs.Items.{Item, Joins, Says, Garbles, Leaves, ModemSays, ModemFails, ModemReturns, ClockShows, Takes, ModemTakes}
-use Rattle.proxy_history.specs.Facts.{Fact, Request, Verdict, Own, Foreign, Away, Full, Forward, EventBegan, Admitted, Ended, NotAdmitted, BadStream, NoRoom, Closed, Judged, Drained, Forwarded, Answered, IdHeld, Late, Expired, Aborted, Indicated, Stray, Granted, Freed, Reset, ModemLost, ModemReturned, ModemDrained, TimeIs}
-use Rattle.proxy_history.specs.Connections.{present, is_present, message_count}
-use Rattle.proxy_history.specs.Requests.{in_use, pending, is_pending}
-use Rattle.proxy_history.specs.Modem.{now}
-use Rattle.proxy_history.specs.Noting.{join, end_overfull, each_pending, receivers_of}
-use Rattle.proxy_history.specs.Unanswered.{due}
+use Rattle.qmux_frame.proofs.Framed.{framed_long, numbered_length}
+use Rattle.proxy_history.specs.Items.{Says, ModemSays, ModemFails}
+use Rattle.proxy_history.specs.Facts.{Fact, Request, Verdict, Own, Foreign, Away, Full, Forward, Ended, NoRoom, Aborted, Judged, Forwarded, Answered, IdHeld, Late, Indicated, Stray, Granted, Freed, Reset}
+use Rattle.proxy_history.specs.Connections.{present, message_count}
+use Rattle.proxy_history.specs.Requests.{in_use, pending, is_pending, last_number, of_space}
+use Rattle.proxy_history.specs.Modem.{to_modem, modem_drained, modem_queue}
+use Rattle.proxy_history.specs.Wording.{Wording}
+use Rattle.proxy_history.specs.Noting.{receivers_of}
+use Rattle.proxy_history.specs.Noting as noting
+use Rattle.proxy_history.specs.View.{Entry, Sent, entry_if, view, sent_count, sent_at}
+use Rattle.proxy_history.specs.Sound.{IsPresent, IsParty, IsSound, IsFreeFor}
+use Rattle.proxy_history.specs.ClientIds.{held, is_other}
+use Rattle.proxy_history.specs.Adding.{MayAdd, MayRefuse, MayFinish, Adds, Soundly, AddsSoundly, IsOrderly}
+use Rattle.proxy_history.proofs.Lists.{Contains-filter_from}
+use Rattle.proxy_history.proofs.Sound.{each_contained, party_from_present, forwarded_from_in_use, waits}
+use Rattle.proxy_history.proofs.SoundLaws.{waiting_are_parties}
+use Rattle.proxy_history.proofs.Counting.{counted}
+use Rattle.proxy_history.proofs.Adding.{none, further, either, added, judged, noted, noted_by, adds_abort_all}
 use Rattle.qmi_proxy.specs.Setup.{Setup}
+use Rattle.qmi_proxy.specs.Spaces.{control_space, service_space}
+use Rattle.qmi_proxy.specs.Limits.{qmi_limits, modem_outbox_limit}
 use Rattle.qmi_proxy.specs.Messages.{uses_id, used_service, used_client}
-use Rattle.qmi_proxy.specs.Text.{note, text, blank, rendering}
-use Rattle.qmi_proxy.specs.Clients.{number_for, forward, grant_if, judge, verdict_on, request_of}
-use Rattle.qmi_proxy.specs.FromModem.{IdChange, NoChange, Grants, Collides, Frees, id_change, holder_of_brought, answer, answer_or_late, respond, first_answered_by, in_expiry_order, abort_all, tick, receivers, tell, indicate, hear_as}
-use Rattle.qmi_proxy.specs.History.{add, add_all}
+use Rattle.qmi_proxy.specs.OwnReplies.{is_open}
+use Rattle.qmi_proxy.specs.Text.{qmi_wording, blank, view_of, note}
+use Rattle.qmi_proxy.specs.Clients.{holder_for, wire, has_room, number_for, forward, grant_if, judge, verdict_as, request_of}
+use Rattle.qmi_proxy.specs.Asked.{IsNewestMessage}
+use Rattle.qmi_proxy.specs.FromModem.{IdChange, NoChange, Grants, Collides, Frees, id_change, holder_of_brought, answer, answer_or_late, respond, first_answered_by, in_expiry_order, refuse, abort_all, receivers, tell, indicate, hear_as}
+use Rattle.qmi_proxy.specs.History.{qmi_protocol}
+use Rattle.qmi_proxy.proofs.Answered.{found_is, change_free}
+use Rattle.qmi_proxy.proofs.Verdicts.{forward_needs, forwarded_ids_are_free, used_id_is_free}
 
-abbrev pub is_apart : Fact → Bool
-is_apart EventBegan = true
-is_apart (Forwarded r) = true
-is_apart ModemLost = true
-is_apart (ModemDrained count) = true
-is_apart _ = false
+-- no other requests are refused than those that are to be
+pub only_those : (requests : List Request) (r : Request) → Contains (in_expiry_order requests) r → Contains requests r
+only_those requests r at =
+    ⊎_elim (Contains-filter_from (λ (q : Request). q.space == control_space) requests r) (Contains-filter_from (λ (q : Request). q.space == service_space) requests r)
+    (Contains-append_cases (of_space control_space requests) (of_space service_space requests) r at)
 
-abbrev pub fails_or_takes : Item → Bool
-fails_or_takes ModemFails = true
-fails_or_takes (ModemTakes count) = true
-fails_or_takes _ = false
+module _ (s : Setup) where
+  abbrev pub Asks : Request → List Fact → Type 0
+  Asks r past = IsNewestMessage s r past
 
--- items, and others behind them
-pub add_all-append : (s : Setup) (items more : List Item) (past : List Fact) → add_all s (items ++ more) past ≡ add_all s more (add_all s items past)
-unfolding add_all
-add_all-append s [] more past = refl
-add_all-append s (item ∷ items) more past = add_all-append s items more (add s item past)
+  abbrev Sound : List Fact → Type 0
+  Sound past = IsSound qmi_limits past
 
--- what every fact keeps is kept where it is noted
-module _ (device : List ℕ) (P : List Fact → Type 0) (added : (fact : Fact) (past : List Fact) → is_apart fact ≡ false → P past → P (fact ∷ past)) where
-  overfull : (cs : List ℕ) (past : List Fact) → P past → P (end_overfull blank (text device) cs past)
-  unfolding end_overfull
-  overfull [] past p = p
-  overfull (c ∷ cs) past p =
-      overfull cs _
-      (elim (is_present c past && (rendering device c past).is_over) as (λ b. P (if b then Ended c NoRoom ∷ past else past)) [ true ↦ added (Ended c NoRoom) past refl p | false ↦ p ])
+  abbrev May : (Fact → List Fact → Type 0) → Fact → List Fact → Type 0
+  May M fact past = Soundly (qmi_protocol s) Asks M fact past
 
-  pub noted_as_added : (fact : Fact) (past : List Fact) → is_apart fact ≡ false → P past → P (note device fact past)
-  noted_as_added fact past apart p = overfull (receivers_of fact) (fact ∷ past) (added fact past apart p)
+  abbrev AddsOf : (Fact → List Fact → Type 0) → List Fact → List Fact → Type 0
+  AddsOf M past after = AddsSoundly (qmi_protocol s) Asks M past after
 
-module _ (s : Setup) (P : List Fact → Type 0)
-    (noted : (fact : Fact) (past : List Fact) → is_apart fact ≡ false → P past → P (note s.device fact past))
-    (forwarded : (c place : ℕ) (m : List ℕ) (past : List Fact) → P past → P (Judged c place m Forward ∷ past))
-    (requested : (c : ℕ) (m : List ℕ) (number : ℕ) (past : List Fact) → P past → P (Forwarded (request_of s c m number past) ∷ past)) where
-  either : (b : Bool) (one other : List Fact) → P one → P other → P (if b then one else other)
-  either true one other p q = p
-  either false one other p q = q
+  abbrev wording : Wording Bool
+  wording = qmi_wording s.device
 
   -- ---- clients ----
 
-  joins : (c : ℕ) (past : List Fact) → P past → P (join c past)
-  unfolding end_overfull
-  joins c past p = either (nat_lt (length (present past)) connection_limit) _ _ (noted (Admitted c) past refl p) (noted (Ended c NotAdmitted) past refl p)
+  module _ (c : ℕ) (m : List ℕ) where
+    abbrev By : Fact → List Fact → Type 0
+    By fact past = May (MayAdd (Says c m)) fact past
 
-  grants : (b : Bool) (c : ℕ) (m : List ℕ) (past : List Fact) → P past → P (grant_if b c m past)
-  unfolding end_overfull
-  grants true c m past p = noted (Granted c (used_service m) (used_client m)) past refl p
-  grants false c m past p = p
+    -- where a reply finds no room, the sender ends
+    replied : (verdict : Verdict) (past : List Fact) → IsPresent c past
+        → Adds qmi_limits wording By past (noting.note qmi_limits wording (Judged c (message_count c past + 1) m verdict) past)
+    replied verdict past there = noted_by qmi_limits wording By (Judged c (message_count c past + 1) m verdict) past ((λ before there. (there, refl, tt)), tt) (there, (refl, refl), tt)
 
-  forwards : (c : ℕ) (m : List ℕ) (number : Option ℕ) (past : List Fact) → P past → P (forward s c m number past)
-  forwards c m None past p = p
-  forwards c m (Some n) past p = grants (uses_id m) c m (Forwarded (request_of s c m n past) ∷ past) (requested c m n past p)
+    grants : (b : Bool) (past : List Fact) → IsPresent c past → (b ≡ true → IsFreeFor c (used_service m) (used_client m) past) → AddsOf (MayAdd (Says c m)) past (grant_if b c m past)
+    grants true past there free = added qmi_limits wording By (Granted c (used_service m) (used_client m)) past refl ((party_from_present c past there, free refl), refl, tt)
+    grants false past there free = none qmi_limits wording By past
 
-  judges : (c : ℕ) (m : List ℕ) (number : Option ℕ) (verdict : Verdict) (past : List Fact) → P past → P (judge s c m number verdict past)
-  judges c m number Own past p = noted (Judged c (message_count c past + 1) m Own) past refl p
-  judges c m number Foreign past p = noted (Judged c (message_count c past + 1) m Foreign) past refl p
-  judges c m number Away past p = noted (Judged c (message_count c past + 1) m Away) past refl p
-  judges c m number Full past p = noted (Judged c (message_count c past + 1) m Full) past refl p
-  judges c m number Forward past p = forwards c m number (Judged c (message_count c past + 1) m Forward ∷ past) (forwarded c (message_count c past + 1) m past p)
+    abbrev pub judged_now : List Fact → List Fact
+    judged_now past = Judged c (message_count c past + 1) m Forward ∷ past
 
-  -- ---- requests that get no answer ----
+    newest_at : (b : Bool) (entries : List Entry) (place : ℕ) → b ≡ true → place ≡ sent_count (entry_if b (Sent m Forward) entries) → sent_at place (entry_if b (Sent m Forward) entries) ≡ m
+    newest_at true entries place own is = ap (λ (t : Bool). if t then m else sent_at place entries) (eq-eqb (sent_count entries + 1) place (sym is))
+    newest_at false entries place own is = absurd (cc)
 
-  each : (action : Request → List Fact → List Fact) → ((r : Request) (past : List Fact) → P past → P (action r past))
-      → (requests : List Request) (past : List Fact) → P past → P (each_pending action requests past)
-  unfolding each_pending
-  each action acts [] past p = p
-  each action acts (r ∷ requests) past p = each action acts requests _ (either (is_pending r past) (action r past) past (acts r past p) p)
+    -- what the request asks for granted
+    pub newest : (n : ℕ) (past : List Fact) → IsPresent c past → IsNewestMessage s (request_of s c m n (judged_now past)) (judged_now past)
+    unfolding present view
+    newest n past there =
+        let place = counted blank c (judged_now past) there in
+        record {
+          sender = there;
+          place = place;
+          message = newest_at (c == c) (view_of c past) (message_count c (judged_now past)) (eq-eqb c c refl) place;
+          space = refl;
+          deadline = refl;
+        }
 
-  pub aborts : (past : List Fact) → P past → P (abort_all s.device past)
-  aborts past p = each (λ r before. note s.device (Aborted r) before) (λ r before q. noted (Aborted r) before refl q) (in_expiry_order (pending past)) past p
+    finds_room : (n : ℕ) (past : List Fact) → is_framed m ≡ true → has_room (length (modem_queue wire past)) m ≡ true → length (modem_queue wire (judged_now past)) + length (with_number n m) ≤ modem_outbox_limit
+    unfolding to_modem modem_drained
+    finds_room n past framed room = let same = numbered_length n m (framed_long m framed) in grind (arith, nat_tests, room, same)
 
-  ticks : (time : ℕ) (past : List Fact) → P past → P (tick s.device time past)
-  unfolding end_overfull
-  ticks time past p =
-      each (λ r before. note s.device (Expired r) before) (λ r before q. noted (Expired r) before refl q)
-      (in_expiry_order (due (max time (now past)) (pending past))) (TimeIs (max time (now past)) ∷ past) (noted (TimeIs (max time (now past))) past refl p)
+    forwards : (number : Option ℕ) (past : List Fact) → IsPresent c past → number_for m past ≡ number → is_framed m ≡ true → has_room (length (modem_queue wire past)) m ≡ true → is_other c (holder_for m past) ≡ false
+        → AddsOf (MayAdd (Says c m)) (judged_now past) (forward s c m number (judged_now past))
+    unfolding present in_use last_number held
+    forwards None past there is framed room free = none qmi_limits wording By (judged_now past)
+    forwards (Some n) past there is framed room free =
+        let before : List Fact = judged_now past in
+        let request : Request = request_of s c m n before in
+        further qmi_limits wording By before (Forwarded request ∷ before) _
+        (added qmi_limits wording By (Forwarded request) before refl (record { serial = refl; sender = party_from_present c past there; number = is }, inl refl, (finds_room n past framed room, newest n past there)))
+        (grants (uses_id m) (Forwarded request ∷ before) there (used_id_is_free c m past free))
 
-  -- ---- messages of the modem ----
+    judges : (opened : Bool) (verdict : Verdict) (past : List Fact) → IsPresent c past → verdict_as s opened c m past ≡ verdict → AddsOf (MayAdd (Says c m)) past (judge s c m (number_for m past) verdict past)
+    judges opened Own past there is = replied Own past there
+    judges opened Foreign past there is = replied Foreign past there
+    judges opened Away past there is = replied Away past there
+    judges opened Full past there is = replied Full past there
+    judges opened Forward past there is =
+        let needs = forward_needs s opened c m past is in
+        further qmi_limits wording By past (judged_now past) _
+        (judged qmi_limits wording By c (message_count c past + 1) m Forward past (λ entries. refl) (there, (refl, refl), tt))
+        (forwards (number_for m past) past there refl needs.0 needs.1 (forwarded_ids_are_free s opened c m past is))
 
-  answers : (r : Request) (m : List ℕ) (change : IdChange) (past : List Fact) → P past → P (answer s.device r m change past)
-  unfolding end_overfull
-  answers r m NoChange past p = noted (Answered r m) past refl p
-  answers r m (Grants service client) past p = noted (Answered r m) (Granted r.conn service client ∷ past) refl (noted (Granted r.conn service client) past refl p)
-  answers r m Collides past p = noted (IdHeld r) past refl p
-  answers r m (Frees service client) past p = noted (Answered r m) (Freed r.conn service client ∷ past) refl (noted (Freed r.conn service client) past refl p)
+  -- ---- the modem ----
 
-  responds : (found : Option Request) (m : List ℕ) (past : List Fact) → P past → P (respond s.device found m past)
-  unfolding end_overfull
-  responds None m past p = noted Stray past refl p
-  responds (Some r) m past p =
-      elim (is_pending r past) as (λ b. P (answer_or_late s.device b r m past)) [
-        | true ↦ answers r m (id_change r.conn r.message m (holder_of_brought m past)) past p
-        | false ↦ noted (Late r) past refl p
-      ]
+  module _ (m : List ℕ) where
+    abbrev BySaying : Fact → List Fact → Type 0
+    BySaying fact past = May (MayAdd (ModemSays m)) fact past
 
-  tells : (m : List ℕ) (past : List Fact) → P past → P (tell s.device m past)
-  tells m past p = noted (Indicated m (receivers s.device m past)) past refl p
+    abbrev Heard : List Fact → List Fact → Type 0
+    Heard past after = AddsOf (MayAdd (ModemSays m)) past after
 
-  indicates : (m : List ℕ) (past : List Fact) → P past → P (indicate s.device m past)
-  unfolding end_overfull
-  indicates m past p =
-      either (is_sync m) _ _ (tells m (Reset ∷ abort_all s.device past) (noted Reset (abort_all s.device past) refl (aborts past p)))
-      (either (not (is_control m) && client_of m == 0) _ _ (noted Stray past refl p) (tells m past p))
+    ends : (c : ℕ) (before : List Fact) → IsPresent c before → BySaying (Ended c NoRoom) before
+    ends c before there = (there, tt, tt)
 
-  hears : (heard : Option MessageKind) (m : List ℕ) (past : List Fact) → P past → P (hear_as heard s.device m past)
-  unfolding end_overfull
-  hears (Some kind.Response) m past p = responds (first_answered_by m (in_use past)) m past p
-  hears (Some kind.Indication) m past p = indicates m past p
-  hears (Some kind.Request) m past p = noted Stray past refl p
-  hears None m past p = noted Stray past refl p
+    one : (fact : Fact) (past : List Fact) → receivers_of fact ≡ [] → BySaying fact past → Heard past (fact ∷ past)
+    one fact past silent may = added qmi_limits wording BySaying fact past silent may
 
-  -- ---- items ----
+    told : (fact : Fact) (past : List Fact) → BySaying fact past → Heard past (note s.device fact past)
+    told fact past may = noted qmi_limits wording BySaying ends fact past may
 
-  pub kept : (item : Item) (past : List Fact) → fails_or_takes item ≡ false → P past → P (add s item past)
-  unfolding end_overfull
-  kept (Joins c) past other p = joins c past p
-  kept (Says c m) past other p = either (is_present c past) _ past (judges c m (number_for m past) (verdict_on s c m past) past p) p
-  kept (Garbles c) past other p = either (is_present c past) _ past (noted (Ended c BadStream) past refl p) p
-  kept (Leaves c) past other p = either (is_present c past) _ past (noted (Ended c Closed) past refl p) p
-  kept (ModemSays m) past other p = hears (framed_kind m) m past p
-  kept ModemFails past other p = absurd (cc)
-  kept ModemReturns past other p = noted ModemReturned past refl p
-  kept (ClockShows time) past other p = ticks time past p
-  kept (Takes c count) past other p = either (is_present c past) _ past (noted (Drained c count) past refl p) p
-  kept (ModemTakes count) past other p = absurd (cc)
+    answers : (r : Request) (change : IdChange) (past : List Fact) → ((service client : ℕ) → change ≡ Grants service client → IsFreeFor r.conn service client past) → Sound past → Contains (pending past) r → Heard past (answer s.device r m change past)
+    unfolding pending
+    answers r NoChange past free sound at = told (Answered r m) past (at, refl, tt)
+    answers r (Grants service client) past free sound at =
+        let granted : List Fact = Granted r.conn service client ∷ past in
+        further qmi_limits wording BySaying past granted _
+        (one (Granted r.conn service client) past refl ((All-contains (λ (q : Request). IsParty q.conn past) (pending past) r (waiting_are_parties qmi_limits past sound) at, free service client refl), tt, tt))
+        (told (Answered r m) granted (at, refl, tt))
+    answers r Collides past free sound at = told (IdHeld r) past (at, tt, tt)
+    answers r (Frees service client) past free sound at =
+        let freed : List Fact = Freed r.conn service client ∷ past in
+        further qmi_limits wording BySaying past freed _ (one (Freed r.conn service client) past refl (tt, tt, tt)) (told (Answered r m) freed (at, refl, tt))
 
-  pub all_kept : (items : List Item) (past : List Fact) → AllByRecursion (λ item. fails_or_takes item ≡ false) items → P past → P (add_all s items past)
-  unfolding add_all
-  all_kept [] past others p = p
-  all_kept (item ∷ items) past others p = all_kept items (add s item past) others.1 (kept item past others.0 p)
+    answers_or_late : (waiting : Bool) (r : Request) (past : List Fact) → Sound past → Contains (in_use past) r → is_pending r past ≡ waiting → Heard past (answer_or_late s.device waiting r m past)
+    answers_or_late true r past sound at is =
+        answers r (id_change r.conn r.message m (holder_of_brought m past)) past (λ service client e. change_free r.conn r.message m past service client e) sound (waits qmi_limits past r sound (forwarded_from_in_use past r at) is)
+    answers_or_late false r past sound at is = one (Late r) past refl (at, tt, tt)
 
-  -- where the facts that lose the modem, and those that tell what it took, keep it too
-  module _ (lost : (past : List Fact) → P past → P (ModemLost ∷ past)) (taken : (count : ℕ) (past : List Fact) → P past → P (ModemDrained count ∷ past)) where
-    each_item : (item : Item) (past : List Fact) → P past → P (add s item past)
-    each_item ModemFails past p = lost (abort_all s.device past) (aborts past p)
-    each_item (ModemTakes count) past p = taken count past p
-    each_item (Joins c) past p = kept (Joins c) past refl p
-    each_item (Says c m) past p = kept (Says c m) past refl p
-    each_item (Garbles c) past p = kept (Garbles c) past refl p
-    each_item (Leaves c) past p = kept (Leaves c) past refl p
-    each_item (ModemSays m) past p = kept (ModemSays m) past refl p
-    each_item ModemReturns past p = kept ModemReturns past refl p
-    each_item (ClockShows time) past p = kept (ClockShows time) past refl p
-    each_item (Takes c count) past p = kept (Takes c count) past refl p
+    responds : (found : Option Request) (past : List Fact) → Sound past → first_answered_by m (in_use past) ≡ found → Heard past (respond s.device found m past)
+    responds None past sound is = one Stray past refl (tt, tt, tt)
+    responds (Some r) past sound is = answers_or_late (is_pending r past) r past sound (found_is m (in_use past) r is).0 refl
 
-    pub every_item : (items : List Item) (past : List Fact) → P past → P (add_all s items past)
-    unfolding add_all
-    every_item [] past p = p
-    every_item (item ∷ items) past p = every_item items (add s item past) (each_item item past p)
+    -- the receivers are there
+    receivers_present : (past : List Fact) → All (λ c. IsPresent c past) (receivers s.device m past)
+    receivers_present past =
+        let Those : List ℕ → Type 0 = All (λ c. IsPresent c past) in
+        let some : (p : ℕ → Bool) → Those (filter p (present past)) = λ p. All-filter p (λ (c : ℕ). IsPresent c past) (present past) (each_contained (present past)) in
+        any_of Those (is_control m) _ _ (some _) (any_of Those (client_of m == 255) _ _ (some _) (some _))
+      where
+        any_of : (P : List ℕ → Type 0) (b : Bool) (xs ys : List ℕ) → P xs → P ys → P (if b then xs else ys)
+        any_of P true xs ys x y = x
+        any_of P false xs ys x y = y
+
+    tells : (past : List Fact) → Heard past (tell s.device m past)
+    tells past = told (Indicated m (receivers s.device m past)) past (receivers_present past, tt, tt)
+
+    indicates : (past : List Fact) → Sound past → Heard past (indicate s.device m past)
+    indicates past sound =
+        either qmi_limits wording BySaying (is_sync m) past _ _
+        (λ sync.
+        let aborted : List Fact = abort_all s.device past in
+        further qmi_limits wording BySaying past aborted _ (aborts past sound)
+        (further qmi_limits wording BySaying aborted (Reset ∷ aborted) _ (one Reset aborted refl (tt, tt, tt)) (tells (Reset ∷ aborted))))
+        (λ other. either qmi_limits wording BySaying (not (is_control m) && client_of m == 0) past _ _ (λ nobody. one Stray past refl (tt, tt, tt)) (λ some. tells past))
+      where
+        aborts : (past : List Fact) → Sound past → Heard past (abort_all s.device past)
+        aborts past sound =
+            adds_abort_all qmi_limits wording BySaying (λ fact before may. may.0) (refuse s.device) in_expiry_order only_those (λ r before s at. told (Aborted r) before (at, tt, tt)) past sound
+
+    hears : (heard : Option MessageKind) (past : List Fact) → Sound past → Heard past (hear_as heard s.device m past)
+    hears (Some kind.Response) past sound = responds (first_answered_by m (in_use past)) past sound refl
+    hears (Some kind.Indication) past sound = indicates past sound
+    hears (Some kind.Request) past sound = one Stray past refl (tt, tt, tt)
+    hears None past sound = one Stray past refl (tt, tt, tt)
+
+  -- ---- the whole protocol ----
+
+  pub orderly : IsOrderly (qmi_protocol s) Asks
+  orderly = record {
+    client = λ c m past sound there. judges c m (is_open s.device (view_of c past)) _ past there refl;
+    modem = λ m past sound. hears m (framed_kind m) past sound;
+    refusal = λ why r past may sound. noted qmi_limits wording (May (MayRefuse why)) (λ c before there. (there, tt, tt)) why past may;
+    order = only_those;
+    loss = λ past sound. none qmi_limits wording (May (MayAdd ModemFails)) past;
+    finish = λ past sound. none qmi_limits wording (May MayFinish) past;
+  }

@@ -6,7 +6,6 @@
 --                                             no number or no room 23, else forwarded
 use Rattle.std.specs.Prelude.{ℕ, ◌+◌, ◌-◌, ◌^◌, min, Bool, true, false, not, ◌&&◌, nat_le, if◌then◌else◌, List, ◌∷◌, length, Option, Some, None}
 use Rattle.qmux_frame.specs.Reply.{with_number}
-use Rattle.proxy_history.specs.Limits.{modem_outbox_limit}
 use Rattle.proxy_history.specs.Facts.{Verdict, Own, Foreign, Away, Full, Forward, Request, Fact, Judged, Forwarded, Granted}
 use Rattle.proxy_history.specs.Connections.{message_count}
 use Rattle.proxy_history.specs.Requests.{forward_count, next_number}
@@ -14,8 +13,9 @@ use Rattle.proxy_history.specs.ClientIds.{holder, is_other}
 use Rattle.proxy_history.specs.Modem.{now, is_away, modem_queue}
 use Rattle.qmi_proxy.specs.Setup.{Setup}
 use Rattle.qmi_proxy.specs.Spaces.{space_of, limit_of, top_of}
+use Rattle.qmi_proxy.specs.Limits.{modem_outbox_limit}
 use Rattle.qmi_proxy.specs.Messages.{uses_id, used_service, used_client}
-use Rattle.qmi_proxy.specs.OwnReplies.{own_reply}
+use Rattle.qmi_proxy.specs.OwnReplies.{is_open, own_reply_of}
 use Rattle.qmi_proxy.specs.Text.{view_of, note}
 
 -- ---- what the history tells of the message ----
@@ -59,8 +59,12 @@ abbrev pub own_or : Option ℕ → Verdict → Verdict
 own_or None shared = shared
 own_or (Some error) shared = Own
 
+-- where the view tells whether the client has opened the device
+abbrev pub verdict_as : Setup → Bool → ℕ → List ℕ → List Fact → Verdict
+verdict_as s opened c m past = own_or (own_reply_of s.device opened m) (shared_verdict s c m past)
+
 abbrev pub verdict_on : Setup → ℕ → List ℕ → List Fact → Verdict
-verdict_on s c m past = own_or (own_reply s.device (view_of c past) m) (shared_verdict s c m past)
+verdict_on s c m past = verdict_as s (is_open s.device (view_of c past)) c m past
 
 -- ---- what follows from it ----
 
@@ -94,5 +98,8 @@ abbrev pub judge : Setup → ℕ → List ℕ → Option ℕ → Verdict → Lis
 judge s c m number Forward past = forward s c m number (Judged c (message_count c past + 1) m Forward ∷ past)
 judge s c m number verdict past = note s.device (Judged c (message_count c past + 1) m verdict) past
 
+abbrev pub hear_client_as : Setup → Bool → ℕ → List ℕ → List Fact → List Fact
+hear_client_as s opened c m past = judge s c m (number_for m past) (verdict_as s opened c m past) past
+
 abbrev pub hear_client : Setup → ℕ → List ℕ → List Fact → List Fact
-hear_client s c m past = judge s c m (number_for m past) (verdict_on s c m past) past
+hear_client s c m past = hear_client_as s (is_open s.device (view_of c past)) c m past

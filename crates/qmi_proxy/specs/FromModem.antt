@@ -78,14 +78,18 @@ respond device (Some r) m past = answer_or_late device (is_pending r past) r m p
 abbrev pub in_expiry_order : List Request → List Request
 in_expiry_order requests = of_space control_space requests ++ of_space service_space requests
 
+-- each gets a refusal in place of its answer
+abbrev pub refuse : List ℕ → Fact → Request → List Fact → List Fact
+refuse device fact r past = note device fact past
+
 abbrev pub abort_all : List ℕ → List Fact → List Fact
-abort_all device past = unanswered.abort_all (note device) in_expiry_order past
+abort_all device past = unanswered.abort_all (refuse device) in_expiry_order past
 
 abbrev pub lose : List ℕ → List Fact → List Fact
-lose device past = unanswered.lose (note device) in_expiry_order past
+lose device past = unanswered.lose (refuse device) in_expiry_order (λ facts. facts) past
 
 abbrev pub tick : List ℕ → ℕ → List Fact → List Fact
-tick device time past = unanswered.tick (note device) in_expiry_order time past
+tick device time past = unanswered.tick (refuse device) in_expiry_order time past
 
 -- ---- indications ----
 

@@ -1,48 +1,53 @@
--- The history that the events of a QMI proxy make, and the bytes for each client and for the modem.
+-- QMI as a protocol of a proxy: the history that the events of a QMI proxy make, and the bytes for each client and for the modem.
 -- Lists of events and of facts have the newest first.
-use Rattle.std.specs.Prelude.{ℕ, List, [], ◌∷◌}
+use Rattle.std.specs.Prelude.{ℕ, Bool, List}
 use Rattle.qmux_frame.specs.Frame.{size_of}
 use Rattle.proxy_history.specs.Events.{Event}
-use Rattle.proxy_history.specs.Items.{Item, Joins, Says, Garbles, Leaves, ModemSays, ModemFails, ModemReturns, ClockShows, Takes, ModemTakes}
+use Rattle.proxy_history.specs.Items.{Item}
 use Rattle.proxy_history.specs.Items as items
-use Rattle.proxy_history.specs.Facts.{Fact, EventBegan, BadStream, Closed, Drained, ModemReturned, ModemDrained}
-use Rattle.proxy_history.specs.Modem as modem
+use Rattle.proxy_history.specs.Facts.{Fact}
 use Rattle.proxy_history.specs.Rendering.{Rendering}
-use Rattle.proxy_history.specs.Noting.{join, end, if_present}
+use Rattle.proxy_history.specs.Protocol.{Protocol}
+use Rattle.proxy_history.specs.History as proxy
 use Rattle.qmi_proxy.specs.Setup.{Setup}
-use Rattle.qmi_proxy.specs.Text.{rendering}
-use Rattle.qmi_proxy.specs.Clients.{hear_client, wire}
-use Rattle.qmi_proxy.specs.FromModem.{hear_modem, lose, tick}
+use Rattle.qmi_proxy.specs.Limits.{qmi_limits}
+use Rattle.qmi_proxy.specs.Text.{qmi_wording}
+use Rattle.qmi_proxy.specs.Clients.{hear_client_as, wire}
+use Rattle.qmi_proxy.specs.FromModem.{hear_modem, refuse, in_expiry_order}
 
--- what an item adds
+-- what a client's view tells is whether it has opened the device; no message comes in fragments
+abbrev pub qmi_protocol : Setup → Protocol Bool
+qmi_protocol s = record {
+  limits = qmi_limits;
+  starts_away = s.starts_away;
+  size = size_of;
+  deliver = λ messages. messages;
+  wire = wire;
+  wording = qmi_wording s.device;
+  hear_client = hear_client_as s;
+  hear_modem = hear_modem s.device;
+  refuse = refuse s.device;
+  order = in_expiry_order;
+  close = λ past. past;
+  finish = λ past. past;
+}
+
 abbrev pub add : Setup → Item → List Fact → List Fact
-add s (Joins c) past = join c past
-add s (Says c m) past = if_present c past (hear_client s c m past)
-add s (Garbles c) past = if_present c past (end c BadStream past)
-add s (Leaves c) past = if_present c past (end c Closed past)
-add s (ModemSays m) past = hear_modem s.device m past
-add s ModemFails past = lose s.device past
-add s ModemReturns past = ModemReturned ∷ past
-add s (ClockShows time) past = tick s.device time past
-add s (Takes c count) past = if_present c past (Drained c count ∷ past)
-add s (ModemTakes count) past = ModemDrained count ∷ past
+add s item past = proxy.add (qmi_protocol s) item past
 
-unfoldable pub add_all : Setup → List Item → List Fact → List Fact
-add_all s [] past = past
-add_all s (item ∷ items) past = add_all s items (add s item past)
+abbrev pub add_all : Setup → List Item → List Fact → List Fact
+add_all s items past = proxy.add_all (qmi_protocol s) items past
 
 abbrev pub items_of : Setup → List Event → Event → List Item
-items_of s events event = items.items_of size_of s.starts_away events event
+items_of s events event = items.items_of (qmi_protocol s) events event
 
--- the history of a proxy that met these events
-unfoldable pub history : Setup → List Event → List Fact
-history s [] = []
-history s (event ∷ events) = add_all s (items_of s events event) (EventBegan ∷ history s events)
+abbrev pub history : Setup → List Event → List Fact
+history s events = proxy.history (qmi_protocol s) events
 
 -- the bytes for a client
 abbrev pub text_for : Setup → ℕ → List Event → Rendering
-text_for s c events = rendering s.device c (history s events)
+text_for s c events = proxy.text_for (qmi_protocol s) c events
 
 -- the bytes for the modem since it was last lost
 abbrev pub to_modem : Setup → List Event → List ℕ
-to_modem s events = modem.to_modem wire (history s events)
+to_modem s events = proxy.to_modem (qmi_protocol s) events

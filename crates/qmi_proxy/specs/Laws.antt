@@ -1,8 +1,8 @@
 -- What holds of the history of every QMI proxy, whatever its events. Lists of events and of facts have the newest first.
-use Rattle.std.specs.Prelude.{◌≡◌, ◌≢◌, ◌≤◌, ◌==◌, ℕ, Bool, true, false, List, ◌∷◌, ◌++◌, length, All, AllPairs, is_none}
+use Rattle.std.specs.Prelude.{◌≡◌, ◌≢◌, ◌≤◌, ℕ, true, false, List, ◌∷◌, ◌++◌, length, All, AllPairs, is_none}
 use Rattle.qmux_frame.specs.Frame.{size_of}
-use Rattle.proxy_history.specs.Limits.{connection_limit}
 use Rattle.proxy_history.specs.Events.{Event, Joined, Took}
+pub use Rattle.proxy_history.specs.Events.{joins_or_takes}
 use Rattle.proxy_history.specs.Streams.{modem_stream}
 use Rattle.proxy_history.specs.Facts.{Fact, Why, Ended}
 use Rattle.proxy_history.specs.Connections.{present, is_present}
@@ -12,13 +12,14 @@ use Rattle.proxy_history.specs.Modem.{is_away}
 use Rattle.proxy_history.specs.Rendering.{empty, collect, Grows}
 use Rattle.proxy_history.specs.Sound.{IsSound, IsParty, Differ, begins_anew, EndsWithItsEnd}
 use Rattle.qmi_proxy.specs.Setup.{Setup}
-use Rattle.qmi_proxy.specs.Spaces.{limit_of, top_of}
+use Rattle.qmi_proxy.specs.Spaces.{limit_of}
+use Rattle.qmi_proxy.specs.Limits.{connection_limit, qmi_limits}
 use Rattle.qmi_proxy.specs.Text.{view_of}
 use Rattle.qmi_proxy.specs.History.{history, text_for}
 
 -- each fact may follow those before it
 abbrev pub HistoriesAreSound : Type 0
-HistoriesAreSound = (s : Setup) (events : List Event) → IsSound limit_of top_of (history s events)
+HistoriesAreSound = (s : Setup) (events : List Event) → IsSound qmi_limits (history s events)
 
 -- two requests in use in one number space have different transaction numbers
 abbrev pub NumbersInUseDiffer : Type 0
@@ -53,11 +54,6 @@ abbrev pub AwayAgrees : Type 0
 AwayAgrees = (s : Setup) (events : List Event) → is_away s.starts_away (history s events) ≡ is_none (modem_stream size_of s.starts_away events)
 
 -- ---- the bytes for a client, from one event to the next ----
-
-abbrev pub joins_or_takes : ℕ → Event → Bool
-joins_or_takes c (Joined d) = d == c
-joins_or_takes c (Took d count) = d == c
-joins_or_takes c _ = false
 
 -- where the client doesn't join and its socket takes nothing, its bytes stay, and more may come behind them
 abbrev pub BytesOnlyGrow : Type 0

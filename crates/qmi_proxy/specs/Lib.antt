@@ -1,12 +1,16 @@
 pub mod Errors
 pub mod Setup
 pub mod Spaces
+pub mod Limits
 pub mod Messages
 pub mod OwnReplies
 pub mod Text
 pub mod Clients
 pub mod FromModem
 pub mod History
+pub mod Asked
+pub mod Regular
+pub mod Proxy
 pub mod Laws
 pub mod Room
 pub mod Queue

@@ -1,9 +1,10 @@
 -- The replies that a client's own view decides: no other client and nothing of the modem has a say in them. A view has the newest entry first.
 -- Source of the reply to a Proxy Open: `process_internal_proxy_open` in libqmi's src/libqmi-glib/qmi-proxy.c. The refusals are this proxy's own.
-use Rattle.std.specs.Prelude.{ℕ, Bool, false, not, ◌&&◌, ◌||◌, if◌then◌else◌, List, [], ◌∷◌, Option, Some, None}
+use Rattle.std.specs.Prelude.{ℕ, Bool, false, not, ◌&&◌, ◌||◌, if◌then◌else◌, List, Option, Some, None}
 use Rattle.qmux_frame.specs.Control.{is_sync, is_proxy_open}
 use Rattle.proxy_history.specs.Facts.{Verdict, Own}
 use Rattle.proxy_history.specs.View.{Entry, Sent}
+use Rattle.proxy_history.specs.Wording.{told_by}
 use Rattle.qmi_proxy.specs.Errors.{no_error, malformed_message, internal, invalid_client_id}
 use Rattle.qmi_proxy.specs.Messages.{opens, is_malformed, has_bad_id}
 
@@ -23,11 +24,14 @@ abbrev pub is_opening : List ℕ → List ℕ → Verdict → Bool
 is_opening device m Own = not (is_malformed m) && opens device m
 is_opening device m _ = false
 
+-- whether the client has opened the device once it has this entry, from whether it had before
+abbrev pub step : List ℕ → Bool → Entry → Bool
+step device opened (Sent m verdict) = is_opening device m verdict || opened
+step device opened _ = opened
+
 -- the client has opened the device
-unfoldable pub is_open : List ℕ → List Entry → Bool
-is_open device [] = false
-is_open device (Sent m verdict ∷ entries) = is_opening device m verdict || is_open device entries
-is_open device (_ ∷ entries) = is_open device entries
+abbrev pub is_open : List ℕ → List Entry → Bool
+is_open device entries = told_by false (step device) entries
 
 -- the reply to a message that follows these entries
 abbrev pub own_reply : List ℕ → List Entry → List ℕ → Option ℕ

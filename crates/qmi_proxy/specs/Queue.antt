@@ -1,19 +1,16 @@
 -- What becomes of the bytes for the modem, from one event to the next. Lists of events and of facts have the newest first.
 use Rattle.std.specs.Prelude.{◌≡◌, ◌≤◌, ℕ, Bool, true, false, not, ◌&&◌, List, [], ◌∷◌, ◌++◌, length, drop}
-use Rattle.proxy_history.specs.Events.{Event, ModemTook}
+use Rattle.proxy_history.specs.Events.{Event, ModemTook, modem_takes}
 use Rattle.proxy_history.specs.Facts.{Fact}
 use Rattle.proxy_history.specs.Modem.{is_away, to_modem, modem_drained, modem_queue}
 use Rattle.qmi_proxy.specs.Setup.{Setup}
+use Rattle.qmi_proxy.specs.Limits.{modem_outbox_limit}
 use Rattle.qmi_proxy.specs.Clients.{wire}
 use Rattle.qmi_proxy.specs.History.{history}
 
 -- the modem was there, and is away once the event was met
 abbrev pub loses_modem : Setup → Event → List Event → Bool
 loses_modem s event events = not (is_away s.starts_away (history s events)) && is_away s.starts_away (history s (event ∷ events))
-
-abbrev pub modem_takes : Event → Bool
-modem_takes (ModemTook count) = true
-modem_takes _ = false
 
 -- the bytes for the modem that were there, and perhaps more behind them; none is taken
 pub record ModemGetsMore (before after : List Fact) : Type 0 where
@@ -38,3 +35,7 @@ ModemTakesTheFirst = (s : Setup) (count : ℕ) (events : List Event)
 abbrev pub LossLeavesNone : Type 0
 LossLeavesNone = (s : Setup) (event : Event) (events : List Event) → loses_modem s event events ≡ true
     → (to_modem wire (history s (event ∷ events)) ≡ []) × (modem_queue wire (history s (event ∷ events)) ≡ []) × (modem_drained (history s (event ∷ events)) ≡ 0)
+
+-- no more bytes wait for the modem than may
+abbrev pub NoMoreWaitForTheModemThanMay : Type 0
+NoMoreWaitForTheModemThanMay = (s : Setup) (events : List Event) → length (modem_queue wire (history s events)) ≤ modem_outbox_limit

@@ -1,9 +1,9 @@
 -- What holds of the room for each client's bytes, whatever a QMI proxy meets. Lists of events have the newest first.
 use Rattle.std.specs.Prelude.{◌≡◌, ◌≤◌, ℕ, true, false, List, length}
-use Rattle.proxy_history.specs.Limits.{outbox_limit}
 use Rattle.proxy_history.specs.Events.{Event}
 use Rattle.proxy_history.specs.Connections.{is_present}
 use Rattle.qmi_proxy.specs.Setup.{Setup}
+use Rattle.qmi_proxy.specs.Limits.{outbox_limit}
 use Rattle.qmi_proxy.specs.History.{history, text_for}
 
 -- a connection that is there got all that was due to it: there was room for each entry's bytes

@@ -1,9 +1,12 @@
 ghost use Rattle.qmi_proxy.specs.Laws.{HistoriesAreSound, NumbersInUseDiffer, WaitingArePresent, HoldersArePresent, FewArePresent, FewAreInUse, NothingFollowsAnEnd, EndsAreLast, AwayAgrees, BytesOnlyGrow, JoiningStartsWithNone, TakingTakesTheFirst, TakingOfTheAbsentTakesNone};
 ghost use Rattle.qmi_proxy.specs.Room.{NobodyThereIsOver, NoMoreWaitThanMay};
-ghost use Rattle.qmi_proxy.specs.Queue.{ModemBytesOnlyGrow, ModemTakesTheFirst, LossLeavesNone};
+ghost use Rattle.qmi_proxy.specs.Queue.{ModemBytesOnlyGrow, ModemTakesTheFirst, LossLeavesNone, NoMoreWaitForTheModemThanMay};
+ghost use Rattle.qmi_proxy.specs.Asked.{RequestsAreAsked};
+ghost use Rattle.qmi_proxy.specs.Regular.{HistoriesAreRegular};
 ghost use Rattle.qmi_proxy.specs.Verdicts.{OwnVerdictsHaveAReply, ForwardedHaveANumber};
 ghost use Rattle.qmi_proxy.specs.HungUp.{EventsHangUpTheirOwn};
 ghost use Rattle.qmi_proxy.specs.Refusals.{TheOrderLosesNone};
+ghost use Rattle.qmi_proxy.specs.Proxy.{ProxiesAreLawful};
 
 /// The law that each fact of a proxy's history may follow those before it.
 pub fn histories_are_sound()
@@ -80,4 +83,23 @@ pub fn events_hang_up_their_own()
 /// The law that the order in which requests are refused has each one that waits and no other.
 pub fn the_order_of_refusals_loses_none()
     ensures { TheOrderLosesNone }
+{}
+
+/// The law that a request is its sender's newest message when it is forwarded, and that its bytes
+/// find room in the modem's outbox; so no more bytes wait for the modem than may.
+pub fn requests_are_asked()
+    ensures asked { RequestsAreAsked }
+    ensures within { NoMoreWaitForTheModemThanMay }
+{}
+
+/// The law that where the names of those who join rise, and the modem takes no more than waits for
+/// it, each request that waits is its sender's message of its place.
+pub fn histories_are_regular()
+    ensures { HistoriesAreRegular }
+{}
+
+/// The law that the definitions of a proxy keep the rules by which its clients can be served over a
+/// hub.
+pub fn proxies_are_lawful()
+    ensures { ProxiesAreLawful }
 {}

@@ -1,9 +1,6 @@
 //! Serving the clients of a QMI proxy over a hub.
 #![tactic(auto)]
 
-mod next;
-mod offer;
-mod serve;
-mod server;
+mod serving;
 
-pub use serve::serve_qmi;
+pub use serving::serve_qmi;

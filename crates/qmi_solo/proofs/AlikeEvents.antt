@@ -6,16 +6,17 @@ use Rattle.framing.specs.Framing.{IsMessage}
 use Rattle.framing.specs.Cutting.{cut, cut_from}
 use Rattle.framing.proofs.Cuts.{cut-each}
 use Rattle.qmux_frame.specs.Frame.{size_of}
-use Rattle.proxy_history.specs.Limits.{connection_limit}
+use Rattle.proxy_history.specs.History as proxy
 use Rattle.proxy_history.specs.Events.{Event, Joined, Piece, Left, ModemPiece, ModemGone, ModemBack, Now, Took, ModemTook}
 use Rattle.proxy_history.specs.Streams.{stream, modem_stream, messages_of_piece, is_bad, come_back}
 use Rattle.proxy_history.specs.Items.{Joins, Says, Garbles, Leaves, ModemReturns, ClockShows, Takes, item_if, client_items, modem_items, fails_once, returns_once}
 use Rattle.proxy_history.specs.Facts.{Fact, Admitted, Ended, NotAdmitted, ModemReturned}
 use Rattle.proxy_history.specs.Connections.{present}
 use Rattle.proxy_history.specs.Modem.{is_away, to_modem, modem_drained, modem_queue}
+use Rattle.qmi_proxy.specs.Limits.{connection_limit}
 use Rattle.qmi_proxy.specs.Setup.{Setup}
 use Rattle.qmi_proxy.specs.Clients.{wire}
-use Rattle.qmi_proxy.specs.History.{add, add_all, items_of, history}
+use Rattle.qmi_proxy.specs.History.{add, add_all, items_of, history, qmi_protocol}
 use Rattle.qmi_proxy.proofs.Away.{away_agrees}
 use Rattle.qmi_state.specs.Core.{rest_in}
 use Rattle.qmi_solo.specs.Solo.{meet, meet_if, meet_items, meet_event}
@@ -42,7 +43,7 @@ module _ (s : Setup) (c : ℕ) where
   elsewhere event events solo same F sent A = record { same = same ∙ A.same; fit = F; alone = A.alone; sent = A.sent ∙ sym sent; whole = A.whole; empty = A.empty }
 
   joined_alike : (events solo : List Event) → Fit false c (history s (Joined c ∷ events)) → AreGeneral (part c (history s events)) → AreFair (part c (history s (Joined c ∷ events))) → AlikeAt events solo → AlikeAt (Joined c ∷ events) (meet s (Joined c) solo)
-  unfolding AlikeAt history add_all part stream modem_stream present
+  unfolding AlikeAt proxy.history proxy.add_all part stream modem_stream present
   joined_alike events solo F general fair A =
       let own : List Fact = begun s c solo in
       let G : Fit true c own = begun_fit s c true (history s solo) A.alone in
@@ -62,7 +63,7 @@ module _ (s : Setup) (c : ℕ) where
       (ap (λ (l : List ℕ). if c == c then [] else l) A.sent) A.whole
 
   piece_own : (bytes : List ℕ) (events solo : List Event) → Fit false c (history s (Piece c bytes ∷ events)) → AreFair (part c (history s (Piece c bytes ∷ events))) → AlikeAt events solo → AlikeAt (Piece c bytes ∷ events) (meet s (Piece c bytes) solo)
-  unfolding AlikeAt history add_all part stream modem_stream to_modem modem_drained
+  unfolding AlikeAt proxy.history proxy.add_all part stream modem_stream to_modem modem_drained
   piece_own bytes events solo F fair A =
       let own : List Fact = begun s c solo in
       let G : Fit true c own = begun_fit s c true (history s solo) A.alone in
@@ -75,19 +76,19 @@ module _ (s : Setup) (c : ℕ) where
       (ap (λ (l : List ℕ). if c == c then l ++ bytes else l) A.sent) A.whole
 
   leaves_own : (events solo : List Event) → Fit false c (history s (Left c ∷ events)) → AlikeAt events solo → AlikeAt (Left c ∷ events) (meet s (Left c) solo)
-  unfolding AlikeAt history add_all part stream modem_stream
+  unfolding AlikeAt proxy.history proxy.add_all part stream modem_stream
   leaves_own events solo F A =
       let G : Fit true c (begun s c solo) = begun_fit s c true (history s solo) A.alone in
       met s c (Left c) (history s (Left c ∷ events)) solo (stream c (Left c ∷ events)) (leaves_both s c (begun s c events) (begun s c solo) A.same) F (fit_add true c s (Leaves c) (begun s c solo) G tt) A.sent A.whole
 
   takes_own : (count : ℕ) (events solo : List Event) → Fit false c (history s (Took c count ∷ events)) → AlikeAt events solo → AlikeAt (Took c count ∷ events) (meet s (Took c count) solo)
-  unfolding AlikeAt history add_all part stream modem_stream
+  unfolding AlikeAt proxy.history proxy.add_all part stream modem_stream
   takes_own count events solo F A =
       let G : Fit true c (begun s c solo) = begun_fit s c true (history s solo) A.alone in
       met s c (Took c count) (history s (Took c count ∷ events)) solo (stream c (Took c count ∷ events)) (takes_both s c count (begun s c events) (begun s c solo) A.same) F (fit_add true c s (Takes c count) (begun s c solo) G tt) A.sent A.whole
 
   ticks_alike : (time : ℕ) (events solo : List Event) → Fit false c (history s (Now time ∷ events)) → AlikeAt events solo → AlikeAt (Now time ∷ events) (meet s (Now time) solo)
-  unfolding AlikeAt history add_all part stream modem_stream
+  unfolding AlikeAt proxy.history proxy.add_all part stream modem_stream
   ticks_alike time events solo F A =
       let G : Fit true c (begun s c solo) = begun_fit s c true (history s solo) A.alone in
       met s c (Now time) (history s (Now time ∷ events)) solo (stream c (Now time ∷ events))
@@ -108,7 +109,7 @@ module _ (s : Setup) (c : ℕ) where
   there_if events before is = away_agrees s events ∙ ap is_none is
 
   goes_alike : (events solo : List Event) → Fit false c (history s (ModemGone ∷ events)) → AlikeAt events solo → AlikeAt (ModemGone ∷ events) (meet s ModemGone solo)
-  unfolding AlikeAt history add_all part stream modem_stream is_away
+  unfolding AlikeAt proxy.history proxy.add_all part stream modem_stream is_away
   goes_alike events solo F A =
       let agree = streams_alike events solo A in
       let both_none : (o o' : Option (List ℕ)) → bytes_of s c events ≡ o → bytes_of s c solo ≡ o' → is_none o' ≡ is_none o → Alike s c (add_all s (fails_once o) (begun s c events)) (meet s ModemGone solo) (stream c events) =
@@ -125,7 +126,7 @@ module _ (s : Setup) (c : ℕ) where
       in both_none (bytes_of s c events) (bytes_of s c solo) refl refl agree
 
   returns_alike : (events solo : List Event) → Fit false c (history s (ModemBack ∷ events)) → AlikeAt events solo → AlikeAt (ModemBack ∷ events) (meet s ModemBack solo)
-  unfolding AlikeAt history add_all part stream modem_stream cut_from
+  unfolding AlikeAt proxy.history proxy.add_all part stream modem_stream cut_from
   returns_alike events solo F A =
       let own : List Fact = begun s c solo in
       let G : Fit true c own = begun_fit s c true (history s solo) A.alone in
@@ -156,10 +157,10 @@ module _ (s : Setup) (c : ℕ) where
 
   modem_piece : (bytes : List ℕ) (events solo : List Event) → Fit false c (history s (ModemPiece bytes ∷ events)) → AreFair (part c (history s (ModemPiece bytes ∷ events))) → AlikeAt events solo
       → AlikeAt (ModemPiece bytes ∷ events) (meet_items s c (items_of s events (ModemPiece bytes)) (begun s c events) solo)
-  unfolding AlikeAt history add_all part stream modem_stream meet_items is_away
+  unfolding AlikeAt proxy.history proxy.add_all part stream modem_stream meet_items is_away
   modem_piece bytes events solo F fair A =
-      let step : (o : Option (List ℕ)) → bytes_of s c events ≡ o → AreFair (part c (add_all s (modem_items size_of bytes o) (begun s c events))) → Alike s c (add_all s (modem_items size_of bytes o) (begun s c events)) (meet_items s c (modem_items size_of bytes o) (begun s c events) solo) (stream c events) =
-      λ o. elim o as (λ o. bytes_of s c events ≡ o → AreFair (part c (add_all s (modem_items size_of bytes o) (begun s c events))) → Alike s c (add_all s (modem_items size_of bytes o) (begun s c events)) (meet_items s c (modem_items size_of bytes o) (begun s c events) solo) (stream c events)) [
+      let step : (o : Option (List ℕ)) → bytes_of s c events ≡ o → AreFair (part c (add_all s (modem_items (qmi_protocol s) bytes o) (begun s c events))) → Alike s c (add_all s (modem_items (qmi_protocol s) bytes o) (begun s c events)) (meet_items s c (modem_items (qmi_protocol s) bytes o) (begun s c events) solo) (stream c events) =
+      λ o. elim o as (λ o. bytes_of s c events ≡ o → AreFair (part c (add_all s (modem_items (qmi_protocol s) bytes o) (begun s c events))) → Alike s c (add_all s (modem_items (qmi_protocol s) bytes o) (begun s c events)) (meet_items s c (modem_items (qmi_protocol s) bytes o) (begun s c events) solo) (stream c events)) [
         | None ↦ λ is fair. begun_alike events solo A
         | Some before ↦ λ is fair.
             piece_alike s c (messages_of_piece size_of before bytes) (is_bad size_of (before ++ bytes)) (begun s c events) solo (stream c events) (begun_alike events solo A) (there_if events before is)
@@ -169,7 +170,7 @@ module _ (s : Setup) (c : ℕ) where
 
   pub alike_event : (event : Event) (events solo : List Event) → Fit false c (history s (event ∷ events)) → (event ≡ Joined c → AreGeneral (part c (history s events))) → AreFair (part c (history s (event ∷ events)))
       → Alike s c (history s events) solo (stream c events) → Alike s c (history s (event ∷ events)) (meet_event s c events event solo) (stream c (event ∷ events))
-  unfolding AlikeAt history add_all part stream to_modem modem_drained
+  unfolding AlikeAt proxy.history proxy.add_all part stream to_modem modem_drained
   alike_event (Joined d) events solo F new fair A =
       own_or_other s c d (λ b. Alike s c (history s (Joined d ∷ events)) (meet_if b s (Joined d) solo) (stream c (Joined d ∷ events)))
       (λ e. let is : d ≡ c = eqb-true d c e in

@@ -2,16 +2,17 @@
 use Rattle.std.proofs.Common.{◌≡◌, ℕ, Bool, true, false, ◌==◌, nat_lt, if◌then◌else◌, List, [], ◌∷◌, ◌++◌, length, map, refl, ap, sym, ◌∙◌, subst, Option, Some, None}
 use Rattle.std.proofs.lemmas.Bool.{eqb-true}
 use Rattle.qmux_frame.specs.Frame.{size_of}
-use Rattle.proxy_history.specs.Limits.{connection_limit}
+use Rattle.proxy_history.specs.History as proxy
 use Rattle.proxy_history.specs.Events.{Event, Joined, Piece, Left, ModemPiece, ModemGone, ModemBack, Now, Took, ModemTook}
 use Rattle.proxy_history.specs.Streams.{stream, modem_stream, messages_of_piece, is_bad}
 use Rattle.proxy_history.specs.Items.{Joins, Says, Garbles, Leaves, ModemSays, ModemFails, ModemReturns, ClockShows, Takes, ModemTakes, item_if, client_items, modem_items, fails_once, returns_once}
 use Rattle.proxy_history.specs.Facts.{Fact, EventBegan, Admitted, Ended, NotAdmitted, BadStream, Closed, Drained, ModemReturned}
 use Rattle.proxy_history.specs.Connections.{present, is_present}
 use Rattle.proxy_history.specs.Modem.{to_modem, modem_drained}
+use Rattle.qmi_proxy.specs.Limits.{connection_limit}
 use Rattle.qmi_proxy.specs.Setup.{Setup}
 use Rattle.qmi_proxy.specs.Clients.{hear_client}
-use Rattle.qmi_proxy.specs.History.{add, add_all, history}
+use Rattle.qmi_proxy.specs.History.{add, add_all, history, qmi_protocol}
 use Rattle.qmi_solo.specs.Part.{concerns, as_known, fact_if, part}
 use Rattle.qmi_solo.specs.Law.{MayCome}
 use Rattle.qmi_solo.proofs.Fit.{AreGeneral, Fit}
@@ -35,18 +36,18 @@ module _ (s : Setup) (c : ℕ) where
   -- ---- a history of all stays fit ----
 
   modem_fits : (messages : List (List ℕ)) (bad : Bool) (past : List Fact) → Fit false c past → Fit false c (add_all s (modem_brings s c messages bad) past)
-  unfolding add_all
+  unfolding proxy.add_all
   modem_fits [] true past F = fit_add false c s ModemFails past F tt
   modem_fits [] false past F = F
   modem_fits (m ∷ messages) bad past F = modem_fits messages bad (add s (ModemSays m) past) (fit_add false c s (ModemSays m) past F tt)
 
   pub fit_event : (event : Event) (events : List Event) → MayCome s event events → (event ≡ Joined c → AreGeneral (part c (history s events))) → Fit false c (history s events) → Fit false c (history s (event ∷ events))
-  unfolding history add_all part to_modem modem_drained
+  unfolding proxy.history proxy.add_all part to_modem modem_drained
   fit_event (Joined d) events may new F = fit_add false c s (Joins d) (begun events) (begun_fit false (history s events) F) (tt, λ e. new (ap (λ (x : ℕ). Joined x) (eqb-true d c e)))
   fit_event (Piece d bytes) events may new F = piece_fits s c false d tt (messages_of_piece size_of (stream d events) bytes) (is_bad size_of (stream d events ++ bytes)) (begun events) (begun_fit false (history s events) F)
   fit_event (Left d) events may new F = fit_add false c s (Leaves d) (begun events) (begun_fit false (history s events) F) tt
   fit_event (ModemPiece bytes) events may new F =
-      elim (bytes_of events) as (λ o. Fit false c (add_all s (modem_items size_of bytes o) (begun events))) [
+      elim (bytes_of events) as (λ o. Fit false c (add_all s (modem_items (qmi_protocol s) bytes o) (begun events))) [
         | None ↦ begun_fit false (history s events) F
         | Some before ↦ modem_fits (messages_of_piece size_of before bytes) (is_bad size_of (before ++ bytes)) (begun events) (begun_fit false (history s events) F)
       ]
@@ -67,7 +68,7 @@ module _ (s : Setup) (c : ℕ) where
   -- ---- who hasn't joined isn't heard of ----
 
   absent_piece : (messages : List (List ℕ)) (bad : Bool) (past : List Fact) → is_present c past ≡ false → add_all s (map (λ m. Says c m) messages ++ item_if bad (Garbles c)) past ≡ past
-  unfolding add_all
+  unfolding proxy.add_all
   absent_piece [] true past gone = ap (λ (b : Bool). if b then Ended c BadStream ∷ past else past) gone
   absent_piece [] false past gone = refl
   absent_piece (m ∷ messages) bad past gone = ap (λ (b : Bool). add_all s (map (λ m. Says c m) messages ++ item_if bad (Garbles c)) (if b then hear_client s c m past else past)) gone ∙ absent_piece messages bad past gone
@@ -81,7 +82,7 @@ module _ (s : Setup) (c : ℕ) where
   AreNow past = AreGeneral (part c past)
 
   pub general_event : (event : Event) (events : List Event) → (event ≡ Joined c → ⊥) → Fit false c (history s events) → AreGeneral (part c (history s events)) → AreGeneral (part c (history s (event ∷ events)))
-  unfolding history add_all part present
+  unfolding proxy.history proxy.add_all part present
   general_event (Joined d) events new F general =
       own_or_other d (λ b. AreGeneral (part c (add s (Joins d) (begun events)))) (λ e. absurd (new (ap (λ (x : ℕ). Joined x) (eqb-true d c e)))) (λ e. subst AreGeneral (sym (joins_elsewhere s c d e (begun events))) general)
   general_event (Piece d bytes) events new F general =
@@ -95,7 +96,7 @@ module _ (s : Setup) (c : ℕ) where
       (λ e. subst (λ (x : ℕ). AreGeneral (part c (add s (Leaves x) (begun events)))) (sym (eqb-true d c e)) (subst (λ (b : Bool). AreGeneral (part c (if b then Ended c Closed ∷ begun events else begun events))) (sym (absent s c (history s events) general)) general))
       (λ e. subst AreGeneral (sym (leaves_elsewhere s c d e (begun events))) general)
   general_event (ModemPiece bytes) events new F general =
-      elim (bytes_of events) as (λ o. AreGeneral (part c (add_all s (modem_items size_of bytes o) (begun events)))) [
+      elim (bytes_of events) as (λ o. AreGeneral (part c (add_all s (modem_items (qmi_protocol s) bytes o) (begun events)))) [
         | None ↦ general
         | Some before ↦ piece_general s c (messages_of_piece size_of before bytes) (is_bad size_of (before ++ bytes)) (begun events) (begun_fit false (history s events) F) general
       ]
@@ -120,7 +121,7 @@ module _ (s : Setup) (c : ℕ) where
   fair_if false one other past x y fair = y fair
 
   pub fair_event : (event : Event) (events : List Event) → Fit false c (history s events) → AreFair (part c (history s (event ∷ events))) → AreFair (part c (history s events))
-  unfolding history add_all part
+  unfolding proxy.history proxy.add_all part
   fair_event (Joined d) events F fair = fair_if (nat_lt (length (present (begun events))) connection_limit) (Admitted d ∷ begun events) (Ended d NotAdmitted ∷ begun events) (begun events) (fair_cons (Admitted d) (begun events)) (fair_cons (Ended d NotAdmitted) (begun events)) fair
   fair_event (Piece d bytes) events F fair =
       own_or_other d (λ b. AreFair (part c (add_all s (client_items size_of d (stream d events) bytes) (begun events))) → AreFair (part c (begun events)))
@@ -128,7 +129,7 @@ module _ (s : Setup) (c : ℕ) where
       (λ e. subst AreFair (piece_elsewhere s c d e (messages_of_piece size_of (stream d events) bytes) (is_bad size_of (stream d events ++ bytes)) (begun events))) fair
   fair_event (Left d) events F fair = fair_if (is_present d (begun events)) (Ended d Closed ∷ begun events) (begun events) (begun events) (fair_cons (Ended d Closed) (begun events)) (λ f. f) fair
   fair_event (ModemPiece bytes) events F fair =
-      elim (bytes_of events) as (λ o. AreFair (part c (add_all s (modem_items size_of bytes o) (begun events))) → AreFair (part c (begun events))) [
+      elim (bytes_of events) as (λ o. AreFair (part c (add_all s (modem_items (qmi_protocol s) bytes o) (begun events))) → AreFair (part c (begun events))) [
         | None ↦ λ f. f
         | Some before ↦ fair_modem s c (messages_of_piece size_of before bytes) (is_bad size_of (before ++ bytes)) (begun events) (begun_fit false (history s events) F)
       ] fair

@@ -6,7 +6,6 @@ use Rattle.qmux_frame.specs.declared.kind.MessageKind.TheVariants as kind
 use Rattle.qmux_frame.specs.Head.{is_control, client_of}
 use Rattle.qmux_frame.specs.Kind.{framed_kind}
 use Rattle.qmux_frame.specs.Control.{is_sync, is_release}
-use Rattle.proxy_history.specs.Limits.{connection_limit}
 use Rattle.proxy_history.specs.Items.{Item, Joins, Says, Garbles, Leaves, ModemSays, ModemFails, ModemReturns, ClockShows, Takes, ModemTakes}
 use Rattle.proxy_history.specs.Facts.{Fact, Request, Verdict, Own, Foreign, Away, Full, Forward, Admitted, Ended, NotAdmitted, Judged, Forwarded, Answered, IdHeld, Indicated, Stray, Granted, Freed, Reset}
 use Rattle.proxy_history.specs.Connections.{present, is_present, message_count}
@@ -14,6 +13,7 @@ use Rattle.proxy_history.specs.Requests.{in_use, is_pending}
 use Rattle.proxy_history.specs.ClientIds.{held, holder, is_other}
 use Rattle.proxy_history.specs.Modem.{is_away, modem_queue}
 use Rattle.proxy_history.proofs.Sound.{forwarded_from_in_use}
+use Rattle.qmi_proxy.specs.Limits.{connection_limit}
 use Rattle.qmi_proxy.specs.Setup.{Setup}
 use Rattle.qmi_proxy.specs.Messages.{is_success, uses_id, used_service, used_client, byte_of, value_of}
 use Rattle.qmi_proxy.specs.OwnReplies.{own_reply}
@@ -22,7 +22,9 @@ use Rattle.qmi_proxy.specs.Clients.{number_for, holder_for, wire, has_room, is_n
 use Rattle.qmi_proxy.specs.FromModem.{IdChange, NoChange, Grants, Collides, Frees, granted_unless, id_change, brings_id, holder_of_brought, answer, answer_or_late, respond, first_answered_by, abort_all, receivers, tell, hear_as}
 use Rattle.qmi_proxy.specs.History.{add}
 use Rattle.qmi_proxy.proofs.Sound.{sound_add}
-use Rattle.qmi_state.proofs.Answered.{found_is}
+use Rattle.qmi_proxy.specs.OwnReplies.{is_open}
+use Rattle.qmi_proxy.proofs.Verdicts.{forwarded_ids_are_free}
+use Rattle.qmi_proxy.proofs.Answered.{found_is, change_free}
 use Rattle.qmi_solo.specs.Part.{part}
 use Rattle.qmi_solo.proofs.Fit.{AreGeneral, ComesFrom, MayBe, IsFit, Fit, older, place_within}
 use Rattle.qmi_solo.proofs.Alone.{forwarded_so}
@@ -41,11 +43,6 @@ module _ (alone : Bool) (c : ℕ) (s : Setup) where
   by_test false one other x y = y refl
 
   -- ---- messages of clients ----
-
-  forwards_unheld : (own : Option ℕ) (other away goes : Bool) → own_or own (if other then Foreign else if away then Away else if not goes then Full else Forward) ≡ Forward → other ≡ false
-  forwards_unheld (Some error) other away goes e = absurd (cc)
-  forwards_unheld None true away goes e = absurd (cc)
-  forwards_unheld None false away goes e = refl
 
   module _ (d : ℕ) (m : List ℕ) (past : List Fact) (F : Fit alone c past) (from : ComesFrom alone c d) where
     noted_fits : (place : ℕ) (verdict : Verdict) → FitFacts (note s.device (Judged d place m verdict) past)
@@ -94,7 +91,7 @@ module _ (alone : Bool) (c : ℕ) (s : Setup) where
     judge_fits Forward free = forward_fits (number_for m past) (free refl)
 
     says_fits : FitFacts (judge s d m (number_for m past) (verdict_on s d m past) past)
-    says_fits = judge_fits (verdict_on s d m past) (λ e. forwards_unheld (own_reply s.device (view_of d past) m) (is_other d (holder_for m past)) (is_away s.starts_away past) (is_number (number_for m past) && has_room (length (modem_queue wire past)) m) e)
+    says_fits = judge_fits (verdict_on s d m past) (λ e. forwarded_ids_are_free s (is_open s.device (view_of d past)) d m past e)
 
   -- ---- messages of the modem ----
 
@@ -103,23 +100,6 @@ module _ (alone : Bool) (c : ℕ) (s : Setup) where
   answer_fits r m (Grants service client) past fits may = fit_ends alone c s.device (r.conn ∷ []) (Answered r m ∷ Granted r.conn service client ∷ past) (tt, (may service client refl, fits))
   answer_fits r m Collides past fits may = fit_ends alone c s.device (r.conn ∷ []) (IdHeld r ∷ past) (tt, fits)
   answer_fits r m (Frees service client) past fits may = fit_ends alone c s.device (r.conn ∷ []) (Answered r m ∷ Freed r.conn service client ∷ past) (tt, (tt, fits))
-
-  granted_free : (collides : Bool) (brought_service brought_client service client : ℕ) → granted_unless collides brought_service brought_client ≡ Grants service client → (collides ≡ false) × (brought_service ≡ service) × (brought_client ≡ client)
-  granted_free true a b service client e = absurd (cc)
-  granted_free false a b service client e = (refl, cc, cc)
-
-  change_free : (d : ℕ) (request m : List ℕ) (past : List Fact) (service client : ℕ) → id_change d request m (holder_of_brought m past) ≡ Grants service client → is_other d (holder service client past) ≡ false
-  change_free d request m past service client =
-      let brought : IdChange = granted_unless (is_other d (holder_of_brought m past)) (byte_of 0 (value_of 0x01 m)) (byte_of 1 (value_of 0x01 m)) in
-      let other : IdChange = if is_release request && is_success m then Frees (used_service request) (used_client request) else NoChange in
-      let step : (b : Bool) → (if b then brought else other) ≡ Grants service client → is_other d (holder service client past) ≡ false =
-      λ b. elim b as (λ b. (if b then brought else other) ≡ Grants service client → is_other d (holder service client past) ≡ false) [
-        | true ↦ λ e.
-            let parts = granted_free (is_other d (holder_of_brought m past)) (byte_of 0 (value_of 0x01 m)) (byte_of 1 (value_of 0x01 m)) service client e in
-            sym (ap (λ (n : ℕ). is_other d (holder n (byte_of 1 (value_of 0x01 m)) past)) parts.1 ∙ ap (λ (n : ℕ). is_other d (holder service n past)) parts.2) ∙ parts.0
-        | false ↦ λ e. absurd (elim (is_release request && is_success m) as (λ t. (if t then Frees (used_service request) (used_client request) else NoChange) ≡ Grants service client → ⊥) [ true ↦ λ e. cc | false ↦ λ e. cc ] e)
-      ]
-      in step (brings_id request m)
 
   respond_fits : (found : Option Request) (m : List ℕ) (past : List Fact) → FitFacts past → first_answered_by m (in_use past) ≡ found → FitFacts (respond s.device found m past)
   respond_fits None m past fits is = (tt, fits)

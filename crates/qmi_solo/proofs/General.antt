@@ -11,7 +11,7 @@ use Rattle.proxy_history.specs.Unanswered.{due}
 use Rattle.proxy_history.proofs.Lists.{Contains-nil}
 use Rattle.qmi_proxy.specs.Setup.{Setup}
 use Rattle.qmi_proxy.specs.FromModem.{respond, first_answered_by, abort_all, tell, hear_as, hear_modem, lose, tick, in_expiry_order}
-use Rattle.qmi_state.proofs.Answered.{found_is}
+use Rattle.qmi_proxy.proofs.Answered.{found_is}
 use Rattle.qmi_solo.specs.Solo.{names_nobody}
 use Rattle.qmi_solo.specs.Part.{as_sent, part, sent_by}
 use Rattle.qmi_solo.proofs.Fit.{AreGeneral, Fit}

@@ -20,9 +20,8 @@ use Rattle.qmi_proxy.specs.Setup.{Setup}
 use Rattle.qmi_proxy.specs.Messages.{value_of, has_length, byte_of, used_service, used_client, is_success}
 use Rattle.qmi_proxy.specs.Text.{blank}
 use Rattle.qmi_proxy.specs.FromModem.{IdChange, NoChange, Grants, Collides, Frees, granted_unless, id_change, brings_id, holder_of_brought, answer_or_late, respond, first_answered_by, abort_all, receivers, tell, indicate, hear_as, hear_modem}
-use Rattle.qmi_state.proofs.Heads.{framed_long}
-use Rattle.qmi_state.proofs.Answered.{found_is}
-use Rattle.qmi_state.proofs.Modem.{responses_framed}
+use Rattle.qmux_frame.proofs.Framed.{framed_long, responses_framed}
+use Rattle.qmi_proxy.proofs.Answered.{found_is}
 use Rattle.qmi_solo.specs.Solo.{number_at, numbered, answer_alone, names_nobody, heard_alone}
 use Rattle.qmi_solo.specs.Part.{as_sent, part, sent_by}
 use Rattle.qmi_solo.proofs.Fit.{IsFit, Fit}

@@ -1,11 +1,12 @@
 -- The items of one event: what others do, what the client does, and what the modem says.
 use Rattle.std.proofs.Common.{◌≡◌, ℕ, ◌≤◌, Bool, true, false, ◌==◌, nat_lt, if◌then◌else◌, List, [], ◌∷◌, ◌++◌, length, map, refl, ap, sym, ◌∙◌, subst, Option, Some, None}
-use Rattle.proxy_history.specs.Limits.{connection_limit}
+use Rattle.proxy_history.specs.History as proxy
 use Rattle.proxy_history.specs.Items.{Joins, Says, Garbles, Leaves, Takes, item_if}
 use Rattle.proxy_history.specs.Facts.{Fact, Verdict, Admitted, Ended, NotAdmitted, BadStream, Closed, Drained}
 use Rattle.proxy_history.specs.Connections.{present, is_present}
 use Rattle.proxy_history.specs.Requests.{in_use}
 use Rattle.proxy_history.specs.Modem.{modem_queue}
+use Rattle.qmi_proxy.specs.Limits.{connection_limit}
 use Rattle.qmi_proxy.specs.Setup.{Setup}
 use Rattle.qmux_frame.specs.declared.kind.MessageKind.{MessageKind}
 use Rattle.qmux_frame.specs.declared.kind.MessageKind.TheVariants as kind
@@ -50,7 +51,7 @@ module _ (s : Setup) (c : ℕ) where
     garbles_elsewhere past = either (is_present d past) (Ended d BadStream ∷ past) past past (skipped (Ended d BadStream) past refl) refl
 
     pub piece_elsewhere : (messages : List (List ℕ)) (bad : Bool) (past : List Fact) → part c (add_all s (map (λ m. Says d m) messages ++ item_if bad (Garbles d)) past) ≡ part c past
-    unfolding add_all
+    unfolding proxy.add_all
     piece_elsewhere [] true past = garbles_elsewhere past
     piece_elsewhere [] false past = refl
     piece_elsewhere (m ∷ messages) bad past =
@@ -59,7 +60,7 @@ module _ (s : Setup) (c : ℕ) where
 
   -- the messages of a client keep a history of all fit
   pub piece_fits : (alone : Bool) (d : ℕ) → ComesFrom alone c d → (messages : List (List ℕ)) (bad : Bool) (past : List Fact) → Fit alone c past → Fit alone c (add_all s (map (λ m. Says d m) messages ++ item_if bad (Garbles d)) past)
-  unfolding add_all
+  unfolding proxy.add_all
   piece_fits alone d from [] true past F = fit_add alone c s (Garbles d) past F tt
   piece_fits alone d from [] false past F = F
   piece_fits alone d from (m ∷ messages) bad past F = piece_fits alone d from messages bad (add s (Says d m) past) (fit_add alone c s (Says d m) past F from)
@@ -109,7 +110,7 @@ module _ (s : Setup) (c : ℕ) where
       ] fair
 
   pub fair_piece : (messages : List (List ℕ)) (bad : Bool) (past : List Fact) → AreFair (part c (add_all s (map (λ m. Says c m) messages ++ item_if bad (Garbles c)) past)) → AreFair (part c past)
-  unfolding add_all
+  unfolding proxy.add_all
   fair_piece [] true past fair = fair_garbles past fair
   fair_piece [] false past fair = fair
   fair_piece (m ∷ messages) bad past fair = fair_says m past (fair_piece messages bad (add s (Says c m) past) fair)
@@ -146,7 +147,7 @@ module _ (s : Setup) (c : ℕ) where
 
   pub piece_both : (messages : List (List ℕ)) (bad : Bool) (past own : List Fact) → Pair past own → AreFair (part c (add_all s (map (λ m. Says c m) messages ++ item_if bad (Garbles c)) past))
       → part c (add_all s (map (λ m. Says c m) messages ++ item_if bad (Garbles c)) past) ≡ part c (add_all s (map (λ m. Says c m) messages ++ item_if bad (Garbles c)) own)
-  unfolding add_all
+  unfolding proxy.add_all
   piece_both [] true past own P fair = garbles_both past own P.same
   piece_both [] false past own P fair = P.same
   piece_both (m ∷ messages) bad past own P fair =

@@ -3,6 +3,7 @@ use Rattle.std.proofs.Common.{◌≡◌, ℕ, ◌≤◌, ◌<◌, max, Bool, tru
 use Rattle.std.proofs.lemmas.Bool.{eqb-true, eq-eqb}
 use Rattle.std.proofs.lemmas.List.Elements.{recursion_from_All, All-from_recursion}
 use Rattle.framing.specs.Cutting.{cut_from}
+use Rattle.proxy_history.specs.History as proxy
 use Rattle.proxy_history.specs.Events.{Event, Joined, Piece, Left, ModemPiece, ModemGone, ModemBack, Now, Took, ModemTook}
 use Rattle.proxy_history.specs.Streams.{stream, modem_stream}
 use Rattle.proxy_history.specs.Facts.{Fact, Request, EventBegan}
@@ -12,14 +13,16 @@ use Rattle.proxy_history.specs.ClientIds.{Grant, held}
 use Rattle.proxy_history.specs.Modem.{now, is_away, to_modem, modem_drained, modem_queue}
 use Rattle.proxy_history.specs.View.{Entry, view}
 use Rattle.proxy_history.specs.Rendering.{Rendering, render}
+use Rattle.qmi_proxy.specs.Limits.{outbox_limit}
+use Rattle.proxy_history.specs.Coming.{queued_for}
 use Rattle.qmi_proxy.specs.Setup.{Setup}
 use Rattle.qmi_proxy.specs.Text.{text, view_of}
 use Rattle.qmi_proxy.specs.Clients.{wire}
-use Rattle.qmi_proxy.specs.History.{items_of, history, text_for}
+use Rattle.qmi_proxy.specs.History.{qmi_protocol, items_of, history, text_for}
 use Rattle.qmi_state.specs.Core.{greatest_name, rest_in}
 use Rattle.qmi_solo.specs.Solo.{meet_event, solo}
 use Rattle.qmi_solo.specs.Part.{part}
-use Rattle.qmi_solo.specs.Law.{queued_for, MayCome, AreSound, tells_of_others, IsLetAlone, GetsTheSameAlone, AloneIsSound, HistoriesAreSame}
+use Rattle.qmi_solo.specs.Law.{MayCome, AreSound, tells_of_others, IsLetAlone, GetsTheSameAlone, AloneIsSound, HistoriesAreSame}
 use Rattle.qmi_solo.proofs.Fit.{AreGeneral, Fit}
 use Rattle.qmi_solo.proofs.Queries.{view-part, present-part, now-part, away-part, in_use-part, pending-part, held-part}
 use Rattle.qmi_solo.proofs.Alone.{in_use_mine, held_mine}
@@ -85,7 +88,7 @@ module _ (s : Setup) (c : ℕ) where
       let rises : MayCome s (Joined c) events = subst (λ (x : Event). MayCome s x events) is may in K.fresh (new_name c events rises)
 
   known : (events : List Event) → AreSound s events → Known events
-  unfolding history part
+  unfolding proxy.history part
   known [] sound = record { fit = record { sound = tt; fits = tt }; fresh = λ e. tt }
   known (event ∷ events) sound =
       let K = known events sound.1 in
@@ -95,7 +98,7 @@ module _ (s : Setup) (c : ℕ) where
       }
 
   alike : (events : List Event) → AreSound s events → AreFair (part c (history s events)) → Alike s c (history s events) (solo s c events) (stream c events)
-  unfolding history part solo stream modem_stream to_modem modem_drained cut_from
+  unfolding proxy.history part solo stream modem_stream to_modem modem_drained cut_from
   alike [] sound fair = record { same = refl; fit = record { sound = tt; fits = tt }; alone = record { sound = tt; fits = tt }; sent = refl; whole = elim s.starts_away as (λ b. rest_in (if b then None else Some []) ≡ []) [ true ↦ refl | false ↦ refl ]; empty = refl }
   alike (event ∷ events) sound fair =
       let K = known events sound.1 in
@@ -110,12 +113,12 @@ module _ (s : Setup) (c : ℕ) where
   -- ---- what it meets alone may come ----
 
   same_text : (past : List Event) (own : List Event) → part c (history s past) ≡ part c (history s own) → text_for s c past ≡ text_for s c own
-  same_text past own same = ap (render (text s.device)) (sym (view-part c (history s past)) ∙ ap (λ (facts : List Fact). view (λ m. m) c facts) same ∙ view-part c (history s own))
+  same_text past own same = ap (render outbox_limit (text s.device)) (sym (view-part c (history s past)) ∙ ap (λ (facts : List Fact). view (λ m. m) c facts) same ∙ view-part c (history s own))
 
   same_there : (past own : List Fact) → part c past ≡ part c own → is_present c past ≡ is_present c own
   same_there past own same = sym (present-part c past) ∙ ap (is_present c) same ∙ present-part c own
 
-  same_queued : (past own : List Event) → part c (history s past) ≡ part c (history s own) → queued_for s c past ≡ queued_for s c own
+  same_queued : (past own : List Event) → part c (history s past) ≡ part c (history s own) → queued_for (qmi_protocol s) c past ≡ queued_for (qmi_protocol s) c own
   same_queued past own same =
       ap (λ (b : Bool). if b then length (text_for s c past).waiting else 0) (same_there (history s past) (history s own) same)
       ∙ ap (λ (r : Rendering). if is_present c (history s own) then length r.waiting else 0) (same_text past own same)
@@ -135,7 +138,7 @@ module _ (s : Setup) (c : ℕ) where
       of_event ModemGone events may A rest = meet_sound s c ModemGone (solo s c events) tt rest
       of_event ModemBack events may A rest = meet_sound s c ModemBack (solo s c events) tt rest
       of_event (Now time) events may A rest = meet_sound s c (Now time) (solo s c events) tt rest
-      of_event (Took d count) events may A rest = meet_if_sound s c d (λ x. Took x count) (solo s c events) (λ is. subst (λ (n : ℕ). count ≤ n) (ap (λ (x : ℕ). queued_for s x events) is ∙ same_queued events (solo s c events) A.same) may) rest
+      of_event (Took d count) events may A rest = meet_if_sound s c d (λ x. Took x count) (solo s c events) (λ is. subst (λ (n : ℕ). count ≤ n) (ap (λ (x : ℕ). queued_for (qmi_protocol s) x events) is ∙ same_queued events (solo s c events) A.same) may) rest
       of_event (ModemTook count) events may A rest = rest
 
   empty_of : (bytes : List ℕ) → length bytes ≡ 0 → bytes ≡ []

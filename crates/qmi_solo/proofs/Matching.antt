@@ -8,7 +8,7 @@ use Rattle.proxy_history.specs.Requests.{in_use}
 use Rattle.proxy_history.proofs.Lists.{Contains-cons, Contains-cons_cases, Contains-nil}
 use Rattle.proxy_history.proofs.Sound.{forwarded_from_in_use}
 use Rattle.qmi_proxy.specs.FromModem.{is_answered_by, first_answered_by}
-use Rattle.qmi_state.proofs.Answered.{one_is_answered, first_is}
+use Rattle.qmi_proxy.proofs.Answered.{one_is_answered, first_is}
 use Rattle.qmi_solo.specs.Solo.{number_at}
 use Rattle.qmi_solo.specs.Part.{as_sent, request_if, sent_by}
 use Rattle.qmi_solo.proofs.Fit.{Fit, same_place}

@@ -4,6 +4,7 @@ use Rattle.std.proofs.lemmas.Bool.Decides.{nat_tests}
 use Rattle.framing.specs.Framing.{IsMessage}
 use Rattle.framing.specs.Cutting.{cut}
 use Rattle.qmux_frame.specs.Frame.{size_of}
+use Rattle.proxy_history.specs.History as proxy
 use Rattle.proxy_history.specs.Events.{Event, ModemPiece}
 use Rattle.proxy_history.specs.Streams.{stream, modem_stream, with_piece, messages_of_piece, is_bad}
 use Rattle.proxy_history.specs.Items.{ModemSays, ModemFails, item_if, modem_items}
@@ -13,7 +14,7 @@ use Rattle.proxy_history.specs.Modem.{to_modem, modem_drained, modem_queue}
 use Rattle.qmi_proxy.specs.Setup.{Setup}
 use Rattle.qmi_proxy.specs.Clients.{wire}
 use Rattle.qmi_proxy.specs.FromModem.{hear_modem}
-use Rattle.qmi_proxy.specs.History.{add_all, history}
+use Rattle.qmi_proxy.specs.History.{add_all, history, qmi_protocol}
 use Rattle.qmi_state.specs.Core.{rest_in}
 use Rattle.qmi_solo.specs.Solo.{take_all, meet, piece_limit, pieces_of, meet_pieces}
 use Rattle.qmi_solo.specs.Part.{part}
@@ -40,7 +41,7 @@ module _ (s : Setup) (c : ℕ) where
   -- the modem takes all that waits
   takes_all : (past : List Fact) (solo : List Event) (bytes : List ℕ) → part c past ≡ part c (history s solo) → Fit false c past → Fit true c (history s solo) → stream c solo ≡ bytes → rest_in (modem_bytes solo) ≡ []
       → (count : ℕ) → length (modem_queue wire (history s solo)) ≡ count → Alike past (take_all count solo) bytes
-  unfolding history add_all part stream modem_stream to_modem modem_drained
+  unfolding proxy.history proxy.add_all part stream modem_stream to_modem modem_drained
   takes_all past solo bytes same F G sent whole zero is = record { same = same; fit = F; alone = G; sent = sent; whole = whole; empty = is }
   takes_all past solo bytes same F G sent whole (suc count) is = record {
     same = same;
@@ -60,9 +61,9 @@ module _ (s : Setup) (c : ℕ) where
   -- a piece of the modem and what it comes to
   piece_history : (solo : List Event) (before piece : List ℕ) (messages : List (List ℕ)) → modem_bytes solo ≡ Some before → messages_of_piece size_of before piece ≡ messages → is_bad size_of (before ++ piece) ≡ false
       → history s (ModemPiece piece ∷ solo) ≡ add_all s (map (λ m. ModemSays m) messages ++ []) (EventBegan ∷ history s solo)
-  unfolding history
+  unfolding proxy.history
   piece_history solo before piece messages stream_is messages_are good =
-      ap (λ (o : Option (List ℕ)). add_all s (modem_items size_of piece o) (EventBegan ∷ history s solo)) stream_is
+      ap (λ (o : Option (List ℕ)). add_all s (modem_items (qmi_protocol s) piece o) (EventBegan ∷ history s solo)) stream_is
       ∙ ap (λ (l : List (List ℕ)). add_all s (map (λ m. ModemSays m) l ++ item_if (is_bad size_of (before ++ piece)) ModemFails) (EventBegan ∷ history s solo)) messages_are
       ∙ ap (λ (b : Bool). add_all s (map (λ m. ModemSays m) messages ++ item_if b ModemFails) (EventBegan ∷ history s solo)) good
 
@@ -87,7 +88,7 @@ module _ (s : Setup) (c : ℕ) where
 
   last_piece : (first after : List Fact) (x : List ℕ) (solo : List Event) (bytes front piece : List ℕ) → Comes first after x → Fit false c after → IsMessage size_of x → Begun first solo bytes front → front ++ piece ≡ x
       → Alike after (meet s (ModemPiece piece) solo) bytes
-  unfolding add_all part in_use stream
+  unfolding proxy.add_all part in_use stream
   last_piece first after x solo bytes front piece comes F message B whole =
       let ends = ends_message B.before piece front x B.rest whole message in
       let own : List Fact = EventBegan ∷ history s solo in
@@ -102,7 +103,7 @@ module _ (s : Setup) (c : ℕ) where
 
   first_piece : (first : List Fact) (x : List ℕ) (solo : List Event) (bytes front piece later : List ℕ) → IsMessage size_of x → Begun first solo bytes front → (front ++ piece) ++ later ≡ x → 0 < length later
       → Begun first (meet s (ModemPiece piece) solo) bytes (front ++ piece)
-  unfolding add_all part in_use stream to_modem modem_drained
+  unfolding proxy.add_all part in_use stream to_modem modem_drained
   first_piece first x solo bytes front piece later message B whole some =
       let goes = goes_on B.before piece front later B.rest (subst (IsMessage size_of) (sym whole) message) some in
       let is : history s (ModemPiece piece ∷ solo) ≡ EventBegan ∷ history s solo = piece_history solo B.before piece [] B.stream_is goes.messages goes.good in

@@ -4,6 +4,7 @@ use Rattle.std.specs.List.{AllByRecursion}
 use Rattle.framing.specs.Framing.{IsMessage}
 use Rattle.qmux_frame.specs.Frame.{size_of}
 use Rattle.qmux_frame.specs.Kind.{framed_kind}
+use Rattle.proxy_history.specs.History as proxy
 use Rattle.proxy_history.specs.Events.{Event, ModemGone}
 use Rattle.proxy_history.specs.Streams.{stream, modem_stream}
 use Rattle.proxy_history.specs.Items.{Item, ModemSays, ModemFails, item_if, fails_once}
@@ -12,7 +13,7 @@ use Rattle.proxy_history.specs.Modem.{is_away}
 use Rattle.qmi_proxy.specs.Setup.{Setup}
 use Rattle.qmi_proxy.specs.FromModem.{hear_modem, lose}
 use Rattle.qmi_proxy.specs.History.{add_all, history}
-use Rattle.qmi_proxy.proofs.Away.{away_agrees, same_hear}
+use Rattle.qmi_proxy.proofs.Away.{away_agrees, same_heard}
 use Rattle.qmi_solo.specs.Solo.{meet, meet_message, meet_items, heard_alone}
 use Rattle.qmi_solo.specs.Part.{part}
 use Rattle.qmi_solo.proofs.Fit.{AreGeneral, Fit}
@@ -35,7 +36,7 @@ module _ (s : Setup) (c : ℕ) where
   away_alike past solo bytes A = sym (away_agrees s solo) ∙ sym (away-part c s.starts_away (history s solo)) ∙ ap (is_away s.starts_away) (sym A.same) ∙ away-part c s.starts_away past
 
   pub fails_alike : (past : List Fact) (solo : List Event) (bytes : List ℕ) → Alike s c past solo bytes → is_away s.starts_away past ≡ false → Alike s c (lose s.device past) (meet s ModemGone solo) bytes
-  unfolding history add_all part stream modem_stream
+  unfolding proxy.history proxy.add_all part stream modem_stream
   fails_alike past solo bytes A there =
       let some = some_if (modem_bytes s c solo) (away_alike past solo bytes A ∙ there) in
       let own : List Fact = EventBegan ∷ history s solo in
@@ -71,24 +72,24 @@ module _ (s : Setup) (c : ℕ) where
   modem_brings messages bad = map (λ m. ModemSays m) messages ++ item_if bad ModemFails
 
   pub fair_modem : (messages : List (List ℕ)) (bad : Bool) (past : List Fact) → Fit false c past → AreFair (part c (add_all s (modem_brings messages bad) past)) → AreFair (part c past)
-  unfolding add_all
+  unfolding proxy.add_all
   fair_modem [] true past F fair = fair_each s.device c false _ (part c past) (subst AreFair (loses-part s.device c past F).same fair).1
   fair_modem [] false past F fair = fair
   fair_modem (m ∷ messages) bad past F fair = fair_heard s c m past F (fair_modem messages bad (hear_modem s.device m past) (fit_add false c s (ModemSays m) past F tt) fair)
 
   pub piece_alike : (messages : List (List ℕ)) (bad : Bool) (past : List Fact) (solo : List Event) (bytes : List ℕ) → Alike s c past solo bytes → is_away s.starts_away past ≡ false → AllByRecursion (IsMessage size_of) messages
       → AreFair (part c (add_all s (modem_brings messages bad) past)) → Alike s c (add_all s (modem_brings messages bad) past) (meet_items s c (modem_brings messages bad) past solo) bytes
-  unfolding add_all meet_items
+  unfolding proxy.add_all meet_items
   piece_alike [] true past solo bytes A there whole fair = fails_alike past solo bytes A there
   piece_alike [] false past solo bytes A there whole fair = A
   piece_alike (m ∷ messages) bad past solo bytes A there whole fair =
       let after : List Fact = hear_modem s.device m past in
       let F : Fit false c after = fit_add false c s (ModemSays m) past A.fit tt in
       piece_alike messages bad after _ bytes (says_alike m past solo bytes A there whole.0 (fair_modem messages bad after F fair))
-      (same_hear s.starts_away (framed_kind m) s.device m past ∙ there) whole.1 fair
+      (same_heard s m past A.fit.sound ∙ there) whole.1 fair
 
   pub piece_general : (messages : List (List ℕ)) (bad : Bool) (past : List Fact) → Fit false c past → AreGeneral (part c past) → AreGeneral (part c (add_all s (modem_brings messages bad) past))
-  unfolding add_all
+  unfolding proxy.add_all
   piece_general [] true past F general = general_loses s c past F general
   piece_general [] false past F general = general
   piece_general (m ∷ messages) bad past F general = piece_general messages bad (hear_modem s.device m past) (fit_add false c s (ModemSays m) past F tt) (general_heard s c m past F general)

@@ -1,9 +1,9 @@
 -- A view that tells of nobody else is one of a fair history.
 use Rattle.std.proofs.Common.{◌≡◌, ℕ, Bool, true, false, ◌==◌, if◌then◌else◌, List, [], ◌∷◌, refl}
 use Rattle.std.specs.List.{AllByRecursion}
-use Rattle.proxy_history.specs.Facts.{Fact, Verdict, Own, Foreign, Away, Full, Forward, NotAdmitted, BadStream, Closed, Admitted, Ended, Judged, Drained, Answered, IdHeld, Expired, Aborted, Indicated, Reset, ModemLost, ModemReturned, TimeIs}
+use Rattle.proxy_history.specs.Facts.{Fact, Verdict, Own, Foreign, Away, Full, Forward, NotAdmitted, BadStream, Closed, Admitted, Ended, Judged, Drained, Answered, IdHeld, Expired, Aborted, Indicated, OpeningEnded, SessionsClosed, Reset, ModemLost, ModemReturned, TimeIs}
 use Rattle.proxy_history.specs.Connections.{contains}
-use Rattle.proxy_history.specs.View.{Entry, Sent, Response, Refused, Indication, Collected, End, HeldId, NoAnswer, view, entry_if}
+use Rattle.proxy_history.specs.View.{Entry, Sent, Response, Refused, Indication, OpenedWith, Shut, Collected, End, HeldId, NoAnswer, view, entry_if}
 use Rattle.qmi_proxy.specs.Text.{blank, view_of}
 use Rattle.qmi_solo.specs.Part.{concerns, as_known, fact_if, part}
 use Rattle.qmi_solo.specs.Law.{tells_of_others}
@@ -63,4 +63,6 @@ module _ (c : ℕ) where
   fair_from_view (Expired r ∷ past) fits is = fair_entry (r.conn == c) (as_known c (Expired r)) (Refused r.place NoAnswer) (part c past) (view_of c past) (λ h. refl) (fair_from_view past fits.1) is
   fair_from_view (Aborted r ∷ past) fits is = fair_entry (r.conn == c) (as_known c (Aborted r)) (Refused r.place NoAnswer) (part c past) (view_of c past) (λ h. refl) (fair_from_view past fits.1) is
   fair_from_view (Indicated m receivers ∷ past) fits is = fair_entry (contains c receivers) (as_known c (Indicated m receivers)) (Indication m) (part c past) (view_of c past) (λ h. refl) (fair_from_view past fits.1) is
+  fair_from_view (OpeningEnded status receivers ∷ past) fits is = fair_entry (contains c receivers) (as_known c (OpeningEnded status receivers)) (OpenedWith status) (part c past) (view_of c past) (λ h. refl) (fair_from_view past fits.1) is
+  fair_from_view (SessionsClosed receivers ∷ past) fits is = fair_entry (contains c receivers) (as_known c (SessionsClosed receivers)) Shut (part c past) (view_of c past) (λ h. refl) (fair_from_view past fits.1) is
   fair_from_view (fact ∷ past) fits is = other_fact (concerns c fact) (as_known c fact) (part c past) refl (fair_from_view past fits.1 is)

@@ -1,38 +1,28 @@
 -- What a client gets beside others, it gets alone. Lists of events and views have the newest first.
-use Rattle.std.specs.Prelude.{◌≡◌, ℕ, ◌≤◌, ◌<◌, Bool, true, false, ◌==◌, if◌then◌else◌, List, [], ◌∷◌, length, All}
-use Rattle.proxy_history.specs.Events.{Event, Joined, Piece, ModemPiece, Took, ModemTook}
+use Rattle.std.specs.Prelude.{◌≡◌, ℕ, Bool, true, false, ◌==◌, List, [], All}
+use Rattle.proxy_history.specs.Events.{Event}
 use Rattle.proxy_history.specs.Facts.{Fact, NotAdmitted, Foreign, Full}
 use Rattle.proxy_history.specs.Connections.{is_present}
 use Rattle.proxy_history.specs.Requests.{in_use, pending}
 use Rattle.proxy_history.specs.ClientIds.{held}
 use Rattle.proxy_history.specs.Modem.{now, is_away, modem_queue}
+use Rattle.proxy_history.specs.Coming as coming
 use Rattle.proxy_history.specs.View.{Entry, Sent, Refused, End, HeldId}
 use Rattle.qmi_proxy.specs.Setup.{Setup}
 use Rattle.qmi_proxy.specs.Text.{view_of}
 use Rattle.qmi_proxy.specs.Clients.{wire}
-use Rattle.qmi_proxy.specs.History.{history, text_for}
-use Rattle.qmi_state.specs.Core.{greatest_name}
+use Rattle.qmi_proxy.specs.History.{qmi_protocol, history, text_for}
 use Rattle.qmi_solo.specs.Solo.{solo}
 use Rattle.qmi_solo.specs.Part.{part, sent_by, held_by}
 
 -- ---- the events that may come ----
 
--- how many bytes wait for a connection that is there; for one that isn't none do
-abbrev pub queued_for : Setup → ℕ → List Event → ℕ
-queued_for s c events = if is_present c (history s events) then length (text_for s c events).waiting else 0
-
 -- an event may follow these events: names rise, pieces are short, and no more is taken than waits
 abbrev pub MayCome : Setup → Event → List Event → Type 0
-MayCome s (Joined c) events = greatest_name events < c
-MayCome s (Piece c bytes) events = length bytes ≤ 16384
-MayCome s (ModemPiece bytes) events = length bytes ≤ 16384
-MayCome s (Took c count) events = count ≤ queued_for s c events
-MayCome s (ModemTook count) events = count ≤ length (modem_queue wire (history s events))
-MayCome s _ events = Unit {0}
+MayCome s event events = coming.MayCome (qmi_protocol s) event events
 
 abbrev pub AreSound : Setup → List Event → Type 0
-AreSound s [] = Unit {0}
-AreSound s (event ∷ events) = MayCome s event events × AreSound s events
+AreSound s events = coming.AreSound (qmi_protocol s) events
 
 -- ---- what a client has of others ----
 

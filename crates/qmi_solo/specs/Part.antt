@@ -1,7 +1,7 @@
 -- A client's part of a history: the facts that concern it, with all left out that only the proxy knows.
 -- A client that is alone has the same part, whatever the others do. Lists of facts have the newest first.
 use Rattle.std.specs.Prelude.{ℕ, Bool, true, false, ◌==◌, List, [], ◌∷◌, filter}
-use Rattle.proxy_history.specs.Facts.{Fact, Request, Admitted, Ended, Judged, Drained, Forwarded, Answered, IdHeld, Late, Expired, Aborted, Indicated, Granted, Freed, Reset, ModemLost, ModemReturned, TimeIs}
+use Rattle.proxy_history.specs.Facts.{Fact, Request, Admitted, Ended, Judged, Drained, Forwarded, Answered, IdHeld, Late, Expired, Aborted, Indicated, OpeningEnded, SessionsClosed, Granted, Freed, Reset, ModemLost, ModemReturned, TimeIs}
 use Rattle.proxy_history.specs.Connections.{contains}
 use Rattle.proxy_history.specs.ClientIds.{Grant}
 use Rattle.qmi_proxy.specs.Text.{blank}
@@ -23,6 +23,8 @@ concerns c (Late r) = r.conn == c
 concerns c (Expired r) = r.conn == c
 concerns c (Aborted r) = r.conn == c
 concerns c (Indicated message receivers) = contains c receivers
+concerns c (OpeningEnded status receivers) = contains c receivers
+concerns c (SessionsClosed receivers) = contains c receivers
 concerns c (Granted d service client) = d == c
 concerns c (Freed d service client) = d == c
 concerns c Reset = true
@@ -31,7 +33,7 @@ concerns c ModemReturned = true
 concerns c (TimeIs time) = true
 concerns c _ = false
 
--- without numbers of the modem, and without the other receivers of an indication
+-- without numbers of the modem, and without the other receivers of what several are told
 abbrev pub as_known : ℕ → Fact → Fact
 as_known c (Forwarded r) = Forwarded (as_sent r)
 as_known c (Answered r message) = Answered (as_sent r) (blank message)
@@ -40,6 +42,8 @@ as_known c (Late r) = Late (as_sent r)
 as_known c (Expired r) = Expired (as_sent r)
 as_known c (Aborted r) = Aborted (as_sent r)
 as_known c (Indicated message receivers) = Indicated message (c ∷ [])
+as_known c (OpeningEnded status receivers) = OpeningEnded status (c ∷ [])
+as_known c (SessionsClosed receivers) = SessionsClosed (c ∷ [])
 as_known c fact = fact
 
 abbrev pub fact_if : Bool → Fact → List Fact → List Fact

@@ -14,6 +14,7 @@ use Rattle.proxy_history.specs.Facts.{Fact, Request, EventBegan}
 use Rattle.proxy_history.specs.Connections.{contains}
 use Rattle.proxy_history.specs.Requests.{in_use}
 use Rattle.proxy_history.specs.Modem.{modem_queue}
+pub use Rattle.proxy_history.specs.Coming.{piece_limit}
 use Rattle.qmi_proxy.specs.Setup.{Setup}
 use Rattle.qmi_proxy.specs.Clients.{wire}
 use Rattle.qmi_proxy.specs.FromModem.{first_answered_by, receivers}
@@ -35,10 +36,6 @@ meet_if true s event solo = meet s event solo
 meet_if false s event solo = solo
 
 -- ---- a message of the modem, whole, in pieces of its own ----
-
--- a piece has at most so many bytes
-abbrev pub piece_limit : ℕ
-piece_limit = 16384
 
 -- the bytes in pieces; the first argument bounds their number, and as many as there are bytes are always enough
 unfoldable pub pieces_of : ℕ → List ℕ → List (List ℕ)

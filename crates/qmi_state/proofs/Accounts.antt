@@ -4,19 +4,20 @@ use Rattle.std.proofs.lemmas.Bool.Decides.{nat_tests}
 use Rattle.std.proofs.lemmas.Bool.{eq-eqb}
 use Rattle.qmux_frame.specs.Head.{number_of}
 use Rattle.qmux_frame.specs.Reply.{result_reply, with_number}
-use Rattle.proxy_history.specs.Limits.{outbox_limit}
+use Rattle.proxy_history.specs.Wording.{told_by}
 use Rattle.proxy_history.specs.Facts.{Fact, Request, Admitted, Ended, Judged, Drained, Answered, IdHeld, Expired, Aborted, Indicated, Why, NotAdmitted, BadStream, NoRoom, Closed, Verdict, Own, Foreign, Away, Full, Forward}
 use Rattle.proxy_history.specs.Connections.{contains}
 use Rattle.proxy_history.specs.View.{Entry, Sent, Response, Refused, Indication, Collected, End, HeldId, NoAnswer, view, entry_if, sent_at}
 use Rattle.proxy_history.specs.Rendering.{render}
 use Rattle.proxy_history.proofs.Rendering.{waiting_within}
+use Rattle.qmi_proxy.specs.Limits.{outbox_limit}
 use Rattle.qmi_proxy.specs.Errors.{aborted, client_ids_exhausted}
 use Rattle.qmi_proxy.specs.OwnReplies.{is_open, is_opening}
 use Rattle.qmi_proxy.specs.Text.{text, view_of, blank}
-use Rattle.qmi_state.specs.Regular.{IsAsked}
+use Rattle.qmi_proxy.specs.Regular.{IsAsked}
 use Rattle.qmi_state.specs.Core.{Account, account_of}
 use Rattle.qmi_state.specs.Transitions.{new_account, reply_as, lacks_room}
-use Rattle.qmi_state.proofs.Heads.{number_last}
+use Rattle.qmux_frame.proofs.Framed.{number_last}
 
 -- ---- what entries make of an account ----
 
@@ -37,10 +38,10 @@ judged device m verdict a = record (put_to (reply_as device a.opened m verdict) 
 
 module _ (device : List ℕ) where
   abbrev account_from : List Entry → Account
-  account_from entries = record { opened = is_open device entries; waiting = (render (text device) entries).waiting; is_over = (render (text device) entries).is_over }
+  account_from entries = record { opened = is_open device entries; waiting = (render outbox_limit (text device) entries).waiting; is_over = (render outbox_limit (text device) entries).is_over }
 
   sent_as : (m : List ℕ) (verdict : Verdict) (entries : List Entry) → account_from (Sent m verdict ∷ entries) ≡ record (put_to (text device entries (Sent m verdict)) (account_from entries)) { opened = is_opening device m verdict || is_open device entries }
-  unfolding render is_open
+  unfolding render told_by
   sent_as m verdict entries = refl
 
   sent : (m : List ℕ) (verdict : Verdict) (entries : List Entry) → account_from (Sent m verdict ∷ entries) ≡ judged device m verdict (account_from entries)
@@ -51,26 +52,26 @@ module _ (device : List ℕ) where
   sent m Forward entries = sent_as m Forward entries
 
   responded : (place : ℕ) (m : List ℕ) (entries : List Entry) → account_from (Response place m ∷ entries) ≡ put_to (with_number (number_of (sent_at place entries)) m) (account_from entries)
-  unfolding render is_open
+  unfolding render told_by
   responded place m entries = refl
 
   refused_held : (place : ℕ) (entries : List Entry) → account_from (Refused place HeldId ∷ entries) ≡ put_to (result_reply (sent_at place entries) client_ids_exhausted) (account_from entries)
-  unfolding render is_open
+  unfolding render told_by
   refused_held place entries = refl
 
   refused_unanswered : (place : ℕ) (entries : List Entry) → account_from (Refused place NoAnswer ∷ entries) ≡ put_to (result_reply (sent_at place entries) aborted) (account_from entries)
-  unfolding render is_open
+  unfolding render told_by
   refused_unanswered place entries = refl
 
   indicated : (m : List ℕ) (entries : List Entry) → account_from (Indication m ∷ entries) ≡ put_to m (account_from entries)
-  unfolding render is_open
+  unfolding render told_by
   indicated m entries = refl
 
   -- a message that is forwarded changes nothing
   pub forwarded_same : (past : List Fact) (c : ℕ) (m : List ℕ) → judged device m Forward (account_of device past c) ≡ account_of device past c
   forwarded_same past c m =
       let a : Account = account_of device past c in
-      let within : length a.waiting ≤ outbox_limit = waiting_within (text device) (view_of c past) in
+      let within : length a.waiting ≤ outbox_limit = waiting_within outbox_limit (text device) (view_of c past) in
       let room : nat_lt outbox_limit (length a.waiting + 0) ≡ false = grind (arith, nat_tests, within) in
       ap (λ (b : Bool). let after : Account = record { opened = a.opened; waiting = if a.is_over || b then a.waiting else a.waiting ++ []; is_over = a.is_over || b } in after) room
       ∙ elim a.is_over as (λ b. (let after : Account = record { opened = a.opened; waiting = if b || false then a.waiting else a.waiting ++ []; is_over = b || false } in after) ≡ record { opened = a.opened; waiting = a.waiting; is_over = b }) [
@@ -134,7 +135,7 @@ module _ (device : List ℕ) where
   aborted_other past r d other = ap (λ (b : Bool). account_from (entry_if b (Refused r.place NoAnswer) (view_of d past))) other
 
   pub drained_own : (past : List Fact) (c count : ℕ) → account_of device (Drained c count ∷ past) c ≡ collected_account count (account_of device past c)
-  unfolding view render is_open
+  unfolding view render told_by
   drained_own past c count = ap (λ (b : Bool). account_from (entry_if b (Collected count) (view_of c past))) (eq-eqb c c refl)
 
   pub drained_other : (past : List Fact) (c count d : ℕ) → (c == d) ≡ false → account_of device (Drained c count ∷ past) d ≡ account_of device past d
@@ -151,7 +152,7 @@ module _ (device : List ℕ) where
   -- ---- connections ----
 
   ended_entry : (b : Bool) (why : Why) (entries : List Entry) → account_from (entry_if b (End why) entries) ≡ account_from entries
-  unfolding render is_open
+  unfolding render told_by
   ended_entry true why entries = refl
   ended_entry false why entries = refl
 
@@ -169,7 +170,7 @@ module _ (device : List ℕ) where
   overfull past c d = refl
 
   pub admitted_own : (past : List Fact) (c : ℕ) → account_of device (Admitted c ∷ past) c ≡ new_account
-  unfolding view render is_open
+  unfolding view render told_by
   admitted_own past c = ap (λ (b : Bool). account_from (if b then [] else view_of c past)) (eq-eqb c c refl)
 
   pub admitted_other : (past : List Fact) (c d : ℕ) → (c == d) ≡ false → account_of device (Admitted c ∷ past) d ≡ account_of device past d
@@ -177,7 +178,7 @@ module _ (device : List ℕ) where
   admitted_other past c d other = ap (λ (b : Bool). account_from (if b then [] else view_of d past)) other
 
   pub refused_own : (past : List Fact) (c : ℕ) → account_of device (Ended c NotAdmitted ∷ past) c ≡ new_account
-  unfolding view render is_open
+  unfolding view render told_by
   refused_own past c = ap (λ (b : Bool). account_from (if b then End NotAdmitted ∷ [] else view_of c past)) (eq-eqb c c refl)
 
   pub refused_other : (past : List Fact) (c d : ℕ) → (c == d) ≡ false → account_of device (Ended c NotAdmitted ∷ past) d ≡ account_of device past d

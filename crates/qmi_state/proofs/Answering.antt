@@ -1,7 +1,7 @@
 -- What a response of the modem makes of a core.
 use Rattle.std.proofs.Common.{◌≡◌, ℕ, zero, ◌≤◌, Bool, true, false, ◌&&◌, ◌==◌, List, [], ◌∷◌, length, map, refl, ap, sym, ◌∙◌, subst, ⊎_elim, arith, Contains, Option, Some, None, if◌then◌else◌}
 use Rattle.std.proofs.lemmas.Bool.{eqb-true}
-use Rattle.std.proofs.lemmas.List.Elements.{All-contains, All-from_recursion}
+use Rattle.std.proofs.lemmas.List.Elements.{All-contains}
 use Rattle.qmux_frame.specs.Head.{service_of, is_control, number_of}
 use Rattle.qmux_frame.specs.Reply.{result_reply, with_number}
 use Rattle.proxy_history.specs.Facts.{Fact, Request, Answered, IdHeld, Late, Stray, Granted, Freed}
@@ -14,13 +14,14 @@ use Rattle.proxy_history.specs.View.{view}
 use Rattle.proxy_history.proofs.Lists.{Contains-cons, Contains-cons_cases, Contains-nil}
 use Rattle.proxy_history.proofs.Sound.{forwarded_from_in_use, waits}
 use Rattle.proxy_history.proofs.SoundLaws.{waiting_are_parties}
-use Rattle.proxy_history.specs.Sound.{IsParty}
-use Rattle.qmi_proxy.specs.Spaces.{limit_of, top_of, control_space, service_space, space_of}
+use Rattle.proxy_history.specs.Sound.{IsParty, IsFreeFor}
+use Rattle.qmi_proxy.specs.Limits.{qmi_limits}
+use Rattle.qmi_proxy.specs.Spaces.{control_space, service_space, space_of}
 use Rattle.qmi_proxy.specs.Errors.{client_ids_exhausted}
 use Rattle.qmi_proxy.specs.Messages.{value_of, byte_of}
 use Rattle.qmi_proxy.specs.FromModem.{IdChange, NoChange, Grants, Collides, Frees, id_change, holder_of_brought, answer, answer_or_late, respond, first_answered_by}
 use Rattle.qmi_state.specs.Asked.{asked_of}
-use Rattle.qmi_state.specs.Regular.{IsAsked, Regular}
+use Rattle.qmi_proxy.specs.Regular.{IsAsked, Regular}
 use Rattle.holders.specs.Grants.{granted, releases}
 use Rattle.qmi_state.specs.Desk.{Row, Numbers, Desk, Ask, asks, row_of, rows_of, desk_of, of_control, with_numbers, row_numbered, frees, ids}
 use Rattle.qmi_state.specs.Transitions.{Exchange, tells, change_by, holder_brought, with_held, answers, answers_if, fits, responds_if, responds_to, responds}
@@ -31,7 +32,8 @@ use Rattle.qmi_state.proofs.Ids.{holder_is}
 use Rattle.qmi_state.proofs.Heads.{service_kept, client_kept, number_kept, reply_kept, change_is}
 use Rattle.qmi_state.proofs.Accounts.{answered_own, answered_other, held_own, held_other}
 use Rattle.qmi_state.proofs.Desks.{desk_freed}
-use Rattle.qmi_state.proofs.Regulars.{regular_stray, regular_late, regular_answered, regular_held, regular_granted, regular_given_back}
+use Rattle.qmi_proxy.proofs.Answered.{change_free}
+use Rattle.qmi_proxy.proofs.Regulars.{regular_more, asked_of_pending}
 use Rattle.qmi_state.proofs.Keeping.{Keeps, exchange, keeps_quiet, keeps_told, end_if}
 
 contains_map : {X Y : Type 0} (f : X → Y) (xs : List X) (x : X) → Contains xs x → Contains (map f xs) (f x)
@@ -45,10 +47,7 @@ pub ask_in_use : (past : List Fact) (a : Ask) → Contains (asks past) a → Con
 ask_in_use past a at = subst (λ (l : List Request). Contains l a.request) (sym (in_use_is past)) (contains_map request_in (asks past) a at)
 
 pub ask_waits : (past : List Fact) (a : Ask) → Regular past → Contains (asks past) a → a.waits ≡ true → Contains (pending past) a.request
-ask_waits past a R at waiting = waits limit_of top_of past a.request R.sound (forwarded_from_in_use past a.request (ask_in_use past a at)) (pending_flag past a R at ∙ waiting)
-
-pub asked_of_pending : (past : List Fact) (r : Request) → Regular past → Contains (pending past) r → IsAsked past r
-asked_of_pending past r R at = All-contains (IsAsked past) (pending past) r (All-from_recursion (IsAsked past) (pending past) R.asked) at
+ask_waits past a R at waiting = waits qmi_limits past a.request R.sound (forwarded_from_in_use past a.request (ask_in_use past a at)) (pending_flag past a R at ∙ waiting)
 
 pub numbers_at : (desk : Desk) (past : List Fact) (m : List ℕ) → desk ≡ desk_of past → (of_control (is_control m) desk).rows ≡ rows_of (space_of m) (asks past)
 numbers_at desk past m is =
@@ -84,7 +83,7 @@ module _ (device : List ℕ) (greatest : ℕ) (rests : ℕ → List ℕ) where
         keeps_told device greatest rests (Answered r m ∷ past) past x r.conn (with_number (number_of r.message) m) (freed_desk (is_control r.message) r.number x.desk)
         (answered_own device past r m long asked) (λ d differs. answered_other device past r m d differs) refl refl
         (freed_now ∙ sym (desk_freed r placed (Answered r m ∷ past) past (all_apart past r K.regular.sound used) (λ space. refl) refl refl refl))
-        (regular_answered past r m at K.regular) asked.0 K
+        (regular_more (Answered r m) past at tt tt K.regular) asked.0 K
 
     told_held : Kept (end_if device greatest rests r.conn (IdHeld r ∷ past)) (tells r.conn (result_reply r.message client_ids_exhausted) (exchange x.sessions x.dropped (freed_desk (is_control r.message) r.number x.desk)))
     unfolding asks present dropped last_number ids to_modem modem_drained
@@ -92,30 +91,30 @@ module _ (device : List ℕ) (greatest : ℕ) (rests : ℕ → List ℕ) where
         keeps_told device greatest rests (IdHeld r ∷ past) past x r.conn (result_reply r.message client_ids_exhausted) (freed_desk (is_control r.message) r.number x.desk)
         (held_own device past r asked) (λ d differs. held_other device past r d differs) refl refl
         (freed_now ∙ sym (desk_freed r placed (IdHeld r ∷ past) past (all_apart past r K.regular.sound used) (λ space. refl) refl refl refl))
-        (regular_held past r at K.regular) asked.0 K
+        (regular_more (IdHeld r) past at tt tt K.regular) asked.0 K
 
   kept_late : (past : List Fact) (x : Exchange) (r : Request) → Contains (in_use past) r → r.space ≡ space_of r.message → Kept past x → Kept (Late r ∷ past) (exchange x.sessions x.dropped (freed_desk (is_control r.message) r.number x.desk))
   unfolding asks present dropped last_number ids to_modem modem_drained view
   kept_late past x r used placed K =
       keeps_quiet device greatest rests (Late r ∷ past) past x (freed_desk (is_control r.message) r.number x.desk) (λ d. refl) refl refl
       (ap (freed_desk (is_control r.message) r.number) K.desk ∙ sym (desk_freed r placed (Late r ∷ past) past (all_apart past r K.regular.sound used) (λ space. refl) refl refl refl))
-      (regular_late past r used K.regular) K
+      (regular_more (Late r) past used tt tt K.regular) K
 
   pub kept_stray : (past : List Fact) (x : Exchange) → Kept past x → Kept (Stray ∷ past) x
   unfolding asks present dropped last_number ids to_modem modem_drained view
-  kept_stray past x K = keeps_quiet device greatest rests (Stray ∷ past) past x x.desk (λ d. refl) refl refl K.desk (regular_stray past K.regular) K
+  kept_stray past x K = keeps_quiet device greatest rests (Stray ∷ past) past x x.desk (λ d. refl) refl refl K.desk (regular_more Stray past tt tt tt K.regular) K
 
-  kept_granted : (past : List Fact) (x : Exchange) (c service client : ℕ) → IsParty c past → Kept past x → Kept (Granted c service client ∷ past) (exchange x.sessions x.dropped (record x.desk { held = granted c service client x.desk.held }))
+  kept_granted : (past : List Fact) (x : Exchange) (c service client : ℕ) → IsParty c past → IsFreeFor c service client past → Kept past x → Kept (Granted c service client ∷ past) (exchange x.sessions x.dropped (record x.desk { held = granted c service client x.desk.held }))
   unfolding asks present dropped last_number ids to_modem modem_drained view
-  kept_granted past x c service client party K =
+  kept_granted past x c service client party free K =
       keeps_quiet device greatest rests (Granted c service client ∷ past) past x (record x.desk { held = granted c service client x.desk.held }) (λ d. refl) refl refl
-      (ap (λ (d : Desk). let e : Desk = record d { held = granted c service client d.held } in e) K.desk) (regular_granted past c service client party K.regular) K
+      (ap (λ (d : Desk). let e : Desk = record d { held = granted c service client d.held } in e) K.desk) (regular_more (Granted c service client) past (party, free) tt tt K.regular) K
 
   kept_given_back : (past : List Fact) (x : Exchange) (c service client : ℕ) → Kept past x → Kept (Freed c service client ∷ past) (exchange x.sessions x.dropped (record x.desk { held = releases c service client x.desk.held }))
   unfolding asks present dropped last_number ids to_modem modem_drained view
   kept_given_back past x c service client K =
       keeps_quiet device greatest rests (Freed c service client ∷ past) past x (record x.desk { held = releases c service client x.desk.held }) (λ d. refl) refl refl
-      (ap (λ (d : Desk). let e : Desk = record d { held = releases c service client d.held } in e) K.desk) (regular_given_back past c service client K.regular) K
+      (ap (λ (d : Desk). let e : Desk = record d { held = releases c service client d.held } in e) K.desk) (regular_more (Freed c service client) past tt tt tt K.regular) K
 
   -- ---- an answer to a request that waits ----
 
@@ -137,20 +136,20 @@ module _ (device : List ℕ) (greatest : ℕ) (rests : ℕ → List ℕ) where
     is_at : Contains (pending past) r
     is_at = ask_waits past a K.regular at waiting
 
-    answered_by : (change : IdChange) → Kept (answer device r m change past) (answers (row_of a) m change x')
+    answered_by : (change : IdChange) → ((service client : ℕ) → change ≡ Grants service client → IsFreeFor r.conn service client past) → Kept (answer device r m change past) (answers (row_of a) m change x')
     unfolding end_overfull pending in_use
-    answered_by NoChange =
+    answered_by NoChange free =
         subst (λ (n : ℕ). Kept (end_if device greatest rests r.conn (Answered r m ∷ past)) (tells r.conn (with_number n m) x')) (sym numbered) (told_answer past x r is_at (ask_in_use past a at) placed K m long)
-    answered_by (Grants service client) =
+    answered_by (Grants service client) free =
         let before : List Fact = Granted r.conn service client ∷ past in
         let held_now : List Grant = granted r.conn service client x.desk.held in
-        let party : IsParty r.conn past = All-contains (λ (q : Request). IsParty q.conn past) (pending past) r (waiting_are_parties limit_of top_of past K.regular.sound) is_at in
+        let party : IsParty r.conn past = All-contains (λ (q : Request). IsParty q.conn past) (pending past) r (waiting_are_parties qmi_limits past K.regular.sound) is_at in
         subst (λ (n : ℕ). Kept (end_if device greatest rests r.conn (Answered r m ∷ before)) (tells r.conn (with_number n m) (with_held held_now x'))) (sym numbered)
         (subst (λ (d : Desk). Kept (end_if device greatest rests r.conn (Answered r m ∷ before)) (tells r.conn (with_number (number_of r.message) m) (exchange x.sessions x.dropped d))) (freed-held (is_control r.message) r.number x.desk held_now)
-        (told_answer before (exchange x.sessions x.dropped (record x.desk { held = held_now })) r is_at (ask_in_use past a at) placed (kept_granted past x r.conn service client party K) m long))
-    answered_by Collides =
+        (told_answer before (exchange x.sessions x.dropped (record x.desk { held = held_now })) r is_at (ask_in_use past a at) placed (kept_granted past x r.conn service client party (free service client refl) K) m long))
+    answered_by Collides free =
         subst (λ (l : List ℕ). Kept (end_if device greatest rests r.conn (IdHeld r ∷ past)) (tells r.conn l x')) (sym replied) (told_held past x r is_at (ask_in_use past a at) placed K)
-    answered_by (Frees service client) =
+    answered_by (Frees service client) free =
         let before : List Fact = Freed r.conn service client ∷ past in
         let held_now : List Grant = releases r.conn service client x.desk.held in
         subst (λ (n : ℕ). Kept (end_if device greatest rests r.conn (Answered r m ∷ before)) (tells r.conn (with_number n m) (with_held held_now x'))) (sym numbered)
@@ -166,7 +165,7 @@ module _ (device : List ℕ) (greatest : ℕ) (rests : ℕ → List ℕ) where
     answered_now : Kept (answer device r m (id_change r.conn r.message m (holder_of_brought m past)) past) (answers (row_of a) m (change_by (row_of a).conn (row_of a).note m (holder_brought m x'.desk)) x')
     answered_now =
         subst (λ (change : IdChange). Kept (answer device r m (id_change r.conn r.message m (holder_of_brought m past)) past) (answers (row_of a) m change x')) (sym change_here)
-        (answered_by (id_change r.conn r.message m (holder_of_brought m past)))
+        (answered_by (id_change r.conn r.message m (holder_of_brought m past)) (λ service client e. change_free r.conn r.message m past service client e))
 
   -- ---- a response ----
 

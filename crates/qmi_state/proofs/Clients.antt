@@ -6,7 +6,7 @@ use Rattle.std.proofs.lemmas.Bool.Decides.{nat_tests}
 use Rattle.std.proofs.lemmas.Simd.{map-map}
 use Rattle.framing.specs.Cutting.{Cutting, cut}
 use Rattle.qmux_frame.specs.Frame.{size_of}
-use Rattle.proxy_history.specs.Limits.{connection_limit}
+use Rattle.proxy_history.specs.History as proxy
 use Rattle.proxy_history.specs.Streams.{is_invalid}
 use Rattle.proxy_history.specs.Items.{Garbles, item_if}
 use Rattle.proxy_history.specs.Facts.{Fact, Admitted, Ended, Drained, NotAdmitted, BadStream, Closed}
@@ -14,20 +14,22 @@ use Rattle.proxy_history.specs.Connections.{present, dropped, contains, without}
 use Rattle.proxy_history.specs.Requests.{last_number}
 use Rattle.proxy_history.specs.Modem.{now, is_away, to_modem, modem_drained}
 use Rattle.proxy_history.specs.Noting.{join, if_present}
+use Rattle.qmi_proxy.specs.Limits.{connection_limit, qmi_limits}
 use Rattle.qmi_proxy.specs.Setup.{Setup}
 use Rattle.qmi_proxy.specs.Clients.{deadline_of}
-use Rattle.qmi_proxy.specs.History.{add_all}
+use Rattle.qmi_proxy.specs.History.{qmi_protocol, add_all}
 use Rattle.qmi_state.specs.Desk.{asks, gives_up, ids}
 use Rattle.qmi_state.specs.Core.{Account, Session, Leftover, Core, account_of, session_of, leftover_of, AreNames, session_in}
 use Rattle.qmi_state.specs.Transitions.{Exchange, exchange_in, update, drops, new_account, new_session, joins, joins_if, leaves, leaves_if, takes, collected, Hearing, hears, hearing_of, goes_on, brought, brings, brings_to, brings_if}
 use Rattle.qmi_state.proofs.Lists.{map_pointwise, without_above, contains_without}
-use Rattle.qmi_state.proofs.Names.{names_more, names_still, above_absent}
+use Rattle.qmi_state.proofs.Names.{names_more, names_still}
+use Rattle.proxy_history.proofs.Lists.{above_absent}
 use Rattle.qmi_state.proofs.Updates.{update_found, update_none, update_twice, without_update, update_is}
 use Rattle.qmi_state.proofs.Accounts.{drained_own, drained_other, collected_account, admitted_own, admitted_other, refused_own, refused_other}
-use Rattle.qmi_state.proofs.Regulars.{regular_drained, regular_admitted, regular_refused}
+use Rattle.qmi_proxy.proofs.Regulars.{regular_more}
 use Rattle.qmi_state.proofs.Keeping.{Keeps, exchange, session_as, session_name, with_account, keeps_changed, keeps_closed, keeps_spoilt, found_there, found_absent}
 use Rattle.qmi_state.proofs.Strangers.{desk_of_stranger}
-use Rattle.qmi_proxy.proofs.Walk.{add_all-append}
+use Rattle.proxy_history.proofs.Walk.{add_all-append}
 use Rattle.qmi_state.proofs.Pieces.{said, says_none, garbles_is, Heard, settled, heard_all}
 
 -- ---- what is left of the streams ----
@@ -106,10 +108,10 @@ module _ (s : Setup) (greatest : ℕ) where
 
   facts_split : (c : ℕ) (f : Cutting) (past : List Fact) (bad : Bool) → is_invalid (size_of f.rest) ≡ bad → piece_facts c f past ≡ add_all s (item_if bad (Garbles c)) (add_all s (said s 0 (λ n. []) c f.messages) past)
   facts_split c f past bad is =
-      ap (λ (b : Bool). add_all s (said s 0 (λ n. []) c f.messages ++ item_if b (Garbles c)) past) is ∙ add_all-append s (said s 0 (λ n. []) c f.messages) (item_if bad (Garbles c)) past
+      ap (λ (b : Bool). add_all s (said s 0 (λ n. []) c f.messages ++ item_if b (Garbles c)) past) is ∙ add_all-append (qmi_protocol s) (said s 0 (λ n. []) c f.messages) (item_if bad (Garbles c)) past
 
   not_garbled : (past : List Fact) (c : ℕ) → add_all s (item_if false (Garbles c)) past ≡ past
-  unfolding add_all
+  unfolding proxy.add_all
   not_garbled past c = refl
 
   -- one who isn't there
@@ -226,7 +228,7 @@ module _ (s : Setup) (greatest : ℕ) where
   unfolding present dropped asks last_number ids to_modem modem_drained
   keeps_drained rests past x c count there K =
       keeps_changed s.device greatest rests (Drained c count ∷ past) past x c (collected_account count) x.desk (drained_own s.device past c count) (λ d differs. drained_other s.device past c count d differs) refl refl K.desk
-      (regular_drained past c count there K.regular) there K
+      (regular_more (Drained c count) past there tt tt K.regular) there K
 
   pub keeps_took : (rests : ℕ → List ℕ) (past : List Fact) (core : Core) (c count : ℕ) → KeptAt rests past (exchange_in core) → KeptAt rests (if_present c past (Drained c count ∷ past)) (exchange_in (takes c count core))
   keeps_took rests past core c count K =
@@ -268,7 +270,7 @@ module _ (s : Setup) (greatest : ℕ) where
         desk = K.desk;
         names = names_more greatest c (present past) above K.names;
         apart = subst (AllByRecursion (λ d. contains d (present past ++ c ∷ []) ≡ false)) (sym none) tt;
-        regular = regular_admitted past c (above_absent greatest c above (present past) K.names.known) room K.regular;
+        regular = regular_more (Admitted c) past room tt (above_absent greatest c above (present past) K.names.known) K.regular;
       }
 
   keeps_refused : (rests : ℕ → List ℕ) (past : List Fact) (core : Core) (c : ℕ) → greatest < c → dropped past ≡ [] → connection_limit ≤ length (present past)
@@ -289,10 +291,10 @@ module _ (s : Setup) (greatest : ℕ) where
         desk = K.desk ∙ sym (desk_of_stranger past c NotAdmitted (omega arith) absent K.regular);
         names = subst (AreNames c) (sym same) (names_still greatest c (present past) above K.names);
         apart = subst (λ (ds : List ℕ). AllByRecursion (λ d. contains d (without c (present past)) ≡ false) (ds ++ c ∷ [])) (sym none) (contains_without c (present past), tt);
-        regular = regular_refused past c full K.regular;
+        regular = regular_more (Ended c NotAdmitted) past full tt tt K.regular;
       }
 
-  pub keeps_joined : (rests : ℕ → List ℕ) (past : List Fact) (core : Core) (c : ℕ) → rests c ≡ [] → greatest < c → dropped past ≡ [] → KeptAt rests past (exchange_in core) → Keeps s.device c rests (join c past) (exchange_in (joins c core))
+  pub keeps_joined : (rests : ℕ → List ℕ) (past : List Fact) (core : Core) (c : ℕ) → rests c ≡ [] → greatest < c → dropped past ≡ [] → KeptAt rests past (exchange_in core) → Keeps s.device c rests (join qmi_limits c past) (exchange_in (joins c core))
   keeps_joined rests past core c fresh above none K =
       let count : length (present past) ≡ length core.sessions = sym (ap length K.sessions ∙ length-map (present past) (session_of s.device rests past)) in
       let step : (b : Bool) → nat_lt (length (present past)) connection_limit ≡ b → Keeps s.device c rests (if b then Admitted c ∷ past else Ended c NotAdmitted ∷ past) (exchange_in (joins_if b c core)) =
@@ -300,4 +302,4 @@ module _ (s : Setup) (greatest : ℕ) where
         | true ↦ λ e. keeps_admitted rests past core c fresh above none (grind (arith, nat_tests, e)) K
         | false ↦ λ e. keeps_refused rests past core c above none (grind (arith, nat_tests, e)) K
       ]
-      in subst (λ (n : ℕ). Keeps s.device c rests (join c past) (exchange_in (joins_if (nat_lt n connection_limit) c core))) count (step (nat_lt (length (present past)) connection_limit) refl)
+      in subst (λ (n : ℕ). Keeps s.device c rests (join qmi_limits c past) (exchange_in (joins_if (nat_lt n connection_limit) c core))) count (step (nat_lt (length (present past)) connection_limit) refl)

@@ -12,7 +12,7 @@ use Rattle.qmi_proxy.specs.Clients.{wire}
 use Rattle.number_space.specs.Table.{orphans}
 use Rattle.holders.specs.Grants.{granted, releases}
 use Rattle.qmi_state.specs.Desk.{Row, Numbers, Desk, asks, silenced_if, row_of, rows_of, numbers_of, desk_of, of_control, with_numbers, gives, frees, silences, gives_up, forgets, ids}
-use Rattle.qmi_state.proofs.Apart.{Apart}
+use Rattle.qmi_proxy.proofs.Apart.{Apart}
 use Rattle.qmi_state.proofs.Rows.{rows_more, rows_freed, rows_elsewhere, rows_silenced, rows_unsilenced, rows_orphaned}
 
 -- a number of a space changes, or nothing

@@ -16,7 +16,7 @@ use Rattle.qmi_proxy.specs.Errors.{aborted}
 use Rattle.qmi_proxy.specs.FromModem.{in_expiry_order}
 use Rattle.number_space.specs.Table.{is_due, first_due}
 use Rattle.qmi_state.specs.Asked.{asked_of}
-use Rattle.qmi_state.specs.Regular.{IsPlaced, IsAsked, Regular}
+use Rattle.qmi_proxy.specs.Regular.{IsPlaced, IsAsked, Regular}
 use Rattle.qmi_state.specs.Desk.{Row, Desk, Ask, asks, row_of, rows_of, desk_of, of_control, with_numbers, silences, ids}
 use Rattle.qmi_state.specs.Transitions.{Exchange, tells, refuses, expires_in, expires_space, expires}
 use Rattle.qmi_state.proofs.Asks.{request_in, waits_in, pending_is}
@@ -25,10 +25,10 @@ use Rattle.qmi_state.proofs.Matching.{all_placed, pending_flag, waiting}
 use Rattle.qmi_state.proofs.Heads.{reply_kept}
 use Rattle.qmi_state.proofs.Accounts.{expired_own, expired_other, aborted_own, aborted_other}
 use Rattle.qmi_state.proofs.Desks.{desk_silenced}
-use Rattle.qmi_state.proofs.Regulars.{regular_expired, regular_aborted}
+use Rattle.qmi_proxy.proofs.Regulars.{regular_more, asked_of_pending}
 use Rattle.qmi_state.proofs.Filters.{filter_shorter}
 use Rattle.qmi_state.proofs.Keeping.{Keeps, exchange, keeps_told, end_if}
-use Rattle.qmi_state.proofs.Answering.{ask_in_use, ask_waits, asked_of_pending}
+use Rattle.qmi_state.proofs.Answering.{ask_in_use, ask_waits}
 use Rattle.qmi_state.proofs.Expiring.{due_in, FirstDue, NoneDue, IsFirst, IsNone, due_of, few_due, pending_distinct, due_later, act, shrinks_act, each_shrinks, each_waiting, each_append, each_none, each_first, gone}
 
 abbrev pub space_if : Bool → ℕ
@@ -82,7 +82,7 @@ module _ (device : List ℕ) (greatest : ℕ) (rests : ℕ → List ℕ) where
         keeps_told device greatest rests (Expired r ∷ past) past x r.conn (result_reply r.message aborted) (silenced_desk (is_control r.message) r.number x.desk)
         (expired_own device past r asked) (λ d differs. expired_other device past r d differs) refl refl
         (ap (silenced_desk (is_control r.message) r.number) K.desk ∙ sym (desk_silenced r placed (Expired r ∷ past) past (all_apart past r K.regular.sound (ask_in_use past a at)) (λ space. refl) refl refl refl))
-        (regular_expired past r is_at K.regular) asked.0 K
+        (regular_more (Expired r) past is_at tt tt K.regular) asked.0 K
 
     told_aborted : Kept (end_if device greatest rests r.conn (Aborted r ∷ past)) (tells r.conn (result_reply r.message aborted) (exchange x.sessions x.dropped (silenced_desk (is_control r.message) r.number x.desk)))
     unfolding asks present dropped last_number ids to_modem modem_drained
@@ -90,7 +90,7 @@ module _ (device : List ℕ) (greatest : ℕ) (rests : ℕ → List ℕ) where
         keeps_told device greatest rests (Aborted r ∷ past) past x r.conn (result_reply r.message aborted) (silenced_desk (is_control r.message) r.number x.desk)
         (aborted_own device past r asked) (λ d differs. aborted_other device past r d differs) refl refl
         (ap (silenced_desk (is_control r.message) r.number) K.desk ∙ sym (desk_silenced r placed (Aborted r ∷ past) past (all_apart past r K.regular.sound (ask_in_use past a at)) (λ space. refl) refl refl refl))
-        (regular_aborted past r is_at K.regular) asked.0 K
+        (regular_more (Aborted r) past is_at tt tt K.regular) asked.0 K
 
     told_either : (flag : Bool) → Kept (act device flag r past) (tells r.conn (result_reply r.message aborted) (exchange x.sessions x.dropped (silenced_desk (is_control r.message) r.number x.desk)))
     unfolding end_overfull

@@ -11,7 +11,7 @@ use Rattle.proxy_history.specs.Sound.{Differ}
 use Rattle.proxy_history.proofs.Lists.{Contains-cons}
 use Rattle.qmi_proxy.specs.Text.{note, rendering}
 use Rattle.number_space.specs.Table.{is_due}
-use Rattle.qmi_state.specs.Regular.{Regular}
+use Rattle.qmi_proxy.specs.Regular.{Regular}
 use Rattle.qmi_state.specs.Desk.{Ask, asks, row_of, rows_of}
 use Rattle.qmi_state.proofs.Asks.{request_in, waits_in, pending_is}
 use Rattle.qmi_state.proofs.Matching.{AreDifferent, are_different, waiting}

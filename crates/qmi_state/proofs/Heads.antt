@@ -1,10 +1,9 @@
 -- What is kept of a request says of its message what its answer needs.
-use Rattle.std.proofs.Common.{◌≡◌, ℕ, ◌+◌, ◌<◌, ◌≤◌, Bool, true, false, ◌/◌, ◌%◌, ◌==◌, List, ◌∷◌, ◌++◌, length, take, drop, slice_index, refl, ap, arith, Option, if◌then◌else◌}
-use Rattle.std.proofs.lemmas.Bool.{eqb-true}
+use Rattle.std.proofs.Common.{◌≡◌, ℕ, ◌<◌, ◌==◌, List, take, slice_index, refl, ap, arith, Option}
 use Rattle.std.proofs.lemmas.List.{get_or-take}
-use Rattle.qmux_frame.specs.Head.{service_of, is_control, client_of, number_of, head_length, tlv_length, is_framed}
+use Rattle.qmux_frame.specs.Head.{service_of, is_control, client_of, number_of}
 use Rattle.qmux_frame.specs.Control.{allocate, is_command, release}
-use Rattle.qmux_frame.specs.Reply.{with_number, result_reply}
+use Rattle.qmux_frame.specs.Reply.{result_reply}
 use Rattle.qmi_proxy.specs.FromModem.{id_change}
 use Rattle.qmi_state.specs.Asked.{asked_of}
 use Rattle.qmi_state.specs.Transitions.{change_by}
@@ -33,24 +32,3 @@ reply_kept m error = rw (kept m 4 (omega arith), kept m 5 (omega arith), kept m 
 pub change_is : (c : ℕ) (request m : List ℕ) (holder : Option ℕ) → change_by c (asked_of request) m holder ≡ id_change c request m holder
 unfolding asked_of
 change_is c request m holder = rw (command_kept allocate request, command_kept release request) refl
-
--- ---- numbers of messages ----
-
-pub framed_long : (m : List ℕ) → is_framed m ≡ true → 12 ≤ length m
-framed_long m framed =
-    let is : head_length m + tlv_length m ≡ length m = eqb-true (head_length m + tlv_length m) (length m) framed in
-    let head : (b : Bool) → 12 ≤ (if b then 12 else 13) = λ b. elim b as (λ b. 12 ≤ (if b then 12 else 13)) [ true ↦ omega arith | false ↦ omega arith ] in
-    let least : 12 ≤ head_length m = head (is_control m) in
-    omega arith
-
--- the number that is put last counts
-pub number_last : (n : ℕ) (m : List ℕ) → 12 ≤ length m → with_number n (with_number 0 m) ≡ with_number n m
-number_last n (a ∷ b ∷ c ∷ d ∷ service ∷ e ∷ f ∷ g ∷ h ∷ rest) long =
-    let m : List ℕ = a ∷ b ∷ c ∷ d ∷ service ∷ e ∷ f ∷ g ∷ h ∷ rest in
-    let step : (t : Bool) → (service == 0) ≡ t → with_number n (if t then take 7 m ++ 0 ∷ drop 8 m else take 7 m ++ 0 ∷ 0 ∷ drop 9 m) ≡ (if t then take 7 m ++ n ∷ drop 8 m else take 7 m ++ n % 256 ∷ n / 256 ∷ drop 9 m) =
-    λ t. elim t as (λ t. (service == 0) ≡ t → with_number n (if t then take 7 m ++ 0 ∷ drop 8 m else take 7 m ++ 0 ∷ 0 ∷ drop 9 m) ≡ (if t then take 7 m ++ n ∷ drop 8 m else take 7 m ++ n % 256 ∷ n / 256 ∷ drop 9 m)) [
-      | true ↦ λ is. ap (λ (t : Bool). if t then take 7 m ++ n ∷ drop 8 m else take 7 m ++ n % 256 ∷ n / 256 ∷ drop 9 m) is
-      | false ↦ λ is. ap (λ (t : Bool). if t then take 7 m ++ n ∷ 0 ∷ drop 9 m else take 7 m ++ n % 256 ∷ n / 256 ∷ drop 9 m) is
-    ]
-    in step (service == 0) refl
-number_last n _ long = absurd (omega arith)

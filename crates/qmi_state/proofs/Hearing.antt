@@ -7,9 +7,11 @@ use Rattle.qmux_frame.specs.Reply.{with_number}
 use Rattle.proxy_history.specs.Facts.{Fact, Request, Verdict, Forward, Ended, NoRoom, Judged, Forwarded, Granted}
 use Rattle.proxy_history.specs.Connections.{present, dropped, contains, message_count}
 use Rattle.proxy_history.specs.Requests.{in_use, last_number, number_after, numbers_in_use}
-use Rattle.proxy_history.specs.ClientIds.{holder, holder_in}
+use Rattle.proxy_history.specs.ClientIds.{held, holder, holder_in, is_other}
+use Rattle.proxy_history.specs.Sound.{IsFreeFor}
+use Rattle.qmi_proxy.proofs.Verdicts.{used_id_is_free}
 use Rattle.proxy_history.specs.Modem.{is_away, to_modem, modem_drained, modem_queue}
-use Rattle.proxy_history.specs.View.{view}
+use Rattle.proxy_history.specs.View.{view, sent_count}
 use Rattle.proxy_history.proofs.Sound.{party_from_present}
 use Rattle.qmi_proxy.specs.Setup.{Setup}
 use Rattle.qmi_proxy.specs.Spaces.{control_space, service_space, limit_of, top_of}
@@ -18,7 +20,7 @@ use Rattle.qmi_proxy.specs.OwnReplies.{own_reply, is_opening, is_open}
 use Rattle.qmi_proxy.specs.Text.{view_of, rendering}
 use Rattle.qmi_proxy.specs.Clients.{wire, number_for, holder_for, has_room, own_or, shared_verdict_of, verdict_on, request_of, grant_if}
 use Rattle.number_space.specs.Table.{next_number}
-use Rattle.qmi_state.specs.Regular.{IsPlaced, Regular}
+use Rattle.qmi_proxy.specs.Regular.{IsPlaced, Regular}
 use Rattle.holders.specs.Grants.{granted}
 use Rattle.qmi_state.specs.Desk.{Row, Desk, Ask, asks, row_of, rows_of, desk_of, of_control, with_numbers, gives, number_at, granted_if, row_for, forwards, ids}
 use Rattle.qmi_state.specs.Core.{Account, Session, account_of, session_in, session_of}
@@ -29,7 +31,8 @@ use Rattle.qmi_state.proofs.Lists.{filter_map_is}
 use Rattle.qmi_state.proofs.Updates.{update_found, without_update}
 use Rattle.qmi_state.proofs.Accounts.{judged, judged_own, judged_other, forwarded_same}
 use Rattle.qmi_state.proofs.Desks.{desk_forwarded}
-use Rattle.qmi_state.proofs.Regulars.{regular_judged, regular_forwarded, regular_granted, newest_asked}
+use Rattle.qmi_proxy.proofs.Walk.{newest}
+use Rattle.qmi_proxy.proofs.Regulars.{regular_more}
 use Rattle.qmi_state.proofs.Keeping.{Keeps, exchange, on_account, with_account, keeps_changed, keeps_quiet, keeps_overfull, found_there, account_named}
 
 -- ---- the number that it would get ----
@@ -76,7 +79,7 @@ module _ (s : Setup) (greatest : ℕ) (rests : ℕ → List ℕ) where
     unfolding present dropped asks last_number ids to_modem modem_drained
     kept_judged =
         keeps_quiet s.device greatest rests after past x x.desk
-        (λ d. same d) refl refl K.desk (regular_judged past c place m Forward there K.regular) K
+        (λ d. same d) refl refl K.desk (regular_more (Judged c place m Forward) past there tt tt K.regular) K
       where
         same : (d : ℕ) → account_of s.device after d ≡ account_of s.device past d
         same d =
@@ -100,7 +103,9 @@ module _ (s : Setup) (greatest : ℕ) (rests : ℕ → List ℕ) where
       regular_sent : Regular sent
       unfolding present in_use last_number
       regular_sent =
-          regular_forwarded after r (record { serial = refl; sender = party_from_present c after there; number = numbered }) placed (newest_asked past c place m Forward there K.regular) kept_judged.regular
+          let own = newest s c m n past there in
+          let at : r.place ≡ sent_count (view_of c after) = own.place in
+          regular_more (Forwarded r) after (record { serial = refl; sender = party_from_present c after there; number = numbered }) (placed, (own.sender, omega arith, own.message)) tt kept_judged.regular
 
       desk_sent : record (with_numbers (is_control m) (gives (row_of (record { request = r; waits = true })) (of_control (is_control m) x.desk)) x.desk) { waiting = x.desk.waiting ++ with_number n m } ≡ desk_of sent
       desk_sent =
@@ -111,13 +116,13 @@ module _ (s : Setup) (greatest : ℕ) (rests : ℕ → List ℕ) where
       unfolding present dropped view
       kept_sent = keeps_quiet s.device greatest rests sent after x _ (λ d. refl) refl refl desk_sent regular_sent kept_judged
 
-      kept_granted_if : (b : Bool) (y : Exchange) → Kept sent y → Kept (grant_if b c m sent) (exchange y.sessions y.dropped (record y.desk { held = granted_if b c m y.desk.held }))
-      unfolding present dropped view asks last_number ids to_modem modem_drained
-      kept_granted_if true y L =
+      kept_granted_if : (b : Bool) (y : Exchange) → (b ≡ true → IsFreeFor c (used_service m) (used_client m) past) → Kept sent y → Kept (grant_if b c m sent) (exchange y.sessions y.dropped (record y.desk { held = granted_if b c m y.desk.held }))
+      unfolding present dropped view asks last_number ids held to_modem modem_drained
+      kept_granted_if true y free L =
           keeps_quiet s.device greatest rests (Granted c (used_service m) (used_client m) ∷ sent) sent y _ (λ d. refl) refl refl
           (ap (λ (d : Desk). let e : Desk = record d { held = granted c (used_service m) (used_client m) d.held } in e) L.desk)
-          (regular_granted sent c (used_service m) (used_client m) (party_from_present c sent there) L.regular) L
-      kept_granted_if false y L = L
+          (regular_more (Granted c (used_service m) (used_client m)) sent (party_from_present c sent there, free refl) tt tt L.regular) L
+      kept_granted_if false y free L = L
 
       forwards_is : (deadline : ℕ) → deadline ≡ r.deadline
           → record (with_numbers (is_control m) (gives (row_of (record { request = r; waits = true })) (of_control (is_control m) x.desk)) x.desk) { waiting = x.desk.waiting ++ with_number n m; held = granted_if (uses_id m) c m x.desk.held } ≡ forwards deadline c m n x.desk
@@ -131,10 +136,10 @@ module _ (s : Setup) (greatest : ℕ) (rests : ℕ → List ℕ) where
           }) [ true ↦ refl | false ↦ refl ]
           ∙ ap (λ (t : ℕ). forwards t c m n x.desk) (sym same)
 
-      pub kept_forwarded : (deadline : ℕ) → deadline ≡ r.deadline → Kept (grant_if (uses_id m) c m sent) (exchange x.sessions x.dropped (forwards deadline c m n x.desk))
-      kept_forwarded deadline same =
+      pub kept_forwarded : (deadline : ℕ) → deadline ≡ r.deadline → is_other c (holder_for m past) ≡ false → Kept (grant_if (uses_id m) c m sent) (exchange x.sessions x.dropped (forwards deadline c m n x.desk))
+      kept_forwarded deadline same free =
           subst (λ (d : Desk). Kept (grant_if (uses_id m) c m sent) (exchange x.sessions x.dropped d)) (forwards_is deadline same)
-          (kept_granted_if (uses_id m) _ kept_sent)
+          (kept_granted_if (uses_id m) _ (used_id_is_free c m past free) kept_sent)
 
     -- ---- what is replied to ----
 
@@ -168,7 +173,7 @@ module _ (s : Setup) (greatest : ℕ) (rests : ℕ → List ℕ) where
       unfolding present dropped asks last_number ids to_modem modem_drained
       kept_facts =
           keeps_changed s.device greatest rests facts past x c change x.desk (judged_own s.device past c place m verdict) (λ d differs. judged_other s.device past c place d m verdict differs) refl refl K.desk
-          (regular_judged past c place m verdict there K.regular) there K
+          (regular_more (Judged c place m verdict) past there tt tt K.regular) there K
 
       there_still : contains c (present facts) ≡ true
       unfolding present

@@ -9,7 +9,7 @@ use Rattle.proxy_history.specs.ClientIds.{Grant, is_of, held, holder, holder_in,
 use Rattle.proxy_history.specs.Sound.{IsSound, IsParty}
 use Rattle.proxy_history.proofs.Lists.{Contains-cons, Contains-cons_cases, Contains-nil, Contains-filter, Contains-filter_from}
 use Rattle.proxy_history.proofs.SoundLaws.{holders_are_parties}
-use Rattle.qmi_proxy.specs.Spaces.{limit_of, top_of}
+use Rattle.qmi_proxy.specs.Limits.{qmi_limits}
 use Rattle.holders.specs.Grants.{granted, is_before, is_behind}
 use Rattle.qmi_state.specs.Desk.{ids}
 use Rattle.qmi_state.proofs.Filters.{filter_swap}
@@ -174,9 +174,9 @@ pub some_is : (c s : ℕ) (past : List Fact) → holds_some c s (ids past) ≡ h
 some_is c s past =
     both_ways (holds_some c s (ids past)) (holds_some c s (held past)) (λ e. some_moved c s (ids past) (held past) (ids_of past) e) (λ e. some_moved c s (held past) (ids past) (λ s i. sym (ids_of past s i)) e)
 
-pub ids_are_parties : (past : List Fact) → IsSound limit_of top_of past → AllByRecursion (λ g. IsParty g.conn past) (ids past)
+pub ids_are_parties : (past : List Fact) → IsSound qmi_limits past → AllByRecursion (λ g. IsParty g.conn past) (ids past)
 ids_are_parties past sound =
     recursion_from_All (λ (g : Grant). IsParty g.conn past) (ids past)
     (All-weaker (Contains (ids past)) (λ (g : Grant). IsParty g.conn past)
-    (λ g at. All-contains (λ (h : Grant). IsParty h.conn past) (held past) g (holders_are_parties limit_of top_of past sound) (moved (ids past) (held past) (ids_of past) g at))
+    (λ g at. All-contains (λ (h : Grant). IsParty h.conn past) (held past) g (holders_are_parties qmi_limits past sound) (moved (ids past) (held past) (ids_of past) g at))
     (ids past) (All-contains_itself (ids past)))

@@ -17,20 +17,22 @@ use Rattle.proxy_history.specs.Noting.{end_overfull}
 use Rattle.proxy_history.proofs.Lists.{filter-none}
 use Rattle.proxy_history.proofs.Numbers.{contains_other}
 use Rattle.proxy_history.proofs.Sound.{each_contained}
+use Rattle.qmi_proxy.specs.Limits.{qmi_limits}
 use Rattle.qmi_proxy.specs.OwnReplies.{is_open}
-use Rattle.qmi_proxy.specs.Text.{view_of, rendering, blank, text}
+use Rattle.qmi_proxy.specs.Text.{view_of, rendering, qmi_wording}
 use Rattle.qmi_proxy.specs.FromModem.{open_ones, tell}
-use Rattle.qmi_state.specs.Regular.{Regular}
+use Rattle.qmi_proxy.specs.Regular.{Regular}
 use Rattle.qmi_state.specs.Desk.{Desk, desk_of, gives_up, asks, ids}
 use Rattle.qmi_state.specs.Core.{Account, Session, Leftover, account_of, session_of, leftover_of, AreNames, session_in}
 use Rattle.qmi_state.specs.Transitions.{Exchange, update, without_session, drops, lacks_room, gets, tells, tells_to, tells_if, tells_all, opened_ones, holders_of, tells_holder, indicates}
 use Rattle.qmi_state.proofs.Ids.{holder_is, some_is}
-use Rattle.qmi_state.proofs.Lists.{map_pointwise, filter_map_is, map_on_filter, apart_more, ne_apart}
+use Rattle.qmi_state.proofs.Lists.{map_pointwise, filter_map_is, map_on_filter, apart_more}
+use Rattle.proxy_history.proofs.Lists.{ne_apart}
 use Rattle.qmi_state.proofs.Names.{names_without, distinct_filter}
 use Rattle.qmi_state.proofs.Updates.{update_is, without_is}
 use Rattle.qmi_state.proofs.Accounts.{put_to, overfull, indicated_is}
 use Rattle.qmi_state.proofs.Desks.{desk_ended}
-use Rattle.qmi_state.proofs.Regulars.{regular_overfull, regular_indicated}
+use Rattle.qmi_proxy.proofs.Regulars.{regular_more}
 use Rattle.qmi_state.proofs.Keeping.{Keeps, exchange, leftover_as, end_if_is, gotten, found_absent}
 
 -- ---- lists of receivers ----
@@ -121,7 +123,7 @@ module _ (device : List ℕ) (greatest : ℕ) (rests : ℕ → List ℕ) where
       desk = K.desk;
       names = K.names;
       apart = K.apart;
-      regular = regular_indicated past m cs (All-from_recursion (λ c. contains c (present past) ≡ true) cs there) K.regular;
+      regular = regular_more (Indicated m cs) past (All-from_recursion (λ c. contains c (present past) ≡ true) cs there) tt tt K.regular;
     }
 
     done : (past : List Fact) (x : Exchange) → Ahead [] past x → Kept past x
@@ -214,7 +216,7 @@ module _ (device : List ℕ) (greatest : ℕ) (rests : ℕ → List ℕ) where
         desk = ap (gives_up c) A.desk ∙ sym (desk_ended past c NoRoom);
         names = names_without greatest c (present past) A.names;
         apart = apart_more c (present past) (dropped past) A.apart;
-        regular = regular_overfull past c there A.regular;
+        regular = regular_more (Ended c NoRoom) past there tt tt A.regular;
       }
         where
           waits : (A.before c).waiting ≡ (account_of device past c).waiting
@@ -225,7 +227,7 @@ module _ (device : List ℕ) (greatest : ℕ) (rests : ℕ → List ℕ) where
               elim (c == d) as (λ b. not b ≡ true → sess rests A.before d ≡ (let t : Session = record { name = d; account = if b then account_of device past c else A.before d; rest = rests d } in t)) [ true ↦ λ e. absurd (cc) | false ↦ λ e. refl ]
 
     abbrev end_overfull_of : List ℕ → List Fact → List Fact
-    end_overfull_of cs past = end_overfull blank (text device) cs past
+    end_overfull_of cs past = end_overfull qmi_limits (qmi_wording device) cs past
 
     told_all : (cs : List ℕ) (past : List Fact) (x : Exchange) → AreThere (present past) cs → AreOnce cs → Ahead cs past x → Kept (end_overfull_of cs past) (tells_all m cs x)
     unfolding AreOnce tells_all end_overfull present
@@ -242,7 +244,7 @@ module _ (device : List ℕ) (greatest : ℕ) (rests : ℕ → List ℕ) where
         (subst (λ (o : Option Session). Kept (end_overfull_of cs (if lacks_room m (A.before c) then Ended c NoRoom ∷ past else past)) (tells_all m cs (tells_to o c m x))) (sym found) (next (lacks_room m (A.before c)) refl))
 
     abbrev told_facts : List ℕ → List Fact → List Fact
-    told_facts cs past = end_overfull blank (text device) cs (Indicated m cs ∷ past)
+    told_facts cs past = end_overfull qmi_limits (qmi_wording device) cs (Indicated m cs ∷ past)
 
     kept_all : (p : ℕ → Bool) (past : List Fact) (x : Exchange) → Kept past x → Kept (told_facts (filter p (present past)) past) (tells_all m (filter p (present past)) x)
     unfolding present

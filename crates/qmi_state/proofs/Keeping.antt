@@ -7,7 +7,7 @@ use Rattle.std.proofs.lemmas.Simd.{map-map}
 use Rattle.proxy_history.specs.Facts.{Fact, Ended, Why, BadStream, NoRoom, Closed}
 use Rattle.proxy_history.specs.Connections.{present, dropped, contains, without}
 use Rattle.qmi_proxy.specs.Text.{rendering}
-use Rattle.qmi_state.specs.Regular.{Regular}
+use Rattle.qmi_proxy.specs.Regular.{Regular}
 use Rattle.qmi_state.specs.Desk.{Desk, desk_of, gives_up}
 use Rattle.qmi_state.specs.Core.{Account, Session, Leftover, account_of, session_of, leftover_of, AreNames, session_in}
 use Rattle.qmi_state.specs.Transitions.{Exchange, update, without_session, drops, lacks_room, gets, tells, tells_to, tells_if}
@@ -16,7 +16,7 @@ use Rattle.qmi_state.proofs.Names.{names_without}
 use Rattle.qmi_state.proofs.Updates.{update_is, without_is, update_each, update_found, without_update}
 use Rattle.qmi_state.proofs.Accounts.{put_to, closed, spoilt, overfull}
 use Rattle.qmi_state.proofs.Desks.{desk_ended}
-use Rattle.qmi_state.proofs.Regulars.{regular_closed, regular_spoilt, regular_overfull}
+use Rattle.qmi_proxy.proofs.Regulars.{regular_more}
 
 -- `rests` gives what is left of each stream, and `greatest` is the greatest name that joined
 pub record Keeps (device : List ℕ) (greatest : ℕ) (rests : ℕ → List ℕ) (past : List Fact) (x : Exchange) : Type 0 where
@@ -139,7 +139,7 @@ module _ (device : List ℕ) (greatest : ℕ) (rests : ℕ → List ℕ) where
     desk = desk_given_up past x c Closed K;
     names = names_without greatest c (present past) K.names;
     apart = apart_still c (present past) (dropped past) K.apart;
-    regular = regular_closed past c there K.regular;
+    regular = regular_more (Ended c Closed) past there tt tt K.regular;
   }
 
   keeps_dropped : (past : List Fact) (x : Exchange) (c : ℕ) (why : Why) → ((d : ℕ) → account_of device (Ended c why ∷ past) d ≡ account_of device past d) → dropped (Ended c why ∷ past) ≡ dropped past ++ c ∷ []
@@ -164,12 +164,12 @@ module _ (device : List ℕ) (greatest : ℕ) (rests : ℕ → List ℕ) where
   pub keeps_overfull : (past : List Fact) (x : Exchange) (c : ℕ) (waiting : List ℕ) → contains c (present past) ≡ true → waiting ≡ (account_of device past c).waiting → IsKept past x
       → IsKept (Ended c NoRoom ∷ past) (drops c waiting x)
   unfolding dropped
-  keeps_overfull past x c waiting there waits K = keeps_dropped past x c NoRoom (overfull device past c) refl (regular_overfull past c there K.regular) waiting waits K
+  keeps_overfull past x c waiting there waits K = keeps_dropped past x c NoRoom (overfull device past c) refl (regular_more (Ended c NoRoom) past there tt tt K.regular) waiting waits K
 
   pub keeps_spoilt : (past : List Fact) (x : Exchange) (c : ℕ) (waiting : List ℕ) → contains c (present past) ≡ true → waiting ≡ (account_of device past c).waiting → IsKept past x
       → IsKept (Ended c BadStream ∷ past) (drops c waiting x)
   unfolding dropped
-  keeps_spoilt past x c waiting there waits K = keeps_dropped past x c BadStream (spoilt device past c) refl (regular_spoilt past c there K.regular) waiting waits K
+  keeps_spoilt past x c waiting there waits K = keeps_dropped past x c BadStream (spoilt device past c) refl (regular_more (Ended c BadStream) past there tt tt K.regular) waiting waits K
 
   -- ---- the session of a name ----
 

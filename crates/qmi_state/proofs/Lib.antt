@@ -3,10 +3,8 @@ pub mod Names
 pub mod Updates
 pub mod Asks
 pub mod Apart
-pub mod Answered
 pub mod Rows
 pub mod Desks
-pub mod Regulars
 pub mod Filters
 pub mod Ids
 pub mod Heads
@@ -23,5 +21,6 @@ pub mod Hearing
 pub mod Pieces
 pub mod Strangers
 pub mod Clients
+pub mod Coming
 pub mod Steps
 pub mod Queues

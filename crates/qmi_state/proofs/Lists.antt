@@ -1,9 +1,9 @@
 -- Lemmas on lists.
-use Rattle.std.proofs.Common.{◌≡◌, ℕ, ◌<◌, ◌≤◌, Bool, true, false, not, cond, ◌||◌, List, [], ◌∷◌, ◌++◌, map, filter, refl, ap, sym, ◌∙◌, arith, ◌==◌}
+use Rattle.std.proofs.Common.{◌≡◌, ℕ, ◌<◌, ◌≤◌, Bool, true, false, not, cond, List, [], ◌∷◌, ◌++◌, map, filter, refl, arith, ◌==◌}
 use Rattle.std.specs.List.{AllByRecursion}
 use Rattle.std.proofs.lemmas.Bool.Decides.{nat_tests}
-use Rattle.std.proofs.lemmas.Bool.{eqb-true, true≢false}
 use Rattle.proxy_history.specs.Connections.{contains, without}
+use Rattle.proxy_history.proofs.Lists.{contains_filter, ne_apart}
 pub use Rattle.proxy_history.proofs.Sound.{contains-without_self as contains_without}
 
 pub map_pointwise : {X Y : Type 0} (f g : X → Y) → ((x : X) → f x ≡ g x) → (xs : List X) → map f xs ≡ map g xs
@@ -32,28 +32,6 @@ without_above c last lt [] h = refl
 without_above c last lt (x ∷ xs) h =
     let ne : (c == x) ≡ false = grind (arith, nat_tests, h.0) in
     rw (ne, without_above c last lt xs h.1) refl
-
-pub contains_filter : (d : ℕ) (p : ℕ → Bool) (xs : List ℕ) → contains d xs ≡ false → contains d (filter p xs) ≡ false
-contains_filter d p [] e = refl
-contains_filter d p (x ∷ xs) e =
-    let parts : (b : Bool) → (b || contains d xs) ≡ false → (b ≡ false) × (contains d xs ≡ false) =
-    λ b. elim b as (λ b. (b || contains d xs) ≡ false → (b ≡ false) × (contains d xs ≡ false)) [ true ↦ λ e. absurd (cc) | false ↦ λ e. (refl, e) ]
-    in
-    let rest : contains d (filter p xs) ≡ false = contains_filter d p xs (parts (d == x) e).1 in
-    elim (p x) as (λ b. contains d (cond b (x ∷ filter p xs) (filter p xs)) ≡ false) [
-      | true ↦ rw ((parts (d == x) e).0, rest) refl
-      | false ↦ rest
-    ]
-
--- none that is apart is one that is there
-pub ne_apart : (c d : ℕ) (ps : List ℕ) → contains c ps ≡ true → contains d ps ≡ false → (c == d) ≡ false
-ne_apart c d ps there out =
-    let step : (b : Bool) → (c == d) ≡ b → b ≡ false =
-    λ b. elim b as (λ b. (c == d) ≡ b → b ≡ false) [
-      | true ↦ λ e. let same : c ≡ d = eqb-true c d e in absurd (true≢false (sym there ∙ ap (λ x. contains x ps) same ∙ out))
-      | false ↦ λ e. refl
-    ]
-    in step (c == d) refl
 
 pub map_apart : {X : Type 0} (c : ℕ) (ps : List ℕ) (f g : ℕ → X) → ((d : ℕ) → (c == d) ≡ false → f d ≡ g d) → contains c ps ≡ true →
     (xs : List ℕ) → AllByRecursion (λ d. contains d ps ≡ false) xs → map f xs ≡ map g xs

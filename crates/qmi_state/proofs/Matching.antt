@@ -9,12 +9,14 @@ use Rattle.proxy_history.specs.Requests.{has_request, is_pending}
 use Rattle.proxy_history.specs.Sound.{Differ}
 use Rattle.proxy_history.proofs.Lists.{Contains-cons, Contains-cons_cases, Contains-nil}
 use Rattle.proxy_history.proofs.SoundLaws.{in_use_differ}
-use Rattle.qmi_proxy.specs.Spaces.{limit_of, top_of, control_space, service_space, space_of}
+use Rattle.qmi_proxy.specs.Limits.{qmi_limits}
+use Rattle.qmi_proxy.specs.Spaces.{control_space, service_space, space_of}
 use Rattle.qmi_proxy.specs.FromModem.{is_answered_by, first_answered_by}
-use Rattle.qmi_state.specs.Regular.{IsPlaced, Regular}
+use Rattle.qmi_proxy.specs.Regular.{IsPlaced, Regular}
 use Rattle.qmi_state.specs.Desk.{Row, Ask, asks, row_of, rows_of, row_numbered}
 use Rattle.qmi_state.proofs.Asks.{request_in, waits_in, in_use_is, pending_is}
-use Rattle.qmi_state.proofs.Apart.{head_all, tail_pairs, within, all_map}
+use Rattle.qmi_proxy.proofs.Apart.{head_all, tail_pairs, within}
+use Rattle.qmi_state.proofs.Apart.{all_map}
 
 -- ---- no two of the requests in use are alike ----
 
@@ -29,7 +31,7 @@ different_from (a ∷ list) pairs =
     (all_map (Differ a.request) request_in list (recursion_from_All (Differ a.request) (map request_in list) (head_all Differ a.request (map request_in list) pairs)), different_from list (tail_pairs Differ a.request (map request_in list) pairs))
 
 pub are_different : (past : List Fact) → Regular past → AreDifferent (asks past)
-are_different past R = different_from (asks past) (subst (AllPairs Differ) (in_use_is past) (in_use_differ limit_of top_of within past R.sound))
+are_different past R = different_from (asks past) (subst (AllPairs Differ) (in_use_is past) (in_use_differ qmi_limits within past R.sound))
 
 pub all_placed : (past : List Fact) → Regular past → AllByRecursion (λ a. IsPlaced a.request) (asks past)
 all_placed past R = all_map IsPlaced request_in (asks past) (subst (AllByRecursion IsPlaced) (in_use_is past) R.placed)

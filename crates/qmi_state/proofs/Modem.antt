@@ -3,10 +3,11 @@ use Rattle.std.proofs.Common.{◌≡◌, ℕ, ◌-◌, ◌≤◌, max, Bool, tru
 use Rattle.std.proofs.lemmas.List.{length-drop}
 use Rattle.qmux_frame.specs.declared.kind.MessageKind.{MessageKind}
 use Rattle.qmux_frame.specs.declared.kind.MessageKind.TheVariants as kind
-use Rattle.qmux_frame.specs.Head.{is_control, client_of, is_framed}
-use Rattle.qmux_frame.specs.Kind.{framed_kind, kind_of}
+use Rattle.qmux_frame.specs.Head.{is_control, client_of}
+use Rattle.qmux_frame.specs.Kind.{framed_kind}
 use Rattle.qmux_frame.specs.Control.{is_sync}
-use Rattle.proxy_history.specs.Facts.{Fact, Reset, ModemReturned, ModemDrained, TimeIs}
+use Rattle.proxy_history.specs.History as proxy
+use Rattle.proxy_history.specs.Facts.{Fact, Reset, ModemReturned, ModemDrained, TimeIs, ModemLost}
 use Rattle.proxy_history.specs.Connections.{present, dropped}
 use Rattle.proxy_history.specs.Requests.{pending, last_number}
 use Rattle.proxy_history.specs.Modem.{now, to_modem, modem_drained}
@@ -18,21 +19,13 @@ use Rattle.qmi_proxy.specs.FromModem.{abort_all, lose, tick, indicate, hear_as, 
 use Rattle.qmi_proxy.specs.History.{add_all}
 use Rattle.qmi_state.specs.Desk.{Desk, asks, forgets, ids}
 use Rattle.qmi_state.specs.Transitions.{Exchange, aborts, expires, forgets_all, hears_indication, hears_as, hears_modem, hears_all}
-use Rattle.qmi_state.proofs.Heads.{framed_long}
+use Rattle.qmux_frame.proofs.Framed.{framed_long, responses_framed}
 use Rattle.qmi_state.proofs.Desks.{desk_reset, desk_lost, desk_drained}
-use Rattle.qmi_state.proofs.Regulars.{regular_reset, regular_lost, regular_timed, regular_returned, regular_modem_drained}
+use Rattle.qmi_proxy.proofs.Regulars.{regular_more}
 use Rattle.qmi_state.proofs.Keeping.{Keeps, exchange, keeps_quiet}
 use Rattle.qmi_state.proofs.Answering.{keeps_responds, kept_stray}
 use Rattle.qmi_state.proofs.Expired.{kept_expires, kept_aborts}
 use Rattle.qmi_state.proofs.Indicating.{kept_indicated}
-
--- a response is framed
-pub responses_framed : (m : List ℕ) → framed_kind m ≡ Some kind.Response → is_framed m ≡ true
-responses_framed m e = by_test (is_framed m) e
-  where
-    by_test : (framed : Bool) → (if framed then Some (kind_of m) else None) ≡ Some kind.Response → framed ≡ true
-    by_test true e = refl
-    by_test false e = absurd (cc)
 
 module _ (device : List ℕ) (greatest : ℕ) (rests : ℕ → List ℕ) where
   abbrev Kept : List Fact → Exchange → Type 0
@@ -43,7 +36,7 @@ module _ (device : List ℕ) (greatest : ℕ) (rests : ℕ → List ℕ) where
 
   kept_reset : (past : List Fact) (x : Exchange) → Kept past x → Kept (Reset ∷ past) (forgets_all x)
   unfolding asks present dropped last_number ids to_modem modem_drained view
-  kept_reset past x K = keeps_quiet device greatest rests (Reset ∷ past) past x (forgets x.desk) (λ d. refl) refl refl (ap forgets K.desk ∙ sym (desk_reset past)) (regular_reset past K.regular) K
+  kept_reset past x K = keeps_quiet device greatest rests (Reset ∷ past) past x (forgets x.desk) (λ d. refl) refl refl (ap forgets K.desk ∙ sym (desk_reset past)) (regular_more Reset past tt tt tt K.regular) K
 
   kept_either : (b : Bool) (facts others : List Fact) (x y : Exchange) → Kept facts x → Kept others y → Kept (if b then facts else others) (if b then x else y)
   kept_either true facts others x y K L = K
@@ -65,7 +58,7 @@ module _ (device : List ℕ) (greatest : ℕ) (rests : ℕ → List ℕ) where
       by_kind None e = kept_stray device greatest rests past x K
 
   pub kept_heard_all : (s : Setup) → s.device ≡ device → (messages : List (List ℕ)) (past : List Fact) (x : Exchange) → Kept past x → Kept (add_all s (map (λ m. ModemSays m) messages) past) (hears_all messages x)
-  unfolding add_all hears_all
+  unfolding proxy.add_all hears_all
   kept_heard_all s same [] past x K = K
   kept_heard_all s same (m ∷ messages) past x K =
       kept_heard_all s same messages (hear_modem s.device m past) (hears_modem m x) (subst (λ (d : List ℕ). Kept (hear_modem d m past) (hears_modem m x)) (sym same) (kept_heard m past x K))
@@ -75,11 +68,11 @@ module _ (device : List ℕ) (greatest : ℕ) (rests : ℕ → List ℕ) where
   kept_lost past x K =
       let A : Kept (abort_all device past) (aborts x) = kept_aborted past x K in
       keeps_quiet device greatest rests (lose device past) (abort_all device past) (aborts x) (record (forgets (aborts x).desk) { waiting = [] }) (λ d. refl) refl refl
-      (ap (λ (d : Desk). let e : Desk = record (forgets d) { waiting = [] } in e) A.desk ∙ sym (desk_lost (abort_all device past))) (regular_lost (abort_all device past) A.regular) A
+      (ap (λ (d : Desk). let e : Desk = record (forgets d) { waiting = [] } in e) A.desk ∙ sym (desk_lost (abort_all device past))) (regular_more ModemLost (abort_all device past) tt tt tt A.regular) A
 
   kept_timed : (past : List Fact) (x : Exchange) (time : ℕ) → now past ≤ time → Kept past x → Kept (TimeIs time ∷ past) x
   unfolding asks present dropped last_number ids to_modem modem_drained view
-  kept_timed past x time later K = keeps_quiet device greatest rests (TimeIs time ∷ past) past x x.desk (λ d. refl) refl refl K.desk (regular_timed past time later K.regular) K
+  kept_timed past x time later K = keeps_quiet device greatest rests (TimeIs time ∷ past) past x x.desk (λ d. refl) refl refl K.desk (regular_more (TimeIs time) past later tt tt K.regular) K
 
   pub kept_ticked : (past : List Fact) (x : Exchange) (time : ℕ) → Kept past x → Kept (tick device time past) (expires (max time (now past)) x)
   unfolding pending
@@ -88,7 +81,7 @@ module _ (device : List ℕ) (greatest : ℕ) (rests : ℕ → List ℕ) where
 
   pub kept_returned : (past : List Fact) (x : Exchange) → Kept past x → Kept (ModemReturned ∷ past) x
   unfolding asks present dropped last_number ids to_modem modem_drained view
-  kept_returned past x K = keeps_quiet device greatest rests (ModemReturned ∷ past) past x x.desk (λ d. refl) refl refl K.desk (regular_returned past K.regular) K
+  kept_returned past x K = keeps_quiet device greatest rests (ModemReturned ∷ past) past x x.desk (λ d. refl) refl refl K.desk (regular_more ModemReturned past tt tt tt K.regular) K
 
   pub kept_modem_drained : (past : List Fact) (x : Exchange) (count : ℕ) → count ≤ length x.desk.waiting → Kept past x → Kept (ModemDrained count ∷ past) (exchange x.sessions x.dropped (record x.desk { waiting = drop count x.desk.waiting }))
   unfolding asks present dropped last_number ids to_modem modem_drained view
@@ -97,4 +90,4 @@ module _ (device : List ℕ) (greatest : ℕ) (rests : ℕ → List ℕ) where
       let left : length x.desk.waiting ≡ length (to_modem wire past) - modem_drained past = ap length queue ∙ length-drop (modem_drained past) (to_modem wire past) in
       let before : modem_drained past ≤ length (to_modem wire past) = K.regular.drained in
       keeps_quiet device greatest rests (ModemDrained count ∷ past) past x (record x.desk { waiting = drop count x.desk.waiting }) (λ d. refl) refl refl
-      (ap (λ (d : Desk). let e : Desk = record d { waiting = drop count d.waiting } in e) K.desk ∙ sym (desk_drained past count)) (regular_modem_drained past count (omega arith) K.regular) K
+      (ap (λ (d : Desk). let e : Desk = record d { waiting = drop count d.waiting } in e) K.desk ∙ sym (desk_drained past count)) (regular_more (ModemDrained count) past tt tt (omega arith) K.regular) K

@@ -1,9 +1,9 @@
 -- The names of the connections that are there.
-use Rattle.std.proofs.Common.{◌≡◌, ℕ, ◌<◌, ◌≤◌, Bool, true, false, not, cond, List, [], ◌∷◌, ◌++◌, filter, refl, arith, ◌==◌}
+use Rattle.std.proofs.Common.{◌≡◌, ℕ, ◌<◌, ◌≤◌, Bool, true, false, not, cond, List, [], ◌∷◌, ◌++◌, filter, arith, ◌==◌}
 use Rattle.std.specs.List.{AllByRecursion, IsDistinct}
 use Rattle.std.proofs.lemmas.Bool.Decides.{nat_tests}
 use Rattle.kit_bytes.proofs.Lists.{all_filter}
-use Rattle.proxy_history.specs.Connections.{contains, without}
+use Rattle.proxy_history.specs.Connections.{without}
 use Rattle.qmi_state.specs.Core.{AreNames}
 
 pub distinct_filter : (p : ℕ → Bool) (xs : List ℕ) → IsDistinct (λ x y. x == y) xs → IsDistinct (λ x y. x == y) (filter p xs)
@@ -43,10 +43,3 @@ names_more greatest c xs above names = record { known = known_more c greatest ab
 
 pub names_still : (greatest c : ℕ) (xs : List ℕ) → greatest < c → AreNames greatest xs → AreNames c xs
 names_still greatest c xs above names = record { known = known_still c greatest above xs names.known; distinct = names.distinct }
-
--- a new name is not there
-pub above_absent : (greatest c : ℕ) → greatest < c → (xs : List ℕ) → AllByRecursion (λ x. x ≤ greatest) xs → contains c xs ≡ false
-above_absent greatest c above [] h = refl
-above_absent greatest c above (x ∷ xs) h =
-    let differs : (c == x) ≡ false = grind (arith, nat_tests, h.0) in
-    rw (differs, above_absent greatest c above xs h.1) refl

@@ -1,6 +1,7 @@
 -- The messages of a piece, and what follows them.
 use Rattle.std.proofs.Common.{◌≡◌, ℕ, ◌+◌, Bool, true, false, not, List, [], ◌∷◌, map, refl, ap, sym, ◌∙◌, subst, Option, Some, None, if◌then◌else◌}
 use Rattle.std.proofs.lemmas.Bool.{true≢false}
+use Rattle.proxy_history.specs.History as proxy
 use Rattle.proxy_history.specs.Items.{Item, Says, Garbles}
 use Rattle.proxy_history.specs.Facts.{Fact, Request, Verdict, Own, Foreign, Away, Full, Forward, Ended, Judged, Forwarded, Why, BadStream, NoRoom}
 use Rattle.proxy_history.specs.Connections.{present, contains, message_count}
@@ -9,7 +10,11 @@ use Rattle.proxy_history.specs.View.{view}
 use Rattle.proxy_history.specs.Noting.{end_overfull}
 use Rattle.qmi_proxy.specs.Setup.{Setup}
 use Rattle.qmi_proxy.specs.Messages.{uses_id}
-use Rattle.qmi_proxy.specs.Clients.{number_for, deadline_of, request_of, grant_if, forward, judge, hear_client}
+use Rattle.proxy_history.specs.ClientIds.{is_other}
+use Rattle.qmi_proxy.specs.OwnReplies.{is_open}
+use Rattle.qmi_proxy.specs.Text.{view_of}
+use Rattle.qmi_proxy.proofs.Verdicts.{forwarded_ids_are_free}
+use Rattle.qmi_proxy.specs.Clients.{holder_for, number_for, deadline_of, request_of, grant_if, forward, judge, hear_client}
 use Rattle.qmi_proxy.specs.History.{add_all}
 use Rattle.qmi_state.specs.Desk.{Desk, number_at, forwards_if}
 use Rattle.qmi_state.specs.Core.{Account, Session, account_of, session_of}
@@ -128,23 +133,23 @@ module _ (s : Setup) (greatest : ℕ) (rests : ℕ → List ℕ) where
         (update_found c (with_account a) (λ t. t) x.sessions (session_of s.device rests past c) (found_there s.device greatest rests past x c K there)
         (ap (λ (b : Account). with_account b (session_of s.device rests past c)) (sym (account_named s.device greatest rests past c ∙ is))) ∙ update_same c x.sessions)
 
-    forwarded : (deadline : ℕ) → deadline ≡ deadline_of (now past) s.time_limit → (number : Option ℕ) → number_for m past ≡ number
+    forwarded : (deadline : ℕ) → deadline ≡ deadline_of (now past) s.time_limit → is_other c (holder_for m past) ≡ false → (number : Option ℕ) → number_for m past ≡ number
         → Heard c (forward_hearing (forwards_if deadline c m number x.desk)) past (forward s c m number (Judged c place m Forward ∷ past)) x
     unfolding present now is_away
-    forwarded deadline same None numbered = record {
+    forwarded deadline same free None numbered = record {
       keeps = subst (Kept (Judged c place m Forward ∷ past)) (sym (same_session x.desk)) (kept_judged s greatest rests c m past x a there K is);
       there = there;
       account = λ e. judged_own s.device past c place m Forward ∙ forwarded_same s.device past c m ∙ is;
       time = refl;
       away = refl;
     }
-    forwarded deadline same (Some n) numbered =
+    forwarded deadline same free (Some n) numbered =
         let after : List Fact = Judged c place m Forward ∷ past in
         let sent : List Fact = Forwarded (request_of s c m n after) ∷ after in
         record {
           keeps =
               subst (Kept (grant_if (uses_id m) c m sent)) (sym (same_session (forwards_if deadline c m (Some n) x.desk)))
-              (kept_forwarded s greatest rests c m past x a there K is n numbered deadline same);
+              (kept_forwarded s greatest rests c m past x a there K is n numbered deadline same free);
           there = granted_there c c m (uses_id m) sent ∙ there;
           account = λ e. granted_account s.device c c m (uses_id m) sent ∙ sent_account s.device (request_of s c m n after) c after ∙ judged_own s.device past c place m Forward ∙ forwarded_same s.device past c m ∙ is;
           time = granted_time c m (uses_id m) sent;
@@ -153,23 +158,25 @@ module _ (s : Setup) (greatest : ℕ) (rests : ℕ → List ℕ) where
 
     -- ---- whatever the verdict ----
 
-    judged_heard : (deadline : ℕ) → deadline ≡ deadline_of (now past) s.time_limit → (verdict : Verdict)
+    judged_heard : (deadline : ℕ) → deadline ≡ deadline_of (now past) s.time_limit → (verdict : Verdict) → (verdict ≡ Forward → is_other c (holder_for m past) ≡ false)
         → Heard c (heard_as s.device deadline c m verdict a x.desk) past (judge s c m (number_for m past) verdict past) x
     unfolding end_overfull
-    judged_heard deadline same Own = replied Own
-    judged_heard deadline same Foreign = replied Foreign
-    judged_heard deadline same Away = replied Away
-    judged_heard deadline same Full = replied Full
-    judged_heard deadline same Forward =
+    judged_heard deadline same Own free = replied Own
+    judged_heard deadline same Foreign free = replied Foreign
+    judged_heard deadline same Away free = replied Away
+    judged_heard deadline same Full free = replied Full
+    judged_heard deadline same Forward free =
         subst (λ (o : Option ℕ). Heard c (forward_hearing (forwards_if deadline c m o x.desk)) past (forward s c m (number_for m past) (Judged c place m Forward ∷ past)) x)
-        (sym (ap (number_at m) K.desk ∙ number_is m past)) (forwarded deadline same (number_for m past) refl)
+        (sym (ap (number_at m) K.desk ∙ number_is m past)) (forwarded deadline same (free refl) (number_for m past) refl)
 
     pub heard_one : (away : Bool) (deadline : ℕ) → away ≡ is_away s.starts_away past → deadline ≡ deadline_of (now past) s.time_limit
         → Heard c (hears_one s.device away deadline c m a x.desk) past (hear_client s c m past) x
     heard_one away deadline same_away same =
         subst (λ (v : Verdict). Heard c (heard_as s.device deadline c m (verdict_of s.device away c m a.opened x.desk) a x.desk) past (judge s c m (number_for m past) v past) x) (sym (verdict_is s greatest rests c m past x a there K is))
         (subst (λ (b : Bool). Heard c (heard_as s.device deadline c m (verdict_of s.device away c m a.opened x.desk) a x.desk) past (judge s c m (number_for m past) (verdict_of s.device b c m a.opened x.desk) past) x) same_away
-        (judged_heard deadline same (verdict_of s.device away c m a.opened x.desk)))
+        (judged_heard deadline same (verdict_of s.device away c m a.opened x.desk)
+        (λ e. forwarded_ids_are_free s (is_open s.device (view_of c past)) c m past
+        (verdict_is s greatest rests c m past x a there K is ∙ sym (ap (λ (b : Bool). verdict_of s.device b c m a.opened x.desk) same_away) ∙ e))))
 
   -- ---- the messages of a piece ----
 
@@ -178,21 +185,21 @@ module _ (s : Setup) (greatest : ℕ) (rests : ℕ → List ℕ) where
 
   -- who isn't there says nothing
   pub says_none : (c : ℕ) (messages : List (List ℕ)) (past : List Fact) → contains c (present past) ≡ false → add_all s (said c messages) past ≡ past
-  unfolding add_all
+  unfolding proxy.add_all
   says_none c [] past absent = refl
   says_none c (m ∷ messages) past absent =
       ap (λ (b : Bool). add_all s (said c messages) (if b then hear_client s c m past else past)) absent ∙ says_none c messages past absent
 
   pub garbles_is : (c : ℕ) (past : List Fact) (there : Bool) → contains c (present past) ≡ there → add_all s (Garbles c ∷ []) past ≡ (if there then Ended c BadStream ∷ past else past)
-  unfolding add_all
+  unfolding proxy.add_all
   garbles_is c past there is = ap (λ (b : Bool). if b then Ended c BadStream ∷ past else past) is
 
   says_first : (c : ℕ) (m : List ℕ) (messages : List (List ℕ)) (past : List Fact) → contains c (present past) ≡ true → add_all s (said c (m ∷ messages)) past ≡ add_all s (said c messages) (hear_client s c m past)
-  unfolding add_all
+  unfolding proxy.add_all
   says_first c m messages past there = ap (λ (b : Bool). add_all s (said c messages) (if b then hear_client s c m past else past)) there
 
   says_nothing : (c : ℕ) (past : List Fact) → past ≡ add_all s (said c []) past
-  unfolding add_all
+  unfolding proxy.add_all
   says_nothing c past = refl
 
   module _ (away : Bool) (deadline : ℕ) (c : ℕ) where

@@ -8,7 +8,7 @@ use Rattle.std.proofs.lemmas.List.Elements.{filter-append}
 use Rattle.proxy_history.specs.Facts.{Request}
 use Rattle.number_space.specs.Table.{settled_where}
 use Rattle.qmi_state.specs.Desk.{Row, Ask, silenced_if, row_of, rows_of}
-use Rattle.qmi_state.proofs.Apart.{Apart}
+use Rattle.qmi_proxy.proofs.Apart.{Apart}
 
 -- a test that two others decide
 pub both_ways : (a b : Bool) → (a ≡ true → b ≡ true) → (b ≡ true → a ≡ true) → a ≡ b

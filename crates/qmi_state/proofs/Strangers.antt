@@ -12,11 +12,11 @@ use Rattle.proxy_history.specs.Modem.{to_modem, modem_drained, modem_queue}
 use Rattle.proxy_history.specs.Sound.{IsParty}
 use Rattle.qmi_proxy.specs.Spaces.{control_space, service_space, limit_of, top_of}
 use Rattle.qmi_proxy.specs.Clients.{wire}
-use Rattle.qmi_state.specs.Regular.{IsAsked, Regular}
+use Rattle.qmi_proxy.specs.Regular.{IsAsked, Regular}
 use Rattle.qmi_state.specs.Desk.{Desk, Ask, asks, silenced_if, rows_of, desk_of, ids}
 use Rattle.qmi_state.proofs.Asks.{request_in, waits_in, pending_is}
 use Rattle.qmi_state.proofs.Ids.{ids_are_parties}
-use Rattle.qmi_state.proofs.Lists.{ne_apart}
+use Rattle.proxy_history.proofs.Lists.{ne_apart}
 use Rattle.qmi_state.proofs.Matching.{waiting}
 
 module _ (c : ℕ) where

@@ -1,20 +1,22 @@
 -- What a core of the QMI proxy keeps, and what it stands for.
 -- Lists of events and of facts have the newest first; all other lists have the oldest first.
-use Rattle.std.specs.Prelude.{◌≡◌, ℕ, ◌<◌, ◌≤◌, max, Bool, ◌||◌, ◌==◌, if◌then◌else◌, List, [], ◌∷◌, ◌++◌, length, map, find, Option, Some, None, is_some}
+use Rattle.std.specs.Prelude.{◌≡◌, ℕ, ◌<◌, ◌≤◌, Bool, ◌||◌, ◌==◌, if◌then◌else◌, List, [], ◌∷◌, ◌++◌, length, map, find, Option, Some, None, is_some}
 use Rattle.std.specs.List.{AllByRecursion, IsDistinct}
 use Rattle.framing.specs.Cutting.{cut}
 use Rattle.qmux_frame.specs.Frame.{size_of}
 use Rattle.proxy_history.specs.Events.{Event, Joined, Piece, ModemPiece, Took, ModemTook}
+pub use Rattle.proxy_history.specs.Events.{greatest_after}
 use Rattle.proxy_history.specs.Streams.{stream, modem_stream}
 use Rattle.proxy_history.specs.Facts.{Fact}
 use Rattle.proxy_history.specs.Connections.{present, dropped, contains}
 use Rattle.proxy_history.specs.Modem.{now, is_away}
+pub use Rattle.proxy_history.specs.Coming.{greatest_name}
+use Rattle.proxy_history.specs.Coming.{AreSound}
 use Rattle.qmi_proxy.specs.Setup.{Setup}
 use Rattle.qmi_proxy.specs.OwnReplies.{is_open}
 use Rattle.qmi_proxy.specs.Text.{view_of, rendering}
-use Rattle.qmi_proxy.specs.History.{history}
+use Rattle.qmi_proxy.specs.History.{qmi_protocol, history}
 use Rattle.qmi_state.specs.Desk.{Desk, desk_of}
-use Rattle.qmi_state.specs.Regular.{Regular}
 
 -- ---- what a core keeps ----
 
@@ -82,12 +84,6 @@ rest_in (Some bytes) = (cut size_of bytes).rest
 abbrev pub modem_rest : Setup → List Event → List ℕ
 modem_rest s events = rest_in (modem_stream size_of s.starts_away events)
 
--- the greatest name that joined, 0 where none did
-abbrev pub greatest_name : List Event → ℕ
-greatest_name [] = 0
-greatest_name (Joined c ∷ events) = max c (greatest_name events)
-greatest_name (_ ∷ events) = greatest_name events
-
 abbrev pub IsSuffix : {X : Type 0} → List X → List X → Type 0
 IsSuffix {X} suffix list = (front : List X) × (front ++ suffix ≡ list)
 
@@ -108,7 +104,8 @@ pub record Stands (s : Setup) (events : List Event) (core : Core) : Type 0 where
   pub greatest : core.greatest ≡ greatest_name events
   pub rest : core.rest ≡ modem_rest s events
   pub names : AreNames (greatest_name events) (present (history s events))
-  pub regular : Regular (history s events)
+  -- it met none that may not come
+  pub sound : AreSound (qmi_protocol s) events
 
 -- just after the newest of these events: all names that it dropped are still to be asked for
 pub record StandsAfter (s : Setup) (events : List Event) (core : Core) : Type 0 where
@@ -154,15 +151,6 @@ pub record CanStep (event : Event) (core : Core) : Type 0 where
   -- each connection that was dropped has been asked for
   pub hung_up : core.dropped ≡ []
   pub may_come : MayCome event core
-
--- the greatest name that joined, once the event was met
-abbrev pub greatest_after : Event → ℕ → ℕ
-greatest_after (Joined c) greatest = c
-greatest_after _ greatest = greatest
-
-abbrev pub IsJoined : Event → Type 0
-IsJoined (Joined c) = Unit {0}
-IsJoined _ = ⊥
 
 -- ---- what a core tells ----
 

@@ -8,11 +8,11 @@ use Rattle.qmux_frame.specs.Head.{is_control, service_of, client_of, number_of}
 use Rattle.qmux_frame.specs.Kind.{framed_kind}
 use Rattle.qmux_frame.specs.Control.{is_release, is_sync}
 use Rattle.qmux_frame.specs.Reply.{result_reply, with_number}
-use Rattle.proxy_history.specs.Limits.{connection_limit, outbox_limit}
 use Rattle.proxy_history.specs.Events.{Event, Joined, Piece, Left, ModemPiece, ModemGone, ModemBack, Now, Took, ModemTook}
 use Rattle.proxy_history.specs.Streams.{is_invalid}
 use Rattle.proxy_history.specs.Facts.{Verdict, Own, Foreign, Away, Full, Forward}
 use Rattle.proxy_history.specs.ClientIds.{Grant, holder_in, is_other, holds_some}
+use Rattle.qmi_proxy.specs.Limits.{connection_limit, outbox_limit}
 use Rattle.qmi_proxy.specs.Errors.{internal, aborted, client_ids_exhausted, invalid_client_id, device_in_use}
 use Rattle.qmi_proxy.specs.Messages.{uses_id, used_service, used_client, value_of, byte_of, is_success}
 use Rattle.qmi_proxy.specs.OwnReplies.{own_reply_of, is_opening}

@@ -1,3 +1,4 @@
 pub mod Replies
 pub mod Padding
 pub mod Written
+pub mod Framed

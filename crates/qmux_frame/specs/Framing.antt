@@ -1,10 +1,10 @@
 -- QMUX is a framing.
-use Rattle.std.proofs.Common.{◌≡◌, ℕ, ◌<◌, ◌≤◌, List, ◌++◌, length, take, refl, arith, length-append, get_or-take, length-take}
+use Rattle.std.proofs.Common.{◌≡◌, ℕ, ◌<◌, ◌≤◌, List, [], ◌++◌, length, take, refl, arith, length-append, get_or-take, length-take}
 use Rattle.std.proofs.lemmas.List.{get_or_append_left}
 use Rattle.std.proofs.lemmas.Bool.Decides.{nat_tests}
 use Rattle.framing.specs.declared.framing.Size.{Size}
 use Rattle.framing.specs.declared.framing.Size.TheVariants.{Unknown, Known, Invalid}
-use Rattle.framing.specs.Framing.{IsKept, IsPositive, IsWithin, AreBytes}
+use Rattle.framing.specs.Framing.{IsKept, IsPartial, IsPositive, IsWithin, AreBytes}
 use Rattle.qmux_frame.specs.Frame.{size_of}
 
 known_on : (front more : List ℕ) (n : ℕ) → size_of front ≡ Known n → size_of (front ++ more) ≡ Known n
@@ -44,6 +44,9 @@ size_of-positive bytes =
       | Invalid ↦ λ is. tt
     ]
     in step (size_of bytes) refl
+
+pub size_of-begins : IsPartial size_of []
+size_of-begins = tt
 
 pub size_of-bounded : (bytes : List ℕ) → AreBytes bytes → IsWithin 65536 (size_of bytes) (length bytes)
 size_of-bounded bytes are =

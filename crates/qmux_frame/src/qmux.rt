@@ -1,4 +1,4 @@
-ghost use Rattle.qmux_frame.specs.Framing.{size_of-kept, size_of-told, size_of-positive, size_of-bounded};
+ghost use Rattle.qmux_frame.specs.Framing.{size_of-kept, size_of-told, size_of-positive, size_of-begins, size_of-bounded};
 
 use framing::{Framing, Size};
 use kit_bytes::u16_at;
@@ -19,6 +19,8 @@ impl Framing for Qmux {
     ghost told = { size_of-told };
 
     ghost positive = { size_of-positive };
+
+    ghost begins = { size_of-begins };
 
     ghost bounded = { size_of-bounded };
 

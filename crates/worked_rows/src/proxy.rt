@@ -29,7 +29,7 @@ impl Proxy {
     pub fn meet(&mut self, event: Event<'_>) -> Result<()> {
         ensure!(self.core.next_dropped().is_none(), "a client was dropped");
         ensure!(self.may_come(event), "this can't come now");
-        self.core.step(event)?;
+        self.core.step(event);
         if let Event::Joined(name) = event {
             self.greatest = name;
         }

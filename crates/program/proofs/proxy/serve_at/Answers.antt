@@ -3,7 +3,7 @@ use Rattle.std.specs.Str.{encode_utf8_all}
 use Rattle.hub_io.specs.Record.{Call, Opened, Records}
 use Rattle.hub_io.proofs.Record.{since-starts, since-grows, since-joins}
 use Rattle.proxy_serving.specs.Ends.{EndsSo}
-use Rattle.qmi_serving.specs.Serving.{proxy_of}
+use Rattle.qmi_proxy.specs.Proxy.{proxy_of}
 use Rattle.program.specs.Serving.{ServesQmi, asked_with, opening, setup_in}
 use Rattle.program.proofs.proxy.serve_at.Goals as goal
 

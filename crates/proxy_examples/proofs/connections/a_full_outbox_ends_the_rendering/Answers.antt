@@ -1,6 +1,6 @@
 use Rattle.std.proofs.Common.{ℕ, ◌+◌, Bool, ◌||◌, nat_lt, length, ap, ◌∙◌}
-use Rattle.proxy_history.specs.Limits.{outbox_limit}
 use Rattle.proxy_history.specs.Rendering.{put_unless}
+use Rattle.qmi_proxy.specs.Limits.{outbox_limit}
 use Rattle.proxy_examples.specs.Story.{version_aborted}
 use Rattle.proxy_examples.proofs.connections.a_full_outbox_ends_the_rendering.Goals as goal
 

@@ -3,6 +3,6 @@ use Rattle.proxy_history.proofs.laws.views_of_gone_connections_stay.Goals as goa
 
 pub returns : goal.returns
 returns c = record {
-  stay = λ limit top blank conn why later earlier some sound none. gone_view_stays limit top blank conn some why later earlier sound none;
-  last = λ limit top blank conn facts some sound. ends_are_last limit top blank conn some facts sound;
+  stay = λ limits blank conn why later earlier some sound none. gone_view_stays limits blank conn some why later earlier sound none;
+  last = λ limits blank conn facts some sound. ends_are_last limits blank conn some facts sound;
 }

@@ -4,20 +4,20 @@ use Rattle.framing.specs.Cutting.{Cutting, cut}
 use Rattle.framing.proofs.Standing.{part_is}
 use Rattle.framing.proofs.Cuts.{cut-partial, cut-bad}
 use Rattle.qmux_frame.specs.Frame.{size_of}
-use Rattle.qmux_frame.specs.Framing.{size_of-kept}
-use Rattle.proxy_history.specs.Streams.{is_invalid}
-use Rattle.qmi_core.proofs.Messages.{Begins, rest_one, partial_is}
+use Rattle.qmux_frame.specs.Framing.{size_of-kept, size_of-positive}
+use Rattle.framing.specs.Framing.{is_invalid}
+use Rattle.connections.proofs.Heard.{Begins, rest_one, messages_one, partial_is}
 use Rattle.qmi_core.proofs.Proxies.{modem_heard_one, modem_heard_none}
 use Rattle.qmi_core.proofs.proxy.hear_all.Goals as goal
 
 pub loop-span-preserved : goal.loop-span-preserved
 loop-span-preserved c =
     let found = c.in-Whole.ensures.next in
-    let begins : Begins c.loop-span.cutter.rest c.next.new.self.rest c.bytes.result.now =
+    let begins : Begins size_of c.loop-span.cutter.rest c.next.new.self.rest c.bytes.result.now =
     record { count = found.count; message = c.bytes.ensures ∙ part_is size_of found.gives; after_it = found.gives.rest; whole = found.message } in
     record {
-      heard = modem_heard_one begins c.loop-span.board c.hear_modem.new.self c.hear_modem.ensures ∙ c.loop-span.invariant.heard;
-      rest = rest_one begins ∙ c.loop-span.invariant.rest;
+      heard = modem_heard_one c.bytes.result.now (cut size_of c.loop-span.cutter.rest).messages (cut size_of c.next.new.self.rest).messages c.loop-span.board c.hear_modem.new.self c.hear_modem.ensures (messages_one size_of size_of-kept size_of-positive begins) ∙ c.loop-span.invariant.heard;
+      rest = rest_one size_of size_of-kept size_of-positive begins ∙ c.loop-span.invariant.rest;
     }
 
 pub returns-in-NeedMore : goal.returns-in-NeedMore

@@ -2,7 +2,7 @@ use Rattle.std.proofs.Common.{◌≡◌, length}
 use Rattle.framing.specs.Cutting.{cut}
 use Rattle.qmux_frame.specs.Frame.{size_of}
 use Rattle.qmi_state.specs.Transitions.{hears_all}
-use Rattle.qmi_core.specs.Board.{within}
+use Rattle.qmi_core.specs.View.{within}
 use Rattle.qmi_core.proofs.proxy.hear_all.Given as goal
 
 -- what is left to hear, heard, is what there was to hear, heard

@@ -3,6 +3,6 @@ use Rattle.qmi_isolation.proofs.laws.answers_have_one_receiver.Goals as goal
 
 pub returns : goal.returns
 returns c = record {
-  one = λ s events core earlier m r S response at answers. answers_have_one_receiver s events core earlier m S response r at answers;
-  none = λ s events core earlier m client S response none. other_answers_have_none s events core earlier m S response client none;
+  one = λ s events earlier m r sound response at answers. answers_have_one_receiver s events earlier m response r sound at answers;
+  none = λ s events earlier m client response none. other_answers_have_none s events earlier m response client none;
 }

@@ -1,11 +1,11 @@
 use Rattle.proxy_history.proofs.Few.{few_are_present, few_are_in_use}
-use Rattle.qmi_proxy.specs.Spaces.{limit_of, top_of}
+use Rattle.qmi_proxy.specs.Limits.{qmi_limits}
 use Rattle.qmi_proxy.specs.History.{history}
 use Rattle.qmi_proxy.proofs.Sound.{histories_are_sound}
 use Rattle.qmi_proxy.proofs.laws.limits_are_kept.Goals as goal
 
 pub returns : goal.returns
 returns c = record {
-  present = λ s events. few_are_present limit_of top_of (history s events) (histories_are_sound s events);
-  in_use = λ s events space. few_are_in_use limit_of top_of (history s events) space (histories_are_sound s events);
+  present = λ s events. few_are_present qmi_limits (history s events) (histories_are_sound s events);
+  in_use = λ s events space. few_are_in_use qmi_limits (history s events) space (histories_are_sound s events);
 }

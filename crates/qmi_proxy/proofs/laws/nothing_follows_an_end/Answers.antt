@@ -2,7 +2,7 @@ use Rattle.std.proofs.Common.{List, ap, ◌∙◌, subst}
 use Rattle.proxy_history.specs.Facts.{Fact}
 use Rattle.proxy_history.specs.Sound.{IsSound}
 use Rattle.proxy_history.proofs.SoundLaws.{gone_view_stays, ends_are_last}
-use Rattle.qmi_proxy.specs.Spaces.{limit_of, top_of}
+use Rattle.qmi_proxy.specs.Limits.{qmi_limits}
 use Rattle.qmi_proxy.specs.Text.{blank, view_of}
 use Rattle.qmi_proxy.specs.History.{history}
 use Rattle.qmi_proxy.proofs.Sound.{histories_are_sound}
@@ -12,6 +12,6 @@ pub returns : goal.returns
 returns c = record {
   nothing = λ s events conn why later earlier some whole none.
       ap (λ (facts : List Fact). view_of conn facts) whole
-      ∙ gone_view_stays limit_of top_of blank conn some why later earlier (subst (λ (facts : List Fact). IsSound limit_of top_of facts) whole (histories_are_sound s events)) none;
-  last = λ s events conn some. ends_are_last limit_of top_of blank conn some (history s events) (histories_are_sound s events);
+      ∙ gone_view_stays qmi_limits blank conn some why later earlier (subst (λ (facts : List Fact). IsSound qmi_limits facts) whole (histories_are_sound s events)) none;
+  last = λ s events conn some. ends_are_last qmi_limits blank conn some (history s events) (histories_are_sound s events);
 }

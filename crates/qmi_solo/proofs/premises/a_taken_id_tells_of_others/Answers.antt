@@ -1,5 +1,7 @@
 use Rattle.std.proofs.Common.{refl}
 use Rattle.framing.specs.Cutting.{cut_from}
+use Rattle.proxy_history.specs.Wording.{told_by}
+use Rattle.proxy_history.specs.History as proxy
 use Rattle.proxy_history.specs.Streams.{stream, modem_stream}
 use Rattle.proxy_history.specs.Connections.{present, dropped, message_count}
 use Rattle.proxy_history.specs.Requests.{in_use, pending, forward_count, last_number, free_from}
@@ -8,11 +10,9 @@ use Rattle.proxy_history.specs.Modem.{now, is_away, to_modem, modem_drained}
 use Rattle.proxy_history.specs.View.{view}
 use Rattle.proxy_history.specs.Rendering.{render}
 use Rattle.proxy_history.specs.Noting.{end_overfull, each_pending}
-use Rattle.qmi_proxy.specs.OwnReplies.{is_open}
-use Rattle.qmi_proxy.specs.History.{add_all, history}
 use Rattle.qmi_solo.specs.Solo.{pieces_of, meet_pieces, meet_items, solo}
 use Rattle.qmi_solo.proofs.premises.a_taken_id_tells_of_others.Goals as goal
 
 pub returns : goal.returns
-unfolding cut_from stream modem_stream present dropped message_count in_use pending forward_count last_number free_from held now is_away to_modem modem_drained view render end_overfull each_pending is_open add_all history pieces_of meet_pieces meet_items solo
+unfolding cut_from stream modem_stream present dropped message_count in_use pending forward_count last_number free_from held now is_away to_modem modem_drained view render end_overfull each_pending told_by proxy.add_all proxy.history pieces_of meet_pieces meet_items solo
 returns c = record { beside = refl; alone = refl }

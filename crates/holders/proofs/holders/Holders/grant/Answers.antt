@@ -2,7 +2,7 @@ use Rattle.std.proofs.Common.{◌≡◌, ◌==◌, ◌<◌, ℕ, not, length, ap
 use Rattle.proxy_history.specs.ClientIds.{Grant}
 use Rattle.holders.specs.Grants.{AreInOrder, AreBytes, IsFoundAt, IsPlaceOf, is_taken, grants}
 use Rattle.holders.specs.Calls.{TellTheSame, granted_last_unless, held_after}
-use Rattle.holders.proofs.Places.{found_free, found_grants, absent_free, absent_grants, absent_room, in_order_insert, bytes_insert}
+use Rattle.holders.proofs.Places.{found_free, found_grants, absent_free, absent_grants, absent_room, inserted, bytes_insert}
 use Rattle.holders.proofs.Sets.{same_grants}
 use Rattle.holders.proofs.holders.Holders.grant.Goals as goal
 
@@ -52,7 +52,7 @@ invariant_of-self c =
     record {
       ordered =
           subst AreInOrder (sym c.put.ensures.items)
-          (in_order_insert c.args.service c.args.cid c.in-Err.place c.self.inside.rows.items c.new.result (ap (λ (g : Grant). g.service) c.new.ensures) (ap (λ (g : Grant). g.client) c.new.ensures) c.self.invariant.ordered at);
+          (inserted c.args.service c.args.cid c.in-Err.place c.self.inside.rows.items c.new.result (ap (λ (g : Grant). g.service) c.new.ensures) (ap (λ (g : Grant). g.client) c.new.ensures) c.self.invariant.ordered at);
       bytes =
           subst (λ (l : List Grant). AreBytes l) (sym c.put.ensures.items)
           (bytes_insert c.in-Err.place c.self.inside.rows.items c.new.result c.self.invariant.bytes (omega (arith, c.ranges.service, ap (λ (g : Grant). g.service) c.new.ensures)) (omega (arith, c.ranges.cid, ap (λ (g : Grant). g.client) c.new.ensures)));

@@ -1,9 +1,10 @@
 use Rattle.std.proofs.Common.{◌≡◌, ◌==◌, not, filter, ap, sym, ◌∙◌, arith, rules, subst, List}
 use Rattle.std.proofs.lemmas.Fn.{filter_same}
 use Rattle.proxy_history.specs.ClientIds.{Grant}
-use Rattle.holders.specs.Grants.{AreInOrder, AreBytes, leaves}
+use Rattle.holders.specs.Grants.{IsAhead, AreInOrder, AreBytes, leaves}
 use Rattle.holders.specs.Calls.{TellTheSame, held_after}
-use Rattle.holders.proofs.Order.{in_order_filter, bytes_filter}
+use Rattle.kit_bytes.proofs.Sorted.{in_order_filter}
+use Rattle.holders.proofs.Order.{bytes_filter}
 use Rattle.holders.proofs.Sets.{same_filter}
 use Rattle.holders.proofs.holders.Holders.left.Goals as goal
 
@@ -20,7 +21,7 @@ pub invariant_of-self : goal.invariant_of-self
 invariant_of-self c =
     let kept : c.retain.new.self.items ≡ filter (λ g. not (c.args.conn == g.conn)) c.self.inside.rows.items = filter_same _ _ _ (λ x b f' k. search rules) _ _ c.retain.ensures.filtered in
     record {
-      ordered = subst AreInOrder (sym kept) (in_order_filter (λ g. not (c.args.conn == g.conn)) c.self.inside.rows.items c.self.invariant.ordered);
+      ordered = subst AreInOrder (sym kept) (in_order_filter IsAhead (λ g. not (c.args.conn == g.conn)) c.self.inside.rows.items c.self.invariant.ordered);
       bytes = subst (λ (l : List Grant). AreBytes l) (sym kept) (bytes_filter (λ g. not (c.args.conn == g.conn)) c.self.inside.rows.items c.self.invariant.bytes);
       room = omega (arith, c.self.invariant.room, c.retain.ensures.capacity);
     }

@@ -1,7 +1,7 @@
 use Rattle.std.proofs.Common.{◌≡◌, Some, None, ap, sym, ◌∙◌, ◌==◌, arith, subst}
 use Rattle.std.specs.List.{position}
 use Rattle.number_space.specs.Table.{Table, row_of, found, answers}
-use Rattle.number_space.proofs.InUse.{find_first, find_none}
+use Rattle.kit_bytes.proofs.Lists.{find_first, find_none}
 use Rattle.number_space.proofs.Tables.{answers_none, answers_at, sound_remove, none_due_remove, free_remove}
 use Rattle.number_space.proofs.space.Space.answer.Goals as goal
 use Rattle.number_space.proofs.space.Space.answer.Goals.{then-row, else-row}

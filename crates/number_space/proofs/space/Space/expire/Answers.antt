@@ -1,7 +1,8 @@
 use Rattle.std.proofs.Common.{◌≡◌, Some, None, ap, sym, ◌∙◌, subst, option_map}
 use Rattle.std.specs.List.{position}
 use Rattle.number_space.specs.Table.{Table, first_due, is_due, expires}
-use Rattle.number_space.proofs.InUse.{find_none, none_due}
+use Rattle.kit_bytes.proofs.Lists.{find_none}
+use Rattle.number_space.proofs.InUse.{none_due}
 use Rattle.number_space.proofs.Tables.{expires_none, expires_at, due_at, sound_expires, none_due_expires, free_expires}
 use Rattle.number_space.proofs.space.Space.expire.Goals as goal
 

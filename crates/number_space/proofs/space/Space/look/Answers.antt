@@ -1,7 +1,7 @@
 use Rattle.std.proofs.Common.{◌≡◌, Some, None, ap, sym, ◌∙◌, ◌==◌, option_map}
 use Rattle.std.specs.List.{position}
 use Rattle.number_space.specs.Table.{Table, row_of}
-use Rattle.number_space.proofs.InUse.{find_first, find_none}
+use Rattle.kit_bytes.proofs.Lists.{find_first, find_none}
 use Rattle.number_space.proofs.space.Space.look.Goals as goal
 
 pub returns-in_err-index-clause-row : goal.returns-in_err-index-clause-row

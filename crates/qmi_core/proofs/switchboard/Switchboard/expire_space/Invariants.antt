@@ -1,15 +1,13 @@
 use Rattle.std.proofs.Common.{◌≡◌}
 use Rattle.qmi_state.specs.Desk.{of_control}
 use Rattle.qmi_state.specs.Transitions.{expires_space}
+use Rattle.qmi_core.specs.View.{within}
 use Rattle.qmi_core.proofs.Expires.{waiting_count}
 use Rattle.qmi_core.proofs.switchboard.Switchboard.expire_space.Given as goal
 
 -- what is left to be refused, refused, is what there was to be refused, refused
 abbrev pub invariant-loop-name : goal.invariant-loop-name
-invariant-loop-name l = record {
-  expired : expires_space l.control l.time l.self.exchange ≡ expires_space l.control l.time l.initial.self.exchange;
-  greatest : l.self.greatest ≡ l.initial.self.greatest;
-}
+invariant-loop-name l = within (expires_space l.control l.time) l.self ≡ within (expires_space l.control l.time) l.initial.self
 
 abbrev pub decreases-loop-name : goal.decreases-loop-name
-decreases-loop-name l = waiting_count (of_control l.control l.self.exchange.desk).rows
+decreases-loop-name l = waiting_count (of_control l.control l.self.desk).rows

@@ -1,5 +1,6 @@
 use Rattle.std.proofs.Common.{ℕ, List, sym, ◌∙◌, ap, Some, None}
-use Rattle.qmi_core.specs.Board.{within, tells_from}
+use Rattle.qmi_core.specs.View.{within}
+use Rattle.qmi_core.specs.Switchboard.{tells_from}
 use Rattle.qmi_core.proofs.Tells.{indicated_open, indicated_holders}
 use Rattle.qmi_core.proofs.switchboard.Switchboard.indicate.Goals as goal
 

@@ -1,0 +1,5 @@
+pub mod Named
+pub mod Heard
+pub mod Rooms
+pub mod Regular
+pub mod Tables

@@ -1,0 +1,171 @@
+ghost use Rattle.std.specs.Prelude.{◌≡◌, ◌≤◌, ◌&&◌, ◌++◌, true, not, length};
+ghost use Rattle.framing.specs.Cutting.{cut};
+ghost use Rattle.framing.specs.Framing.{IsPartial, is_invalid};
+ghost use Rattle.outbox.specs.Queue.{has_room};
+ghost use Rattle.connections.specs.Table.{joined, puts, took, has_waiting};
+ghost use Rattle.connections.specs.Hearing.{hearing_of, goes_on, heard, hears_all};
+
+use crate::hears::Hears;
+use crate::place::Place;
+use framing::{Cutter, Framing, LONGEST_PIECE};
+use kit_bytes::Cut;
+use outbox::Outbox;
+use std::marker::Model;
+
+/// A connection that is there.
+#[derive(Drop)]
+pub struct Connection<F: Framing, T> {
+    name: u64,
+    client: T,
+    stream: Cutter<F>,
+    outbox: Outbox,
+}
+
+impl<F: Framing, T> Model for Connection<F, T> {
+    ghost use Rattle.framing.specs.Framing.{IsPartial};
+    ghost use Rattle.connections.specs.Table as table;
+
+    ghost Value = { table.Connection T };
+
+    ghost view = { λ k. record { name = k.name; client = k.client; rest = k.stream.rest; outbox = k.outbox } };
+
+    ghost invariant = { λ k. IsPartial F.size k.stream.rest };
+}
+
+impl<F: Framing, T> Connection<F, T> {
+    ghost use Rattle.std.specs.Borrow.{sem};
+    ghost use Rattle.connections.specs.Lends.{lends_client};
+
+    /// A connection that has said nothing, in this place.
+    pub fn begin(place: Place<F>, name: u64, client: T) -> Self
+        ensures { result ≡ joined name client place.outbox.capacity }
+    {
+        let mut stream = place.stream;
+        let mut outbox = place.outbox;
+        stream.restart();
+        outbox.clear();
+        Connection {
+            name,
+            client,
+            stream,
+            outbox,
+        }
+    }
+
+    pub fn name(&self) -> u64
+        ensures { result ≡ self.now.name }
+    {
+        self.name
+    }
+
+    /// What the protocol keeps of its client.
+    pub fn client(&self) -> &T
+        ensures { result.now ≡ self.now.client }
+    {
+        &self.client
+    }
+
+    /// What the protocol keeps of its client, to be changed.
+    pub fn client_mut(&mut self) -> &mut T
+        ensures* writes_back { sem 𝓛 (lends_client F.row T.row F.Framing self.entry result) }
+        ensures client { result.now ≡ self.old.client }
+    {
+        &mut self.client
+    }
+
+    /// Hears the next piece of its stream, and says whether the connection goes on: all that was due
+    /// to its client found room, and the stream didn't go bad.
+    pub fn hear<S: Hears<F, T>>(&mut self, piece: &[u8], beside: &mut S) -> bool
+        requires { length piece.now ≤ LONGEST_PIECE }
+        ensures goes_on { result ≡ goes_on F.size (hearing_of F.size S.hears piece.now self.old beside.old) piece.now self.old }
+        ensures heard { result ≡ true → self.new ≡ heard F.size (hearing_of F.size S.hears piece.now self.old beside.old) piece.now self.old }
+        ensures name { self.new.name ≡ self.old.name }
+        ensures outbox { self.new.outbox ≡ (hearing_of F.size S.hears piece.now self.old beside.old).outbox }
+        ensures beside { beside.new ≡ (hearing_of F.size S.hears piece.now self.old beside.old).beside }
+        ensures capacity { self.new.outbox.capacity ≡ self.old.outbox.capacity }
+    {
+        self.stream.push(piece);
+        let goes_on = hear_all(
+            &mut self.stream,
+            self.name,
+            &mut self.client,
+            &mut self.outbox,
+            beside,
+        );
+        if !goes_on {
+            self.stream.restart();
+        }
+        goes_on
+    }
+
+    /// Puts both runs of bytes into its outbox, and says whether they find room. Where they don't,
+    /// nothing changes.
+    pub fn put(&mut self, head: &[u8], rest: &[u8]) -> bool
+        ensures room { result ≡ has_room (head.now ++ rest.now) self.old.outbox }
+        ensures put { self.new ≡ puts (head.now ++ rest.now) self.old }
+    {
+        self.outbox.queue_both(head, rest)
+    }
+
+    /// Its socket took the first so many bytes.
+    pub fn take(&mut self, count: usize)
+        requires { count ≤ length self.old.outbox.bytes }
+        ensures { self.new ≡ took count self.old }
+    {
+        self.outbox.taken(count);
+    }
+
+    /// The bytes that wait for it.
+    pub fn queued(&self) -> &[u8]
+        ensures { result.now ≡ self.now.outbox.bytes }
+    {
+        self.outbox.front()
+    }
+
+    /// Whether bytes wait for it.
+    pub fn is_waiting(&self) -> bool
+        ensures { result ≡ has_waiting self.now }
+    {
+        !self.outbox.is_empty()
+    }
+}
+
+impl<F: Framing, T: Drop> Connection<F, T> {
+    /// Its place, with what waited for it.
+    pub fn into_place(self) -> Place<F>
+        ensures { result.outbox ≡ self.outbox }
+    {
+        Place {
+            stream: self.stream,
+            outbox: self.outbox,
+        }
+    }
+}
+
+// Has the client's whole messages heard, and says whether the connection goes on.
+fn hear_all<F: Framing, T, S: Hears<F, T>>(
+    stream: &mut Cutter<F>,
+    name: u64,
+    client: &mut T,
+    outbox: &mut Outbox,
+    beside: &mut S,
+) -> bool
+    ensures goes_on { result ≡ ((hears_all S.hears name (cut F.size stream.old.rest).messages client.old outbox.old beside.old).has_room && not (is_invalid (F.size (cut F.size stream.old.rest).rest))) }
+    ensures client { client.new ≡ (hears_all S.hears name (cut F.size stream.old.rest).messages client.old outbox.old beside.old).client }
+    ensures outbox { outbox.new ≡ (hears_all S.hears name (cut F.size stream.old.rest).messages client.old outbox.old beside.old).outbox }
+    ensures beside { beside.new ≡ (hears_all S.hears name (cut F.size stream.old.rest).messages client.old outbox.old beside.old).beside }
+    ensures rest { result ≡ true → (stream.new.rest ≡ (cut F.size stream.old.rest).rest) × IsPartial F.size stream.new.rest }
+    ensures capacity { outbox.new.capacity ≡ outbox.old.capacity }
+{
+    loop {
+        match stream.next() {
+            Cut::Whole(span) => {
+                if !beside.hear(name, stream.bytes(span), client, outbox) {
+                    return false;
+                }
+            }
+            Cut::NeedMore => return true,
+            Cut::Bad(_) => return false,
+        }
+    }
+}

@@ -1,0 +1,77 @@
+ghost use Rattle.std.specs.Prelude.{◌≡◌, None, Some};
+ghost use Rattle.std.specs.Option.{option_map};
+ghost use Rattle.connections.specs.Table.{left_in, left_for};
+
+use crate::place::Place;
+use framing::Framing;
+use std::marker::Model;
+
+/// A connection that was dropped and is to be hung up, with the bytes that still waited for it.
+#[derive(Drop)]
+pub struct Dropped<F: Framing> {
+    name: u64,
+    // none where it was never let in
+    place: Option<Place<F>>,
+}
+
+impl<F: Framing> Model for Dropped<F> {
+    ghost use Rattle.std.specs.Option.{option_map};
+    ghost use Rattle.connections.specs.Table as table;
+
+    ghost Value = { table.Dropped };
+
+    ghost view = { λ d. record { name = d.name; outbox = option_map (λ p. p.outbox) d.place } };
+}
+
+impl<F: Framing> Dropped<F> {
+    /// One that wasn't let in.
+    pub fn refused(name: u64) -> Self
+        ensures { result ≡ record { name = name; outbox = None } }
+    {
+        Dropped { name, place: None }
+    }
+
+    pub fn new(name: u64, place: Place<F>) -> Self
+        ensures { result ≡ record { name = name; outbox = Some place.outbox } }
+    {
+        Dropped {
+            name,
+            place: Some(place),
+        }
+    }
+
+    pub fn name(&self) -> u64
+        ensures { result ≡ self.now.name }
+    {
+        self.name
+    }
+
+    /// The bytes that waited for it.
+    pub fn queued(&self) -> &[u8]
+        ensures { result.now ≡ left_in self.now.outbox }
+    {
+        match &self.place {
+            Some(place) => place.outbox.front(),
+            None => &[],
+        }
+    }
+
+    /// Its place, which is free again.
+    pub fn into_place(self) -> Option<Place<F>>
+        ensures { option_map (λ p. p.outbox) result ≡ self.outbox }
+    {
+        self.place
+    }
+}
+
+/// The bytes that waited for the connection of this name, where the list has it.
+pub fn queued<F: Framing>(list: &[Dropped<F>], name: u64) -> &[u8]
+    ensures { result.now ≡ left_for name list.now }
+{
+    for dropped in list {
+        if name == dropped.name() {
+            return dropped.queued();
+        }
+    }
+    &[]
+}

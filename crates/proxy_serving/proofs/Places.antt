@@ -1,0 +1,179 @@
+-- One connection in turn is offered what waits for it. Lists of calls and of events have the newest first.
+use Rattle.std.proofs.Common.{◌≡◌, inl, inr, ℕ, zero, suc, ◌+◌, ◌<◌, true, false, ◌==◌, List, [], ◌∷◌, ◌++◌, length, slice_get, refl, sym, ◌∙◌, ap, subst, arith, append_assoc, length-append, Option, Some, None, ◌≤◌}
+use Rattle.std.proofs.lemmas.List.{append-nil}
+use Rattle.std.specs.List.{AllByRecursion, IsDistinct}
+use Rattle.std.proofs.lemmas.Bool.Decides.{nat_tests}
+use Rattle.kit_bytes.proofs.Lists.{all_weaker}
+use Rattle.proxy_history.specs.Events.{Event, Took, Left}
+use Rattle.proxy_history.specs.Connections.{contains, without}
+use Rattle.hub_io.specs.Record.{Call, Sent, SendFailed, HungUp, events}
+use Rattle.proxy_history.specs.Proxy.{Proxy}
+use Rattle.proxy_serving.specs.Serving.{IsFront, IsOffered, is_blocked, NeverIdle, reopenings, due_reopenings}
+use Rattle.proxy_serving.proofs.Offering.{AreBlocked, is_among, both_on, all_joined, blocked-sent_none}
+use Rattle.proxy_serving.specs.Ends.{EndsUnnoted}
+use Rattle.proxy_serving.specs.Server.{emptied_after}
+use Rattle.proxy_serving.specs.Progress.{IsServing, HasOffered, IsAt, OffersClients}
+use Rattle.proxy_serving.specs.Face.{Face, first_waiting}
+use Rattle.proxy_serving.specs.Cores.{StandsAfter}
+use Rattle.proxy_serving.specs.declared.server.Server.{Server}
+use Rattle.proxy_serving.proofs.Offers.{events-sent, events-sent_none, events-send_failed, events-hung_up, offered-sent_none, offered-sent, offered-send_failed, offered-hung_up, earlier_differ, without-at}
+use Rattle.proxy_serving.proofs.Going.{serving-sent_none, serving-sent, serving-failed, goes_on}
+use Rattle.proxy_serving.proofs.Faces.{contains-middle, slice_get-at, emptied_is, first_is, none_is}
+
+-- a whole queue is a front of itself
+pub whole_front : (queue : List ℕ) → 0 < length queue → IsFront queue queue
+whole_front queue some = record { some = some; rest = []; whole = sym (append-nil queue) }
+
+module _ {C : Type 0} {keeps : Proxy → List Event → C → Type 0} {face : C → Face} {p : Proxy} {limit : Option ℕ} {turns count c : ℕ} {server : Server C} {calls : List Call} (at : IsAt keeps face p limit turns count c server calls) where
+  there : contains c (p.present (events calls)) ≡ true
+  there = ap (contains c) at.whole ∙ contains-middle at.done c at.later
+
+  distinct : IsDistinct (λ x y. x == y) (at.done ++ c ∷ at.later)
+  distinct = let P : List ℕ → Type 0 = IsDistinct (λ x y. x == y) in subst P at.whole at.serving.stands.shows.distinct
+
+  differ : AllByRecursion (λ d. (c == d) ≡ false) at.done
+  differ = earlier_differ at.done c at.later distinct
+
+  queue : (face server.core).queue c ≡ (p.waiting c (events calls))
+  queue = at.serving.stands.shows.queue c there
+
+  -- the whole queue is a front of what waits
+  front_of_waiting : (bytes : List ℕ) → 0 < length bytes → bytes ≡ (face server.core).queue c → IsFront bytes (p.waiting c (events calls))
+  front_of_waiting bytes waits whole = let P : List ℕ → Type 0 = IsFront bytes in subst P (whole ∙ queue) (whole_front bytes waits)
+
+  -- it was offered all
+  offered_here : IsOffered p calls c → HasOffered keeps face p limit turns (count + 1) server calls
+  offered_here is = record {
+    serving = at.serving;
+    awake = at.awake;
+    in_time = at.in_time;
+    done = at.done ++ c ∷ [];
+    todo = at.later;
+    whole = at.whole ∙ sym (append_assoc at.done (c ∷ []) at.later);
+    counted = omega (arith, length-append at.done (c ∷ []), at.counted);
+    offered = all_joined (IsOffered p calls) at.done (c ∷ []) at.offered (is, tt);
+  }
+
+  pub at-blocked : contains c server.blocked ≡ true → HasOffered keeps face p limit turns (count + 1) server calls
+  at-blocked among = offered_here (inr (is_among (λ d. is_blocked d calls ≡ true) c server.blocked at.serving.blocked among))
+
+  pub at-empty : (face server.core).queue c ≡ [] → HasOffered keeps face p limit turns (count + 1) server calls
+  at-empty none = offered_here (inl (sym queue ∙ none))
+
+  pub at-sent_none : (bytes : List ℕ) (now : Server C) → 0 < length bytes → bytes ≡ (face server.core).queue c → now.core ≡ server.core → now.blocked ≡ server.blocked ++ c ∷ [] → now.modem_blocked ≡ server.modem_blocked → now.emptied ≡ server.emptied
+      → HasOffered keeps face p limit turns (count + 1) now (Sent c bytes 0 ∷ calls)
+  unfolding reopenings due_reopenings
+  at-sent_none bytes now waits whole core blocked modem emptied = record {
+    serving = serving-sent_none at.serving c bytes now (front_of_waiting bytes waits whole) core blocked modem emptied;
+    awake = at.awake;
+    in_time = at.in_time;
+    done = at.done ++ c ∷ [];
+    todo = at.later;
+    whole =
+        ap (λ (l : List Event). p.present l) (events-sent_none c bytes calls)
+        ∙ at.whole
+        ∙ sym (append_assoc at.done (c ∷ []) at.later);
+    counted = omega (arith, length-append at.done (c ∷ []), at.counted);
+    offered =
+        all_joined (IsOffered p (Sent c bytes 0 ∷ calls)) at.done (c ∷ [])
+        (both_on at.done (λ d other is. offered-sent_none at.serving.stands.shows.lawful c d bytes calls other is) differ at.offered)
+        (inr (blocked-sent_none c bytes calls), tt);
+  }
+
+  -- memory ran out for noting that it took nothing
+  pub at-sent_none_unnoted : (bytes : List ℕ) → 0 < length bytes → bytes ≡ (face server.core).queue c → (face server.core).dropped ≡ [] → EndsUnnoted p limit turns (Sent c bytes 0 ∷ calls)
+  at-sent_none_unnoted bytes waits whole none =
+      let now : Server C = record { core = server.core; blocked = server.blocked ++ c ∷ []; modem_blocked = server.modem_blocked; emptied = server.emptied } in
+      let serving = serving-sent_none at.serving c bytes now (front_of_waiting bytes waits whole) refl refl refl refl in
+      record { conn = c; bytes = bytes; earlier = calls; whole = refl; goes_on = goes_on serving none at.awake }
+
+  pub at-sent : (bytes : List ℕ) (taken : ℕ) (now : Server C) → (taken == 0) ≡ false → taken ≤ length bytes → 0 < length bytes → bytes ≡ (face server.core).queue c → contains c server.blocked ≡ false → (face server.core).dropped ≡ []
+      → StandsAfter keeps face p (Took c taken ∷ events calls) now.core → now.blocked ≡ server.blocked → now.modem_blocked ≡ server.modem_blocked → now.emptied ≡ emptied_after (face server.core) server.emptied (face now.core)
+      → IsAt keeps face p limit turns count c now (Sent c bytes taken ∷ calls)
+  unfolding reopenings due_reopenings
+  at-sent bytes taken now some within waits whole free none after blocked modem emptied = record {
+    serving =
+        serving-sent at.serving c bytes taken now some within there (front_of_waiting bytes waits whole) free none (after.stands.shows.dropped (after.stands.shows.lawful.took_dropped c taken (events calls))) after.stands blocked modem
+        (emptied ∙ emptied_is (Took c taken) server.emptied at.serving.stands after.stands at.serving.emptied);
+    awake = at.awake;
+    in_time = at.in_time;
+    done = at.done;
+    later = at.later;
+    whole = ap (λ (l : List Event). p.present l) (events-sent c bytes taken calls some) ∙ after.stands.shows.lawful.took_present c taken (events calls) ∙ at.whole;
+    counted = at.counted;
+    offered = both_on at.done (λ d other is. offered-sent at.serving.stands.shows.lawful c d bytes taken calls some other is) differ at.offered;
+  }
+
+  pub at-failed : (bytes : List ℕ) (now : Server C) → 0 < length bytes → bytes ≡ (face server.core).queue c → (face server.core).dropped ≡ []
+      → StandsAfter keeps face p (Left c ∷ events calls) now.core → AreBlocked calls now.blocked → now.modem_blocked ≡ server.modem_blocked → now.emptied ≡ emptied_after (face server.core) server.emptied (face now.core)
+      → HasOffered keeps face p limit turns count now (HungUp c ∷ SendFailed c bytes ∷ calls)
+  unfolding reopenings due_reopenings
+  at-failed bytes now waits whole none after blocked modem emptied = record {
+    serving =
+        serving-failed at.serving c bytes now (front_of_waiting bytes waits whole) none (after.stands.shows.dropped (after.stands.shows.lawful.left_dropped c (events calls))) after.stands blocked modem
+        (emptied ∙ emptied_is (Left c) server.emptied at.serving.stands after.stands at.serving.emptied);
+    awake = at.awake;
+    in_time = at.in_time;
+    done = at.done;
+    todo = at.later;
+    whole =
+        ap (λ (l : List Event). p.present l) (events-hung_up c (SendFailed c bytes ∷ calls) ∙ events-send_failed c bytes calls)
+        ∙ after.stands.shows.lawful.left_present c (events calls) there
+        ∙ ap (without c) at.whole
+        ∙ without-at at.done c at.later distinct;
+    counted = at.counted;
+    offered =
+        both_on at.done (λ d other is. offered-hung_up at.serving.stands.shows.lawful c d (SendFailed c bytes ∷ calls) (offered-send_failed at.serving.stands.shows.lawful c d bytes calls other is)) differ at.offered;
+  }
+
+-- ---- from place to place ----
+
+nothing_waits : (p : Proxy) (calls : List Call) (names : List ℕ) → AllByRecursion (λ d. p.waiting d (events calls) ≡ []) names → AllByRecursion (IsOffered p calls) names
+nothing_waits p calls names all = all_weaker _ _ (λ d none. inl none) names all
+
+module _ {C : Type 0} {keeps : Proxy → List Event → C → Type 0} {face : C → Face} {p : Proxy} {limit : Option ℕ} {turns count : ℕ} {server : Server C} {calls : List Call} (so : HasOffered keeps face p limit turns count server calls) where
+  -- those for which nothing waits are skipped
+  pub at_next : (place c : ℕ) → first_waiting p (events calls) count ≡ Some place → slice_get (face server.core).present place ≡ Some c → IsAt keeps face p limit turns place c server calls
+  at_next place c first named =
+      let start : first_waiting p (events calls) (length so.done) ≡ Some place = ap (λ (n : ℕ). first_waiting p (events calls) n) so.counted ∙ first in
+      let found = first_is p (events calls) so.done so.todo so.whole place start in
+      let front = found.0 in
+      let whole : p.present (events calls) ≡ (so.done ++ front) ++ found.1 ∷ found.2 =
+      so.whole ∙ ap (λ (l : List ℕ). so.done ++ l) found.3 ∙ sym (append_assoc so.done front (found.1 ∷ found.2)) in
+      let counted : length (so.done ++ front) ≡ place = length-append so.done front ∙ sym found.4 in
+      let at = slice_get-at (so.done ++ front) (found.1 ∷ found.2) c
+      (ap (slice_get ((so.done ++ front) ++ found.1 ∷ found.2)) counted ∙ ap (λ (l : List ℕ). slice_get l place) (sym whole ∙ sym (so.serving.stands.shows.present)) ∙ named) in
+      record {
+        serving = so.serving;
+        awake = so.awake;
+        in_time = so.in_time;
+        done = so.done ++ front;
+        later = at.0;
+        whole = whole ∙ ap (λ (l : List ℕ). (so.done ++ front) ++ l) at.1;
+        counted = counted;
+        offered = all_joined (IsOffered p calls) so.done front so.offered (nothing_waits p calls front found.5);
+      }
+
+  -- nothing waits for those that are left
+  pub all_offered : first_waiting p (events calls) count ≡ None → OffersClients keeps face p limit turns server calls
+  all_offered first =
+      let rest = none_is p (events calls) so.done so.todo so.whole (ap (λ (n : ℕ). first_waiting p (events calls) n) so.counted ∙ first) in
+      record {
+        serving = so.serving;
+        awake = so.awake;
+        in_time = so.in_time;
+        clients = subst (AllByRecursion (IsOffered p calls)) (sym so.whole)
+            (all_joined (IsOffered p calls) so.done so.todo so.offered (nothing_waits p calls so.todo rest));
+      }
+
+-- nobody was offered anything yet
+pub none_offered : {C : Type 0} {keeps : Proxy → List Event → C → Type 0} {face : C → Face} {p : Proxy} {limit : Option ℕ} {turns : ℕ} {server : Server C} {calls : List Call} → IsServing keeps face p turns server calls → NeverIdle p limit calls → reopenings calls ≡ due_reopenings p calls → HasOffered keeps face p limit turns 0 server calls
+none_offered {p = p} {calls = calls} serving awake in_time = record { serving = serving; awake = awake; in_time = in_time; done = []; todo = p.present (events calls); whole = refl; counted = refl; offered = tt }
+
+pub positive : (n : ℕ) → (n ≡ 0 → ⊥) → 0 < n
+positive zero some = absurd (some refl)
+positive (suc n) some = omega arith
+
+pub not_zero : (n : ℕ) → (n ≡ 0 → ⊥) → (n == 0) ≡ false
+not_zero zero some = absurd (some refl)
+not_zero (suc n) some = grind (arith, nat_tests)

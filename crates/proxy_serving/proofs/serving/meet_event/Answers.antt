@@ -1,0 +1,67 @@
+use Rattle.std.proofs.Common.{◌≡◌, ℕ, ◌+◌, List, [], ◌∷◌, ◌++◌, Option, Some, None, ap, sym, subst, ◌∙◌}
+use Rattle.std.proofs.lemmas.Result.{err_from_is_err_and}
+use Rattle.proxy_history.specs.Events.{Event}
+use Rattle.proxy_history.specs.Proxy.{Proxy}
+use Rattle.hub_io.specs.Record.{Call, Told, Since}
+use Rattle.hub_io.specs.declared.settings.ServeEnd.{ServeEnd}
+use Rattle.proxy_serving.specs.Carrying.{Carries}
+use Rattle.proxy_serving.specs.Face.{Face}
+use Rattle.proxy_serving.specs.Cores.{Stands, StandsAfter}
+use Rattle.proxy_serving.specs.Server.{emptied_after, end_at, misses_modem}
+use Rattle.proxy_serving.specs.Serving.{hanging_up}
+use Rattle.proxy_serving.specs.Progress.{IsServing, HasTold, AreHangUps, AfterEvent, MayBeTold}
+use Rattle.proxy_serving.specs.declared.server.Server.{Server}
+use Rattle.proxy_serving.proofs.Carrying.{Carries-none, Carries-then, Carries-with}
+use Rattle.proxy_serving.proofs.Turns.{told-met, told-unmet, told-done}
+use Rattle.proxy_serving.proofs.serving.meet_event.Goals as goal
+
+-- the event was met, hang-ups followed, and this came of it: why the serving ends, where it does
+met : {C : Type 0} {keeps : Proxy → List Event → C → Type 0} {face : C → Face} {p : Proxy} {limit : Option ℕ} {turns : ℕ} {server now : Server C} {event : Event} {start new : Option (List Call)} (known : ℕ) (asked : Server C) (came : Option ServeEnd)
+    → MayBeTold known event → (face server.core).dropped ≡ [] → ((past : List Event) → Stands keeps face p past server.core → StandsAfter keeps face p (event ∷ past) now.core)
+    → now.blocked ≡ server.blocked → now.modem_blocked ≡ server.modem_blocked → now.emptied ≡ emptied_after (face server.core) server.emptied (face now.core)
+    → Since start new AreHangUps → Carries start (IsServing keeps face p (turns + 1) now) new (IsServing keeps face p (turns + 1) asked) → (face asked.core).dropped ≡ []
+    → end_at event limit (face asked.core) asked.emptied ≡ came
+    → Carries start (HasTold keeps face p limit turns server (Told event)) new (AfterEvent keeps face came (misses_modem event (face asked.core)) p limit turns asked)
+met {keeps = keeps} {face = face} {p = p} {limit = limit} {turns = turns} {server = server} {now = now} {event = event} known asked came may none_before stands blocked modem emptied only hangs none is =
+    let Begun : List Call → Type 0 = HasTold keeps face p limit turns server (Told event) in
+    let Serving : List Call → Type 0 = IsServing keeps face p (turns + 1) now in
+    let Done : Option ServeEnd → List Call → Type 0 = λ o. AfterEvent keeps face o (misses_modem event (face asked.core)) p limit turns asked in
+    let meeting : (calls : List Call) → Begun calls → Serving calls =
+    λ calls has. let after = stands _ has.ready.serving.stands in told-met has known may now none_before after blocked modem emptied after.all_dropped in
+    Carries-then (Carries-with AreHangUps _ _ only (Carries-then (Carries-none Begun Serving _ meeting) hangs))
+    (Carries-none _ (Done came) _ (λ calls all.
+    let whole : calls ≡ hanging_up all.3.0 ++ all.0 = all.2 ∙ ap (λ (l : List Call). l ++ all.0) all.3.1 in
+    let Asked : List Call → Type 0 = IsServing keeps face p (turns + 1) asked in
+    subst (Done came) (sym whole) (subst (λ (o : Option ServeEnd). Done o (hanging_up all.3.0 ++ all.0)) is (told-done all.4 all.3.0 none_before (subst Asked whole all.5) none))))
+
+pub returns-in-Some-clause-carries : goal.returns-in-Some-clause-carries
+returns-in-Some-clause-carries g c = λ p turns.
+    let meet = c.in_ok-meet.ensures in
+    let hangs = c.hang_up_dropped.ensures in
+    met c.requires.told.0 c.hang_up_dropped.new.server (Some c.in-Some.end) c.requires.told.2 c.requires.asked (meet.stands p) meet.blocked meet.modem_blocked meet.emptied hangs.only (hangs.carries p (turns + 1)) hangs.asked
+    (sym c.end_at.ensures ∙ c.in-Some.is)
+
+pub returns-in_err-reopen_at-clause-carries : goal.returns-in_err-reopen_at-clause-carries
+returns-in_err-reopen_at-clause-carries g c = λ p turns.
+    let meet = c.in_ok-meet.ensures in
+    let hangs = c.hang_up_dropped.ensures in
+    let e = err_from_is_err_and c.from_residual-in_err-reopen_at.result c.from_residual-in_err-reopen_at.ensures.1 in
+    rw (e.1, e.2)
+    (Carries-then
+    (met c.requires.told.0 c.hang_up_dropped.new.server None c.requires.told.2 c.requires.asked (meet.stands p) meet.blocked meet.modem_blocked meet.emptied hangs.only (hangs.carries p (turns + 1)) hangs.asked
+    (sym c.end_at.ensures ∙ c.in_default.is))
+    (Carries-then (c.in_err-reopen_at.ensures.carries p c.args.limit (turns + 1)) (Carries-none _ _ _ (λ calls no. absurd no))))
+
+pub returns-clause-carries : goal.returns-clause-carries
+returns-clause-carries g c = λ p turns.
+    let meet = c.in_ok-meet.ensures in
+    let hangs = c.hang_up_dropped.ensures in
+    Carries-then
+    (met c.requires.told.0 c.hang_up_dropped.new.server None c.requires.told.2 c.requires.asked (meet.stands p) meet.blocked meet.modem_blocked meet.emptied hangs.only (hangs.carries p (turns + 1)) hangs.asked
+    (sym c.end_at.ensures ∙ c.in_default.is))
+    (c.in_ok-reopen_at.ensures.carries p c.args.limit (turns + 1))
+
+pub returns-in_err-meet-clause-carries : goal.returns-in_err-meet-clause-carries
+returns-in_err-meet-clause-carries g c = λ p turns.
+    let e = err_from_is_err_and c.from_residual.result c.from_residual.ensures.1 in
+    rw (e.1, e.2) (Carries-none _ _ _ (λ calls has. told-unmet has c.requires.asked c.in_err-meet.ensures.memory))

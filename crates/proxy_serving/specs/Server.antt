@@ -1,0 +1,25 @@
+-- What serving has to remember beside a core.
+use Rattle.std.specs.Prelude.{ℕ, ◌+◌, ◌==◌, ◌&&◌, nat_le, if◌then◌else◌, Bool, false, Option, Some, None, length}
+use Rattle.proxy_history.specs.Events.{Event, Now}
+use Rattle.hub_io.specs.declared.settings.ServeEnd.{ServeEnd}
+use Rattle.hub_io.specs.declared.settings.ServeEnd.TheVariants as end
+use Rattle.proxy_serving.specs.Face.{Face}
+
+-- when the last connection went, after an event that made one face of the other
+abbrev pub emptied_after : Face → ℕ → Face → ℕ
+emptied_after old emptied new = if length old.present == 0 then emptied else new.time
+
+-- nobody has been there for so long, as a face and the time at which the last connection went tell it
+abbrev pub is_idle_at : Option ℕ → Face → ℕ → Bool
+is_idle_at None face emptied = false
+is_idle_at (Some limit) face emptied = length face.present == 0 && nat_le (emptied + limit) face.time
+
+-- why the serving ends at an event, where it does
+abbrev pub end_at : Event → Option ℕ → Face → ℕ → Option ServeEnd
+end_at (Now time) limit face emptied = if is_idle_at limit face emptied then Some end.Empty else None
+end_at _ limit face emptied = None
+
+-- the clock is told while the modem is away
+abbrev pub misses_modem : Event → Face → Bool
+misses_modem (Now time) face = face.away
+misses_modem _ face = false

@@ -1,0 +1,75 @@
+-- Which request in use a message of the modem answers.
+use Rattle.std.proofs.Common.{◌≡◌, ℕ, zero, Bool, true, false, ◌&&◌, ◌==◌, if◌then◌else◌, List, [], ◌∷◌, refl, ap, sym, ◌∙◌, subst, ⊎_elim, arith, Contains, Some}
+use Rattle.std.proofs.lemmas.Bool.{eqb-true, eq-eqb, and_parts}
+use Rattle.qmux_frame.specs.Head.{service_of, client_of, number_of}
+use Rattle.proxy_history.specs.Facts.{Fact, Request}
+use Rattle.proxy_history.specs.Requests.{in_use}
+use Rattle.proxy_history.proofs.Lists.{Contains-cons, Contains-cons_cases, Contains-nil}
+use Rattle.qmi_proxy.specs.Spaces.{control_space, service_space, space_of}
+use Rattle.qmi_proxy.specs.FromModem.{is_answered_by, first_answered_by, IdChange, NoChange, Grants, Frees, brings_id, granted_unless, id_change, holder_of_brought}
+use Rattle.proxy_history.specs.ClientIds.{holder, is_other}
+use Rattle.qmux_frame.specs.Control.{is_release}
+use Rattle.qmi_proxy.specs.Messages.{is_success, used_service, used_client, byte_of, value_of}
+use Rattle.qmi_proxy.proofs.Apart.{IsSoundQmi, apart_in_use}
+
+-- two requests in use that a message answers are one, where each stands in the space of its message
+pub one_is_answered : (past : List Fact) (m : List ℕ) (q r : Request) → IsSoundQmi past → ((p : Request) → Contains (in_use past) p → p.space ≡ space_of p.message)
+    → Contains (in_use past) q → Contains (in_use past) r → is_answered_by m q ≡ true → is_answered_by m r ≡ true → q ≡ r
+one_is_answered past m q r sound placed at_q at_r answers_q answers_r =
+    let parts_q = and_parts (service_of q.message == service_of m && (client_of q.message == client_of m)) (q.number == number_of m) answers_q in
+    let parts_r = and_parts (service_of r.message == service_of m && (client_of r.message == client_of m)) (r.number == number_of m) answers_r in
+    let service_q : service_of q.message ≡ service_of m = eqb-true _ _ (and_parts (service_of q.message == service_of m) (client_of q.message == client_of m) parts_q.0).0 in
+    let service_r : service_of r.message ≡ service_of m = eqb-true _ _ (and_parts (service_of r.message == service_of m) (client_of r.message == client_of m) parts_r.0).0 in
+    let space_as : (p : Request) → p.space ≡ space_of p.message → service_of p.message ≡ service_of m → p.space ≡ space_of m =
+    λ p here same. here ∙ ap (λ (n : ℕ). if n == 0 then control_space else service_space) same in
+    let space : r.space ≡ q.space = space_as r (placed r at_r) service_r ∙ sym (space_as q (placed q at_q) service_q) in
+    let number : r.number ≡ q.number = eqb-true r.number (number_of m) parts_r.1 ∙ sym (eqb-true q.number (number_of m) parts_q.1) in
+    (apart_in_use past q r sound at_q at_r).number (eq-eqb r.space q.space space) (eq-eqb r.number q.number number)
+
+-- the first request that is answered is the one that is
+pub first_is : (m : List ℕ) (list : List Request) (r : Request) → ((q : Request) → Contains list q → is_answered_by m q ≡ true → q ≡ r) → Contains list r → is_answered_by m r ≡ true → first_answered_by m list ≡ Some r
+first_is m [] r one at answers = absurd (Contains-nil r at)
+first_is m (q ∷ list) r one at answers =
+    let step : (b : Bool) → is_answered_by m q ≡ b → (if b then Some q else first_answered_by m list) ≡ Some r =
+    λ b. elim b as (λ b. is_answered_by m q ≡ b → (if b then Some q else first_answered_by m list) ≡ Some r) [
+      | true ↦ λ is. ap (λ (x : Request). Some x) (one q (zero, omega arith, refl) is)
+      | false ↦ λ isnt. first_is m list r (λ p at_p is. one p (Contains-cons p q list at_p) is) (⊎_elim (λ (same : q ≡ r). absurd (not_both isnt (ap (is_answered_by m) same ∙ answers))) (λ (later : Contains list r). later) (Contains-cons_cases r q list at)) answers
+    ]
+    in step (is_answered_by m q) refl
+  where
+    not_both : {b : Bool} → b ≡ false → b ≡ true → ⊥
+    not_both e f = cc
+
+-- a request that is found is one of them, and is answered
+pub found_is : (m : List ℕ) (list : List Request) (r : Request) → first_answered_by m list ≡ Some r → Contains list r × (is_answered_by m r ≡ true)
+found_is m [] r e = absurd (cc)
+found_is m (q ∷ list) r e =
+    let step : (b : Bool) → is_answered_by m q ≡ b → (if b then Some q else first_answered_by m list) ≡ Some r → Contains (q ∷ list) r × (is_answered_by m r ≡ true) =
+    λ b. elim b as (λ b. is_answered_by m q ≡ b → (if b then Some q else first_answered_by m list) ≡ Some r → Contains (q ∷ list) r × (is_answered_by m r ≡ true)) [
+      | true ↦ λ is same. subst (λ (x : Request). Contains (q ∷ list) x × (is_answered_by m x ≡ true)) (some_is same) ((zero, omega arith, refl), is)
+      | false ↦ λ isnt same. let rest = found_is m list r same in (Contains-cons r q list rest.0, rest.1)
+    ]
+    in step (is_answered_by m q) refl e
+  where
+    some_is : {x y : Request} → Some x ≡ Some y → x ≡ y
+    some_is e = cc
+
+-- ---- the client id that an answer brings ----
+
+-- it is granted where nobody else holds it
+granted_free : (collides : Bool) (brought_service brought_client service client : ℕ) → granted_unless collides brought_service brought_client ≡ Grants service client → (collides ≡ false) × (brought_service ≡ service) × (brought_client ≡ client)
+granted_free true a b service client e = absurd (cc)
+granted_free false a b service client e = (refl, cc, cc)
+
+pub change_free : (d : ℕ) (request m : List ℕ) (past : List Fact) (service client : ℕ) → id_change d request m (holder_of_brought m past) ≡ Grants service client → is_other d (holder service client past) ≡ false
+change_free d request m past service client =
+    let brought : IdChange = granted_unless (is_other d (holder_of_brought m past)) (byte_of 0 (value_of 0x01 m)) (byte_of 1 (value_of 0x01 m)) in
+    let other : IdChange = if is_release request && is_success m then Frees (used_service request) (used_client request) else NoChange in
+    let step : (b : Bool) → (if b then brought else other) ≡ Grants service client → is_other d (holder service client past) ≡ false =
+    λ b. elim b as (λ b. (if b then brought else other) ≡ Grants service client → is_other d (holder service client past) ≡ false) [
+      | true ↦ λ e.
+          let parts = granted_free (is_other d (holder_of_brought m past)) (byte_of 0 (value_of 0x01 m)) (byte_of 1 (value_of 0x01 m)) service client e in
+          sym (ap (λ (n : ℕ). is_other d (holder n (byte_of 1 (value_of 0x01 m)) past)) parts.1 ∙ ap (λ (n : ℕ). is_other d (holder service n past)) parts.2) ∙ parts.0
+      | false ↦ λ e. absurd (elim (is_release request && is_success m) as (λ t. (if t then Frees (used_service request) (used_client request) else NoChange) ≡ Grants service client → ⊥) [ true ↦ λ e. cc | false ↦ λ e. cc ] e)
+    ]
+    in step (brings_id request m)

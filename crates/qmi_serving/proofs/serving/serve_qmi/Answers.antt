@@ -1,0 +1,22 @@
+use Rattle.std.proofs.Common.{ℕ, List, [], false, refl, subst, inl}
+use Rattle.hub_io.specs.Record.{Call}
+use Rattle.hub_io.proofs.Record.{since-starts}
+use Rattle.proxy_serving.specs.Ends.{RanOut}
+use Rattle.qmi_proxy.specs.Proxy.{proxy_of}
+use Rattle.qmi_state.specs.Core.{Stands}
+use Rattle.qmi_serving.specs.Serving.{setup_for}
+use Rattle.qmi_serving.proofs.serving.serve_qmi.Goals as goal
+
+pub serve-requires-clause-opened : goal.serve-requires-clause-opened
+serve-requires-clause-opened g c = (_, record { setup = _; same = refl; stands = c.in-Ok.ensures })
+
+pub returns-in-Ok-clause-served : goal.returns-in-Ok-clause-served
+returns-in-Ok-clause-served g c =
+    let settings = c.args.settings.now in
+    let Opened : List ℕ → Type 0 = λ device. Stands (record { device = device; time_limit = settings.time; starts_away = false }) [] c.in-Ok.core in
+    c.serve.ensures.served (proxy_of (setup_for settings)) (record { setup = setup_for settings; same = refl; stands = subst Opened c.as_str.ensures c.in-Ok.ensures })
+
+pub returns-in-Err-clause-served : goal.returns-in-Err-clause-served
+returns-in-Err-clause-served g c =
+    let Out : List Call → Type 0 = RanOut (λ event. ⊥) (proxy_of (setup_for c.args.settings.now)) c.args.settings.now.empty c.args.settings.now.turns in
+    since-starts _ Out (inl refl)
