@@ -1,0 +1,6 @@
+pub mod Joining
+pub mod Assembling
+pub mod Runs
+pub mod Pieces
+pub mod Filling
+pub mod Cutting

@@ -1,0 +1,10 @@
+pub mod Numbers
+pub mod Frame
+pub mod Framing
+pub mod Kinds
+pub mod Head
+pub mod Fragment
+pub mod Bodies
+pub mod Writing
+pub mod Laws
+pub mod Examples
