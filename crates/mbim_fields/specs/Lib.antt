@@ -1,0 +1,10 @@
+pub mod Layout
+pub mod Value
+pub mod Reading
+pub mod Fields
+pub mod Canon
+pub mod View
+pub mod Decoding
+pub mod Encoding
+pub mod WellMade
+pub mod Laws

@@ -1,0 +1,4 @@
+pub mod Table
+pub mod View
+pub mod Laws
+pub mod Examples

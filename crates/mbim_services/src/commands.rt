@@ -1,0 +1,434 @@
+//! The table of commands: the layouts of the buffers of each.
+
+ghost use Rattle.std.specs.Prelude.{◌≡◌, map};
+ghost use Rattle.mbim_services.specs.Table.{rows};
+ghost use Rattle.mbim_services.specs.View.{row_view};
+
+use crate::table::{Row, Service};
+use mbim_fields::Fixed::{Ipv4, Ipv6, PrefixedIpv4, PrefixedIpv6};
+use mbim_fields::Form::{Each, One, Perhaps, Run};
+use mbim_fields::Item::{Binary, InPlace, Structure, Text};
+use mbim_fields::{Field, FieldShape, Fixed, Form};
+
+const U32: Form = One(InPlace(Fixed::U32));
+
+const U64: Form = One(InPlace(Fixed::U64));
+
+const UUID: Form = One(InPlace(Fixed::Uuid));
+
+const TEXT: Form = One(Text);
+
+const BYTES: Form = One(Binary);
+
+const PERHAPS_IPV4: Form = Perhaps(Ipv4);
+
+const PERHAPS_IPV6: Form = Perhaps(Ipv6);
+
+const EMPTY: FieldShape = FieldShape(&[]);
+
+const PROVIDER: FieldShape = FieldShape(&[
+    Field("ProviderId", TEXT),
+    Field("ProviderState", U32),
+    Field("ProviderName", TEXT),
+    Field("CellularClass", U32),
+    Field("Rssi", U32),
+    Field("ErrorRate", U32),
+]);
+
+const EVENT: FieldShape = FieldShape(&[
+    Field("DeviceServiceId", UUID),
+    Field("CidsCount", U32),
+    Field("Cids", Each(1, InPlace(Fixed::U32))),
+]);
+
+const EVENTS: FieldShape = FieldShape(&[
+    Field("EventsCount", U32),
+    Field("Events", Each(0, Structure(EVENT))),
+]);
+
+const CONNECTION: FieldShape = FieldShape(&[
+    Field("SessionId", U32),
+    Field("ActivationState", U32),
+    Field("VoiceCallState", U32),
+    Field("IPType", U32),
+    Field("ContextType", UUID),
+    Field("NwError", U32),
+]);
+
+const IP_SETTINGS: FieldShape = FieldShape(&[
+    Field("SessionId", U32),
+    Field("IPv4ConfigurationAvailable", U32),
+    Field("IPv6ConfigurationAvailable", U32),
+    Field("IPv4AddressCount", U32),
+    Field("IPv4Address", Run(3, PrefixedIpv4)),
+    Field("IPv6AddressCount", U32),
+    Field("IPv6Address", Run(5, PrefixedIpv6)),
+    Field("IPv4Gateway", PERHAPS_IPV4),
+    Field("IPv6Gateway", PERHAPS_IPV6),
+    Field("IPv4DnsServerCount", U32),
+    Field("IPv4DnsServer", Run(9, Ipv4)),
+    Field("IPv6DnsServerCount", U32),
+    Field("IPv6DnsServer", Run(11, Ipv6)),
+    Field("IPv4Mtu", U32),
+    Field("IPv6Mtu", U32),
+]);
+
+const RADIO_STATES: FieldShape = FieldShape(&[
+    Field("HwRadioState", U32),
+    Field("SwRadioState", U32),
+]);
+
+const PACKET_STATE: FieldShape = FieldShape(&[
+    Field("NwError", U32),
+    Field("PacketServiceState", U32),
+    Field("HighestAvailableDataClass", U32),
+    Field("UplinkSpeed", U64),
+    Field("DownlinkSpeed", U64),
+]);
+
+const DEVICE_SERVICE: FieldShape = FieldShape(&[
+    Field("DeviceServiceId", UUID),
+    Field("DssPayload", U32),
+    Field("MaxDssInstances", U32),
+    Field("CidsCount", U32),
+    Field("Cids", Each(3, InPlace(Fixed::U32))),
+]);
+
+const SMS_MESSAGE: FieldShape = FieldShape(&[
+    Field("MessageIndex", U32),
+    Field("MessageStatus", U32),
+    Field("PduData", BYTES),
+]);
+
+const PHONEBOOK_ENTRY: FieldShape = FieldShape(&[
+    Field("EntryIndex", U32),
+    Field("Number", TEXT),
+    Field("Name", TEXT),
+]);
+
+static DEVICE_CAPS: Row = Row {
+    service: Service::BasicConnect,
+    cid: 1,
+    query: Some(EMPTY),
+    set: None,
+    done: Some(FieldShape(&[
+        Field("DeviceType", U32),
+        Field("CellularClass", U32),
+        Field("VoiceClass", U32),
+        Field("SimClass", U32),
+        Field("DataClass", U32),
+        Field("SmsCaps", U32),
+        Field("ControlCaps", U32),
+        Field("MaxSessions", U32),
+        Field("CustomDataClass", TEXT),
+        Field("DeviceId", TEXT),
+        Field("FirmwareInfo", TEXT),
+        Field("HardwareInfo", TEXT),
+    ])),
+};
+
+static SUBSCRIBER_READY: Row = Row {
+    service: Service::BasicConnect,
+    cid: 2,
+    query: Some(EMPTY),
+    set: None,
+    done: Some(FieldShape(&[
+        Field("ReadyState", U32),
+        Field("SubscriberId", TEXT),
+        Field("SimIccId", TEXT),
+        Field("ReadyInfo", U32),
+        Field("TelephoneNumbersCount", U32),
+        Field("TelephoneNumbers", Each(4, Text)),
+    ])),
+};
+
+static RADIO_STATE: Row = Row {
+    service: Service::BasicConnect,
+    cid: 3,
+    query: Some(EMPTY),
+    set: Some(FieldShape(&[Field("RadioState", U32)])),
+    done: Some(RADIO_STATES),
+};
+
+static PIN: Row = Row {
+    service: Service::BasicConnect,
+    cid: 4,
+    query: Some(EMPTY),
+    set: None,
+    done: Some(FieldShape(&[
+        Field("PinType", U32),
+        Field("PinState", U32),
+        Field("RemainingAttempts", U32),
+    ])),
+};
+
+static HOME_PROVIDER: Row = Row {
+    service: Service::BasicConnect,
+    cid: 6,
+    query: Some(EMPTY),
+    set: None,
+    done: Some(PROVIDER),
+};
+
+static VISIBLE_PROVIDERS: Row = Row {
+    service: Service::BasicConnect,
+    cid: 8,
+    query: Some(FieldShape(&[Field("Action", U32)])),
+    set: None,
+    done: Some(FieldShape(&[
+        Field("ProvidersCount", U32),
+        Field("Providers", Each(0, Structure(PROVIDER))),
+    ])),
+};
+
+static REGISTER_STATE: Row = Row {
+    service: Service::BasicConnect,
+    cid: 9,
+    query: Some(EMPTY),
+    set: None,
+    done: Some(FieldShape(&[
+        Field("NwError", U32),
+        Field("RegisterState", U32),
+        Field("RegisterMode", U32),
+        Field("AvailableDataClasses", U32),
+        Field("CurrentCellularClass", U32),
+        Field("ProviderId", TEXT),
+        Field("ProviderName", TEXT),
+        Field("RoamingText", TEXT),
+        Field("RegistrationFlag", U32),
+    ])),
+};
+
+static PACKET_SERVICE: Row = Row {
+    service: Service::BasicConnect,
+    cid: 10,
+    query: Some(EMPTY),
+    set: Some(FieldShape(&[Field("PacketServiceAction", U32)])),
+    done: Some(PACKET_STATE),
+};
+
+static SIGNAL_STATE: Row = Row {
+    service: Service::BasicConnect,
+    cid: 11,
+    query: Some(EMPTY),
+    set: None,
+    done: Some(FieldShape(&[
+        Field("Rssi", U32),
+        Field("ErrorRate", U32),
+        Field("SignalStrengthInterval", U32),
+        Field("RssiThreshold", U32),
+        Field("ErrorRateThreshold", U32),
+    ])),
+};
+
+static CONNECT: Row = Row {
+    service: Service::BasicConnect,
+    cid: 12,
+    query: Some(CONNECTION),
+    set: Some(FieldShape(&[
+        Field("SessionId", U32),
+        Field("ActivationCommand", U32),
+        Field("AccessString", TEXT),
+        Field("UserName", TEXT),
+        Field("Password", TEXT),
+        Field("Compression", U32),
+        Field("AuthProtocol", U32),
+        Field("IPType", U32),
+        Field("ContextType", UUID),
+    ])),
+    done: Some(CONNECTION),
+};
+
+static IP_CONFIGURATION: Row = Row {
+    service: Service::BasicConnect,
+    cid: 15,
+    query: Some(IP_SETTINGS),
+    set: None,
+    done: Some(IP_SETTINGS),
+};
+
+static DEVICE_SERVICES: Row = Row {
+    service: Service::BasicConnect,
+    cid: 16,
+    query: Some(EMPTY),
+    set: None,
+    done: Some(FieldShape(&[
+        Field("DeviceServicesCount", U32),
+        Field("MaxDssSessions", U32),
+        Field("DeviceServices", Each(0, Structure(DEVICE_SERVICE))),
+    ])),
+};
+
+static SUBSCRIBE_LIST: Row = Row {
+    service: Service::BasicConnect,
+    cid: 19,
+    query: None,
+    set: Some(EVENTS),
+    done: Some(EVENTS),
+};
+
+static PACKET_STATISTICS: Row = Row {
+    service: Service::BasicConnect,
+    cid: 20,
+    query: Some(EMPTY),
+    set: None,
+    done: Some(FieldShape(&[
+        Field("InDiscards", U32),
+        Field("InErrors", U32),
+        Field("InOctets", U64),
+        Field("InPackets", U64),
+        Field("OutOctets", U64),
+        Field("OutPackets", U64),
+        Field("OutErrors", U32),
+        Field("OutDiscards", U32),
+    ])),
+};
+
+static SMS_CONFIGURATION: Row = Row {
+    service: Service::Sms,
+    cid: 1,
+    query: Some(EMPTY),
+    set: None,
+    done: Some(FieldShape(&[
+        Field("SmsStorageState", U32),
+        Field("Format", U32),
+        Field("MaxMessages", U32),
+        Field("CdmaShortMessageSize", U32),
+        Field("ScAddress", TEXT),
+    ])),
+};
+
+static SMS_READ: Row = Row {
+    service: Service::Sms,
+    cid: 2,
+    query: Some(FieldShape(&[
+        Field("Format", U32),
+        Field("Flag", U32),
+        Field("MessageIndex", U32),
+    ])),
+    set: None,
+    done: Some(FieldShape(&[
+        Field("Format", U32),
+        Field("MessagesCount", U32),
+        Field("Messages", Each(1, Structure(SMS_MESSAGE))),
+    ])),
+};
+
+static SMS_DELETE: Row = Row {
+    service: Service::Sms,
+    cid: 4,
+    query: None,
+    set: Some(FieldShape(&[Field("Flag", U32), Field("MessageIndex", U32)])),
+    done: Some(EMPTY),
+};
+
+static SMS_STORE_STATUS: Row = Row {
+    service: Service::Sms,
+    cid: 5,
+    query: Some(EMPTY),
+    set: None,
+    done: Some(FieldShape(&[Field("Flag", U32), Field("MessageIndex", U32)])),
+};
+
+static USSD_EXCHANGE: Row = Row {
+    service: Service::Ussd,
+    cid: 1,
+    query: None,
+    set: Some(FieldShape(&[
+        Field("Action", U32),
+        Field("DataCodingScheme", U32),
+        Field("Payload", BYTES),
+    ])),
+    done: Some(FieldShape(&[
+        Field("Response", U32),
+        Field("SessionState", U32),
+        Field("DataCodingScheme", U32),
+        Field("Payload", BYTES),
+    ])),
+};
+
+static PHONEBOOK_CONFIGURATION: Row = Row {
+    service: Service::Phonebook,
+    cid: 1,
+    query: Some(EMPTY),
+    set: None,
+    done: Some(FieldShape(&[
+        Field("State", U32),
+        Field("TotalEntries", U32),
+        Field("UsedEntries", U32),
+        Field("MaxNumberLength", U32),
+        Field("MaxNameLength", U32),
+    ])),
+};
+
+static PHONEBOOK_READ: Row = Row {
+    service: Service::Phonebook,
+    cid: 2,
+    query: Some(FieldShape(&[Field("FilterFlag", U32), Field("FilterIndex", U32)])),
+    set: None,
+    done: Some(FieldShape(&[
+        Field("EntryCount", U32),
+        Field("Entries", Each(0, Structure(PHONEBOOK_ENTRY))),
+    ])),
+};
+
+static PHONEBOOK_DELETE: Row = Row {
+    service: Service::Phonebook,
+    cid: 3,
+    query: None,
+    set: Some(FieldShape(&[Field("FilterFlag", U32), Field("FilterIndex", U32)])),
+    done: Some(EMPTY),
+};
+
+static PHONEBOOK_WRITE: Row = Row {
+    service: Service::Phonebook,
+    cid: 4,
+    query: None,
+    set: Some(FieldShape(&[
+        Field("SaveFlag", U32),
+        Field("SaveIndex", U32),
+        Field("Number", TEXT),
+        Field("Name", TEXT),
+    ])),
+    done: Some(EMPTY),
+};
+
+static PROXY_CONFIGURATION: Row = Row {
+    service: Service::ProxyControl,
+    cid: 1,
+    query: None,
+    set: Some(FieldShape(&[Field("DevicePath", TEXT), Field("Timeout", U32)])),
+    done: Some(EMPTY),
+};
+
+// All of them.
+pub(crate) fn rows() -> [&'static Row; 24]
+    ensures { map (λ row. row_view row.now) result ≡ rows }
+{
+    [
+        &DEVICE_CAPS,
+        &SUBSCRIBER_READY,
+        &RADIO_STATE,
+        &PIN,
+        &HOME_PROVIDER,
+        &VISIBLE_PROVIDERS,
+        &REGISTER_STATE,
+        &PACKET_SERVICE,
+        &SIGNAL_STATE,
+        &CONNECT,
+        &IP_CONFIGURATION,
+        &DEVICE_SERVICES,
+        &SUBSCRIBE_LIST,
+        &PACKET_STATISTICS,
+        &SMS_CONFIGURATION,
+        &SMS_READ,
+        &SMS_DELETE,
+        &SMS_STORE_STATUS,
+        &USSD_EXCHANGE,
+        &PHONEBOOK_CONFIGURATION,
+        &PHONEBOOK_READ,
+        &PHONEBOOK_DELETE,
+        &PHONEBOOK_WRITE,
+        &PROXY_CONFIGURATION,
+    ]
+}

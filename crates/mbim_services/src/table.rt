@@ -1,0 +1,112 @@
+ghost use Rattle.std.specs.Prelude.{◌≡◌, map, option_map};
+ghost use Rattle.mbim_fields.specs.View.{shape_view};
+ghost use Rattle.mbim_services.specs.Table.{is_of, find, layout_in, layout_for};
+ghost use Rattle.mbim_services.specs.View.{row_view, service_view};
+
+use crate::commands::rows;
+use mbim_fields::FieldShape;
+use uuid::Uuid;
+
+/// A service, which is a set of commands.
+#[derive(Clone, Copy, Debug, PartialEq, Eq)]
+pub enum Service {
+    /// The modem, its SIM, and its connections.
+    BasicConnect,
+    /// Short messages.
+    Sms,
+    /// Dialogues with the network.
+    Ussd,
+    /// The phone book on the SIM.
+    Phonebook,
+    /// The proxy itself.
+    ProxyControl,
+}
+
+/// What a buffer is of.
+#[derive(Clone, Copy, Debug, PartialEq, Eq)]
+pub enum Way {
+    /// A command that asks.
+    Query,
+    /// A command that changes something.
+    Set,
+    /// The answer to either.
+    Done,
+}
+
+// A command: its service and its number there, its CID, and the layouts of its query, of its set and of
+// their answer.
+#[derive(Clone, Copy)]
+pub(crate) struct Row {
+    pub(crate) service: Service,
+    pub(crate) cid: u32,
+    pub(crate) query: Option<FieldShape>,
+    pub(crate) set: Option<FieldShape>,
+    pub(crate) done: Option<FieldShape>,
+}
+
+impl Service {
+    /// The UUID by which messages name it.
+    pub fn uuid(self) -> Uuid
+        ensures { result ≡ service_view self }
+    {
+        Uuid::from_bytes(match self {
+            Service::BasicConnect => [
+                0xA2, 0x89, 0xCC, 0x33, 0xBC, 0xBB, 0x8B, 0x4F, 0xB6, 0xB0, 0x13, 0x3E, 0xC2, 0xAA,
+                0xE6, 0xDF,
+            ],
+            Service::Sms => [
+                0x53, 0x3F, 0xBE, 0xEB, 0x14, 0xFE, 0x44, 0x67, 0x9F, 0x90, 0x33, 0xA2, 0x23, 0xE5,
+                0x6C, 0x3F,
+            ],
+            Service::Ussd => [
+                0xE5, 0x50, 0xA0, 0xC8, 0x5E, 0x82, 0x47, 0x9E, 0x82, 0xF7, 0x10, 0xAB, 0xF4, 0xC3,
+                0x35, 0x1F,
+            ],
+            Service::Phonebook => [
+                0x4B, 0xF3, 0x84, 0x76, 0x1E, 0x6A, 0x41, 0xDB, 0xB1, 0xD8, 0xBE, 0xD2, 0x89, 0xC2,
+                0x5B, 0xDB,
+            ],
+            Service::ProxyControl => [
+                0x83, 0x8C, 0xF7, 0xFB, 0x8D, 0x0D, 0x4D, 0x7F, 0x87, 0x1E, 0xD7, 0x1D, 0xBE, 0xFB,
+                0xB3, 0x9B,
+            ],
+        })
+    }
+}
+
+impl Row {
+    fn layout(&self, way: Way) -> Option<FieldShape>
+        ensures { option_map shape_view result ≡ layout_in (row_view self.now) way }
+    {
+        match way {
+            Way::Query => self.query,
+            Way::Set => self.set,
+            Way::Done => self.done,
+        }
+    }
+
+    fn is_of(&self, service: Uuid, cid: u32) -> bool
+        ensures { result ≡ is_of (row_view self.now) service cid }
+    {
+        self.service.uuid() == service && self.cid == cid
+    }
+}
+
+/// The layout of a buffer, by the UUID of its service and the CID of its command, if the table has one.
+#[tactic(auto, unfolding(crate::specs::Table::layout_for))]
+pub fn layout(service: Uuid, cid: u32, way: Way) -> Option<FieldShape>
+    ensures { option_map shape_view result ≡ layout_for service cid way }
+{
+    find(&rows(), service, cid, way)
+}
+
+fn find(rows: &[&Row], service: Uuid, cid: u32, way: Way) -> Option<FieldShape>
+    ensures { option_map shape_view result ≡ find (map (λ row. row_view row.now) rows.now) service cid way }
+{
+    for row in rows {
+        if row.is_of(service, cid) {
+            return row.layout(way);
+        }
+    }
+    None
+}
