@@ -7,7 +7,8 @@ use Rattle.std.specs.Char.Utf16.{surrogate_pair_char}
 use Rattle.std.proofs.str.Laws.{both, order}
 use Rattle.std.proofs.str.Utf16.{IsPair, one_unit, two_units, pair_units, lone_unit_char_surrogate}
 use Rattle.kit_bytes.specs.Laws.{GivesBackChars, GivesBackBytes}
-use Rattle.kit_bytes.specs.Utf16.{unit_bytes, utf16_bytes, units_of, utf16_text, is_utf16}
+use Rattle.kit_bytes.specs.Numbers.{u16_bytes}
+use Rattle.kit_bytes.specs.Utf16.{utf16_bytes, units_of, utf16_text, is_utf16}
 use Rattle.kit_bytes.proofs.Spelling.{Leads, Leads-text, Leads-same, Leads-stop, Leads-one, Leads-pair, lone_unit_char-single, utf16_bytes-append}
 
 -- ---- reading what was written ----
@@ -20,7 +21,7 @@ Leads-unit char rest below single =
     rw (one_unit char below) (rw (unit, lone_unit_char-single char single) at (Leads-one (char % 256) (char / 256) rest (rw unit apart)))
 
 Leads-units : (char high low : ℕ) (rest : List ℕ) → high ≡ 0xD800 + (char - 0x1_0000) / 0x400 → low ≡ 0xDC00 + (char - 0x1_0000) % 0x400
-    → 0x1_0000 ≤ char → char < 0x11_0000 → Leads (unit_bytes high ++ unit_bytes low ++ rest) (Some char) rest
+    → 0x1_0000 ≤ char → char < 0x11_0000 → Leads (u16_bytes high ++ u16_bytes low ++ rest) (Some char) rest
 Leads-units char high low rest high_is low_is from below =
     let first : high % 256 + 256 * (high / 256) ≡ high = omega arith in
     let second : low % 256 + 256 * (low / 256) ≡ low = omega arith in
@@ -56,8 +57,8 @@ pair_or_not first second = elim (order first 0xD800) [
   ]
 ]
 
-unit_bytes-is : (low high : ℕ) → low < 256 → high < 256 → unit_bytes (low + 256 * high) ≡ low ∷ high ∷ []
-unit_bytes-is low high low_fits high_fits = ap₂ (λ x y. x ∷ y ∷ []) (omega arith) (omega arith)
+u16_bytes-is : (low high : ℕ) → low < 256 → high < 256 → u16_bytes (low + 256 * high) ≡ low ∷ high ∷ []
+u16_bytes-is low high low_fits high_fits = ap₂ (λ x y. x ∷ y ∷ []) (omega arith) (omega arith)
 
 -- the bytes of a first character, and then the rest
 writes_more : (bytes rest front : List ℕ) (char : ℕ) → Leads bytes (Some char) rest → utf16_bytes (char ∷ []) ≡ front → bytes ≡ front ++ rest
@@ -73,7 +74,7 @@ writes_unit low high rest low_fits high_fits apart whole more =
     let unit = low + 256 * high in
     let leads = Leads-one low high rest apart in
     let single = λ (single : (unit < 0xD800) ⊎ (0xE000 ≤ unit)).
-    writes_more (low ∷ high ∷ rest) rest (low ∷ high ∷ []) unit (rw (lone_unit_char-single unit single) at leads) (rw (one_unit unit (omega arith)) (unit_bytes-is low high low_fits high_fits)) refl whole more in
+    writes_more (low ∷ high ∷ rest) rest (low ∷ high ∷ []) unit (rw (lone_unit_char-single unit single) at leads) (rw (one_unit unit (omega arith)) (u16_bytes-is low high low_fits high_fits)) refl whole more in
     elim (order unit 0xD800) [
       | inl below ↦ single (inl below)
       | inr from ↦ elim (order unit 0xE000) [
@@ -90,8 +91,8 @@ writes_pair a b c d rest a_fits b_fits c_fits d_fits pair whole more =
     let second = c + 256 * d in
     let units : encode_utf16 (surrogate_pair_char first second) ≡ first ∷ second ∷ [] =
     ap encode_utf16 (add_assoc 0x1_0000 ((first - 0xD800) * 0x400) (second - 0xDC00)) ∙ pair_units first second pair.0 pair.2 pair.3 in
-    let written = ap (λ units. flat_map unit_bytes (units ++ [])) units
-    ∙ ap₂ (λ xs ys. xs ++ ys ++ []) (unit_bytes-is a b a_fits b_fits) (unit_bytes-is c d c_fits d_fits) in
+    let written = ap (λ units. flat_map u16_bytes (units ++ [])) units
+    ∙ ap₂ (λ xs ys. xs ++ ys ++ []) (u16_bytes-is a b a_fits b_fits) (u16_bytes-is c d c_fits d_fits) in
     writes_more (a ∷ b ∷ c ∷ d ∷ rest) rest (a ∷ b ∷ c ∷ d ∷ []) _ (Leads-pair a b c d rest pair) written refl whole more
 
 tail_fits : (byte : ℕ) (bytes : List ℕ) → All (λ b. b < 256) (byte ∷ bytes) → All (λ b. b < 256) bytes

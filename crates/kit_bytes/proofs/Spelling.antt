@@ -8,7 +8,8 @@ use Rattle.std.proofs.str.Utf16.{IsPair, one_unit, two_units, lone_unit_char_low
 use Rattle.std.proofs.lemmas.Str.{encodes_same, utf16_chars-nil, utf16_chars_lone, utf16_chars_pair}
 use Rattle.std.proofs.lemmas.Grind.{flat_map-append}
 use Rattle.std.proofs.lemmas.List.{flat_map_more}
-use Rattle.kit_bytes.specs.Utf16.{unit_bytes, utf16_bytes, units_of, leading_chars, utf16_text, is_utf16, SpellsAt, ReadsCharAt}
+use Rattle.kit_bytes.specs.Numbers.{u16_bytes}
+use Rattle.kit_bytes.specs.Utf16.{utf16_bytes, units_of, leading_chars, utf16_text, is_utf16, SpellsAt, ReadsCharAt}
 
 -- ---- the first character ----
 
@@ -75,10 +76,10 @@ pub second_of : {A B C : Type 0} → A ⊎ (B × C) → A ⊎ C
 second_of (inl a) = inl a
 second_of (inr both) = inr both.1
 
-length-one : (char : ℕ) → char < 0x1_0000 → length (utf16_bytes (char ∷ [])) ≡ 2
+pub length-one : (char : ℕ) → char < 0x1_0000 → length (utf16_bytes (char ∷ [])) ≡ 2
 length-one char below = rw (one_unit char below) refl
 
-length-two : (char : ℕ) → 0x1_0000 ≤ char → length (utf16_bytes (char ∷ [])) ≡ 4
+pub length-two : (char : ℕ) → 0x1_0000 ≤ char → length (utf16_bytes (char ∷ [])) ≡ 4
 length-two char from = rw (two_units char from) refl
 
 pub lone_unit_char-single : (char : ℕ) → (char < 0xD800) ⊎ (0xE000 ≤ char) → lone_unit_char char ≡ Some char
@@ -134,7 +135,7 @@ pub record HasRead (bytes : List ℕ) (place : ℕ) (text : List ℕ) : Type 0 w
   pub same : is_utf16 bytes ≡ is_utf16 (drop place bytes)
 
 pub utf16_bytes-append : (front back : List ℕ) → utf16_bytes (front ++ back) ≡ utf16_bytes front ++ utf16_bytes back
-utf16_bytes-append front back = ap (flat_map unit_bytes) (flat_map-append encode_utf16 front back) ∙ flat_map-append unit_bytes (flat_map encode_utf16 front) (flat_map encode_utf16 back)
+utf16_bytes-append front back = ap (flat_map u16_bytes) (flat_map-append encode_utf16 front back) ∙ flat_map-append u16_bytes (flat_map encode_utf16 front) (flat_map encode_utf16 back)
 
 pub HasRead-more : (bytes : List ℕ) (place char next : ℕ) (text : List ℕ) → SpellsAt bytes place char next → HasRead bytes place text → HasRead bytes next (text ++ encode_utf8 char)
 HasRead-more bytes place char next text spells read = record {

@@ -1,6 +1,6 @@
 -- What a client subscribes to: single CIDs of services, or all CIDs of a service.
 -- Source: MBIM_CID_DEVICE_SERVICE_SUBSCRIBE_LIST in the USB-IF MBIM specification 1.0.
-use Rattle.std.specs.Prelude.{ℕ, bytes_eq, Bool, not, ◌&&◌, is_none, List, [], ◌∷◌, filter, Option, if◌then◌else◌}
+use Rattle.std.specs.Prelude.{ℕ, bytes_eq, Bool, not, ◌&&◌, is_none, List, [], ◌∷◌, ◌++◌, map, filter, Option, Some, None, if◌then◌else◌}
 use Rattle.std.specs.List.{flat_map, list_any}
 use Rattle.std.specs.Option.{option_cmp}
 use Rattle.std.specs.declared.cmp.Ordering.{Ordering}
@@ -42,3 +42,35 @@ normal_form pairs = filter (λ pair. not (is_beside_all pairs pair)) (ordered_pa
 -- the normal form of the union of lists
 abbrev pub merge : List (List Pair) → List Pair
 merge lists = normal_form (flat_map (λ list. list) lists)
+
+-- ---- service by service ----
+
+pub record Subscription : Type 0 where
+  pub uuid : List ℕ
+  -- none for all CIDs of the service
+  pub cids : List ℕ
+
+abbrev pub cids_of : Option ℕ → List ℕ
+cids_of None = []
+cids_of (Some cid) = cid ∷ []
+
+abbrev pub subscription_of : Pair → Subscription
+subscription_of pair = record { uuid = pair.0; cids = cids_of pair.1 }
+
+-- the subscription in front, joined to the first of them where both have one service
+abbrev pub in_front : Subscription → List Subscription → List Subscription
+in_front subscription [] = subscription ∷ []
+in_front subscription (first ∷ others) =
+    if bytes_eq first.uuid subscription.uuid
+    then record { uuid = first.uuid; cids = subscription.cids ++ first.cids } ∷ others
+    else subscription ∷ first ∷ others
+
+-- one for each service of a list in order
+abbrev pub by_service : List Pair → List Subscription
+by_service [] = []
+by_service (pair ∷ pairs) = in_front (subscription_of pair) (by_service pairs)
+
+-- the pairs of a subscription
+abbrev pub pairs_of : (uuid : List ℕ) → (cids : List ℕ) → List Pair
+pairs_of uuid [] = (uuid, None) ∷ []
+pairs_of uuid (cid ∷ cids) = map (λ n. (uuid, Some n)) (cid ∷ cids)

@@ -1,20 +1,18 @@
 -- Texts in UTF-16, each unit as two bytes, the low byte first.
 -- Source: the Unicode Standard, section 3.9, "UTF-16", and section 3.10, "UTF-16LE".
-use Rattle.std.specs.Prelude.{◌≡◌, ℕ, ◌+◌, ◌*◌, ◌/◌, ◌%◌, ◌≤◌, ◌==◌, Bool, false, not, ◌&&◌, IsTrue, List, [], ◌∷◌, length, drop, Option, Some, None, Result, Ok, Err}
+use Rattle.std.specs.Prelude.{◌≡◌, ℕ, ◌+◌, ◌*◌, ◌%◌, ◌≤◌, ◌==◌, Bool, false, not, ◌&&◌, IsTrue, List, [], ◌∷◌, length, drop, Option, Some, None, Result, Ok, Err}
 use Rattle.std.specs.List.{flat_map}
 use Rattle.std.specs.Char.Escape.{encode_utf16}
 use Rattle.std.specs.Char.Utf16.{utf16_chars, has_unpaired_surrogate}
+use Rattle.kit_bytes.specs.Numbers.{u16_bytes}
 use Rattle.kit_bytes.specs.declared.utf16.Utf16Fault.{Utf16Fault}
 use Rattle.kit_bytes.specs.declared.utf16.Utf16Fault.TheVariants.{Lone, OutOfMemory}
 
 -- ---- writing ----
 
-abbrev pub unit_bytes : ℕ → List ℕ
-unit_bytes unit = unit % 256 ∷ unit / 256 ∷ []
-
 -- the bytes that characters spell: `encode_utf16` has the one or two units of a character
 abbrev pub utf16_bytes : List ℕ → List ℕ
-utf16_bytes chars = flat_map unit_bytes (flat_map encode_utf16 chars)
+utf16_bytes chars = flat_map u16_bytes (flat_map encode_utf16 chars)
 
 -- ---- reading: `utf16_chars` has the characters that units spell, with None for an unpaired surrogate ----
 

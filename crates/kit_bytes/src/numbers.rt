@@ -1,5 +1,5 @@
-ghost use Rattle.std.specs.Prelude.{◌≡◌, ◌+◌, ◌/◌, ◌%◌, ◌≤◌, [], ◌∷◌, length};
-ghost use Rattle.kit_bytes.specs.Numbers.{number_at};
+ghost use Rattle.std.specs.Prelude.{◌≡◌, ◌+◌, ◌≤◌, length};
+ghost use Rattle.kit_bytes.specs.Numbers.{number_at, u16_bytes, u32_bytes};
 
 use byteorder::{ByteOrder, LittleEndian};
 
@@ -29,7 +29,14 @@ pub fn u64_at(bytes: &[u8], at: usize) -> u64
 
 /// The bytes of a 16-bit number, little endian.
 pub fn u16_bytes(number: u16) -> [u8; 2]
-    ensures { result ≡ number % 256 ∷ number / 256 ∷ [] }
+    ensures { result ≡ u16_bytes number }
+{
+    number.to_le_bytes()
+}
+
+/// The bytes of a 32-bit number, little endian.
+pub fn u32_bytes(number: u32) -> [u8; 4]
+    ensures { result ≡ u32_bytes number }
 {
     number.to_le_bytes()
 }

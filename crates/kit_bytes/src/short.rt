@@ -1,7 +1,8 @@
-ghost use Rattle.std.specs.Prelude.{◌≡◌, ◌≤◌, length, IsSome, IfSome, ◌↔◌};
+ghost use Rattle.std.specs.Prelude.{◌≡◌, ◌≤◌, length, IsSome, IfSome, IfOk, ◌↔◌};
 ghost use Rattle.std.specs.Str.{encode_utf8_all};
 
 use crate::{Octets, Text};
+use std::alloc::{AllocError, Global};
 use std::marker::Model;
 
 pub const LONGEST_SHORT_TEXT: usize = 1_000;
@@ -120,5 +121,13 @@ impl PathText {
         ensures limit { length (encode_utf8_all self.now) ≤ LONGEST_PATH }
     {
         &self.text
+    }
+
+    /// A copy of it.
+    pub fn copy(&self, alloc: Global) -> Result<Self, AllocError>
+        ensures { IfOk result (λ copy. copy ≡ self.now) }
+    {
+        let text = Text::from_str(alloc, self.text.as_str())?;
+        Ok(PathText { text })
     }
 }

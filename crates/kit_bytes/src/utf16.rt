@@ -1,6 +1,6 @@
 ghost use Rattle.std.specs.Prelude.{◌≡◌, [], ◌∷◌, ◌++◌, ◌<◌, length, OnOk, IfOk};
 ghost use Rattle.kit_bytes.specs.declared.utf16.Utf16Fault.TheVariants.{OutOfMemory};
-ghost use Rattle.kit_bytes.specs.Utf16.{utf16_bytes, ReadsUtf16, ReadsCharAt};
+ghost use Rattle.kit_bytes.specs.Utf16.{utf16_bytes, is_utf16, ReadsUtf16, ReadsCharAt};
 
 use crate::{Octets, Text, u16_at, u16_bytes};
 use std::alloc::{AllocError, Global};
@@ -38,6 +38,20 @@ pub fn text_from_utf16(alloc: Global, bytes: &[u8]) -> Result<Text, Utf16Fault>
         place = next;
     }
     Ok(Text::from(text))
+}
+
+/// Whether these bytes spell a text in UTF-16, little endian. It takes no memory.
+pub fn is_utf16(bytes: &[u8]) -> bool
+    ensures { result ≡ is_utf16 bytes.now }
+{
+    let mut place = 0;
+    while place < bytes.len() {
+        let Some((_, next)) = char_at(bytes, place) else {
+            return false;
+        };
+        place = next;
+    }
+    true
 }
 
 // The character at this place, and where the next one begins.

@@ -8,7 +8,8 @@ use Rattle.mbim_fields.specs.Layout.{Fixed, u32, u64, uuid, ipv4, ipv6, prefixed
 use Rattle.mbim_fields.specs.Value.{Value, number, uuid_of, octets, text_of, absent, elements, members, Values, no_more, first, list_of, as_number, as_uuid, as_octets, as_text, as_elements, as_members, count_in, room}
 use Rattle.mbim_fields.specs.Reading.{fixed_at}
 use Rattle.mbim_fields.specs.Fields.{IsAt, PointsAt, StandInRow, Stands, FormStands, FieldsStand, Fields}
-use Rattle.mbim_fields.specs.Canon.{number_bytes, number_in, octets_in, append_to, prefixed_in, fixed_bytes, run_bytes, Laid, nothing, bytes_of, add, add_data, point_at, point, lay_each, rooms, counted_list, lay_text, lay_run, lay_perhaps, lay_item, lay_form, lay_fields, canon}
+use Rattle.kit_bytes.specs.Numbers.{number_bytes}
+use Rattle.mbim_fields.specs.Canon.{number_in, octets_in, append_to, prefixed_in, fixed_bytes, run_bytes, Laid, nothing, bytes_of, add, add_data, point_at, point, lay_each, rooms, counted_list, lay_text, lay_run, lay_perhaps, lay_item, lay_form, lay_fields, canon}
 use Rattle.kit_bytes.proofs.RoundTrips.{reads_written}
 use Rattle.mbim_fields.proofs.Agreement.{slice-none, true_or}
 use Rattle.mbim_fields.proofs.Writings.{counted_list-is, counted_list-not, lay_text-is}
@@ -70,7 +71,7 @@ number_bytes-length (suc count) n = omega (arith, number_bytes-length count (n /
 number_in-not : (count n : ℕ) → 2 ^ (8 * count) ≤ n → number_in count n ≡ None
 number_in-not count n past = search rules
 
-number_in-is : (count n : ℕ) → n < 2 ^ (8 * count) → number_in count n ≡ Some (number_bytes count n)
+pub number_in-is : (count n : ℕ) → n < 2 ^ (8 * count) → number_in count n ≡ Some (number_bytes count n)
 number_in-is count n fits = search rules
 
 pub Some-same : {A : Type 0} (o : Option A) (a b : A) → o ≡ Some a → o ≡ Some b → a ≡ b
@@ -111,7 +112,7 @@ number-some count _ bytes is = absurd cc
 octets_in-not : (count : ℕ) (bytes : List ℕ) → length bytes ≢ count → octets_in count bytes ≡ None
 octets_in-not count bytes isnt = search rules
 
-octets_in-is : (count : ℕ) (bytes : List ℕ) → length bytes ≡ count → octets_in count bytes ≡ Some bytes
+pub octets_in-is : (count : ℕ) (bytes : List ℕ) → length bytes ≡ count → octets_in count bytes ≡ Some bytes
 octets_in-is count bytes is = search rules
 
 same_or : (a b : ℕ) → (a ≡ b) ⊎ (a ≢ b)

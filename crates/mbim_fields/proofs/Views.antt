@@ -7,9 +7,9 @@ use Rattle.mbim_fields.specs.declared.layout.Item.{Item, InPlace, Text, Binary, 
 use Rattle.mbim_fields.specs.declared.layout.Form.{Form, One, Each, Run, Perhaps}
 use Rattle.mbim_fields.specs.declared.layout.Field.{Field, roll-Field, out-Field}
 use Rattle.mbim_fields.specs.declared.layout.FieldShape.{FieldShape, roll-FieldShape, out-FieldShape}
-use Rattle.mbim_fields.specs.Value.{elements, members, values_of}
+use Rattle.mbim_fields.specs.Value.{text_of, elements, members, values_of}
 use Rattle.mbim_fields.specs.View.{value_view, val_view}
-use Rattle.mbim_fields.specs.declared.value.FieldValue.{List as ListOf, Members, the_lemmas as value_lemmas}
+use Rattle.mbim_fields.specs.declared.value.FieldValue.{Text as TextOf, List as ListOf, Members, the_lemmas as value_lemmas}
 use Rattle.mbim_fields.specs.declared.value.FieldVal.{FieldVal, out-FieldVal}
 
 pub view-InPlace : (fixed : Fixed) → item_view (InPlace fixed) ≡ in_place (fixed_view fixed)
@@ -43,6 +43,9 @@ pub view-form : (f : Field) → (field_view f).form ≡ form_view (out-Field f).
 view-form f = search (rules, the_lemmas)
 
 -- ---- values ----
+
+pub view-TextOf : (chars : List ℕ) → value_view (TextOf chars) ≡ text_of chars
+view-TextOf chars = search (rules, value_lemmas)
 
 pub view-List : (val : FieldVal) → value_view (ListOf val) ≡ elements (val_view val)
 view-List val = search (rules, value_lemmas)

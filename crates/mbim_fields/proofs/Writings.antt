@@ -51,12 +51,12 @@ pub record RoomSoFar (all rest : Layout) (values before left : List Value) (byte
 
 -- ---- the field and the value at a place, and those behind ----
 
-fields_at : (fields : List Field) (i : ℕ) (d : Field) → i < length fields
+pub fields_at : (fields : List Field) (i : ℕ) (d : Field) → i < length fields
     → layout_of (map field_view (drop i fields)) ≡ field (field_view (get_or fields i d)).name (form_view (out-Field (get_or fields i d)).1) (layout_of (map field_view (drop (i + 1) fields)))
 fields_at fields i d less =
     ap (λ (l : List Field). layout_of (map field_view l)) (drop_more fields i d less) ∙ ap (λ (f : Form). field (field_view (get_or fields i d)).name f (layout_of (map field_view (drop (i + 1) fields)))) (view-form (get_or fields i d))
 
-values_at : (values : List FieldValue) (i : ℕ) (value : FieldValue) → i < length values → value ≡ get_or values i value → map value_view (drop i values) ≡ value_view value ∷ map value_view (drop (i + 1) values)
+pub values_at : (values : List FieldValue) (i : ℕ) (value : FieldValue) → i < length values → value ≡ get_or values i value → map value_view (drop i values) ≡ value_view value ∷ map value_view (drop (i + 1) values)
 values_at values i value less is =
     ap (λ (l : List FieldValue). map value_view l) (drop_more values i value less) ∙ ap (λ (v : FieldValue). value_view v ∷ map value_view (drop (i + 1) values)) (sym is)
 

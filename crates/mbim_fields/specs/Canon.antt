@@ -1,15 +1,11 @@
 -- The one encoding of values in a layout.
 -- The data that pairs and offsets point at stands behind the fields, in their order, each filled up with zeros to a multiple of 4; where there is no data, offset and size are 0.
-use Rattle.std.specs.Prelude.{ℕ, zero, suc, ◌+◌, ◌-◌, ◌*◌, ◌/◌, ◌%◌, ◌^◌, nat_lt, ◌==◌, List, [], ◌∷◌, ◌++◌, length, replicate, Option, Some, None, option_map, option_and_then, if◌then◌else◌}
+use Rattle.std.specs.Prelude.{ℕ, ◌+◌, ◌-◌, ◌*◌, ◌%◌, ◌^◌, nat_lt, ◌==◌, List, [], ◌∷◌, ◌++◌, length, replicate, Option, Some, None, option_map, option_and_then, if◌then◌else◌}
 use Rattle.std.specs.Str.{all_scalars}
+use Rattle.kit_bytes.specs.Numbers.{number_bytes}
 use Rattle.kit_bytes.specs.Utf16.{utf16_bytes}
 use Rattle.mbim_fields.specs.Layout.{Fixed, u32, u64, uuid, ipv4, ipv6, prefixed_ipv4, prefixed_ipv6, Item, in_place, text, binary, structure, Form, one, each, run, perhaps, Layout, no_fields, field}
 use Rattle.mbim_fields.specs.Value.{Value, absent, Values, no_more, first, list_of, count_in, room, as_number, as_uuid, as_octets, as_text, as_elements, as_members}
-
--- a number in so many bytes, the lowest byte first
-abbrev pub number_bytes : ℕ → ℕ → List ℕ
-number_bytes zero n = []
-number_bytes (suc count) n = n % 256 ∷ number_bytes count (n / 256)
 
 -- ---- what has one size ----
 

@@ -1,5 +1,6 @@
 ghost use Rattle.std.specs.Prelude.{◌≡◌};
-ghost use Rattle.mbim_fields.specs.Canon.{number_bytes, number_in};
+ghost use Rattle.kit_bytes.specs.Numbers.{number_bytes};
+ghost use Rattle.mbim_fields.specs.Canon.{number_in};
 
 // A number in 4 bytes, if it fits.
 pub(crate) fn four_bytes(number: u64) -> Option<[u8; 4]>

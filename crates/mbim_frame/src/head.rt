@@ -3,8 +3,7 @@ ghost use Rattle.mbim_frame.specs.Head.{head_of, with_number};
 ghost use Rattle.mbim_frame.specs.Kinds.{kind_numbered};
 
 use crate::kind::MessageKind;
-use crate::number::u32_bytes;
-use kit_bytes::u32_at;
+use kit_bytes::{u32_at, u32_bytes};
 
 /// The fields at the head of a message.
 #[derive(Clone, Copy, Debug, PartialEq, Eq)]

@@ -1,12 +1,7 @@
 ghost use Rattle.std.specs.Prelude.{◌≡◌, ◌++◌};
-ghost use Rattle.mbim_frame.specs.Numbers.{u32_bytes};
+ghost use Rattle.kit_bytes.specs.Numbers.{u32_bytes};
 
-/// The bytes of a 32-bit number, little endian.
-pub(crate) fn u32_bytes(number: u32) -> [u8; 4]
-    ensures { result ≡ u32_bytes number }
-{
-    number.to_le_bytes()
-}
+use kit_bytes::u32_bytes;
 
 /// The bytes of three numbers.
 pub(crate) fn three_u32_bytes(first: u32, second: u32, third: u32) -> [u8; 12]

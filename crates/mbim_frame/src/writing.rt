@@ -1,11 +1,12 @@
 ghost use Rattle.std.specs.Prelude.{◌≡◌, ◌+◌, ◌≤◌};
+ghost use Rattle.kit_bytes.specs.Numbers.{u32_bytes};
 ghost use Rattle.mbim_frame.specs.Kinds.{kind_number};
-ghost use Rattle.mbim_frame.specs.Numbers.{u32_bytes};
 ghost use Rattle.mbim_frame.specs.Writing.{close_done, close_request, fragment_head_text, function_error, message_head, message_text, open_done, open_request, plain_done};
 
 use crate::bodies::DoneHead;
 use crate::kind::MessageKind;
-use crate::number::{three_u32_bytes, u32_bytes};
+use crate::number::three_u32_bytes;
+use kit_bytes::u32_bytes;
 use uuid::Uuid;
 
 /// Opens the function. Its messages have at most `max` bytes.

@@ -1,11 +1,12 @@
 -- The bytes of requests spell their values.
-use Rattle.std.proofs.Common.{◌≡◌, ℕ, zero, suc, ◌/◌, ◌^◌, ◌<◌, ◌≤◌, List, [], ◌∷◌, ◌++◌, Option, Some, None, length, map, refl, sym, ◌∙◌, ap, subst, arith, append_assoc}
+use Rattle.std.proofs.Common.{◌≡◌, ℕ, zero, suc, ◌/◌, ◌%◌, ◌^◌, ◌<◌, ◌≤◌, List, [], ◌∷◌, ◌++◌, Option, Some, None, length, map, refl, sym, ◌∙◌, ap, subst, arith, append_assoc}
 use Rattle.std.proofs.Math.Nat.{pow-suc}
 use Rattle.std.proofs.lemmas.List.{append-nil, length-map}
 use Rattle.std.specs.List.{slice_index}
 use Rattle.std.specs.Option.{option_map}
 use Rattle.std.specs.Str.{encode_utf8_all}
 use Rattle.std.specs.Prelude.{IfSome}
+use Rattle.kit_bytes.specs.Numbers.{number_bytes, u16_bytes, u32_bytes}
 use Rattle.tlv_codec.specs.Tlv.{Entry}
 use Rattle.qmi_shapes.specs.Form.{Form}
 use Rattle.qmi_shapes.specs.View.{NamedForm}
@@ -17,34 +18,37 @@ use Rattle.message_tables.specs.Tlvs.{TlvForm}
 use Rattle.qmi_requests.specs.declared.QmiRequest.TheVariants as request
 use Rattle.qmi_services.specs.Table as table
 use Rattle.qmi_services.specs.Table.{u8, list16, field, unnamed}
-use Rattle.qmi_services.specs.Requests.{low_first, u16_bytes, u32_bytes, tlv, text_given, byte_given, point_to_point, wanted_settings}
+use Rattle.qmi_services.specs.Requests.{tlv, text_given, byte_given, point_to_point, wanted_settings}
 use Rattle.qmi_services.specs.Inputs.{text_of, bytes_of, sequence_of, Gives, AllGive}
 use Rattle.qmi_services.specs.Laws.{AreSpelled}
 
 -- ---- numbers ----
 
-low_first-are : (size n : ℕ) → AreBytes size (low_first size n)
-low_first-are zero n = record { count = refl; each = λ at. omega arith }
-low_first-are (suc size) n =
-    let rest = low_first-are size (n / 256) in
+number_bytes-are : (size n : ℕ) → AreBytes size (number_bytes size n)
+number_bytes-are zero n = record { count = refl; each = λ at. omega arith }
+number_bytes-are (suc size) n =
+    let rest = number_bytes-are size (n / 256) in
     record { count = ap suc rest.count; each = each size n rest.each }
   where
-    each : (size n : ℕ) → ((at : ℕ) → slice_index (low_first size (n / 256)) at < 256) → (at : ℕ) → slice_index (low_first (suc size) n) at < 256
+    each : (size n : ℕ) → ((at : ℕ) → slice_index (number_bytes size (n / 256)) at < 256) → (at : ℕ) → slice_index (number_bytes (suc size) n) at < 256
     each size n rest zero = omega arith
     each size n rest (suc at) = rest at
 
-low_first-is : (size n : ℕ) → n < 256 ^ size → n ≡ little_endian (low_first size n)
-low_first-is zero n small = omega arith
-low_first-is (suc size) n small =
+number_bytes-is : (size n : ℕ) → n < 256 ^ size → n ≡ little_endian (number_bytes size n)
+number_bytes-is zero n small = omega arith
+number_bytes-is (suc size) n small =
     let high : n / 256 < 256 ^ size = let s = pow-suc 256 size in omega arith in
-    let rest = low_first-is size (n / 256) high in
+    let rest = number_bytes-is size (n / 256) high in
     omega arith
 
-pub low_first-unsigned : (size n : ℕ) → n < 256 ^ size → IsUnsigned size n (low_first size n)
-low_first-unsigned size n small = record { are = low_first-are size n; is = low_first-is size n small }
+pub number_bytes-unsigned : (size n : ℕ) → n < 256 ^ size → IsUnsigned size n (number_bytes size n)
+number_bytes-unsigned size n small = record { are = number_bytes-are size n; is = number_bytes-is size n small }
 
 byte-unsigned : (n : ℕ) → n < 2 ^ 8 → IsUnsigned 1 n (n ∷ [])
-byte-unsigned n small = subst (λ (b : ℕ). IsUnsigned 1 n (b ∷ [])) (omega arith) (low_first-unsigned 1 n (omega arith))
+byte-unsigned n small = subst (λ (b : ℕ). IsUnsigned 1 n (b ∷ [])) (omega arith) (number_bytes-unsigned 1 n (omega arith))
+
+u16_bytes-unsigned : (n : ℕ) → n < 2 ^ 16 → IsUnsigned 2 n (u16_bytes n)
+u16_bytes-unsigned n small = subst (λ (high : ℕ). IsUnsigned 2 n (n % 256 ∷ high ∷ [])) (omega arith) (number_bytes-unsigned 2 n (omega arith))
 
 -- ---- sequences ----
 
@@ -67,7 +71,7 @@ bytes-spelled bytes short small =
       front = u16_bytes (length bytes);
       back = bytes;
       whole = refl;
-      before = rw (all, count) (low_first-unsigned 2 (length bytes) (omega arith));
+      before = rw (all, count) (u16_bytes-unsigned (length bytes) (omega arith));
       behind = rw all (each-byte bytes small);
     }
 
@@ -137,22 +141,22 @@ spelled request.NasNetworkScan range = refl
 spelled request.NasGetServingSystem range = refl
 spelled request.NasGetHomeNetwork range = refl
 spelled (request.WdsStartNetwork apn username password ip_type) range = start_network-spelled apn username password ip_type range
-spelled (request.WdsStopNetwork handle) range = one table.u32 (number handle) (u32_bytes handle) (low_first-unsigned 4 handle (omega arith))
+spelled (request.WdsStopNetwork handle) range = one table.u32 (number handle) (u32_bytes handle) (number_bytes-unsigned 4 handle (omega arith))
 spelled request.WdsGetPacketServiceStatus range = refl
 spelled request.WdsGetChannelRates range = refl
-spelled request.WdsGetCurrentSettings range = (tlv 0x10 (u32_bytes wanted_settings), [], refl, (u32_bytes wanted_settings, refl, low_first-unsigned 4 wanted_settings (omega arith)), refl)
+spelled request.WdsGetCurrentSettings range = (tlv 0x10 (u32_bytes wanted_settings), [], refl, (u32_bytes wanted_settings, refl, number_bytes-unsigned 4 wanted_settings (omega arith)), refl)
 spelled (request.WmsRawSend pdu) range =
     sequence (field "format" u8) (unnamed (list16 u8)) (number point_to_point) (bytes_of pdu) (point_to_point ∷ []) (u16_bytes (length pdu) ++ pdu)
     (byte-unsigned point_to_point (omega arith)) (bytes-spelled pdu range.0 range.1)
 spelled (request.WmsRawRead storage index) range =
     sequence (field "storage" u8) (field "index" table.u32) (number storage) (number index) (storage ∷ []) (u32_bytes index)
-    (byte-unsigned storage range.0) (low_first-unsigned 4 index (omega arith))
+    (byte-unsigned storage range.0) (number_bytes-unsigned 4 index (omega arith))
 spelled (request.WmsDelete storage index) range = (
   tlv 0x01 (storage ∷ []),
   tlv 0x10 (u32_bytes index),
   refl,
   (storage ∷ [], refl, byte-unsigned storage range.0),
-  (tlv 0x10 (u32_bytes index), [], refl, (u32_bytes index, refl, low_first-unsigned 4 index (omega arith)), refl),
+  (tlv 0x10 (u32_bytes index), [], refl, (u32_bytes index, refl, number_bytes-unsigned 4 index (omega arith)), refl),
 )
 spelled (request.WmsListMessages storage) range = one u8 (number storage) (storage ∷ []) (byte-unsigned storage range)
 spelled (request.ProxyOpen path) range = one table.text (text_of path) (encode_utf8_all path) (text-spelled (encode_utf8_all path))

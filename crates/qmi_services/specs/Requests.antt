@@ -1,7 +1,8 @@
 -- The message that a request sends, and its bytes.
 -- Source: the inputs in libqmi's data/qmi-service-*.json, and how its src/qmicli/qmicli-*.c fill them.
-use Rattle.std.specs.Prelude.{ℕ, zero, suc, ◌/◌, ◌%◌, List, [], ◌∷◌, ◌++◌, length, Option, Some, None}
+use Rattle.std.specs.Prelude.{ℕ, List, [], ◌∷◌, ◌++◌, length, Option, Some, None}
 use Rattle.std.specs.Str.{encode_utf8_all}
+use Rattle.kit_bytes.specs.Numbers.{u16_bytes, u32_bytes}
 use Rattle.tlv_codec.specs.Tlv.{Entry}
 use Rattle.qmi_requests.specs.declared.QmiRequest.{QmiRequest}
 use Rattle.qmi_requests.specs.declared.QmiRequest.TheVariants as request
@@ -37,17 +38,6 @@ row_of (request.Allocate service) = table.allocate
 row_of (request.Release service cid) = table.release
 
 -- ---- the TLVs ----
-
--- a number in so many bytes, the lowest first
-abbrev pub low_first : ℕ → ℕ → List ℕ
-low_first zero number = []
-low_first (suc size) number = number % 256 ∷ low_first size (number / 256)
-
-abbrev pub u16_bytes : ℕ → List ℕ
-u16_bytes = low_first 2
-
-abbrev pub u32_bytes : ℕ → List ℕ
-u32_bytes = low_first 4
 
 abbrev pub tlv : ℕ → List ℕ → List Entry
 tlv kind value = record { kind = kind; value = value } ∷ []

@@ -1,12 +1,13 @@
 ghost use Rattle.std.specs.Prelude.{◌≡◌, ◌+◌, [], ◌∷◌, ◌++◌, ◌≤◌, length, IfOk, OnOk};
 ghost use Rattle.std.specs.Str.{encode_utf8_all};
+ghost use Rattle.kit_bytes.specs.Numbers.{u16_bytes};
 ghost use Rattle.tlv_codec.specs.Tlv.{tlv_text};
-ghost use Rattle.qmi_services.specs.Requests.{byte_given, inputs_of, point_to_point, row_of, text_given, tlv, u16_bytes, u32_bytes};
+ghost use Rattle.qmi_services.specs.Requests.{byte_given, inputs_of, point_to_point, row_of, text_given, tlv};
 ghost use Rattle.qmi_services.specs.View.{row_view};
 
 use crate::messages;
 use crate::table::Row;
-use kit_bytes::{Octets, ShortOctets, ShortText, u16_bytes};
+use kit_bytes::{Octets, ShortOctets, ShortText, u16_bytes, u32_bytes};
 use qmi_requests::QmiRequest;
 use std::alloc::{AllocError, Global};
 use tlv_codec::write_tlv;
@@ -88,12 +89,6 @@ fn write_raw_send(alloc: Global, out: &mut Octets, pdu: &ShortOctets) -> Result<
     let mut value = Octets::new(alloc);
     value.extend_from_slices(&[POINT_TO_POINT, low, high], pdu)?;
     write_value(out, 0x01, value.as_slice())
-}
-
-fn u32_bytes(number: u32) -> [u8; 4]
-    ensures { result ≡ u32_bytes number }
-{
-    number.to_le_bytes()
 }
 
 fn write_value(out: &mut Octets, kind: u8, value: &[u8]) -> Result<(), AllocError>

@@ -1,5 +1,6 @@
 -- Messages made from a message: with another number, and the reply that tells a result alone.
-use Rattle.std.specs.Prelude.{ℕ, ◌/◌, ◌%◌, ◌==◌, List, [], ◌∷◌, ◌++◌, take, drop, slice_index, if◌then◌else◌}
+use Rattle.std.specs.Prelude.{ℕ, ◌/◌, ◌%◌, ◌==◌, List, ◌∷◌, ◌++◌, take, drop, slice_index, if◌then◌else◌}
+use Rattle.kit_bytes.specs.Numbers.{u16_bytes}
 use Rattle.qmux_frame.specs.declared.head.Head.{Head}
 use Rattle.qmux_frame.specs.declared.kind.MessageKind.TheVariants.{Response}
 use Rattle.qmux_frame.specs.declared.writing.NewMessage.{NewMessage}
@@ -17,7 +18,7 @@ with_number number message =
 
 -- the Result TLV: status 0 where there is no error, else 1, and the error
 abbrev pub result_tlv : ℕ → List ℕ
-result_tlv error = 0x02 ∷ 0x04 ∷ 0x00 ∷ (if error == 0 then 0 else 1) ∷ 0x00 ∷ error % 256 ∷ error / 256 ∷ []
+result_tlv error = 0x02 ∷ 0x04 ∷ 0x00 ∷ (if error == 0 then 0 else 1) ∷ 0x00 ∷ u16_bytes error
 
 -- the response with a message's service, client id, number and message id, and the Result TLV alone
 abbrev pub result_reply : List ℕ → ℕ → List ℕ

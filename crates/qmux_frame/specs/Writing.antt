@@ -1,13 +1,10 @@
 -- The bytes of a message, from its fields and its TLVs.
 -- Source: `struct qmux`, `struct control_header` and `struct service_header` in libqmi's src/libqmi-glib/qmi-message.c.
-use Rattle.std.specs.Prelude.{ℕ, ◌+◌, ◌/◌, ◌%◌, ◌==◌, if◌then◌else◌, List, [], ◌∷◌, ◌++◌, length}
+use Rattle.std.specs.Prelude.{ℕ, ◌+◌, ◌==◌, if◌then◌else◌, List, [], ◌∷◌, ◌++◌, length}
+use Rattle.kit_bytes.specs.Numbers.{u16_bytes}
 use Rattle.qmux_frame.specs.declared.writing.NewMessage.{NewMessage}
 use Rattle.qmux_frame.specs.declared.writing.Sender.{Sender}
 use Rattle.qmux_frame.specs.declared.writing.Sender.TheVariants.{Host, Modem}
-
--- the lower byte stands first
-abbrev pub u16_bytes : ℕ → List ℕ
-u16_bytes number = number % 256 ∷ number / 256 ∷ []
 
 -- flags, number, message id and TLV length; service 0 has numbers of one byte
 abbrev pub inner_head : NewMessage → ℕ → List ℕ

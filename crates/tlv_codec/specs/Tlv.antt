@@ -1,7 +1,7 @@
 -- TLVs: values, each behind a type of one byte and a length of two bytes.
 -- Source: `struct tlv` in libqmi's src/libqmi-glib/qmi-message.c.
-use Rattle.std.specs.Prelude.{ℕ, ◌+◌, ◌/◌, ◌%◌, ◌==◌, nat_lt, List, [], ◌∷◌, ◌++◌, length, map, drop, slice_index, Option, Some, None, option_and_then, if◌then◌else◌}
-use Rattle.kit_bytes.specs.Numbers.{number_at}
+use Rattle.std.specs.Prelude.{ℕ, ◌+◌, ◌==◌, nat_lt, List, [], ◌∷◌, ◌++◌, length, map, drop, slice_index, Option, Some, None, option_and_then, if◌then◌else◌}
+use Rattle.kit_bytes.specs.Numbers.{number_at, u16_bytes}
 use Rattle.framing.specs.declared.framing.Size.{Size}
 use Rattle.framing.specs.declared.framing.Size.TheVariants.{Unknown, Known}
 use Rattle.framing.specs.Cutting.{cut}
@@ -13,7 +13,7 @@ pub record Entry : Type 0 where
 -- ---- writing ----
 
 abbrev pub entry_text : Entry → List ℕ
-entry_text entry = entry.kind ∷ length entry.value % 256 ∷ length entry.value / 256 ∷ entry.value
+entry_text entry = entry.kind ∷ u16_bytes (length entry.value) ++ entry.value
 
 -- the entries one after another
 abbrev pub tlv_text : List Entry → List ℕ
