@@ -1,12 +1,12 @@
 -- Examples of requests and their answers.
 use Rattle.std.specs.Prelude.{◌≡◌, ℕ, List, [], ◌∷◌, ◌++◌, reverse, take, codes}
+use Rattle.kit_bytes.specs.Hex.{hex}
 use Rattle.proxy_history.specs.Events.{Event, Joined, Piece, Left, ModemPiece, Now, Took, ModemTook}
 use Rattle.proxy_history.specs.Facts.{Stray}
 use Rattle.proxy_history.specs.Requests.{in_use}
 use Rattle.proxy_history.specs.Modem.{modem_queue}
 use Rattle.qmi_proxy.specs.Clients.{wire}
 use Rattle.qmi_proxy.specs.History.{text_for}
-use Rattle.proxy_examples.specs.Hex.{hex}
 use Rattle.proxy_examples.specs.Story.{setup, open_device, opened, get_version, version, version_aborted, allocate, allocate_as_2, id_5, id_6, id_6_to_2, get_model, get_model_as_2, model, model_to_2, both_open, bytes_for, to_modem, history}
 
 -- the proxy itself answers a Proxy Open

@@ -1,10 +1,10 @@
 -- Examples of client ids, indications and the modem's resets.
 use Rattle.std.specs.Prelude.{◌≡◌, ℕ, List, [], ◌∷◌, ◌++◌, take, codes, Some, None}
+use Rattle.kit_bytes.specs.Hex.{hex}
 use Rattle.proxy_history.specs.Events.{Event, Piece, ModemPiece, Now}
 use Rattle.proxy_history.specs.Facts.{Request, Answered, Granted}
 use Rattle.proxy_history.specs.Requests.{next_number}
 use Rattle.proxy_history.specs.ClientIds.{holder, held}
-use Rattle.proxy_examples.specs.Hex.{hex}
 use Rattle.proxy_examples.specs.Story.{opened, get_version, version_aborted, allocate, id_5, id_6, id_6_to_2, id_5_to_2, no_id, get_model, model_refused, sync, dms_indication, both_open, bytes_for, to_modem, history}
 
 -- client 1 holds DMS id 5

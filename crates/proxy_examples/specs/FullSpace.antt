@@ -1,8 +1,8 @@
 -- An example of a number space in which no number is free.
 use Rattle.std.specs.Prelude.{◌≡◌, ℕ, ◌*◌, List, [], ◌∷◌, ◌++◌, codes, length}
+use Rattle.kit_bytes.specs.Hex.{hex}
 use Rattle.proxy_history.specs.Events.{Event, Piece}
 use Rattle.proxy_history.specs.Requests.{in_use}
-use Rattle.proxy_examples.specs.Hex.{hex}
 use Rattle.proxy_examples.specs.Story.{opened, get_version, both_open, bytes_for, to_modem, history, repeated}
 
 -- Allocate CID with number 9, and its refusal with error 23

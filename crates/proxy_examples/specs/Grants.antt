@@ -1,8 +1,8 @@
 -- Examples of the answers to an Allocate: which grant an id, and which are handed on alone.
 use Rattle.std.specs.Prelude.{◌≡◌, ℕ, List, [], ◌∷◌, ◌++◌, codes}
+use Rattle.kit_bytes.specs.Hex.{hex}
 use Rattle.proxy_history.specs.Events.{Event, Piece, ModemPiece}
 use Rattle.proxy_history.specs.ClientIds.{Grant, held}
-use Rattle.proxy_examples.specs.Hex.{hex}
 use Rattle.proxy_examples.specs.Story.{opened, allocate, id_5, id_5_to_2, both_open, bytes_for, history}
 
 -- client 1 holds id 5 of DMS

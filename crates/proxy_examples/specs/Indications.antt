@@ -1,11 +1,11 @@
 -- Examples of indications, and of a modem that begins anew.
 use Rattle.std.specs.Prelude.{◌≡◌, ℕ, List, [], ◌∷◌, ◌++◌, reverse, codes}
+use Rattle.kit_bytes.specs.Hex.{hex}
 use Rattle.proxy_history.specs.Events.{Event, Joined, Piece, ModemPiece}
 use Rattle.proxy_history.specs.Requests.{in_use}
 use Rattle.proxy_history.specs.ClientIds.{held}
 use Rattle.proxy_history.specs.Modem.{modem_queue}
 use Rattle.qmi_proxy.specs.Clients.{wire}
-use Rattle.proxy_examples.specs.Hex.{hex}
 use Rattle.proxy_examples.specs.Story.{open_device, opened, get_version, version_aborted, get_model, sync, dms_indication, both_open, bytes_for, history}
 use Rattle.proxy_examples.specs.Answers.{model_aborted}
 

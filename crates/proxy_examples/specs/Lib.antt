@@ -1,4 +1,3 @@
-pub mod Hex
 pub mod Story
 pub mod Answers
 pub mod ClientIds

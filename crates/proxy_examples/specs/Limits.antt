@@ -1,9 +1,8 @@
 -- Examples at the greatest deadline, and at the greatest transaction number.
-use Rattle.std.specs.Prelude.{◌≡◌, ℕ, true, List, [], ◌∷◌, ◌++◌, length, Option, Some, None}
+use Rattle.std.specs.Prelude.{◌≡◌, ℕ, true, List, [], ◌∷◌, ◌++◌, length, Option, Some, None, is_some}
 use Rattle.proxy_history.specs.Events.{Event, Piece, Now}
 use Rattle.proxy_history.specs.Requests.{number_after}
 use Rattle.qmi_proxy.specs.Spaces.{service_space, limit_of, top_of}
-use Rattle.qmi_proxy.specs.Clients.{is_number}
 use Rattle.proxy_examples.specs.Story.{opened, get_version, version_aborted, both_open, bytes_for}
 
 -- a request whose 30 seconds would end past the last time of 64 bits: it expires at that time, and not before
@@ -21,7 +20,7 @@ service_number_after last used = number_after (limit_of service_space) (top_of s
 -- 1,024 may be in use; the numbers go to 65,535 and round again
 pub record ServiceNumbers : Type 0 where
   pub full : (used : List ℕ) → length used ≡ 1024 → service_number_after 7 used ≡ None
-  pub nearly_full : (used : List ℕ) → length used ≡ 1023 → is_number (service_number_after 7 used) ≡ true
+  pub nearly_full : (used : List ℕ) → length used ≡ 1023 → is_some (service_number_after 7 used) ≡ true
   pub last : service_number_after 65534 [] ≡ Some 65535
   pub first : service_number_after 65535 [] ≡ Some 1
   pub first_free : service_number_after 65535 (2 ∷ 1 ∷ 65535 ∷ []) ≡ Some 3

@@ -1,7 +1,7 @@
 -- Examples of messages of a client that are out of form.
 use Rattle.std.specs.Prelude.{◌≡◌, ℕ, List, [], ◌∷◌, ◌++◌, reverse, codes}
+use Rattle.kit_bytes.specs.Hex.{hex}
 use Rattle.proxy_history.specs.Events.{Event, Joined, Piece}
-use Rattle.proxy_examples.specs.Hex.{hex}
 use Rattle.proxy_examples.specs.Story.{opened, get_version, version_internal, bytes_for, to_modem}
 use Rattle.proxy_examples.specs.Verdicts.{after_opening}
 

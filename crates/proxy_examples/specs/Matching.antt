@@ -1,9 +1,9 @@
 -- Examples of messages of the modem: which of them answer a request, and which are for nobody.
 use Rattle.std.specs.Prelude.{◌≡◌, ℕ, List, [], ◌∷◌, ◌++◌, take, codes}
+use Rattle.kit_bytes.specs.Hex.{hex}
 use Rattle.proxy_history.specs.Events.{Event, Piece, ModemPiece}
 use Rattle.proxy_history.specs.Facts.{Stray}
 use Rattle.proxy_history.specs.Requests.{numbers_in_use}
-use Rattle.proxy_examples.specs.Hex.{hex}
 use Rattle.proxy_examples.specs.Story.{opened, get_version, get_model, both_open, bytes_for, history}
 
 -- the answer to Get Model with the request's number, from client id 6 of DMS and from client id 5 of NAS

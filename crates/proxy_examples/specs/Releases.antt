@@ -1,9 +1,9 @@
 -- Examples of a Release: what it frees, and what it leaves.
 use Rattle.std.specs.Prelude.{◌≡◌, ℕ, List, [], ◌∷◌, ◌++◌, codes, Some}
+use Rattle.kit_bytes.specs.Hex.{hex}
 use Rattle.proxy_history.specs.Events.{Event, Piece, ModemPiece, Now}
 use Rattle.proxy_history.specs.Requests.{numbers_in_use}
 use Rattle.proxy_history.specs.ClientIds.{holder}
-use Rattle.proxy_examples.specs.Hex.{hex}
 use Rattle.proxy_examples.specs.Story.{opened, get_model, both_open, bytes_for, history}
 use Rattle.proxy_examples.specs.Answers.{model_aborted}
 use Rattle.proxy_examples.specs.ClientIds.{release_5, released}

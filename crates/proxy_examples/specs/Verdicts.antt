@@ -1,10 +1,11 @@
--- An example of each verdict on a client's message, and of each reply that a client's own view decides.
+-- An example of each decision on a client's message, and of each reply that a client's own view decides.
 use Rattle.std.specs.Prelude.{◌≡◌, ℕ, ◌-◌, true, false, List, [], ◌∷◌, ◌++◌, reverse, codes, Some, None}
+use Rattle.kit_bytes.specs.Hex.{hex}
 use Rattle.proxy_history.specs.Events.{Event, Joined, Piece}
-use Rattle.proxy_history.specs.Facts.{Foreign, Away, Full, Forward}
+use Rattle.proxy_history.specs.Facts.{Foreign, Away, Full}
+use Rattle.proxy_history.specs.Decision.{Replies, Forwards}
 use Rattle.qmi_proxy.specs.Limits.{modem_outbox_limit}
-use Rattle.qmi_proxy.specs.Clients.{shared_verdict_of, has_room}
-use Rattle.proxy_examples.specs.Hex.{hex}
+use Rattle.qmi_proxy.specs.Clients.{shared_decision_of, has_room}
 use Rattle.proxy_examples.specs.Story.{open_device, opened, get_version, both_open, bytes_for, to_modem}
 
 -- ---- the client's own view decides ----
@@ -65,14 +66,14 @@ pub record MustOpenFirst : Type 0 where
       ++ hex (codes "01 12 00 80 00 00 01 01 21 00 07 00 02 04 00 01 00 01 00")
   pub modem : to_modem before_opening ≡ []
 
--- ---- what is shared decides: for client 1, the holder of the id, whether the modem is away, the next number, and whether there is room ----
+-- ---- what is shared decides: for client 1, the holder of the id, whether the modem is away, whether there is room, and the next number ----
 
 pub record FirstThatFits : Type 0 where
-  pub foreign : shared_verdict_of 1 (Some 2) true None false ≡ Foreign
-  pub away : shared_verdict_of 1 (Some 1) true None false ≡ Away
-  pub no_number : shared_verdict_of 1 None false None true ≡ Full
-  pub no_room : shared_verdict_of 1 None false (Some 1) false ≡ Full
-  pub own_id : shared_verdict_of 1 (Some 1) false (Some 1) true ≡ Forward
-  pub no_id : shared_verdict_of 1 None false (Some 1) true ≡ Forward
+  pub foreign : shared_decision_of 1 (Some 2) true false None ≡ Replies Foreign
+  pub away : shared_decision_of 1 (Some 1) true false None ≡ Replies Away
+  pub no_number : shared_decision_of 1 None false true None ≡ Replies Full
+  pub no_room : shared_decision_of 1 None false false (Some 1) ≡ Replies Full
+  pub own_id : shared_decision_of 1 (Some 1) false true (Some 1) ≡ Forwards 1
+  pub no_id : shared_decision_of 1 None false true (Some 7) ≡ Forwards 7
   pub room : has_room (modem_outbox_limit - 12) get_version ≡ true
   pub none : has_room (modem_outbox_limit - 11) get_version ≡ false

@@ -380,6 +380,10 @@ module _ {Known : Type 0} (p : Protocol Known) (Asks : Request → List Fact →
   loss_is_last ModemBack events lost = absurd (back_keeps (stream_now events) lost)
   loss_is_last _ events lost = absurd (never_both (is_none (stream_now events)) lost)
 
+  pub loss_comes_last : (event : Event) (events : List Event) → is_lost (stream_now events) (stream_now (event ∷ events)) ≡ true → (past : List Fact) × (add_all p (items_of p events event) (EventBegan ∷ history p events) ≡ ModemLost ∷ past)
+  unfolding LossIsLast
+  loss_comes_last event events lost = loss_is_last event events lost
+
   -- it leaves no bytes for the modem, before the proxy asks anything at the event's end
   pub loss_leaves_none : (event : Event) (events : List Event) → is_lost (stream_now events) (stream_now (event ∷ events)) ≡ true
       → (to_modem p.wire (add_all p (items_of p events event) (EventBegan ∷ history p events)) ≡ []) × (modem_drained (add_all p (items_of p events event) (EventBegan ∷ history p events)) ≡ 0)

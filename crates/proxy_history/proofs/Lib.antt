@@ -1,6 +1,7 @@
 pub mod Lists
 pub mod Numbers
 pub mod Streams
+pub mod Found
 pub mod Rendering
 pub mod GoesOn
 pub mod Sound

@@ -19,11 +19,11 @@ use Rattle.proxy_history.proofs.Sound.{contains-without_self, serial_within, for
 
 -- ---- lists of names ----
 
-contains-append : (x : ℕ) (xs ys : List ℕ) → contains x (xs ++ ys) ≡ (contains x xs || contains x ys)
+pub contains-append : (x : ℕ) (xs ys : List ℕ) → contains x (xs ++ ys) ≡ (contains x xs || contains x ys)
 contains-append x [] ys = refl
 contains-append x (y ∷ xs) ys = elim (x == y) as (λ b. (b || contains x (xs ++ ys)) ≡ ((b || contains x xs) || contains x ys)) [ true ↦ refl | false ↦ contains-append x xs ys ]
 
-either_both : {X : Type 0} (P Q R : X → Type 0) (xs : List X) → ((x : X) → P x → Q x → R x) → All P xs → All Q xs → All R xs
+pub either_both : {X : Type 0} (P Q R : X → Type 0) (xs : List X) → ((x : X) → P x → Q x → R x) → All P xs → All Q xs → All R xs
 either_both P Q R xs f a b k d lt = f (get_or xs k d) (a k d lt) (b k d lt)
 
 -- ---- who was there before a connection joined or ended ----

@@ -26,6 +26,10 @@ pub data Verdict : Type 0 where
   Full : Verdict
   -- it went to the modem
   Forward : Verdict
+  -- it asks to open the modem, which is open already
+  Ready : Verdict
+  -- it asks to open the modem, and is answered when that is open
+  Waits : Verdict
 
 -- a request that was queued for the modem
 pub record Request : Type 0 where

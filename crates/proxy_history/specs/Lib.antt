@@ -2,6 +2,7 @@ pub mod Limits
 pub mod Events
 pub mod Streams
 pub mod Facts
+pub mod Decision
 pub mod Connections
 pub mod Requests
 pub mod ClientIds

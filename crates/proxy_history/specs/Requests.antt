@@ -1,7 +1,7 @@
 -- The requests that wait for the modem, and their transaction numbers.
 -- A list of facts has the newest first; the lists that are read off it have the oldest first.
 -- A number space has numbers from 1 to its top, of which at most its limit are in use.
-use Rattle.std.specs.Prelude.{ℕ, zero, suc, ◌+◌, Bool, true, false, not, ◌||◌, ◌==◌, nat_lt, if◌then◌else◌, List, [], ◌∷◌, ◌++◌, length, map, filter, Option, Some, None}
+use Rattle.std.specs.Prelude.{ℕ, zero, suc, ◌+◌, ◌-◌, ◌^◌, min, Bool, true, false, not, ◌||◌, ◌==◌, nat_lt, if◌then◌else◌, List, [], ◌∷◌, ◌++◌, length, map, filter, Option, Some, None}
 use Rattle.proxy_history.specs.Facts.{Fact, Request, Ended, Forwarded, Answered, IdHeld, Late, Expired, Aborted, Reset, ModemLost}
 use Rattle.proxy_history.specs.Connections.{contains}
 
@@ -11,6 +11,11 @@ without_request r requests = filter (λ q. not (r.serial == q.serial)) requests
 abbrev pub has_request : Request → List Request → Bool
 has_request r [] = false
 has_request r (q ∷ requests) = r.serial == q.serial || has_request r requests
+
+-- the first of them that passes a test
+abbrev pub first_where : (Request → Bool) → List Request → Option Request
+first_where test [] = None
+first_where test (r ∷ requests) = if test r then Some r else first_where test requests
 
 -- the requests whose numbers are in use, in order of forwarding: the modem may still answer each of them
 unfoldable pub in_use : List Fact → List Request
@@ -81,3 +86,9 @@ number_after limit top last used =
 -- the number that the next request of the space gets
 abbrev pub next_number : ℕ → ℕ → ℕ → List Fact → Option ℕ
 next_number limit top space past = number_after limit top (last_number space past) (numbers_in_use space past)
+
+-- ---- deadlines ----
+
+-- the time as a 64-bit number, the greatest for those past it
+abbrev pub deadline_of : (time limit : ℕ) → ℕ
+deadline_of time limit = min (time + limit) (2 ^ 64 - 1)

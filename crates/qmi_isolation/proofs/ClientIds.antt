@@ -1,6 +1,7 @@
 -- A client id that another client holds isn't granted, and isn't used.
-use Rattle.std.proofs.Common.{◌≡◌, ◌≢◌, ℕ, ◌+◌, Bool, true, false, if◌then◌else◌, List, ◌∷◌, ◌++◌, refl, ap, subst, Option, Some, None}
+use Rattle.std.proofs.Common.{◌≡◌, ◌≢◌, ℕ, ◌+◌, Bool, true, false, if◌then◌else◌, List, ◌∷◌, ◌++◌, refl, ap, subst}
 use Rattle.proxy_history.specs.Facts.{Verdict, Own, Foreign, Forward, Fact, Judged, Granted}
+use Rattle.proxy_history.specs.Decision.{Decision, Replies}
 use Rattle.proxy_history.specs.Connections.{message_count}
 use Rattle.proxy_history.specs.ClientIds.{holder, is_other}
 use Rattle.proxy_history.specs.Events.{Event}
@@ -10,9 +11,9 @@ use Rattle.qmi_proxy.specs.History.{history}
 use Rattle.qmi_proxy.proofs.Sound.{histories_are_sound}
 use Rattle.qmi_isolation.proofs.Numbers.{sound_behind}
 use Rattle.qmi_proxy.specs.Setup.{Setup}
-use Rattle.qmi_proxy.specs.OwnReplies.{own_reply}
+use Rattle.qmi_proxy.specs.OwnReplies.{is_open, view_decides}
 use Rattle.qmi_proxy.specs.Text.{view_of, note}
-use Rattle.qmi_proxy.specs.Clients.{holder_for, shared_verdict, own_or, judge, hear_client, number_for}
+use Rattle.qmi_proxy.specs.Clients.{holder_for, shared_decision, judge, hear_client}
 
 pub ids_are_free_when_granted : (s : Setup) (events : List Event) (later past : List Fact) (c service client : ℕ) → history s events ≡ later ++ Granted c service client ∷ past → is_other c (holder service client past) ≡ false
 ids_are_free_when_granted s events later past c service client whole =
@@ -23,13 +24,13 @@ module _ (s : Setup) (c : ℕ) (m : List ℕ) (past : List Fact) where
   abbrev IsJudgedAlone : List Fact → Type 0
   IsJudgedAlone after = (verdict : Verdict) × (verdict ≢ Forward) × (after ≡ note s.device (Judged c (message_count c past + 1) m verdict) past)
 
-  by_own : (own : Option ℕ) → shared_verdict s c m past ≡ Foreign → IsJudgedAlone (judge s c m (number_for m past) (own_or own (shared_verdict s c m past)) past)
-  by_own None foreign = (Foreign, λ e. absurd (cc), ap (λ (v : Verdict). judge s c m (number_for m past) v past) foreign)
-  by_own (Some error) foreign = (Own, λ e. absurd (cc), refl)
+  by_own : (own : Bool) → shared_decision s c m past ≡ Replies Foreign → IsJudgedAlone (judge s c m (if own then Replies Own else shared_decision s c m past) past)
+  by_own true foreign = (Own, λ e. absurd (cc), refl)
+  by_own false foreign = (Foreign, λ e. absurd (cc), ap (λ (decision : Decision). judge s c m decision past) foreign)
 
-  is_foreign : (b : Bool) (other : Verdict) → b ≡ true → (if b then Foreign else other) ≡ Foreign
+  is_foreign : (b : Bool) (other : Decision) → b ≡ true → (if b then Replies Foreign else other) ≡ Replies Foreign
   is_foreign true other e = refl
   is_foreign false other e = absurd (cc)
 
   pub held_ids_are_not_used : is_other c (holder_for m past) ≡ true → IsJudgedAlone (hear_client s c m past)
-  held_ids_are_not_used other = by_own (own_reply s.device (view_of c past) m) (is_foreign (is_other c (holder_for m past)) _ other)
+  held_ids_are_not_used other = by_own (view_decides (is_open s.device (view_of c past)) m) (is_foreign (is_other c (holder_for m past)) _ other)

@@ -1,5 +1,5 @@
 -- A request that is forwarded waits for the modem at the end of its event.
-use Rattle.std.proofs.Common.{◌≡◌, ℕ, ◌+◌, ◌<◌, ◌≤◌, Bool, true, false, if◌then◌else◌, List, [], ◌∷◌, ◌++◌, length, drop, map, refl, ap, sym, ◌∙◌, subst, arith, Option, Some, None, is_some, append_assoc, append-nil}
+use Rattle.std.proofs.Common.{◌≡◌, ℕ, ◌+◌, ◌<◌, ◌≤◌, Bool, true, false, if◌then◌else◌, List, [], ◌∷◌, ◌++◌, length, drop, map, refl, ap, sym, ◌∙◌, subst, arith, append_assoc, append-nil}
 use Rattle.std.specs.List.{concat, AllByRecursion}
 use Rattle.std.proofs.lemmas.Bool.{eq-eqb}
 use Rattle.std.proofs.lemmas.List.{map-append, drop-append-le}
@@ -15,17 +15,18 @@ use Rattle.proxy_history.specs.Coming.{AreSound}
 use Rattle.proxy_history.specs.Adding.{MayAdd}
 use Rattle.proxy_history.proofs.Walk.{each_message, behind_messages, one_if, kept_by_items}
 use Rattle.proxy_history.proofs.Coming.{joins_or_modem_takes}
-use Rattle.proxy_history.specs.Facts.{Fact, Request, Verdict, Forward, EventBegan, Ended, BadStream, NoRoom, Judged, Forwarded, Granted}
+use Rattle.proxy_history.specs.Facts.{Fact, Request, Forward, EventBegan, Ended, BadStream, NoRoom, Judged, Forwarded, Granted}
+use Rattle.proxy_history.specs.Decision.{Decision, Forwards}
 use Rattle.proxy_history.specs.Connections.{is_present, message_count}
 use Rattle.proxy_history.specs.Requests.{in_use, forward_count}
 use Rattle.proxy_history.specs.Modem.{to_modem, modem_drained, modem_queue}
 use Rattle.qmi_proxy.specs.Limits.{qmi_limits}
 use Rattle.qmi_proxy.specs.Setup.{Setup}
 use Rattle.qmi_proxy.specs.Messages.{uses_id, used_service, used_client}
-use Rattle.qmi_proxy.specs.Clients.{wire, number_for, verdict_on, request_of, grant_if, forward, judge, hear_client}
+use Rattle.qmi_proxy.specs.Clients.{wire, decision_on, request_of, grant_if, judge, hear_client}
 use Rattle.qmi_proxy.specs.History.{qmi_protocol, add, add_all, history}
 use Rattle.qmi_proxy.specs.Regular.{Regular}
-use Rattle.qmi_proxy.proofs.Verdicts.{forwarded_have_a_number}
+use Rattle.qmi_proxy.proofs.Verdicts.{forwarded_have_the_next_number}
 use Rattle.qmi_proxy.proofs.Walk.{Asks, orderly}
 use Rattle.qmi_proxy.proofs.Sound.{sound_add}
 use Rattle.qmi_proxy.proofs.Regulars.{regular_begun, regular_items, histories_are_regular}
@@ -122,19 +123,12 @@ module _ (s : Setup) where
 
   -- ---- the message that is forwarded ----
 
-  some_of : (number : Option ℕ) → is_some number ≡ true → (n : ℕ) × (number ≡ Some n)
-  some_of None e = absurd (cc)
-  some_of (Some n) e = (n, refl)
-
-  module _ (c : ℕ) (m : List ℕ) (past after : List Fact) (there : is_present c past ≡ true) (verdict : verdict_on s c m past ≡ Forward) (rest : Adds (add s (Says c m) past) after) (drained : modem_drained past ≤ length (to_modem wire past)) where
-    number : (n : ℕ) × (number_for m past ≡ Some n)
-    number = some_of (number_for m past) (forwarded_have_a_number s c m past verdict)
-
+  module _ (c : ℕ) (m : List ℕ) (n : ℕ) (past after : List Fact) (there : is_present c past ≡ true) (decided : decision_on s c m past ≡ Forwards n) (rest : Adds (add s (Says c m) past) after) (drained : modem_drained past ≤ length (to_modem wire past)) where
     abbrev before : List Fact
     before = Judged c (message_count c past + 1) m Forward ∷ past
 
     abbrev request : Request
-    request = request_of s c m number.0 before
+    request = request_of s c m n before
 
     abbrev sent : List Fact
     sent = Forwarded request ∷ before
@@ -142,8 +136,7 @@ module _ (s : Setup) where
     added : add s (Says c m) past ≡ grant_if (uses_id m) c m sent
     added =
         ap (λ (b : Bool). if b then hear_client s c m past else past) there
-        ∙ ap (λ (v : Verdict). judge s c m (number_for m past) v past) verdict
-        ∙ ap (λ (o : Option ℕ). forward s c m o before) number.1
+        ∙ ap (λ (decision : Decision). judge s c m decision past) decided
 
     behind : Adds sent after
     behind = further sent (grant_if (uses_id m) c m sent) after (granted (uses_id m) c m sent) (subst (λ (l : List Fact). Adds l after) added rest)
@@ -183,7 +176,7 @@ module _ (s : Setup) where
       sender = refl;
       place = counts;
       message = refl;
-      number = number.1;
+      number = (forwarded_have_the_next_number s c n m past decided).0;
       others = behind.requests;
       later = All-from_recursion (λ (r : Request). request.serial < r.serial) behind.requests (subst (λ (n : ℕ). AllByRecursion (λ r. n < r.serial) behind.requests) (sym serial_then) behind.later);
       in_use = behind.in_use ∙ ap (λ (l : List Request). l ++ behind.requests) in_use_then ∙ append_assoc (in_use past) (request ∷ []) behind.requests;
@@ -192,12 +185,12 @@ module _ (s : Setup) where
 
 -- ---- the whole event ----
 
-pub forwarded_requests_are_queued : (s : Setup) (events : List Event) (c : ℕ) (piece : List ℕ) (earlier later : List (List ℕ)) (m : List ℕ)
+pub forwarded_requests_are_queued : (s : Setup) (events : List Event) (c : ℕ) (piece : List ℕ) (earlier later : List (List ℕ)) (m : List ℕ) (n : ℕ)
     → AreSound (qmi_protocol s) events → messages_of_piece size_of (stream c events) piece ≡ earlier ++ m ∷ later
-    → is_present c (facts_before_saying s events c earlier) ≡ true → verdict_on s c m (facts_before_saying s events c earlier) ≡ Forward
+    → is_present c (facts_before_saying s events c earlier) ≡ true → decision_on s c m (facts_before_saying s events c earlier) ≡ Forwards n
     → IsQueued c m (facts_before_saying s events c earlier) (history s (Piece c piece ∷ events))
 unfolding proxy.history is_clients
-forwarded_requests_are_queued s events c piece earlier later m sound brings there verdict =
+forwarded_requests_are_queued s events c piece earlier later m n sound brings there decided =
     let begun : List Fact = EventBegan ∷ history s events in
     let past : List Fact = facts_before_saying s events c earlier in
     let bad : Bool = is_bad size_of (stream c events ++ piece) in
@@ -215,4 +208,4 @@ forwarded_requests_are_queued s events c piece earlier later m sound brings ther
     (behind_messages (λ item. is_clients item ≡ true) (λ m. Says c m) later (item_if bad (Garbles c)) (λ m. refl) (one_if (λ item. is_clients item ≡ true) bad (Garbles c) refl))
     (sound_add s (Says c m) past regular.sound)
     in
-    subst (IsQueued c m past) (sym whole) (queued s c m past after there verdict rest regular.drained)
+    subst (IsQueued c m past) (sym whole) (queued s c m n past after there decided rest regular.drained)

@@ -8,7 +8,8 @@ use Rattle.qmux_frame.specs.Kind.{framed_kind}
 use Rattle.proxy_history.specs.Events.{Event, Piece, ModemPiece}
 use Rattle.proxy_history.specs.Items.{Says}
 use Rattle.proxy_history.specs.Streams.{stream, modem_stream, messages_of_piece}
-use Rattle.proxy_history.specs.Facts.{Fact, Request, Forward, EventBegan, Ended, NoRoom}
+use Rattle.proxy_history.specs.Facts.{Fact, Request, EventBegan, Ended, NoRoom}
+use Rattle.proxy_history.specs.Decision.{Forwards}
 use Rattle.proxy_history.specs.Connections.{contains, is_present, dropped, message_count}
 use Rattle.proxy_history.specs.Requests.{in_use, pending}
 use Rattle.proxy_history.specs.Modem.{modem_queue}
@@ -18,7 +19,7 @@ use Rattle.proxy_history.specs.Coming.{AreSound}
 use Rattle.qmi_proxy.specs.Limits.{outbox_limit}
 use Rattle.qmi_proxy.specs.Setup.{Setup}
 use Rattle.qmi_proxy.specs.Text.{rendering}
-use Rattle.qmi_proxy.specs.Clients.{wire, number_for, verdict_on}
+use Rattle.qmi_proxy.specs.Clients.{wire, number_for, decision_on}
 use Rattle.qmi_proxy.specs.FromModem.{is_answered_by}
 use Rattle.qmi_proxy.specs.History.{qmi_protocol, add_all, history}
 use Rattle.qmi_isolation.specs.Laws.{facts_before, due}
@@ -44,10 +45,10 @@ pub record IsQueued (c : ℕ) (m : List ℕ) (past after : List Fact) : Type 0 w
 -- these events may come, and then this piece of the client c comes; a message of it that is forwarded stands in the modem's queue once the whole piece was met
 -- No piece of a client loses the modem, and the modem takes nothing meanwhile; so nothing else is asked of the event.
 abbrev pub ForwardedRequestsAreQueued : Type 0
-ForwardedRequestsAreQueued = (s : Setup) (events : List Event) (c : ℕ) (piece : List ℕ) (earlier later : List (List ℕ)) (m : List ℕ)
+ForwardedRequestsAreQueued = (s : Setup) (events : List Event) (c : ℕ) (piece : List ℕ) (earlier later : List (List ℕ)) (m : List ℕ) (number : ℕ)
     → AreSound (qmi_protocol s) events → messages_of_piece size_of (stream c events) piece ≡ earlier ++ m ∷ later
     → is_present c (facts_before_saying s events c earlier) ≡ true
-    → verdict_on s c m (facts_before_saying s events c earlier) ≡ Forward
+    → decision_on s c m (facts_before_saying s events c earlier) ≡ Forwards number
     → IsQueued c m (facts_before_saying s events c earlier) (history s (Piece c piece ∷ events))
 
 -- ---- answers ----

@@ -1,9 +1,10 @@
 -- Which request in use a message of the modem answers.
-use Rattle.std.proofs.Common.{◌≡◌, ℕ, zero, Bool, true, false, ◌&&◌, ◌==◌, if◌then◌else◌, List, [], ◌∷◌, refl, ap, sym, ◌∙◌, subst, ⊎_elim, arith, Contains, Some}
+use Rattle.std.proofs.Common.{◌≡◌, ℕ, zero, Bool, true, false, ◌&&◌, ◌==◌, if◌then◌else◌, List, [], ◌∷◌, refl, ap, sym, ◌∙◌, ⊎_elim, arith, Contains, Some}
 use Rattle.std.proofs.lemmas.Bool.{eqb-true, eq-eqb, and_parts}
 use Rattle.qmux_frame.specs.Head.{service_of, client_of, number_of}
 use Rattle.proxy_history.specs.Facts.{Fact, Request}
 use Rattle.proxy_history.specs.Requests.{in_use}
+use Rattle.proxy_history.proofs.Found as found
 use Rattle.proxy_history.proofs.Lists.{Contains-cons, Contains-cons_cases, Contains-nil}
 use Rattle.qmi_proxy.specs.Spaces.{control_space, service_space, space_of}
 use Rattle.qmi_proxy.specs.FromModem.{is_answered_by, first_answered_by, IdChange, NoChange, Grants, Frees, brings_id, granted_unless, id_change, holder_of_brought}
@@ -42,17 +43,7 @@ first_is m (q ∷ list) r one at answers =
 
 -- a request that is found is one of them, and is answered
 pub found_is : (m : List ℕ) (list : List Request) (r : Request) → first_answered_by m list ≡ Some r → Contains list r × (is_answered_by m r ≡ true)
-found_is m [] r e = absurd (cc)
-found_is m (q ∷ list) r e =
-    let step : (b : Bool) → is_answered_by m q ≡ b → (if b then Some q else first_answered_by m list) ≡ Some r → Contains (q ∷ list) r × (is_answered_by m r ≡ true) =
-    λ b. elim b as (λ b. is_answered_by m q ≡ b → (if b then Some q else first_answered_by m list) ≡ Some r → Contains (q ∷ list) r × (is_answered_by m r ≡ true)) [
-      | true ↦ λ is same. subst (λ (x : Request). Contains (q ∷ list) x × (is_answered_by m x ≡ true)) (some_is same) ((zero, omega arith, refl), is)
-      | false ↦ λ isnt same. let rest = found_is m list r same in (Contains-cons r q list rest.0, rest.1)
-    ]
-    in step (is_answered_by m q) refl e
-  where
-    some_is : {x y : Request} → Some x ≡ Some y → x ≡ y
-    some_is e = cc
+found_is m list r e = found.found_is (is_answered_by m) list r e
 
 -- ---- the client id that an answer brings ----
 

@@ -11,7 +11,8 @@ use Rattle.qmux_frame.specs.Kind.{framed_kind}
 use Rattle.qmux_frame.specs.Control.{is_sync}
 use Rattle.qmux_frame.proofs.Framed.{framed_long, numbered_length}
 use Rattle.proxy_history.specs.Items.{Says, ModemSays, ModemFails}
-use Rattle.proxy_history.specs.Facts.{Fact, Request, Verdict, Own, Foreign, Away, Full, Forward, Ended, NoRoom, Aborted, Judged, Forwarded, Answered, IdHeld, Late, Indicated, Stray, Granted, Freed, Reset}
+use Rattle.proxy_history.specs.Facts.{Fact, Request, Verdict, Forward, Ended, NoRoom, Aborted, Judged, Forwarded, Answered, IdHeld, Late, Indicated, Stray, Granted, Freed, Reset}
+use Rattle.proxy_history.specs.Decision.{Decision, Replies, Forwards}
 use Rattle.proxy_history.specs.Connections.{present, message_count}
 use Rattle.proxy_history.specs.Requests.{in_use, pending, is_pending, last_number, of_space}
 use Rattle.proxy_history.specs.Modem.{to_modem, modem_drained, modem_queue}
@@ -20,7 +21,7 @@ use Rattle.proxy_history.specs.Noting.{receivers_of}
 use Rattle.proxy_history.specs.Noting as noting
 use Rattle.proxy_history.specs.View.{Entry, Sent, entry_if, view, sent_count, sent_at}
 use Rattle.proxy_history.specs.Sound.{IsPresent, IsParty, IsSound, IsFreeFor}
-use Rattle.proxy_history.specs.ClientIds.{held, is_other}
+use Rattle.proxy_history.specs.ClientIds.{held}
 use Rattle.proxy_history.specs.Adding.{MayAdd, MayRefuse, MayFinish, Adds, Soundly, AddsSoundly, IsOrderly}
 use Rattle.proxy_history.proofs.Lists.{Contains-filter_from}
 use Rattle.proxy_history.proofs.Sound.{each_contained, party_from_present, forwarded_from_in_use, waits}
@@ -33,12 +34,12 @@ use Rattle.qmi_proxy.specs.Limits.{qmi_limits, modem_outbox_limit}
 use Rattle.qmi_proxy.specs.Messages.{uses_id, used_service, used_client}
 use Rattle.qmi_proxy.specs.OwnReplies.{is_open}
 use Rattle.qmi_proxy.specs.Text.{qmi_wording, blank, view_of, note}
-use Rattle.qmi_proxy.specs.Clients.{holder_for, wire, has_room, number_for, forward, grant_if, judge, verdict_as, request_of}
+use Rattle.qmi_proxy.specs.Clients.{wire, has_room, forward, grant_if, judge, decision_as, request_of}
 use Rattle.qmi_proxy.specs.Asked.{IsNewestMessage}
 use Rattle.qmi_proxy.specs.FromModem.{IdChange, NoChange, Grants, Collides, Frees, id_change, holder_of_brought, answer, answer_or_late, respond, first_answered_by, in_expiry_order, refuse, abort_all, receivers, tell, indicate, hear_as}
 use Rattle.qmi_proxy.specs.History.{qmi_protocol}
 use Rattle.qmi_proxy.proofs.Answered.{found_is, change_free}
-use Rattle.qmi_proxy.proofs.Verdicts.{forward_needs, forwarded_ids_are_free, used_id_is_free}
+use Rattle.qmi_proxy.proofs.Verdicts.{CanGo, can_go, used_id_is_free}
 
 -- no other requests are refused than those that are to be
 pub only_those : (requests : List Request) (r : Request) → Contains (in_expiry_order requests) r → Contains requests r
@@ -101,27 +102,21 @@ module _ (s : Setup) where
     unfolding to_modem modem_drained
     finds_room n past framed room = let same = numbered_length n m (framed_long m framed) in grind (arith, nat_tests, room, same)
 
-    forwards : (number : Option ℕ) (past : List Fact) → IsPresent c past → number_for m past ≡ number → is_framed m ≡ true → has_room (length (modem_queue wire past)) m ≡ true → is_other c (holder_for m past) ≡ false
-        → AddsOf (MayAdd (Says c m)) (judged_now past) (forward s c m number (judged_now past))
+    forwards : (n : ℕ) (past : List Fact) → IsPresent c past → CanGo c m n past → AddsOf (MayAdd (Says c m)) (judged_now past) (forward s c m n (judged_now past))
     unfolding present in_use last_number held
-    forwards None past there is framed room free = none qmi_limits wording By (judged_now past)
-    forwards (Some n) past there is framed room free =
+    forwards n past there can =
         let before : List Fact = judged_now past in
         let request : Request = request_of s c m n before in
         further qmi_limits wording By before (Forwarded request ∷ before) _
-        (added qmi_limits wording By (Forwarded request) before refl (record { serial = refl; sender = party_from_present c past there; number = is }, inl refl, (finds_room n past framed room, newest n past there)))
-        (grants (uses_id m) (Forwarded request ∷ before) there (used_id_is_free c m past free))
+        (added qmi_limits wording By (Forwarded request) before refl (record { serial = refl; sender = party_from_present c past there; number = can.number }, inl refl, (finds_room n past can.framed can.room, newest n past there)))
+        (grants (uses_id m) (Forwarded request ∷ before) there (used_id_is_free c m past can.free))
 
-    judges : (opened : Bool) (verdict : Verdict) (past : List Fact) → IsPresent c past → verdict_as s opened c m past ≡ verdict → AddsOf (MayAdd (Says c m)) past (judge s c m (number_for m past) verdict past)
-    judges opened Own past there is = replied Own past there
-    judges opened Foreign past there is = replied Foreign past there
-    judges opened Away past there is = replied Away past there
-    judges opened Full past there is = replied Full past there
-    judges opened Forward past there is =
-        let needs = forward_needs s opened c m past is in
+    judges : (opened : Bool) (decision : Decision) (past : List Fact) → IsPresent c past → decision_as s opened c m past ≡ decision → AddsOf (MayAdd (Says c m)) past (judge s c m decision past)
+    judges opened (Replies verdict) past there is = replied verdict past there
+    judges opened (Forwards n) past there is =
         further qmi_limits wording By past (judged_now past) _
         (judged qmi_limits wording By c (message_count c past + 1) m Forward past (λ entries. refl) (there, (refl, refl), tt))
-        (forwards (number_for m past) past there refl needs.0 needs.1 (forwarded_ids_are_free s opened c m past is))
+        (forwards n past there (can_go s opened c m past n is))
 
   -- ---- the modem ----
 

@@ -1,5 +1,5 @@
 -- What a message of the modem, the clock and a loss add to the history. A list of facts has the newest first.
-use Rattle.std.specs.Prelude.{ℕ, Bool, true, false, not, ◌&&◌, ◌==◌, if◌then◌else◌, List, [], ◌∷◌, ◌++◌, filter, Option, Some, None}
+use Rattle.std.specs.Prelude.{ℕ, Bool, true, false, not, ◌&&◌, ◌==◌, if◌then◌else◌, List, ◌∷◌, ◌++◌, filter, Option, Some, None}
 use Rattle.qmux_frame.specs.declared.kind.MessageKind.{MessageKind}
 use Rattle.qmux_frame.specs.declared.kind.MessageKind.TheVariants as kind
 use Rattle.qmux_frame.specs.Head.{service_of, is_control, client_of, number_of}
@@ -7,7 +7,7 @@ use Rattle.qmux_frame.specs.Kind.{framed_kind}
 use Rattle.qmux_frame.specs.Control.{is_allocate, is_release, is_sync}
 use Rattle.proxy_history.specs.Facts.{Request, Fact, Answered, IdHeld, Late, Indicated, Stray, Granted, Freed, Reset}
 use Rattle.proxy_history.specs.Connections.{present}
-use Rattle.proxy_history.specs.Requests.{in_use, is_pending, of_space}
+use Rattle.proxy_history.specs.Requests.{first_where, in_use, is_pending, of_space}
 use Rattle.proxy_history.specs.ClientIds.{held, holder, is_other, is_holder, holds_some}
 use Rattle.proxy_history.specs.Unanswered as unanswered
 use Rattle.qmi_proxy.specs.Spaces.{control_space, service_space}
@@ -23,8 +23,7 @@ abbrev pub is_answered_by : List ℕ → Request → Bool
 is_answered_by m r = service_of r.message == service_of m && (client_of r.message == client_of m) && (r.number == number_of m)
 
 abbrev pub first_answered_by : List ℕ → List Request → Option Request
-first_answered_by m [] = None
-first_answered_by m (r ∷ requests) = if is_answered_by m r then Some r else first_answered_by m requests
+first_answered_by m requests = first_where (is_answered_by m) requests
 
 -- what an answer does to the client ids
 pub data IdChange : Type 0 where

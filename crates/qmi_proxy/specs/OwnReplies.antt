@@ -1,6 +1,6 @@
 -- The replies that a client's own view decides: no other client and nothing of the modem has a say in them. A view has the newest entry first.
 -- Source of the reply to a Proxy Open: `process_internal_proxy_open` in libqmi's src/libqmi-glib/qmi-proxy.c. The refusals are this proxy's own.
-use Rattle.std.specs.Prelude.{ℕ, Bool, false, not, ◌&&◌, ◌||◌, if◌then◌else◌, List, Option, Some, None}
+use Rattle.std.specs.Prelude.{ℕ, Bool, false, not, ◌&&◌, ◌||◌, if◌then◌else◌, List}
 use Rattle.qmux_frame.specs.Control.{is_sync, is_proxy_open}
 use Rattle.proxy_history.specs.Facts.{Verdict, Own}
 use Rattle.proxy_history.specs.View.{Entry, Sent}
@@ -8,16 +8,19 @@ use Rattle.proxy_history.specs.Wording.{told_by}
 use Rattle.qmi_proxy.specs.Errors.{no_error, malformed_message, internal, invalid_client_id}
 use Rattle.qmi_proxy.specs.Messages.{opens, is_malformed, has_bad_id}
 
--- the error of the reply, 0 for success, from whether the client has opened the device; None where what all clients share decides
-abbrev pub own_reply_of : List ℕ → Bool → List ℕ → Option ℕ
-own_reply_of device opened m =
-    if is_malformed m then Some malformed_message
-    else if opens device m then Some no_error
-    else if is_proxy_open m then Some internal
-    else if not opened then Some internal
-    else if is_sync m then Some no_error
-    else if has_bad_id m then Some invalid_client_id
-    else None
+-- the client's own view decides, from whether the client has opened the device; else what all clients share does
+abbrev pub view_decides : (opened : Bool) → (message : List ℕ) → Bool
+view_decides opened m = is_malformed m || is_proxy_open m || not opened || is_sync m || has_bad_id m
+
+-- the error of the reply, 0 for success: that of the first that fits, and of a bad client id where no other does
+abbrev pub own_error : (device : List ℕ) → (opened : Bool) → (message : List ℕ) → ℕ
+own_error device opened m =
+    if is_malformed m then malformed_message
+    else if opens device m then no_error
+    else if is_proxy_open m then internal
+    else if not opened then internal
+    else if is_sync m then no_error
+    else invalid_client_id
 
 -- the message opened the device
 abbrev pub is_opening : List ℕ → List ℕ → Verdict → Bool
@@ -32,7 +35,3 @@ step device opened _ = opened
 -- the client has opened the device
 abbrev pub is_open : List ℕ → List Entry → Bool
 is_open device entries = told_by false (step device) entries
-
--- the reply to a message that follows these entries
-abbrev pub own_reply : List ℕ → List Entry → List ℕ → Option ℕ
-own_reply device entries m = own_reply_of device (is_open device entries) m

@@ -3,7 +3,7 @@ ghost use Rattle.qmi_proxy.specs.Room.{NobodyThereIsOver, NoMoreWaitThanMay};
 ghost use Rattle.qmi_proxy.specs.Queue.{ModemBytesOnlyGrow, ModemTakesTheFirst, LossLeavesNone, NoMoreWaitForTheModemThanMay};
 ghost use Rattle.qmi_proxy.specs.Asked.{RequestsAreAsked};
 ghost use Rattle.qmi_proxy.specs.Regular.{HistoriesAreRegular};
-ghost use Rattle.qmi_proxy.specs.Verdicts.{OwnVerdictsHaveAReply, ForwardedHaveANumber};
+ghost use Rattle.qmi_proxy.specs.Verdicts.{OwnRepliesAreOfTheView, ForwardedHaveTheNextNumber, NoReplyIsForwarded};
 ghost use Rattle.qmi_proxy.specs.HungUp.{EventsHangUpTheirOwn};
 ghost use Rattle.qmi_proxy.specs.Refusals.{TheOrderLosesNone};
 ghost use Rattle.qmi_proxy.specs.Proxy.{ProxiesAreLawful};
@@ -67,11 +67,12 @@ pub fn modem_bytes_only_grow()
     ensures loss { LossLeavesNone }
 {}
 
-/// The law that a message that the client's own view decides has its reply, and that one that is
-/// forwarded has a number.
+/// The law that a reply is that of the client's own view exactly where this view decides, that what is
+/// forwarded goes under the next number and finds room, and that nothing goes without a number.
 pub fn verdicts_have_what_they_need()
-    ensures own { OwnVerdictsHaveAReply }
-    ensures forwarded { ForwardedHaveANumber }
+    ensures own { OwnRepliesAreOfTheView }
+    ensures forwarded { ForwardedHaveTheNextNumber }
+    ensures numbered { NoReplyIsForwarded }
 {}
 
 /// The law that an event adds its facts behind the one that begins it, and that the names to hang up

@@ -1,8 +1,9 @@
-use Rattle.qmi_proxy.proofs.Verdicts.{own_verdicts_have_a_reply, forwarded_have_a_number}
+use Rattle.qmi_proxy.proofs.Verdicts.{own_replies_are_of_the_view, forwarded_have_the_next_number, no_reply_is_forwarded}
 use Rattle.qmi_proxy.proofs.laws.verdicts_have_what_they_need.Goals as goal
 
 pub returns : goal.returns
 returns c = record {
-  own = own_verdicts_have_a_reply;
-  forwarded = forwarded_have_a_number;
+  own = own_replies_are_of_the_view;
+  forwarded = forwarded_have_the_next_number;
+  numbered = no_reply_is_forwarded;
 }

@@ -1,0 +1,18 @@
+use Rattle.std.proofs.Common.{◌≡◌, ℕ, Bool, true, false, nat_lt, if◌then◌else◌, length, Some, None, is_some, refl, ap}
+use Rattle.proxy_history.specs.Requests.{free_from}
+use Rattle.mbim_examples.proofs.answers.numbers_of_a_space.Goals as goal
+
+-- some number, where it is given
+found : (few : Bool) (number : ℕ) → few ≡ true → is_some (if few then Some number else None) ≡ true
+found true number is = refl
+found false number is = absurd (cc)
+
+pub returns : goal.returns
+unfolding free_from
+returns c = record {
+  full = λ used many. ap (λ (count : ℕ). if nat_lt count 256 then Some (free_from count 4294967295 used 8) else None) many;
+  nearly_full = λ used many. found (nat_lt (length used) 256) (free_from (length used) 4294967295 used 8) (ap (λ (count : ℕ). nat_lt count 256) many);
+  last = refl;
+  first = refl;
+  first_free = refl;
+}

@@ -1,0 +1,7 @@
+pub mod Story
+pub mod Openings
+pub mod Malformed
+pub mod Answers
+pub mod Fragments
+pub mod Lists
+pub mod Losses

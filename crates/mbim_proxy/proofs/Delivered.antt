@@ -1,0 +1,155 @@
+-- What is heard of messages, one after another.
+use Rattle.std.proofs.Common.{◌≡◌, ℕ, zero, suc, ◌+◌, ◌-◌, ◌^◌, ◌<◌, ◌≤◌, nat_le, ◌==◌, ◌&&◌, Bool, true, false, if◌then◌else◌, List, [], ◌∷◌, ◌++◌, length, replicate, refl, ap, ap₂, sym, ◌∙◌, subst, arith, append_assoc}
+use Rattle.std.specs.List.{AllByRecursion}
+use Rattle.std.proofs.lemmas.Bool.{eq-eqb, and_from}
+use Rattle.std.proofs.lemmas.Bool.Decides.{nat_tests}
+use Rattle.std.proofs.lemmas.List.Elements.{recursion_from_All}
+use Rattle.std.proofs.lemmas.List.FromFn.{length-map-range_with_len, get_or-map-range_with_len}
+use Rattle.mbim_frame.specs.declared.head.MHead.{MHead}
+use Rattle.mbim_frame.specs.declared.writing.NewFragment.{NewFragment}
+use Rattle.mbim_frame.specs.declared.kind.MessageKind.{MessageKind}
+use Rattle.mbim_frame.specs.declared.kind.MessageKind.TheVariants.{CommandDone, IndicateStatus}
+use Rattle.mbim_frame.specs.Frame.{mbim_cut}
+use Rattle.mbim_frame.specs.Head.{kind_of, number_of}
+use Rattle.mbim_frame.specs.Kinds.{kind_number}
+use Rattle.mbim_frame.specs.Writing.{fragment_text, unsplit}
+use Rattle.mbim_fragments.specs.Runs.{More, Whole, joining, run_after, run_from, joinings_from}
+use Rattle.mbim_fragments.specs.Splitting.{part_count, part_at, piece_at, pieces, split}
+use Rattle.mbim_fragments.proofs.Pieces.{piece_reads, pieces_give_the_body}
+use Rattle.mbim_fragments.proofs.Cutting.{pieces_are_cut}
+use Rattle.mbim_proxy.specs.Delivering.{Runs, no_runs, is_fragment, heard_whole, heard_with, runs_after, heard_from, runs_from, deliver}
+use Rattle.mbim_proxy.specs.Delivered.{AreHeardAs, FragmentsAreHeardWhole}
+
+pub heard_goes_on : (longest : ℕ) (runs : Runs) (messages more : List (List ℕ)) → heard_from longest runs (messages ++ more) ≡ heard_from longest runs messages ++ heard_from longest (runs_from longest runs messages) more
+unfolding heard_from runs_from
+heard_goes_on longest runs [] more = refl
+heard_goes_on longest runs (m ∷ messages) more =
+    let after : Runs = runs_after longest runs m in
+    ap (λ (l : List (List ℕ)). heard_with longest runs m ++ l) (heard_goes_on longest after messages more)
+    ∙ sym (append_assoc (heard_with longest runs m) (heard_from longest after messages) (heard_from longest (runs_from longest after messages) more))
+
+-- ---- the fragments of one message ----
+
+-- a fragment of this kind and number
+record IsFragment (kind number : ℕ) (m : List ℕ) : Type 0 where
+  kind_is : kind_of m ≡ kind
+  number_is : number_of m ≡ number
+  has_heads : nat_le 20 (length m) ≡ true
+
+first_is : {X : Type 0} (x y : X) (xs ys : List X) → x ∷ xs ≡ y ∷ ys → x ≡ y
+first_is x y xs ys same = cc
+
+rest_is : {X : Type 0} (x y : X) (xs ys : List X) → x ∷ xs ≡ y ∷ ys → xs ≡ ys
+rest_is x y xs ys same = cc
+
+long_enough : (f : NewFragment) (part : List ℕ) → nat_le 20 (length (fragment_text f part)) ≡ true
+long_enough f part = let long : 20 ≤ length (fragment_text f part) = omega arith in grind (arith, nat_tests, long)
+
+-- `runs_with` has the fragments of this kind, and those of the other kind none
+module _ (longest kind number : ℕ) (runs_with : List (List ℕ) → Runs)
+    (hears : (run : List (List ℕ)) (m : List ℕ) → IsFragment kind number m → heard_with longest (runs_with run) m ≡ heard_whole m (joining longest run m))
+    (leaves : (run : List (List ℕ)) (m : List ℕ) → IsFragment kind number m → runs_after longest (runs_with run) m ≡ runs_with (run_after longest run m)) where
+  all_heard : (body : List ℕ) (count : ℕ) (run messages : List (List ℕ)) → AllByRecursion (IsFragment kind number) messages
+      → joinings_from longest run messages ≡ replicate count More ++ Whole body ∷ [] → heard_from longest (runs_with run) messages ≡ unsplit kind number body ∷ []
+  unfolding heard_from joinings_from
+  all_heard body zero run [] are joined = absurd (cc)
+  all_heard body (suc count) run [] are joined = absurd (cc)
+  all_heard body zero run (m ∷ []) are joined =
+      let whole : joining longest run m ≡ Whole body = first_is (joining longest run m) (Whole body) [] [] joined in
+      ap (λ (heard : List (List ℕ)). heard ++ []) (hears run m are.0 ∙ ap (heard_whole m) whole)
+      ∙ ap (λ (k : ℕ). unsplit k (number_of m) body ∷ []) are.0.kind_is
+      ∙ ap (λ (n : ℕ). unsplit kind n body ∷ []) are.0.number_is
+  all_heard body zero run (m ∷ next ∷ messages) are joined =
+      absurd (let clash : joinings_from longest (run_after longest run m) (next ∷ messages) ≡ [] = rest_is (joining longest run m) (Whole body) _ [] joined in cc)
+  all_heard body (suc count) run (m ∷ messages) are joined =
+      let more : joining longest run m ≡ More = first_is (joining longest run m) More _ _ joined in
+      let rest = rest_is (joining longest run m) More _ _ joined in
+      ap₂ (λ (heard : List (List ℕ)) (runs : Runs). heard ++ heard_from longest runs messages) (hears run m are.0 ∙ ap (heard_whole m) more) (leaves run m are.0)
+      ∙ all_heard body count (run_after longest run m) messages are.1 rest
+
+  all_left : (run messages : List (List ℕ)) → AllByRecursion (IsFragment kind number) messages → runs_from longest (runs_with run) messages ≡ runs_with (run_from longest run messages)
+  unfolding runs_from run_from
+  all_left run [] are = refl
+  all_left run (m ∷ messages) are = ap (λ (runs : Runs). runs_from longest runs messages) (leaves run m are.0) ∙ all_left (run_after longest run m) messages are.1
+
+  all_heard_as : (max : ℕ) (body : List ℕ) → runs_with [] ≡ no_runs → kind < 2 ^ 32 → number < 2 ^ 32 → 64 ≤ max → max ≤ 4096 → length body ≤ longest → length body < 2 ^ 32
+      → AreHeardAs longest (mbim_cut (split kind number max body)).messages (unsplit kind number body)
+  all_heard_as max body empty kind_fits number_fits least most fits short =
+      let size = max - 20 in
+      let total = part_count size (length body) in
+      let piece = piece_at kind number size body in
+      let fragments : List (List ℕ) = pieces kind number max body in
+      let given = pieces_give_the_body longest kind number max body kind_fits number_fits least most fits short in
+      let cut : (mbim_cut (split kind number max body)).messages ≡ fragments = ap (λ c. c.messages) (pieces_are_cut kind number max body kind_fits number_fits least most short) in
+      let reads : (place : ℕ) → place < total → IsFragment kind number (piece place) =
+      λ place inside.
+      let back = piece_reads kind number size body kind_fits number_fits (omega (arith, least)) (omega (arith, most)) short place inside in
+      record {
+        kind_is = ap (λ (h : MHead). h.kind) back.head;
+        number_is = ap (λ (h : MHead). h.number) back.head;
+        has_heads = long_enough (record { kind = kind; number = number; total = total; current = place }) (part_at size body place);
+      }
+      in
+      let are : AllByRecursion (IsFragment kind number) fragments =
+      recursion_from_All (IsFragment kind number) fragments
+      (λ place other within.
+      let inside : place < total = subst (λ (n : ℕ). place < n) (length-map-range_with_len piece 0 total) within in
+      subst (IsFragment kind number) (sym (get_or-map-range_with_len piece 0 total place place other inside (omega arith))) (reads place inside))
+      in
+      record {
+        heard =
+            ap (λ (messages : List (List ℕ)). deliver longest messages) cut
+            ∙ ap (λ (runs : Runs). heard_from longest runs fragments) (sym empty)
+            ∙ all_heard body (length fragments - 1) [] fragments are given.each;
+        closed =
+            ap (λ (messages : List (List ℕ)). runs_from longest no_runs messages) cut
+            ∙ ap (λ (runs : Runs). runs_from longest runs fragments) (sym empty)
+            ∙ all_left [] fragments are
+            ∙ ap runs_with given.closed
+            ∙ empty;
+      }
+
+-- ---- the two kinds ----
+
+of_kind : (kind : MessageKind) (number : ℕ) (m : List ℕ) → IsFragment (kind_number kind) number m → is_fragment kind m ≡ true
+of_kind kind number m is = and_from (kind_of m == kind_number kind) (nat_le 20 (length m)) (eq-eqb (kind_of m) (kind_number kind) is.kind_is) is.has_heads
+
+-- it isn't of another kind
+of_no_other : (kind other : MessageKind) (number : ℕ) (m : List ℕ) → (kind_number kind == kind_number other) ≡ false → IsFragment (kind_number kind) number m → is_fragment other m ≡ false
+of_no_other kind other number m differ is =
+    ap (λ (k : ℕ). k == kind_number other && nat_le 20 (length m)) is.kind_is ∙ ap (λ (b : Bool). b && nat_le 20 (length m)) differ
+
+abbrev answers_alone : List (List ℕ) → Runs
+answers_alone run = record { answers = run; indications = [] }
+
+abbrev indications_alone : List (List ℕ) → Runs
+indications_alone run = record { answers = []; indications = run }
+
+module _ (longest number : ℕ) (run : List (List ℕ)) (m : List ℕ) where
+  hears_answer : IsFragment (kind_number CommandDone) number m → heard_with longest (answers_alone run) m ≡ heard_whole m (joining longest run m)
+  hears_answer is =
+      ap (λ (b : Bool). if b then heard_whole m (joining longest run m) else if is_fragment IndicateStatus m then heard_whole m (joining longest [] m) else m ∷ [])
+      (of_kind CommandDone number m is)
+
+  leaves_answers : IsFragment (kind_number CommandDone) number m → runs_after longest (answers_alone run) m ≡ answers_alone (run_after longest run m)
+  leaves_answers is =
+      ap₂ (λ (answer indication : Bool). let runs : Runs = record { answers = if answer then run_after longest run m else run; indications = if indication then run_after longest [] m else [] } in runs)
+      (of_kind CommandDone number m is) (of_no_other CommandDone IndicateStatus number m refl is)
+
+  hears_indication : IsFragment (kind_number IndicateStatus) number m → heard_with longest (indications_alone run) m ≡ heard_whole m (joining longest run m)
+  hears_indication is =
+      ap₂ (λ (answer indication : Bool). if answer then heard_whole m (joining longest [] m) else if indication then heard_whole m (joining longest run m) else m ∷ [])
+      (of_no_other IndicateStatus CommandDone number m refl is) (of_kind IndicateStatus number m is)
+
+  leaves_indications : IsFragment (kind_number IndicateStatus) number m → runs_after longest (indications_alone run) m ≡ indications_alone (run_after longest run m)
+  leaves_indications is =
+      ap₂ (λ (answer indication : Bool). let runs : Runs = record { answers = if answer then run_after longest [] m else []; indications = if indication then run_after longest run m else run } in runs)
+      (of_no_other IndicateStatus CommandDone number m refl is) (of_kind IndicateStatus number m is)
+
+pub answers_are_heard_whole : FragmentsAreHeardWhole CommandDone
+answers_are_heard_whole longest number max body number_fits least most fits short =
+    all_heard_as longest (kind_number CommandDone) number answers_alone (hears_answer longest number) (leaves_answers longest number) max body refl (omega arith) number_fits least most fits short
+
+pub indications_are_heard_whole : FragmentsAreHeardWhole IndicateStatus
+indications_are_heard_whole longest number max body number_fits least most fits short =
+    all_heard_as longest (kind_number IndicateStatus) number indications_alone (hears_indication longest number) (leaves_indications longest number) max body refl (omega arith) number_fits least most fits short

@@ -1,0 +1,98 @@
+-- The definitions of an MBIM proxy keep the rules by which it can be served.
+use Rattle.std.proofs.Common.{◌≡◌, ℕ, ◌≤◌, Bool, true, false, not, ◌==◌, nat_lt, if◌then◌else◌, List, [], ◌∷◌, ◌++◌, length, refl, ap, ◌∙◌, arith, length-append, Option, Some, None}
+use Rattle.std.proofs.lemmas.Bool.{eq-eqb, and_parts}
+use Rattle.std.proofs.lemmas.Bool.Decides.{nat_tests}
+use Rattle.std.proofs.lemmas.List.{length-drop}
+use Rattle.std.specs.Option.{option_cmp}
+use Rattle.std.specs.declared.cmp.Ordering.{Ordering}
+use Rattle.std.specs.declared.cmp.Ordering.TheVariants.{Equal}
+use Rattle.std.specs.Ordering.{nat_cmp, ordering_then, is_eq}
+use Rattle.std.specs.Cmp.Lexicographic.{slice_cmp}
+use Rattle.kit_bytes.specs.Subscriptions.{Pair, pair_cmp}
+use Rattle.proxy_history.specs.Facts.{Fact, Request, EventBegan, Forwarded, ListSent, ModemDrained}
+use Rattle.proxy_history.specs.Connections.{present}
+use Rattle.proxy_history.specs.Modem.{to_modem, modem_drained}
+use Rattle.proxy_history.specs.View.{view}
+use Rattle.proxy_history.specs.Proxy.{IsLawful}
+use Rattle.proxy_history.specs.Lawful.{backlog}
+use Rattle.proxy_history.proofs.Lawful.{proxy_is_lawful}
+use Rattle.mbim_proxy.specs.Setup.{Setup}
+use Rattle.mbim_services.specs.SubscribeLists.{is_same_list}
+use Rattle.mbim_proxy.specs.Lists.{merged, last_list}
+use Rattle.mbim_proxy.specs.Forwarding.{wire, wire_of, own_subscribe, number_for, request_of, forward}
+use Rattle.mbim_proxy.specs.OwnList.{is_free, is_wanted, number_of_list, send_under}
+use Rattle.mbim_proxy.specs.History.{mbim_protocol}
+use Rattle.mbim_proxy.specs.Proxy.{own_bytes, proxy_of}
+use Rattle.mbim_proxy.proofs.Lengths.{wire_length}
+use Rattle.mbim_proxy.proofs.Verdicts.{given_if}
+use Rattle.mbim_proxy.proofs.Walk.{Asks, orderly}
+
+-- ---- a list is the same as itself ----
+
+itself : {X : Type 0} (R : X → X → Ordering) → ((x : X) → R x x ≡ Equal) → (xs : List X) → slice_cmp R xs xs ≡ Equal
+itself R each [] = refl
+itself R each (x ∷ xs) = ap (λ (o : Ordering). ordering_then o (slice_cmp R xs xs)) (each x) ∙ itself R each xs
+
+nat_itself : (x : ℕ) → nat_cmp x x ≡ Equal
+nat_itself x =
+    let less : nat_lt x x ≡ false = grind (arith, nat_tests) in
+    let same : (x == x) ≡ true = eq-eqb x x refl in
+    rw (less, same) refl
+
+cid_itself : (o : Option ℕ) → option_cmp nat_cmp o o ≡ Equal
+cid_itself None = refl
+cid_itself (Some x) = nat_itself x
+
+pair_itself : (pair : Pair) → pair_cmp pair pair ≡ Equal
+pair_itself pair = ap (λ (o : Ordering). ordering_then o (option_cmp nat_cmp pair.1 pair.1)) (itself nat_cmp nat_itself pair.0) ∙ cid_itself pair.1
+
+list_itself : (list : List Pair) → is_same_list list list ≡ true
+list_itself list = ap is_eq (itself pair_cmp pair_itself list)
+
+-- ---- what it may still ask by itself ----
+
+module _ (s : Setup) where
+  abbrev own_if : Bool → List Pair → ℕ
+  own_if same list = if same then 0 else length (wire_of s 0 (own_subscribe list))
+
+  abbrev own : List Fact → ℕ
+  own past = own_bytes s past
+
+  abbrev total : List Fact → ℕ
+  total past = backlog (mbim_protocol s) own past
+
+  begun : (past : List Fact) → own (EventBegan ∷ past) ≡ own past
+  unfolding view present last_list
+  begun past = refl
+
+  taken : (count : ℕ) (past : List Fact) → own (ModemDrained count ∷ past) ≡ own past
+  unfolding view present last_list
+  taken count past = refl
+
+  none_left : (past : List Fact) (r : Request) → own (ListSent (merged s past) ∷ Forwarded r ∷ past) ≡ 0
+  unfolding view present last_list
+  none_left past r = ap (λ (b : Bool). own_if b (merged s past)) (list_itself (merged s past))
+
+  forwarded : (past : List Fact) (n : ℕ) → is_same_list (merged s past) (last_list past) ≡ false
+      → total (ListSent (merged s past) ∷ forward s 0 (own_subscribe (merged s past)) n past) ≤ total past
+  unfolding to_modem modem_drained
+  forwarded past n differs =
+      let r : Request = request_of s 0 (own_subscribe (merged s past)) n past in
+      let before : own past ≡ length (wire_of s 0 (own_subscribe (merged s past))) = ap (λ (b : Bool). own_if b (merged s past)) differs in
+      let all : List ℕ = to_modem (wire s) past in
+      let bytes : List ℕ = wire_of s n (own_subscribe (merged s past)) in
+      omega (arith, none_left past r, before, wire_length s n 0 (own_subscribe (merged s past)), length-drop (modem_drained past) (all ++ bytes), length-drop (modem_drained past) all, length-append all bytes)
+
+  sends : (number : Option ℕ) (past : List Fact) → number_of_list s (merged s past) past ≡ number → total (send_under s (merged s past) number past) ≤ total past
+  sends None past is = omega arith
+  sends (Some n) past is =
+      let list : List Pair = merged s past in
+      let given = given_if (is_wanted s list past) (number_for s (own_subscribe list) past) n is in
+      forwarded past n (isnt (is_same_list list (last_list past)) (and_parts (is_free s past) (not (is_same_list list (last_list past))) given.0).1)
+    where
+      isnt : (b : Bool) → not b ≡ true → b ≡ false
+      isnt true e = absurd (cc)
+      isnt false e = refl
+
+  pub proxies_are_lawful : IsLawful (proxy_of s)
+  proxies_are_lawful = proxy_is_lawful (mbim_protocol s) (Asks s) (orderly s) own (record { begun = begun; taken = taken; asked = λ past sound. sends _ past refl })

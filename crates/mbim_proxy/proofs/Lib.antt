@@ -1,0 +1,12 @@
+pub mod Lengths
+pub mod Waiting
+pub mod Verdicts
+pub mod Walk
+pub mod Sound
+pub mod Queue
+pub mod Delivered
+pub mod SameLists
+pub mod Merging
+pub mod Takings
+pub mod Lawful
+pub mod Named
