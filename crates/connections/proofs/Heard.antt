@@ -54,7 +54,8 @@ module _ {T S : Type 0} (hears : Hearer T S) (name : ℕ) where
   pub over_one : (m : List ℕ) (messages : List (List ℕ)) (client : T) (outbox : Queue) (beside : S) → false ≡ (hears name m client outbox beside).has_room → hears name m client outbox beside ≡ hears_all hears name (m ∷ messages) client outbox beside
   over_one m messages client outbox beside over = sym (more m messages client outbox beside false (sym over))
 
-  -- all are heard
-  pub heard_none : (client : T) (outbox : Queue) (beside : S) → record { client = client; outbox = outbox; beside = beside; has_room = true } ≡ hears_all hears name [] client outbox beside
+  -- bytes that begin with no whole message have all been heard
+  pub heard_out : (size : List ℕ → Size) (rest : List ℕ) (client : T) (outbox : Queue) (beside : S) → cut size rest ≡ record { messages = []; rest = rest }
+      → record { client = client; outbox = outbox; beside = beside; has_room = true } ≡ hears_all hears name (cut size rest).messages client outbox beside
   unfolding hears_all
-  heard_none client outbox beside = refl
+  heard_out size rest client outbox beside none = sym (ap (λ (k : Cutting). hears_all hears name k.messages client outbox beside) none)

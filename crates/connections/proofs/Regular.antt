@@ -1,5 +1,5 @@
 -- A table stays regular.
-use Rattle.std.proofs.Common.{◌≡◌, ℕ, zero, suc, ◌<◌, ◌≤◌, List, [], ◌∷◌, ◌++◌, length, get_or, set, ◌∙◌, arith, length-append}
+use Rattle.std.proofs.Common.{◌≡◌, ℕ, zero, suc, ◌<◌, ◌≤◌, List, [], ◌∷◌, ◌++◌, length, get_or, set, ap, ◌∙◌, arith, length-append}
 use Rattle.std.specs.List.{AllByRecursion, remove}
 use Rattle.std.proofs.lemmas.List.{length-set}
 use Rattle.kit_bytes.specs.Sorted.{IsInOrder}
@@ -21,7 +21,7 @@ module _ {T : Type 0} where
   fewer (k ∷ present) zero = omega arith
   fewer (k ∷ present) (suc place) = omega (arith, fewer present place)
 
-  module _ (t : Table T) (r : IsRegular t) where
+  module _ {t : Table T} (r : IsRegular t) where
     known_below : (name : ℕ) → t.greatest < name → AllByRecursion (λ (k : Connection T). k.name ≤ name) t.present
     known_below name above = all_weaker (λ (k : Connection T). k.name ≤ t.greatest) (λ (k : Connection T). k.name ≤ name) (λ k low. omega arith) t.present r.known
 
@@ -46,13 +46,16 @@ module _ {T : Type 0} where
       few = omega (arith, fewer t.present place, r.few);
     }
 
-    -- one changes, and keeps its name and its capacity
-    pub regular_set : (place : ℕ) (k d : Connection T) → k.name ≡ (get_or t.present place d).name → k.outbox.capacity ≡ (get_or t.present place d).outbox.capacity → IsRegular (table (set t.present place k) t.dropped t.greatest t.limit t.room)
-    regular_set place k d named capacity = record {
+    -- the one of a place changes, and keeps its name and its capacity
+    pub regular_set : (place : ℕ) (k now : Connection T) → k ≡ get_or t.present place k → now.name ≡ k.name → now.outbox.capacity ≡ k.outbox.capacity → IsRegular (table (set t.present place now) t.dropped t.greatest t.limit t.room)
+    regular_set place k now at named capacity = record {
       rising =
-          in_order_set (λ (k l : Connection T). k.name < l.name) t.present place k d
-          (λ l after. omega (arith, named, after)) (λ l before. omega (arith, named, before)) r.rising;
-      known = all_set (λ (l : Connection T). l.name ≤ t.greatest) t.present place k d (λ low. omega (arith, named, low)) r.known;
-      rooms = all_set (λ (l : Connection T). l.outbox.capacity ≡ t.room) t.present place k d (λ same. capacity ∙ same) r.rooms;
-      few = omega (arith, length-set t.present place k, r.few);
+          in_order_set (λ (k l : Connection T). k.name < l.name) t.present place now k
+          (λ l after. omega (arith, name_is, after)) (λ l before. omega (arith, name_is, before)) r.rising;
+      known = all_set (λ (l : Connection T). l.name ≤ t.greatest) t.present place now k (λ low. omega (arith, name_is, low)) r.known;
+      rooms = all_set (λ (l : Connection T). l.outbox.capacity ≡ t.room) t.present place now k (λ same. capacity ∙ ap (λ (l : Connection T). l.outbox.capacity) at ∙ same) r.rooms;
+      few = omega (arith, length-set t.present place now, r.few);
     }
+      where
+        name_is : now.name ≡ (get_or t.present place k).name
+        name_is = named ∙ ap (λ (l : Connection T). l.name) at

@@ -2,7 +2,7 @@
 use Rattle.std.proofs.Common.{◌≡◌, ℕ, zero, suc, ◌<◌, Bool, true, false, List, [], ◌∷◌, ◌++◌, length, get_or, set, ap, sym, ◌∙◌, arith, nat_lt, Option, Some, None, is_some, refl}
 use Rattle.std.specs.List.{position, remove}
 use Rattle.std.proofs.lemmas.Bool.Decides.{nat_tests}
-use Rattle.std.proofs.lemmas.List.{get_or_default}
+use Rattle.std.proofs.lemmas.List.{get_or_default, get_or-set_same}
 use Rattle.framing.specs.declared.framing.Size.{Size}
 use Rattle.outbox.specs.Queue.{Queue, has_room}
 use Rattle.connections.specs.Table.{Connection, Dropped, Table, connection_in, without, joined, joins, joins_if, leaves, gets, puts, puts_if, tells, tells_to, tells_if, finds_room, took, collects, left_for, waiting_or, queue_of}
@@ -10,7 +10,7 @@ use Rattle.connections.specs.Table.{with_client}
 use Rattle.connections.specs.Table as words
 use Rattle.connections.specs.Places.{drops_at}
 use Rattle.connections.specs.Hearing.{Hearing, Hearer, hearing_of, goes_on, heard, brings, brings_to, brings_if}
-use Rattle.connections.proofs.Named.{is_named, found_at, name_is, changed_at, gone_at, changed_none, without_none, none_found}
+use Rattle.connections.proofs.Named.{is_named, inside, found_at, name_is, changed_at, gone_at, changed_none, without_none, none_found}
 use Rattle.connections.proofs.Regular.{table}
 
 set_same : {X : Type 0} (xs : List X) (i : ℕ) (x : X) → x ≡ get_or xs i x → set xs i x ≡ xs
@@ -27,7 +27,7 @@ module _ {T : Type 0} where
   abbrev pub with_present : Table T → List (Connection T) → Table T
   with_present t present = table present t.dropped t.greatest t.limit t.room
 
-  module _ (t old : Table T) (was : t ≡ old) where
+  module _ {t old : Table T} (was : t ≡ old) where
     -- ---- one joins ----
 
     pub joined_is : (name : ℕ) (client : T) (after : List (Connection T)) (k : Connection T) (capacity : ℕ) → length t.present < t.limit → after ≡ t.present ++ k ∷ [] → k ≡ joined name client capacity → capacity ≡ t.room
@@ -55,7 +55,10 @@ module _ {T : Type 0} where
 
     -- ---- the one of a name, or none ----
 
-    module _ (name place : ℕ) (is : Some place ≡ position (is_named name) t.present) (k : Connection T) (at : k ≡ get_or t.present place k) where
+    module _ (name place : ℕ) (stands : Some place ≡ position (is_named name) old.present) (k : Connection T) (at : k ≡ get_or t.present place k) where
+      is : Some place ≡ position (is_named name) t.present
+      is = stands ∙ sym (ap (λ (o : Table T). position (is_named name) o.present) was)
+
       found : connection_in name t.present ≡ Some k
       found = found_at name t.present place is k at
 
@@ -71,6 +74,13 @@ module _ {T : Type 0} where
 
       pub queue_is : queue_of name old ≡ k.outbox.bytes
       queue_is = sym (ap (queue_of name) was) ∙ ap (waiting_or (left_for name t.dropped)) found
+
+      -- it is dropped as it is now
+      module _ (now : Connection T) (after : Table T) (drops : (m : Connection T) → m ≡ get_or (set t.present place now) place m → after ≡ drops_at place m (with_present t (set t.present place now))) where
+        gone_is : after ≡ table (without name t.present) (t.dropped ++ record { name = now.name; outbox = Some now.outbox } ∷ []) t.greatest t.limit t.room
+        gone_is =
+            drops now (sym (get_or-set_same t.present place now now (inside name t.present place is now)))
+            ∙ ap (λ (l : List (Connection T)). table l (t.dropped ++ record { name = now.name; outbox = Some now.outbox } ∷ []) t.greatest t.limit t.room) (remove_set t.present place now ∙ sym (gone_at name t.present place is k at))
 
       -- bytes for it
       module _ (bytes : List ℕ) (now : Connection T) (now_is : now ≡ puts bytes k) where
@@ -89,10 +99,9 @@ module _ {T : Type 0} where
         unchanged : has_room bytes k.outbox ≡ false → now ≡ k
         unchanged room = now_is ∙ ap (λ (b : Bool). puts_if b bytes k) room
 
-        pub untold_is : has_room bytes k.outbox ≡ false → (after : Table T) → after ≡ drops_at place now (with_present t (set t.present place now)) → (after ≡ tells name bytes old) × (false ≡ finds_room bytes (connection_in name old.present))
-        untold_is room after after_is = (
-          after_is
-              ∙ ap (λ (l : List (Connection T)). table l (t.dropped ++ record { name = now.name; outbox = Some now.outbox } ∷ []) t.greatest t.limit t.room) (remove_set t.present place now ∙ sym (gone_at name t.present place is k at))
+        pub untold_is : has_room bytes k.outbox ≡ false → (after : Table T) → ((m : Connection T) → m ≡ get_or (set t.present place now) place m → after ≡ drops_at place m (with_present t (set t.present place now))) → (after ≡ tells name bytes old) × (false ≡ finds_room bytes (connection_in name old.present))
+        untold_is room after drops = (
+          gone_is now after drops
               ∙ ap (λ (m : Connection T). table (without name t.present) (t.dropped ++ record { name = m.name; outbox = Some m.outbox } ∷ []) t.greatest t.limit t.room) (unchanged room)
               ∙ ap (λ (n : ℕ). table (without name t.present) (t.dropped ++ record { name = n; outbox = Some k.outbox } ∷ []) t.greatest t.limit t.room) (sym (name_is name t.present place is k at))
               ∙ tells_is false room,
@@ -118,11 +127,10 @@ module _ {T : Type 0} where
             ap (λ b. b.goes_on) (brings_is true (sym on)),
           )
 
-          pub brought_off : false ≡ goes_on size h piece k → now.name ≡ k.name → now.outbox ≡ h.outbox → (after : Table T) → after ≡ drops_at place now (with_present t (set t.present place now))
+          pub brought_off : false ≡ goes_on size h piece k → now.name ≡ k.name → now.outbox ≡ h.outbox → (after : Table T) → ((m : Connection T) → m ≡ get_or (set t.present place now) place m → after ≡ drops_at place m (with_present t (set t.present place now)))
               → (after ≡ (brings size hears name piece old beside).table) × (next ≡ (brings size hears name piece old beside).beside) × (false ≡ (brings size hears name piece old beside).goes_on)
-          brought_off off named outbox after after_is = (
-            after_is
-                ∙ ap (λ (l : List (Connection T)). table l (t.dropped ++ record { name = now.name; outbox = Some now.outbox } ∷ []) t.greatest t.limit t.room) (remove_set t.present place now ∙ sym (gone_at name t.present place is k at))
+          brought_off off named outbox after drops = (
+            gone_is now after drops
                 ∙ ap (λ (n : ℕ). table (without name t.present) (t.dropped ++ record { name = n; outbox = Some now.outbox } ∷ []) t.greatest t.limit t.room) (named ∙ sym (name_is name t.present place is k at))
                 ∙ ap (λ (q : Queue). table (without name t.present) (t.dropped ++ record { name = name; outbox = Some q } ∷ []) t.greatest t.limit t.room) outbox
                 ∙ ap (λ b. b.table) (brings_is false (sym off)),

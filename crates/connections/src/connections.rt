@@ -41,13 +41,15 @@ impl<F: Framing, T> Model for Connections<F, T> {
 
     ghost invariant = { λ c. record {
       regular : IsRegular (record { present = c.present.items; dropped = c.dropped.items; greatest = c.greatest; limit = c.limit; room = c.room });
-      left : HaveRoom c.room c.dropped.items;
-      free : AllByRecursion (λ p. p.outbox.capacity ≡ c.room) c.free.items;
-      places : vec_len c.present + places_in c.dropped.items + vec_len c.free ≡ c.limit;
-      few : vec_len c.present + vec_len c.dropped ≤ c.limit + 1;
-      present_room : c.limit ≤ vec_capacity c.present;
-      dropped_room : c.limit + 1 ≤ vec_capacity c.dropped;
-      free_room : c.limit ≤ vec_capacity c.free;
+      places : record {
+        left : HaveRoom c.room c.dropped.items;
+        free : AllByRecursion (λ p. p.outbox.capacity ≡ c.room) c.free.items;
+        count : vec_len c.present + places_in c.dropped.items + vec_len c.free ≡ c.limit;
+        few : vec_len c.present + vec_len c.dropped ≤ c.limit + 1;
+        present_room : c.limit ≤ vec_capacity c.present;
+        dropped_room : c.limit + 1 ≤ vec_capacity c.dropped;
+        free_room : c.limit ≤ vec_capacity c.free;
+      };
     } };
 }
 

@@ -84,6 +84,7 @@ impl Outbox {
     }
 
     /// Adds all bytes of both runs, one run behind the other, or none where they find no room.
+    #[inline(always)]
     pub fn queue_both(&mut self, head: &[u8], rest: &[u8]) -> bool
         ensures fits { result ≡ has_room (head.now ++ rest.now) self.old }
         ensures queue { self.new ≡ queues (head.now ++ rest.now) self.old }
@@ -128,6 +129,7 @@ impl Outbox {
 }
 
 // Appends both runs of bytes, one behind the other.
+#[inline(always)]
 fn append_both(bytes: &mut Vec<u8>, head: &[u8], rest: &[u8])
     requires { vec_len bytes.old + (length head.now + length rest.now) ≤ vec_capacity bytes.old }
     ensures items { bytes.new.items ≡ bytes.old.items ++ (head.now ++ rest.now) }
@@ -155,6 +157,8 @@ fn make_room(bytes: &mut Vec<u8>, start: usize, count: usize) -> usize
 }
 
 // Drops the first so many bytes.
+#[cold]
+#[inline(never)]
 fn drop_front(bytes: &mut Vec<u8>, count: usize)
     requires { count ≤ vec_len bytes.old }
     ensures items { bytes.new.items ≡ drop count bytes.old.items }

@@ -27,6 +27,17 @@ module _ {C : Type 0} {keeps : Proxy → List Event → C → Type 0} {face : C 
   none_due : (face server.core).dropped ≡ [] → hang_ups calls ≡ due_hang_ups p calls
   none_due before = ap (λ (l : List ℕ). reverse l ++ hang_ups calls) (sym before) ∙ going.hangs_up
 
+  -- the core is as it was: it stands for the same events, and as many are still to be hung up
+  same_stands : (now : Server C) → now.core ≡ server.core → Stands keeps face p (events calls) now.core
+  same_stands now core = subst (Stands keeps face p (events calls)) (sym core) going.stands
+
+  same_due : (now : Server C) → now.core ≡ server.core → reverse (face now.core).dropped ++ hang_ups calls ≡ due_hang_ups p calls
+  same_due now core = ap (λ (k : C). reverse (face k).dropped ++ hang_ups calls) core ∙ going.hangs_up
+
+  -- the core dropped these, and all that it dropped before were hung up
+  due_behind : (now : Server C) (dropped : List ℕ) → (face server.core).dropped ≡ [] → (face now.core).dropped ≡ dropped → reverse (face now.core).dropped ++ hang_ups calls ≡ reverse dropped ++ due_hang_ups p calls
+  due_behind now dropped before after = ap (λ (l : List ℕ). reverse l ++ hang_ups calls) after ∙ ap (λ (l : List ℕ). reverse dropped ++ l) (none_due before)
+
   -- all was done before the hub is asked for what comes next
   pub all_done : reopenings calls ≡ due_reopenings p calls → AllIsOffered p calls → (face server.core).dropped ≡ [] → AllIsDone p calls
   all_done in_time offered none = record { offered = offered; hung_up = none_due none; reopened = in_time }
@@ -58,11 +69,11 @@ module _ {C : Type 0} {keeps : Proxy → List Event → C → Type 0} {face : C 
       → IsServing keeps face p turns now (Sent c bytes 0 ∷ calls)
   unfolding hang_ups due_hang_ups turns_in is_modem_blocked reopenings due_reopenings
   serving-sent_none c bytes now front core blocked modem emptied = record {
-    stands = stands_for now.core (events calls) (events (Sent c bytes 0 ∷ calls)) (events-sent_none c bytes calls) (subst (Stands keeps face p (events calls)) (sym core) going.stands);
+    stands = stands_for now.core (events calls) (events (Sent c bytes 0 ∷ calls)) (events-sent_none c bytes calls) (same_stands now core);
     sends = (front, going.sends);
     takes = takes-sent_none p c bytes calls going.takes;
     does_all = going.does_all;
-    hangs_up = ap (λ (k : C). reverse (face k).dropped ++ hang_ups calls) core ∙ going.hangs_up;
+    hangs_up = same_due now core;
     reopens = going.reopens;
     no_opening = (tt, going.no_opening);
     no_end = (tt, going.no_end);
@@ -83,7 +94,7 @@ module _ {C : Type 0} {keeps : Proxy → List Event → C → Type 0} {face : C 
     sends = (front, going.sends);
     takes = takes-sent going.stands.shows.lawful c bytes taken calls (events-sent c bytes taken calls some) there front within going.takes;
     does_all = going.does_all;
-    hangs_up = ap (λ (l : List ℕ). reverse l ++ hang_ups calls) after ∙ none_due before;
+    hangs_up = due_behind now [] before after;
     reopens = going.reopens;
     no_opening = (tt, going.no_opening);
     no_end = (tt, going.no_end);
@@ -123,8 +134,7 @@ module _ {C : Type 0} {keeps : Proxy → List Event → C → Type 0} {face : C 
     sends = going.sends;
     takes = takes-told going.stands.shows.lawful known event calls may going.takes;
     does_all = (all_done in_time offered before, going.does_all);
-    hangs_up =
-        ap (λ (l : List ℕ). reverse l ++ hang_ups calls) after ∙ ap (λ (l : List ℕ). reverse (p.dropped (event ∷ events calls)) ++ l) (none_due before);
+    hangs_up = due_behind now (p.dropped (event ∷ events calls)) before after;
     reopens = omega arith;
     no_opening = (tt, going.no_opening);
     no_end = (tt, going.no_end);
@@ -139,11 +149,11 @@ module _ {C : Type 0} {keeps : Proxy → List Event → C → Type 0} {face : C 
       → IsServing keeps face p (turns + 1) now (ToldRoom c ∷ calls)
   unfolding hang_ups due_hang_ups events turns_in taken_by is_modem_blocked reopenings due_reopenings
   serving-room c now in_time offered before core blocked modem emptied = record {
-    stands = subst (Stands keeps face p (events calls)) (sym core) going.stands;
+    stands = same_stands now core;
     sends = going.sends;
     takes = going.takes;
     does_all = (all_done in_time offered before, going.does_all);
-    hangs_up = ap (λ (k : C). reverse (face k).dropped ++ hang_ups calls) core ∙ going.hangs_up;
+    hangs_up = same_due now core;
     reopens = omega arith;
     no_opening = (tt, going.no_opening);
     no_end = (tt, going.no_end);
@@ -157,11 +167,11 @@ module _ {C : Type 0} {keeps : Proxy → List Event → C → Type 0} {face : C 
       → IsServing keeps face p (turns + 1) now (ToldModemRoom ∷ calls)
   unfolding hang_ups due_hang_ups is_blocked events turns_in taken_by is_modem_blocked reopenings due_reopenings
   serving-modem_room now in_time offered before core blocked modem emptied = record {
-    stands = subst (Stands keeps face p (events calls)) (sym core) going.stands;
+    stands = same_stands now core;
     sends = going.sends;
     takes = going.takes;
     does_all = (all_done in_time offered before, going.does_all);
-    hangs_up = ap (λ (k : C). reverse (face k).dropped ++ hang_ups calls) core ∙ going.hangs_up;
+    hangs_up = same_due now core;
     reopens = omega arith;
     no_opening = (tt, going.no_opening);
     no_end = (tt, going.no_end);
@@ -178,11 +188,11 @@ module _ {C : Type 0} {keeps : Proxy → List Event → C → Type 0} {face : C 
       → IsServing keeps face p turns now (SentModem bytes 0 ∷ calls)
   unfolding hang_ups due_hang_ups is_blocked events turns_in taken_by is_modem_blocked reopenings due_reopenings
   serving-modem_sent_none bytes now front core blocked emptied = record {
-    stands = subst (Stands keeps face p (events calls)) (sym core) going.stands;
+    stands = same_stands now core;
     sends = (front, going.sends);
     takes = going.takes;
     does_all = going.does_all;
-    hangs_up = ap (λ (k : C). reverse (face k).dropped ++ hang_ups calls) core ∙ going.hangs_up;
+    hangs_up = same_due now core;
     reopens = going.reopens;
     no_opening = (tt, going.no_opening);
     no_end = (tt, going.no_end);
@@ -202,7 +212,7 @@ module _ {C : Type 0} {keeps : Proxy → List Event → C → Type 0} {face : C 
     sends = (front, going.sends);
     takes = takes-by going.stands.shows.lawful (ModemTook taken) calls (SentModem bytes taken ∷ calls) (events-sent_modem bytes taken calls some) (λ d. tt) (λ d. refl) going.takes;
     does_all = going.does_all;
-    hangs_up = ap (λ (l : List ℕ). reverse l ++ hang_ups calls) after ∙ none_due before;
+    hangs_up = due_behind now [] before after;
     reopens = going.reopens;
     no_opening = (tt, going.no_opening);
     no_end = (tt, going.no_end);
@@ -222,8 +232,7 @@ module _ {C : Type 0} {keeps : Proxy → List Event → C → Type 0} {face : C 
     sends = (front, going.sends);
     takes = takes-by going.stands.shows.lawful ModemGone calls (SendModemFailed bytes ∷ calls) refl (λ d. tt) (λ d. refl) going.takes;
     does_all = going.does_all;
-    hangs_up =
-        ap (λ (l : List ℕ). reverse l ++ hang_ups calls) after ∙ ap (λ (l : List ℕ). reverse (p.dropped (ModemGone ∷ events calls)) ++ l) (none_due before);
+    hangs_up = due_behind now (p.dropped (ModemGone ∷ events calls)) before after;
     reopens = going.reopens;
     no_opening = (tt, going.no_opening);
     no_end = (tt, going.no_end);
@@ -243,8 +252,7 @@ module _ {C : Type 0} {keeps : Proxy → List Event → C → Type 0} {face : C 
     sends = going.sends;
     takes = takes-by going.stands.shows.lawful ModemBack calls (Reopened ∷ calls) refl (λ d. tt) (λ d. refl) going.takes;
     does_all = going.does_all;
-    hangs_up =
-        ap (λ (l : List ℕ). reverse l ++ hang_ups calls) after ∙ ap (λ (l : List ℕ). reverse (p.dropped (ModemBack ∷ events calls)) ++ l) (none_due before);
+    hangs_up = due_behind now (p.dropped (ModemBack ∷ events calls)) before after;
     reopens = omega (arith, not_yet, due);
     no_opening = (tt, going.no_opening);
     no_end = (tt, going.no_end);

@@ -211,31 +211,26 @@ module _ {C : Type 0} {keeps : Proxy → List Event → C → Type 0} {face : C 
       let P : List Call → Type 0 = HasOffered keeps face p limit (turns + 1) 0 now in
       subst P (sym has.whole) (none_offered (serving-modem_room has.ready.serving now has.ready.in_time has.ready.offered none core blocked modem emptied) has.ready.awake refl)
 
-  pub told-stop : (face server.core).dropped ≡ [] → HasTold keeps face p limit turns server ToldStop told → EndsWith p limit (turns + 1) ToldStop told
-  unfolding turns_in
-  told-stop none has =
+  -- the last call, after which the serving ends
+  told-last : (call : Call) → (face server.core).dropped ≡ [] → (has : HasTold keeps face p limit turns server call told) → Serves p (call ∷ has.earlier) → turns_in (call ∷ has.earlier) ≤ turns + 1 → EndsWith p limit (turns + 1) call told
+  told-last call none has served counted =
       let All : List Call → Type 0 = Serves p in
       let Counted : List Call → Type 0 = λ calls. turns_in calls ≤ turns + 1 in
       record {
         earlier = has.earlier;
         whole = has.whole;
         goes_on = goes_on_further turns (turns + 1) (omega arith) (goes_on has.ready.serving none has.ready.awake);
-        serves = subst All (sym has.whole) (serves-stop has.ready.serving has.ready.in_time has.ready.offered none);
-        counted = subst Counted (sym has.whole) (omega (arith, has.ready.serving.counted));
+        serves = subst All (sym has.whole) served;
+        counted = subst Counted (sym has.whole) counted;
       }
+
+  pub told-stop : (face server.core).dropped ≡ [] → HasTold keeps face p limit turns server ToldStop told → EndsWith p limit (turns + 1) ToldStop told
+  unfolding turns_in
+  told-stop none has = told-last ToldStop none has (serves-stop has.ready.serving has.ready.in_time has.ready.offered none) (omega (arith, has.ready.serving.counted))
 
   pub told-failed : (face server.core).dropped ≡ [] → HasTold keeps face p limit turns server NextFailed told → EndsWith p limit (turns + 1) NextFailed told
   unfolding turns_in
-  told-failed none has =
-      let All : List Call → Type 0 = Serves p in
-      let Counted : List Call → Type 0 = λ calls. turns_in calls ≤ turns + 1 in
-      record {
-        earlier = has.earlier;
-        whole = has.whole;
-        goes_on = goes_on_further turns (turns + 1) (omega arith) (goes_on has.ready.serving none has.ready.awake);
-        serves = subst All (sym has.whole) (serves-failed has.ready.serving has.ready.in_time has.ready.offered none);
-        counted = subst Counted (sym has.whole) (omega (arith, has.ready.serving.counted));
-      }
+  told-failed none has = told-last NextFailed none has (serves-failed has.ready.serving has.ready.in_time has.ready.offered none) (omega (arith, has.ready.serving.counted))
 
 -- ---- a turn ----
 

@@ -2,6 +2,7 @@
 use Rattle.std.specs.Prelude.{◌≡◌, ℕ, ◌+◌, ◌<◌, ◌≤◌, Bool, nat_lt, List, [], ◌∷◌, length, drop, position, Option, Some, None}
 use Rattle.std.specs.Option.{option_map}
 use Rattle.proxy_history.specs.Events.{Event, Joined, Piece, ModemPiece, Now, Took, ModemTook}
+use Rattle.proxy_history.specs.Coming.{piece_limit}
 use Rattle.proxy_history.specs.Proxy.{Proxy}
 
 pub record Face : Type 0 where
@@ -26,8 +27,8 @@ pub record Face : Type 0 where
 
 abbrev pub MayCome : Event → Face → Type 0
 MayCome (Joined c) face = face.greatest < c
-MayCome (Piece c bytes) face = length bytes ≤ 16384
-MayCome (ModemPiece bytes) face = length bytes ≤ 16384
+MayCome (Piece c bytes) face = length bytes ≤ piece_limit
+MayCome (ModemPiece bytes) face = length bytes ≤ piece_limit
 MayCome (Took c count) face = count ≤ length (face.queue c)
 MayCome (ModemTook count) face = count ≤ length face.modem_queue
 MayCome _ face = Unit {0}

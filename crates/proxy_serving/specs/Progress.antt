@@ -7,6 +7,7 @@ use Rattle.hub_io.specs.Record.{Call, Told, ToldRoom, ToldModemRoom, ToldStop, N
 use Rattle.hub_io.specs.Events.{event_of}
 use Rattle.hub_io.specs.declared.settings.ServeEnd.{ServeEnd}
 use Rattle.hub_io.specs.declared.settings.ServeEnd.TheVariants as end
+use Rattle.proxy_history.specs.Coming.{piece_limit}
 use Rattle.proxy_history.specs.Proxy.{Proxy}
 use Rattle.proxy_serving.specs.Serving.{SendsWhatWaits, TakesTheFirst, DoesAllBeforeEachNext, AllIsOffered, IsOffered, is_blocked, is_modem_blocked, hang_ups, due_hang_ups, reopenings, hanging_up, IsNoOpening, due_reopenings, turns_in, IsNoEnd, NeverIdle, emptied_at}
 use Rattle.proxy_serving.specs.Ends.{EndsUnnoted, RanOut, EndsWith, EndsIdle, EndsFor}
@@ -28,9 +29,9 @@ call_of next.Stop = ToldStop
 -- an event that a hub may tell where it told names up to this one so far
 abbrev pub MayBeTold : ℕ → Event → Type 0
 MayBeTold known (Joined c) = known < c
-MayBeTold known (Piece c bytes) = length bytes ≤ 16384
+MayBeTold known (Piece c bytes) = length bytes ≤ piece_limit
 MayBeTold known (Left c) = Unit {0}
-MayBeTold known (ModemPiece bytes) = length bytes ≤ 16384
+MayBeTold known (ModemPiece bytes) = length bytes ≤ piece_limit
 MayBeTold known ModemGone = Unit {0}
 MayBeTold known (Now time) = Unit {0}
 MayBeTold known _ = ⊥

@@ -6,16 +6,18 @@ use Rattle.qmux_frame.specs.Reply.{result_reply}
 use Rattle.qmi_proxy.specs.Errors.{aborted}
 use Rattle.number_space.specs.Table.{settled_where, settles_number, first_due, expires, expires_row}
 use Rattle.qmi_state.specs.declared.asked.Asked.{Asked}
-use Rattle.qmi_state.specs.Desk.{Row, Numbers, Desk, of_control, with_numbers, silences, gives_up}
-use Rattle.qmi_state.specs.Core.{Session, session_in}
-use Rattle.qmi_state.specs.Transitions.{Exchange, lacks_room, tells, tells_to, tells_if, refuses, expires_in, expires_space}
+use Rattle.qmi_state.specs.Traffic.{Row, Numbers, Traffic, of_control, with_numbers, silences, gives_up}
+use Rattle.connections.specs.Table.{connection_in, finds_room}
+use Rattle.proxy_state.specs.Step.{given_up_unless}
+use Rattle.qmi_state.specs.Core.{QmiState}
+use Rattle.qmi_state.specs.Transitions.{with_traffic, give_up, tell, refuses, expires_in, expires_space}
 
 -- how many of the rows somebody waits for
 pub waiting_count : List Row → ℕ
 waiting_count rows = length (filter (λ (row : Row). row.pending) rows)
 
-abbrev rows_at : Bool → Exchange → List Row
-rows_at control x = (of_control control x.desk).rows
+abbrev rows_at : Bool → QmiState → List Row
+rows_at control x = (of_control control x.beside.traffic).rows
 
 count_is : (row : Row) (rows : List Row) → waiting_count (row ∷ rows) ≡ cond row.pending (suc (waiting_count rows)) (waiting_count rows)
 unfolding waiting_count
@@ -83,44 +85,37 @@ count_expired time (r ∷ rows) row e =
     later less false true now was = omega arith
     later less false false now was = omega arith
 
--- ---- the desk after a refusal ----
+-- ---- the traffic after a refusal ----
 
-of_silenced : (control : Bool) (numbers : Numbers) (desk : Desk) → of_control control (with_numbers control numbers desk) ≡ numbers
-of_silenced true numbers desk = refl
-of_silenced false numbers desk = refl
+of_silenced : (control : Bool) (numbers : Numbers) (traffic : Traffic) → of_control control (with_numbers control numbers traffic) ≡ numbers
+of_silenced true numbers traffic = refl
+of_silenced false numbers traffic = refl
 
-of_given_up : (control : Bool) (c : ℕ) (desk : Desk) → (of_control control (gives_up c desk)).rows ≡ map (settled_where (λ (row : Row). c == row.conn)) (of_control control desk).rows
-of_given_up true c desk = refl
-of_given_up false c desk = refl
+of_given_up : (control : Bool) (c : ℕ) (traffic : Traffic) → (of_control control (gives_up c traffic)).rows ≡ map (settled_where (λ (row : Row). c == row.conn)) (of_control control traffic).rows
+of_given_up true c traffic = refl
+of_given_up false c traffic = refl
 
 -- what is told adds no row that is waited for, and takes none away
-record TellsKeep (control : Bool) (c : ℕ) (bytes : List ℕ) (x : Exchange) : Type 0 where
-  count : waiting_count (rows_at control (tells c bytes x)) ≤ waiting_count (rows_at control x)
-  rows : length (rows_at control (tells c bytes x)) ≡ length (rows_at control x)
+record TellsKeep (control : Bool) (c : ℕ) (bytes : List ℕ) (x : QmiState) : Type 0 where
+  count : waiting_count (rows_at control (tell c bytes x)) ≤ waiting_count (rows_at control x)
+  rows : length (rows_at control (tell c bytes x)) ≡ length (rows_at control x)
 
-tells_keep : (control : Bool) (c : ℕ) (bytes : List ℕ) (x : Exchange) → TellsKeep control c bytes x
+tells_keep : (control : Bool) (c : ℕ) (bytes : List ℕ) (x : QmiState) → TellsKeep control c bytes x
 tells_keep control c bytes x =
-    let all = by_session (session_in c x.sessions) in record { count = all.0; rows = all.1 }
+    let all = by_room (finds_room bytes (connection_in c x.table.present)) in record { count = all.0; rows = all.1 }
   where
-    Keep : Exchange → Type 0
-    Keep y = (waiting_count (rows_at control y) ≤ waiting_count (rows_at control x)) × (length (rows_at control y) ≡ length (rows_at control x))
-
-    by_room : (s : Session) (over : Bool) → (waiting_count (rows_at control (tells_if over c bytes s x)) ≤ waiting_count (rows_at control x)) × (length (rows_at control (tells_if over c bytes s x)) ≡ length (rows_at control x))
-    by_room s true = (
-      subst (λ (l : List Row). waiting_count l ≤ waiting_count (rows_at control x)) (sym (of_given_up control c x.desk)) (count_settled (λ (row : Row). c == row.conn) (rows_at control x)),
-      ap length (of_given_up control c x.desk) ∙ length-map (rows_at control x) (settled_where (λ (row : Row). c == row.conn)),
+    by_room : (fits : Bool) → (waiting_count (of_control control (given_up_unless give_up fits c x.beside).traffic).rows ≤ waiting_count (rows_at control x)) × (length (of_control control (given_up_unless give_up fits c x.beside).traffic).rows ≡ length (rows_at control x))
+    by_room true = (omega arith, refl)
+    by_room false = (
+      subst (λ (l : List Row). waiting_count l ≤ waiting_count (rows_at control x)) (sym (of_given_up control c x.beside.traffic)) (count_settled (λ (row : Row). c == row.conn) (rows_at control x)),
+      ap length (of_given_up control c x.beside.traffic) ∙ length-map (rows_at control x) (settled_where (λ (row : Row). c == row.conn)),
     )
-    by_room s false = (omega arith, refl)
 
-    by_session : (o : Option Session) → (waiting_count (rows_at control (tells_to o c bytes x)) ≤ waiting_count (rows_at control x)) × (length (rows_at control (tells_to o c bytes x)) ≡ length (rows_at control x))
-    by_session None = (omega arith, refl)
-    by_session (Some s) = by_room s (lacks_room bytes s.account)
-
-pub refused_less : (control : Bool) (time : ℕ) (row : Row) (x : Exchange) → first_due time (rows_at control x) ≡ Some row
+pub refused_less : (control : Bool) (time : ℕ) (row : Row) (x : QmiState) → first_due time (rows_at control x) ≡ Some row
     → (waiting_count (rows_at control (refuses control row x)) < waiting_count (rows_at control x)) × (length (rows_at control (refuses control row x)) ≡ length (rows_at control x))
 refused_less control time row x due =
-    let y : Exchange = record x { desk = with_numbers control (silences row.number (of_control control x.desk)) x.desk } in
-    let silent : rows_at control y ≡ settles_number row.number (rows_at control x) = ap (λ (n : Numbers). n.rows) (of_silenced control (silences row.number (of_control control x.desk)) x.desk) in
+    let y : QmiState = with_traffic (with_numbers control (silences row.number (of_control control x.beside.traffic)) x.beside.traffic) x in
+    let silent : rows_at control y ≡ settles_number row.number (rows_at control x) = ap (λ (n : Numbers). n.rows) (of_silenced control (silences row.number (of_control control x.beside.traffic)) x.beside.traffic) in
     let keep = tells_keep control row.conn (result_reply row.note.head aborted) y in
     let less = count_expired time (rows_at control x) row due in
     let same = ap waiting_count silent in
@@ -131,16 +126,16 @@ refused_less control time row x due =
 -- ---- enough turns ----
 
 module _ (control : Bool) (time : ℕ) where
-  turn_none : (count : ℕ) (x : Exchange) → first_due time (rows_at control x) ≡ None → expires_in count control time x ≡ x
+  turn_none : (count : ℕ) (x : QmiState) → first_due time (rows_at control x) ≡ None → expires_in count control time x ≡ x
   unfolding expires_in
   turn_none zero x none = refl
   turn_none (suc count) x none = ap (λ o. elim o [ None ↦ x | Some row ↦ expires_in count control time (refuses control row x) ]) none
 
-  turn_some : (count : ℕ) (x : Exchange) (row : Row) → first_due time (rows_at control x) ≡ Some row → expires_in (suc count) control time x ≡ expires_in count control time (refuses control row x)
+  turn_some : (count : ℕ) (x : QmiState) (row : Row) → first_due time (rows_at control x) ≡ Some row → expires_in (suc count) control time x ≡ expires_in count control time (refuses control row x)
   unfolding expires_in
   turn_some count x row some = ap (λ o. elim o [ None ↦ x | Some row ↦ expires_in count control time (refuses control row x) ]) some
 
-  one_more : (count : ℕ) (x : Exchange) → waiting_count (rows_at control x) ≤ count → expires_in count control time x ≡ expires_in (suc count) control time x
+  one_more : (count : ℕ) (x : QmiState) → waiting_count (rows_at control x) ≤ count → expires_in count control time x ≡ expires_in (suc count) control time x
   one_more zero x enough =
       let step : (o : Option Row) → first_due time (rows_at control x) ≡ o → expires_in 0 control time x ≡ expires_in 1 control time x =
       λ o. elim o as (λ o. first_due time (rows_at control x) ≡ o → expires_in 0 control time x ≡ expires_in 1 control time x) [
@@ -158,10 +153,10 @@ module _ (control : Bool) (time : ℕ) where
       ]
       in step (first_due time (rows_at control x)) refl
 
-  pub space_done : (x : Exchange) → first_due time (rows_at control x) ≡ None → expires_space control time x ≡ x
+  pub space_done : (x : QmiState) → first_due time (rows_at control x) ≡ None → expires_space control time x ≡ x
   space_done x none = turn_none (length (rows_at control x)) x none
 
-  pub space_turn : (x : Exchange) (row : Row) → first_due time (rows_at control x) ≡ Some row → expires_space control time (refuses control row x) ≡ expires_space control time x
+  pub space_turn : (x : QmiState) (row : Row) → first_due time (rows_at control x) ≡ Some row → expires_space control time (refuses control row x) ≡ expires_space control time x
   space_turn x row some =
       let both = refused_less control time row x some in
       let within = count_within (rows_at control x) in

@@ -1,77 +1,98 @@
--- What is made of a client's message, by its verdict.
-use Rattle.std.proofs.Common.{◌≡◌, ℕ, Bool, true, false, not, ◌&&◌, List, length, refl, ap, sym, ◌∙◌, Option, Some, None, if◌then◌else◌}
+-- What is made of a client's message, by what is decided on it.
+use Rattle.std.proofs.Common.{◌≡◌, ℕ, Bool, true, false, not, List, length, refl, ap, sym, ◌∙◌, Option, Some, None, if◌then◌else◌}
 use Rattle.qmux_frame.specs.Reply.{result_reply}
-use Rattle.proxy_history.specs.Facts.{Verdict, Own, Foreign, Away, Full, Forward}
+use Rattle.proxy_history.specs.Facts.{Own, Foreign, Away, Full, Forward, Ready, Waits}
+use Rattle.proxy_history.specs.Decision.{Decision, Replies, Forwards, forwards_under}
+use Rattle.proxy_history.specs.View.{Sent}
 use Rattle.proxy_history.specs.ClientIds.{is_other}
-use Rattle.qmi_proxy.specs.OwnReplies.{own_reply_of, is_opening}
-use Rattle.qmi_proxy.specs.Text.{reply_if}
+use Rattle.qmi_proxy.specs.OwnReplies.{view_decides, own_error, step}
 use Rattle.outbox.specs.Queue.{Queue}
 use Rattle.connections.specs.Hearing.{Hearing}
-use Rattle.qmi_proxy.specs.Clients.{own_or, is_number, has_room, shared_verdict_of, deadline_of}
-use Rattle.qmi_state.specs.Desk.{number_at}
-use Rattle.qmi_state.specs.Transitions.{holder_at, shared_of, refusal_of, forwards_as}
-use Rattle.qmi_core.specs.declared.client.Client.{Client}
-use Rattle.qmi_core.specs.declared.side.ModemSide.{ModemSide}
-use Rattle.qmi_core.specs.Hearing.{replied, hears_as, hears_message}
+use Rattle.qmi_proxy.specs.Clients.{has_room, deadline_of}
+use Rattle.qmi_state.specs.Traffic.{number_at}
+use Rattle.qmi_state.specs.Transitions.{holder_at, shared_of, refusal_of, forwards_as, replied, act_on, hear_client}
+use Rattle.qmi_state.specs.declared.client.Client.{Client}
+use Rattle.qmi_state.specs.Core.{ModemSide}
 
 module _ (c : ℕ) (m : List ℕ) (client : Client) (outbox : Queue) (side : ModemSide) where
   abbrev deadline : ℕ
   deadline = deadline_of side.time side.time_limit
 
-  abbrev shared_verdict : Verdict
-  shared_verdict = shared_of side.away c m side.desk
+  abbrev shared_decision : Decision
+  shared_decision = shared_of side.away c m side.traffic
+
+  abbrev with_traffic_of : Decision → ModemSide
+  with_traffic_of decision = record side { traffic = forwards_as decision deadline c m side.traffic }
 
   -- the client's own view decides
-  pub heard_own : (error : ℕ) → Some error ≡ own_reply_of side.device client.opened m → hears_message c m client outbox side ≡ replied (result_reply m error) (is_opening side.device m Own) client outbox side
-  heard_own error own =
-      ap (λ (o : Option ℕ). hears_as c m (own_or o shared_verdict) client outbox side) (sym own)
-      ∙ ap (λ (o : Option ℕ). replied (reply_if m o) (is_opening side.device m Own) client outbox side) (sym own)
+  pub heard_own : (error : ℕ) → true ≡ view_decides client.opened m → error ≡ own_error side.device client.opened m
+      → hear_client c m client outbox side ≡ replied (result_reply m error) (step side.device client.opened (Sent m Own)) client outbox side
+  heard_own error own is =
+      ap (λ (b : Bool). act_on c m (if b then Replies Own else shared_decision) client outbox side) (sym own)
+      ∙ ap (λ (n : ℕ). replied (result_reply m n) (step side.device client.opened (Sent m Own)) client outbox side) (sym is)
 
-  shared : None ≡ own_reply_of side.device client.opened m → (verdict : Verdict) → shared_verdict ≡ verdict → hears_message c m client outbox side ≡ hears_as c m verdict client outbox side
-  shared own verdict is = ap (λ (o : Option ℕ). hears_as c m (own_or o shared_verdict) client outbox side) (sym own) ∙ ap (λ (v : Verdict). hears_as c m v client outbox side) is
+  shared : false ≡ view_decides client.opened m → (decision : Decision) → shared_decision ≡ decision → hear_client c m client outbox side ≡ act_on c m decision client outbox side
+  shared own decision is = ap (λ (b : Bool). act_on c m (if b then Replies Own else shared_decision) client outbox side) (sym own) ∙ ap (λ (d : Decision). act_on c m d client outbox side) is
+
+  abbrev refused_by : ℕ → Decision → Hearing Client ModemSide
+  refused_by error decision = replied (result_reply m error) client.opened client outbox (with_traffic_of decision)
 
   -- what all clients share decides: it is refused
-  pub heard_refused : None ≡ own_reply_of side.device client.opened m → (error : ℕ) → Some error ≡ refusal_of shared_verdict
-      → hears_message c m client outbox side ≡ replied (result_reply m error) false client outbox (record side { desk = forwards_as shared_verdict deadline c m side.desk })
-  heard_refused own error refused = by_verdict shared_verdict refl
+  pub heard_refused : false ≡ view_decides client.opened m → (error : ℕ) → Some error ≡ refusal_of shared_decision
+      → hear_client c m client outbox side ≡ replied (result_reply m error) client.opened client outbox (with_traffic_of shared_decision)
+  heard_refused own error refused = decided shared_decision refl
     where
-      by_verdict : (verdict : Verdict) → shared_verdict ≡ verdict → hears_message c m client outbox side ≡ replied (result_reply m error) false client outbox (record side { desk = forwards_as shared_verdict deadline c m side.desk })
-      by_verdict verdict is =
-          shared own verdict is ∙ each verdict (refused ∙ ap refusal_of is) ∙ ap (λ (v : Verdict). replied (result_reply m error) false client outbox (record side { desk = forwards_as v deadline c m side.desk })) (sym is)
-        where
-          with_error : (known : ℕ) → Some error ≡ Some known → replied (result_reply m known) false client outbox side ≡ replied (result_reply m error) false client outbox side
-          with_error known e = let same : known ≡ error = cc in ap (λ (n : ℕ). replied (result_reply m n) false client outbox side) same
+      with_error : (known : ℕ) → Some error ≡ Some known → replied (result_reply m known) client.opened client outbox side ≡ replied (result_reply m error) client.opened client outbox side
+      with_error known e = let same : known ≡ error = cc in ap (λ (n : ℕ). replied (result_reply m n) client.opened client outbox side) same
 
-          each : (verdict : Verdict) → Some error ≡ refusal_of verdict → hears_as c m verdict client outbox side ≡ replied (result_reply m error) false client outbox (record side { desk = forwards_as verdict deadline c m side.desk })
-          each Own e = absurd (cc)
-          each Foreign e = with_error 7 e
-          each Away e = with_error 3 e
-          each Full e = with_error 23 e
-          each Forward e = absurd (cc)
+      each : (decision : Decision) → Some error ≡ refusal_of decision → act_on c m decision client outbox side ≡ refused_by error decision
+      each (Replies Own) e = absurd (cc)
+      each (Replies Foreign) e = with_error 7 e
+      each (Replies Away) e = with_error 3 e
+      each (Replies Full) e = with_error 23 e
+      each (Replies Forward) e = absurd (cc)
+      each (Replies Ready) e = absurd (cc)
+      each (Replies Waits) e = absurd (cc)
+      each (Forwards number) e = absurd (cc)
 
-  never_own : (o : Option ℕ) (number : Option ℕ) (room : Bool) → shared_verdict_of c o side.away number room ≡ Own → ⊥
-  never_own o number room = by_tests (is_other c o) side.away (not (is_number number && room))
-    where
-      by_tests : (foreign gone full : Bool) → (if foreign then Foreign else if gone then Away else if full then Full else Forward) ≡ Own → ⊥
-      by_tests true gone full e = cc
-      by_tests false true full e = cc
-      by_tests false false true e = cc
-      by_tests false false false e = cc
+      decided : (decision : Decision) → shared_decision ≡ decision → hear_client c m client outbox side ≡ refused_by error shared_decision
+      decided decision is = shared own decision is ∙ each decision (refused ∙ ap refusal_of is) ∙ ap (refused_by error) (sym is)
+
+  -- what all clients share decides on none of these
+  abbrev is_never_shared : Decision → Bool
+  is_never_shared (Replies Foreign) = false
+  is_never_shared (Replies Away) = false
+  is_never_shared (Replies Full) = false
+  is_never_shared (Forwards number) = false
+  is_never_shared _ = true
+
+  never_shared : (foreign gone room : Bool) (number : Option ℕ) → is_never_shared (if foreign then Replies Foreign else if gone then Replies Away else if not room then Replies Full else forwards_under number) ≡ true → ⊥
+  never_shared true gone room number e = cc
+  never_shared false true room number e = cc
+  never_shared false false false number e = cc
+  never_shared false false true None e = cc
+  never_shared false false true (Some n) e = cc
+
+  abbrev forwarded : Decision → Hearing Client ModemSide
+  forwarded decision = record { client = client; outbox = outbox; beside = with_traffic_of decision; has_room = true }
 
   -- or it goes to the modem
-  pub heard_forwarded : None ≡ own_reply_of side.device client.opened m → None ≡ refusal_of shared_verdict
-      → hears_message c m client outbox side ≡ record { client = client; outbox = outbox; beside = record side { desk = forwards_as shared_verdict deadline c m side.desk }; has_room = true }
-  heard_forwarded own refused = by_verdict shared_verdict refl
+  pub heard_forwarded : false ≡ view_decides client.opened m → None ≡ refusal_of shared_decision
+      → hear_client c m client outbox side ≡ record { client = client; outbox = outbox; beside = with_traffic_of shared_decision; has_room = true }
+  heard_forwarded own refused = decided shared_decision refl
     where
-      forwarded : Verdict → Hearing Client ModemSide
-      forwarded verdict = record { client = client; outbox = outbox; beside = record side { desk = forwards_as verdict deadline c m side.desk }; has_room = true }
+      never : (decision : Decision) → shared_decision ≡ decision → is_never_shared decision ≡ true → ⊥
+      never decision is e = never_shared (is_other c (holder_at m side.traffic)) side.away (has_room (length side.traffic.waiting) m) (number_at m side.traffic) (ap is_never_shared is ∙ e)
 
-      by_verdict : (verdict : Verdict) → shared_verdict ≡ verdict → hears_message c m client outbox side ≡ forwarded shared_verdict
-      by_verdict verdict is = shared own verdict is ∙ each verdict is (refused ∙ ap refusal_of is) ∙ ap forwarded (sym is)
-        where
-          each : (verdict : Verdict) → shared_verdict ≡ verdict → None ≡ refusal_of verdict → hears_as c m verdict client outbox side ≡ forwarded verdict
-          each Own is e = absurd (never_own (holder_at m side.desk) (number_at m side.desk) (has_room (length side.desk.waiting) m) is)
-          each Foreign is e = absurd (cc)
-          each Away is e = absurd (cc)
-          each Full is e = absurd (cc)
-          each Forward is e = refl
+      each : (decision : Decision) → shared_decision ≡ decision → None ≡ refusal_of decision → act_on c m decision client outbox side ≡ forwarded decision
+      each (Replies Own) is e = absurd (never (Replies Own) is refl)
+      each (Replies Ready) is e = absurd (never (Replies Ready) is refl)
+      each (Replies Waits) is e = absurd (never (Replies Waits) is refl)
+      each (Replies Forward) is e = absurd (never (Replies Forward) is refl)
+      each (Replies Foreign) is e = absurd (cc)
+      each (Replies Away) is e = absurd (cc)
+      each (Replies Full) is e = absurd (cc)
+      each (Forwards number) is e = refl
+
+      decided : (decision : Decision) → shared_decision ≡ decision → hear_client c m client outbox side ≡ forwarded shared_decision
+      decided decision is = shared own decision is ∙ each decision is (refused ∙ ap refusal_of is) ∙ ap forwarded (sym is)

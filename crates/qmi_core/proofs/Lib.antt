@@ -1,10 +1,6 @@
-pub mod Views
-pub mod Hears
 pub mod Forwards
-pub mod Finds
 pub mod Expires
 pub mod Tells
 pub mod Turns
 pub mod Responses
-pub mod Proxies
 pub mod Meets

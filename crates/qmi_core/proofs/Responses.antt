@@ -4,13 +4,12 @@ use Rattle.std.proofs.lemmas.Bool.{eqb-true}
 use Rattle.qmux_frame.specs.Head.{service_of, is_control, client_of, number_of}
 use Rattle.qmi_proxy.specs.FromModem.{IdChange, NoChange, Grants, Collides, Frees}
 use Rattle.qmi_state.specs.declared.asked.Asked.{Asked}
-use Rattle.qmi_state.specs.Desk.{Row, Desk, of_control, with_numbers, row_numbered, frees}
-use Rattle.qmi_state.specs.Core.{Core}
-use Rattle.qmi_state.specs.Transitions.{Exchange, exchange_in, with_exchange, change_by, holder_brought, answers, answers_if, fits, responds_if, responds_to, responds}
-use Rattle.qmi_core.specs.View.{within}
-use Rattle.qmi_core.specs.Switchboard.{answers_to, answers_noted}
+use Rattle.qmi_state.specs.Traffic.{Row, Traffic, of_control, with_numbers, row_numbered, frees}
+use Rattle.qmi_state.specs.Core.{QmiState}
+use Rattle.qmi_state.specs.Transitions.{with_traffic, change_by, holder_brought, answers, answers_if, fits, responds_if, responds_to, responds}
+use Rattle.qmi_core.specs.State.{answers_to, answers_noted}
 
-answers_is : (row : Row) (m : List ℕ) (change : IdChange) (x : Exchange) → answers row m change x ≡ answers_to row.conn row.note m change x
+answers_is : (row : Row) (m : List ℕ) (change : IdChange) (x : QmiState) → answers row m change x ≡ answers_to row.conn row.note m change x
 answers_is row m NoChange x = refl
 answers_is row m (Grants service client) x = refl
 answers_is row m Collides x = refl
@@ -56,38 +55,35 @@ found_row number name note waits rows e = by_row (row_numbered number rows) refl
           same_number = named number rows row is;
         }
 
-module _ (m : List ℕ) (was old : Core) (same : was ≡ old)
-    (name : ℕ) (note : Asked) (waits : Bool) (F : FoundRow (number_of m) name note waits (of_control (is_control m) was.desk).rows)
+module _ (m : List ℕ) (was old : QmiState) (same : was ≡ old)
+    (name : ℕ) (note : Asked) (waits : Bool) (F : FoundRow (number_of m) name note waits (of_control (is_control m) was.beside.traffic).rows)
     (fitting : (service_of note.head == service_of m && (client_of note.head == client_of m)) ≡ true)
-    (desk_after : Desk) (made : desk_after ≡ with_numbers (is_control m) (frees (number_of m) (of_control (is_control m) was.desk)) was.desk) where
-  abbrev x : Exchange
-  x = exchange_in was
-
-  abbrev after_it : Core
-  after_it = record was { desk = desk_after }
+    (traffic_after : Traffic) (made : traffic_after ≡ with_numbers (is_control m) (frees (number_of m) (of_control (is_control m) was.beside.traffic)) was.beside.traffic) where
+  abbrev after_it : QmiState
+  after_it = with_traffic traffic_after was
 
   fits_row : fits m F.row ≡ true
   fits_row = ap (λ (a : Asked). service_of a.head == service_of m && (client_of a.head == client_of m)) F.asked ∙ fitting
 
-  freed : desk_after ≡ with_numbers (is_control m) (frees F.row.number (of_control (is_control m) was.desk)) was.desk
-  freed = made ∙ ap (λ (n : ℕ). with_numbers (is_control m) (frees n (of_control (is_control m) was.desk)) was.desk) F.same_number
+  freed : traffic_after ≡ with_numbers (is_control m) (frees F.row.number (of_control (is_control m) was.beside.traffic)) was.beside.traffic
+  freed = made ∙ ap (λ (n : ℕ). with_numbers (is_control m) (frees n (of_control (is_control m) was.beside.traffic)) was.beside.traffic) F.same_number
 
-  responds_is : (pending : Bool) → F.row.pending ≡ pending → responds m x ≡ answers_if pending F.row m (exchange_in after_it)
+  responds_is : (pending : Bool) → F.row.pending ≡ pending → responds m was ≡ answers_if pending F.row m after_it
   responds_is pending is =
-      ap (λ (o : Option Row). responds_to o m x) F.at
-      ∙ ap (λ (b : Bool). responds_if b F.row m x) fits_row
-      ∙ ap (λ (b : Bool). answers_if b F.row m (record x { desk = with_numbers (is_control m) (frees F.row.number (of_control (is_control m) was.desk)) was.desk })) is
-      ∙ ap (λ (d : Desk). answers_if pending F.row m (record x { desk = d })) (sym freed)
+      ap (λ (o : Option Row). responds_to o m was) F.at
+      ∙ ap (λ (b : Bool). responds_if b F.row m was) fits_row
+      ∙ ap (λ (b : Bool). answers_if b F.row m (with_traffic (with_numbers (is_control m) (frees F.row.number (of_control (is_control m) was.beside.traffic)) was.beside.traffic) was)) is
+      ∙ ap (λ (d : Traffic). answers_if pending F.row m (with_traffic d was)) (sym freed)
 
   -- somebody waits for it
-  pub responded_waits : waits ≡ true → (after : Core) → after ≡ within (answers_noted name note m) after_it → after ≡ within (responds m) old
+  pub responded_waits : waits ≡ true → (after : QmiState) → after ≡ answers_noted name note m after_it → after ≡ responds m old
   responded_waits waiting after is =
       is
-      ∙ ap (λ (n : ℕ). within (answers_noted n note m) after_it) (sym F.conn)
-      ∙ ap (λ (a : Asked). within (answers_noted F.row.conn a m) after_it) (sym F.asked)
-      ∙ ap (λ (z : Exchange). with_exchange z was) (sym (responds_is true (F.pending ∙ waiting) ∙ answers_is F.row m (change_by F.row.conn F.row.note m (holder_brought m desk_after)) (exchange_in after_it)))
-      ∙ ap (within (responds m)) same
+      ∙ ap (λ (n : ℕ). answers_noted n note m after_it) (sym F.conn)
+      ∙ ap (λ (a : Asked). answers_noted F.row.conn a m after_it) (sym F.asked)
+      ∙ sym (responds_is true (F.pending ∙ waiting) ∙ answers_is F.row m (change_by F.row.conn F.row.note m (holder_brought m traffic_after)) after_it)
+      ∙ ap (responds m) same
 
   -- or nobody does
-  pub responded_late : waits ≡ false → after_it ≡ within (responds m) old
-  responded_late late = ap (λ (z : Exchange). with_exchange z was) (sym (responds_is false (F.pending ∙ late))) ∙ ap (within (responds m)) same
+  pub responded_late : waits ≡ false → after_it ≡ responds m old
+  responded_late late = sym (responds_is false (F.pending ∙ late)) ∙ ap (responds m) same

@@ -1,24 +1,22 @@
 -- What a core of the QMI proxy keeps, what it stands for, and what each event makes of it: the words of `qmi_state`.
-use Rattle.std.specs.Prelude.{ℕ, ◌+◌, Bool, false, nat_lt, List, length, drop, position, Option}
-use Rattle.std.specs.Option.{option_map}
+use Rattle.std.specs.Prelude.{ℕ, false, List}
 use Rattle.hub_io.specs.declared.settings.Limits.{Limits}
+use Rattle.proxy_history.specs.Events.{Event}
+use Rattle.proxy_state.specs.Stands as proxy
 use Rattle.qmi_proxy.specs.Setup.{Setup}
-use Rattle.qmi_proxy.specs.Clients.{deadline_of}
-use Rattle.qmi_state.specs.Transitions.{brings}
-pub use Rattle.qmi_state.specs.Core.{Account, Session, Leftover, Core, account_of, session_of, leftover_of, rests_of, modem_rest, greatest_name, IsSuffix, AreNames, Stands, StandsAfter, session_in, session_named, left_for, waiting_or, queue_of, is_owed, MayCome, CanStep, greatest_after, NextDropped, names_of}
-pub use Rattle.qmi_state.specs.Transitions.{Exchange, exchange_in, with_exchange, joins, leaves, takes, modem_brings, goes, loses, returns, modem_takes, ticks, step}
+use Rattle.qmi_state.specs.Transitions.{qmi_handlers}
+pub use Rattle.proxy_history.specs.Events.{greatest_after}
+pub use Rattle.connections.specs.Table.{first_waiting}
+pub use Rattle.proxy_state.specs.Stands.{waiting_for, is_owed, names_of, NextDropped}
+pub use Rattle.qmi_state.specs.Core.{QmiState, QmiCore, Stands, StandsAfter, opened}
+pub use Rattle.qmi_state.specs.Transitions.{step}
 
--- a piece of a client's stream
-abbrev pub pieces : ℕ → List ℕ → Core → Core
-pieces c piece core = with_exchange (brings core.setup.device core.away (deadline_of core.time core.setup.time_limit) c piece (exchange_in core)) core
+abbrev pub MayCome : Event → QmiCore → Type 0
+MayCome event core = proxy.MayMeet qmi_handlers event core
+
+abbrev pub CanStep : Event → QmiCore → Type 0
+CanStep event core = proxy.CanStep qmi_handlers event core
 
 -- the modem is there at the opening
 abbrev pub setup_of : Limits → List ℕ → Setup
 setup_of limits device = record { device = device; time_limit = limits.time; starts_away = false }
-
-abbrev pub has_waiting : Session → Bool
-has_waiting s = nat_lt 0 (length s.account.waiting)
-
--- the place of the first connection from this place on for which bytes wait
-abbrev pub first_waiting : ℕ → List Session → Option ℕ
-first_waiting from sessions = option_map (λ at. from + at) (position has_waiting (drop from sessions))

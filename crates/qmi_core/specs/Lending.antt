@@ -2,8 +2,8 @@
 use Rattle.std.specs.Prelude.{◌≡◌, ⊤}
 use Rattle.std.specs.Borrow.{MutBor, Fml, follows_so}
 use mathlib.Core.Option.{none}
-use Rattle.qmi_core.specs.Core.{Core}
+use Rattle.qmi_core.specs.Core.{QmiCore}
 use Rattle.qmi_core.specs.contracts.proxy.QmiCore.{the_row}
 
-abbrev pub LeavesAsIs : MutBor Core → Fml
+abbrev pub LeavesAsIs : MutBor QmiCore → Fml
 LeavesAsIs core = follows_so the_row the_row core.ghost_name none (λ _ _. ⊤) (λ after. after ≡ core.now)

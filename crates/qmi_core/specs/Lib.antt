@@ -1,7 +1,6 @@
 pub mod Message
 pub mod Hearing
-pub mod View
-pub mod Switchboard
+pub mod State
 pub mod Core
 pub mod Lending
 pub mod Face

@@ -1,20 +1,21 @@
-ghost use Rattle.std.specs.Prelude.{◌≡◌, ◌&&◌, ◌||◌};
+ghost use Rattle.std.specs.Prelude.{◌≡◌, ◌||◌, if◌then◌else◌};
 ghost use Rattle.outbox.specs.Queue.{has_room, queues};
 ghost use Rattle.qmux_frame.specs.Reply.{result_reply};
 
-use crate::client::Client;
 use crate::message::Message;
 use crate::side::ModemSide;
 use connections::Hears;
 use outbox::Outbox;
+use qmi_state::Client;
 use qmux_frame::Qmux;
 
 impl Hears<Qmux, Client> for ModemSide {
-    ghost use Rattle.qmi_core.specs.Hearing.{hears_message, hears_message-capacity};
+    ghost use Rattle.qmi_state.specs.Transitions.{hear_client};
+    ghost use Rattle.qmi_core.specs.Hearing.{hear_client-capacity};
 
-    ghost hears = { hears_message };
+    ghost hears = { hear_client };
 
-    ghost capacity = { hears_message-capacity };
+    ghost capacity = { hear_client-capacity };
 
     fn hear(
         &mut self,
@@ -29,14 +30,15 @@ impl Hears<Qmux, Client> for ModemSide {
             return reply(&message, error, opens, client, outbox);
         }
         let deadline = self.time.saturating_add(self.time_limit);
-        match self.desk.forward(self.away, deadline, name, &message) {
-            Some(error) => reply(&message, error, false, client, outbox),
-            None => true,
+        if let Some(error) = self.traffic.forward(self.away, deadline, name, &message) {
+            return reply(&message, error, false, client, outbox);
         }
+        true
     }
 }
 
-// Replies with this error alone, and says whether the reply finds room.
+// Replies with this error alone, and says whether the reply finds room; where it does, the message
+// has opened the device if it opens it.
 fn reply(
     message: &Message<'_>,
     error: u16,
@@ -45,7 +47,7 @@ fn reply(
     outbox: &mut Outbox,
 ) -> bool
     ensures room { result ≡ has_room (result_reply message.now error) outbox.old }
-    ensures client { client.new ≡ record { opened = (has_room (result_reply message.now error) outbox.old && opens) || client.old.opened } }
+    ensures client { client.new ≡ record { opened = if has_room (result_reply message.now error) outbox.old then opens || client.old.opened else client.old.opened } }
     ensures outbox { outbox.new ≡ queues (result_reply message.now error) outbox.old }
 {
     let reply = message.reply(error);

@@ -2,14 +2,13 @@
 //! to get.
 #![tactic(auto)]
 
-mod client;
-mod desk;
 mod errors;
 mod hearing;
 mod message;
 mod proxy;
 mod serving;
 mod side;
-mod switchboard;
+mod state;
+mod traffic;
 
 pub use proxy::QmiCore;

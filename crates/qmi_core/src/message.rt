@@ -1,4 +1,4 @@
-ghost use Rattle.std.specs.Prelude.{◌≡◌, ◌≤◌, ◌==◌, ◌||◌, ◌++◌, true, length, take, drop};
+ghost use Rattle.std.specs.Prelude.{◌≡◌, ◌≤◌, ◌==◌, ◌||◌, ◌++◌, true, length, take, drop, is_some, IfSome};
 ghost use Rattle.qmux_frame.specs.Head.{is_control, service_of, client_of, number_of};
 ghost use Rattle.qmux_frame.specs.Kind.{framed_kind};
 ghost use Rattle.qmux_frame.specs.Control.{is_command, is_sync};
@@ -6,7 +6,7 @@ ghost use Rattle.qmux_frame.specs.Reply.{result_reply, with_number};
 ghost use Rattle.qmi_proxy.specs.Messages.{value_of, has_length, byte_of, is_malformed, opens, has_bad_id, uses_id, used_service, used_client, is_success};
 ghost use Rattle.qmi_state.specs.Asked.{asked_of};
 ghost use Rattle.qmi_core.specs.Message.{tells_id};
-ghost use Rattle.qmi_proxy.specs.OwnReplies.{own_reply_of, is_opening};
+ghost use Rattle.qmi_proxy.specs.OwnReplies.{view_decides, own_error, is_opening};
 ghost use Rattle.proxy_history.specs.Facts.{Own};
 
 use crate::errors::{INTERNAL, INVALID_CLIENT_ID, MALFORMED_MESSAGE, NO_ERROR};
@@ -48,9 +48,11 @@ impl<'a> Message<'a> {
         }
     }
 
-    /// The error of the reply that the client's own view decides, 0 for success.
+    /// The error of the reply that the client's own view decides, 0 for success; none where what all
+    /// clients share decides.
     pub fn own_reply(&self, device: &[u8], opened: bool) -> Option<u16>
-        ensures { result ≡ own_reply_of device.now opened self.now }
+        ensures own { is_some result ≡ view_decides opened self.now }
+        ensures error { IfSome result (λ error. error ≡ own_error device.now opened self.now) }
     {
         if self.is_malformed() {
             Some(MALFORMED_MESSAGE)

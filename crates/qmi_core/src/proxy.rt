@@ -1,4 +1,4 @@
-ghost use Rattle.std.specs.Prelude.{◌≡◌, ◌<◌, ◌≤◌, length, not, true, slice_get, Some, List, [], ◌∷◌, IfOk, IfSome, IsTrue};
+ghost use Rattle.std.specs.Prelude.{◌≡◌, ◌<◌, ◌≤◌, length, not, true, slice_get, Some, List, [], ◌∷◌, IfOk, IfSome, IsNone, IsTrue};
 ghost use Rattle.framing.specs.Cutting.{cut};
 ghost use Rattle.framing.specs.Framing.{IsPartial};
 ghost use Rattle.hub_io.specs.Events.{event_of};
@@ -6,14 +6,14 @@ ghost use Rattle.qmux_frame.specs.Frame.{size_of};
 ghost use Rattle.proxy_history.specs.Events as history_events;
 ghost use Rattle.proxy_history.specs.Modem.{modem_queue};
 ghost use Rattle.proxy_history.specs.Streams.{is_invalid};
+ghost use Rattle.proxy_state.specs.Step as proxy;
 ghost use Rattle.qmi_proxy.specs.Clients.{wire};
 ghost use Rattle.qmi_proxy.specs.History.{history, text_for};
 ghost use Rattle.qmi_proxy.specs.Setup.{Setup};
-ghost use Rattle.qmi_state.specs.Transitions.{hears_all};
-ghost use Rattle.qmi_core.specs.View.{within};
-ghost use Rattle.qmi_core.specs.Core.{Stands, StandsAfter, CanStep, greatest_after, modem_brings, goes, loses, step, queue_of, first_waiting, is_owed, names_of, setup_of, NextDropped};
+ghost use Rattle.qmi_state.specs.Transitions.{qmi_handlers};
+ghost use Rattle.qmi_core.specs.Core.{Stands, StandsAfter, CanStep, greatest_after, step, waiting_for, first_waiting, is_owed, names_of, setup_of, NextDropped};
 
-use crate::switchboard::Switchboard;
+use crate::state::State;
 use framing::LONGEST_PIECE;
 use hub_io::{Event, Limits};
 use kit_bytes::{Cut, Octets};
@@ -24,7 +24,7 @@ use std::marker::Model;
 /// A proxy between several clients and one modem.
 #[derive(Drop)]
 pub struct QmiCore {
-    board: Switchboard,
+    state: State,
     // of the modem's stream
     cutter: Cutter,
 }
@@ -32,14 +32,13 @@ pub struct QmiCore {
 impl Model for QmiCore {
     ghost use Rattle.framing.specs.Framing.{IsPartial};
     ghost use Rattle.qmux_frame.specs.Frame.{size_of};
-    ghost use Rattle.qmi_core.specs.Core.{Core};
-    ghost use Rattle.qmi_core.specs.View.{with_rest};
+    ghost use Rattle.qmi_core.specs.Core as core;
 
-    ghost Value = { Core };
+    ghost Value = { core.QmiCore };
 
-    ghost view = { λ core. with_rest core.cutter.rest core.board };
+    ghost view = { λ c. record { state = c.state; rest = c.cutter.rest } };
 
-    ghost invariant = { λ core. IsPartial size_of core.cutter.rest };
+    ghost invariant = { λ c. IsPartial size_of c.cutter.rest };
 }
 
 impl QmiCore {
@@ -53,7 +52,7 @@ impl QmiCore {
     {
         let device = Octets::from_slice(alloc, device.as_bytes())?;
         Ok(QmiCore {
-            board: Switchboard::open(alloc, device, limits.time)?,
+            state: State::open(alloc, device, limits.time)?,
             cutter: Cutter::open(alloc)?,
         })
     }
@@ -63,49 +62,49 @@ impl QmiCore {
         requires { CanStep (event_of event) self.old }
         ensures stands { (setup : Setup) (events : List history_events.Event) → Stands setup events self.old → StandsAfter setup (event_of event.entry ∷ events) self.new }
         ensures step { self.new ≡ step (event_of event.entry) self.old }
-        ensures greatest { self.new.greatest ≡ greatest_after (event_of event.entry) self.old.greatest }
+        ensures greatest { self.new.state.table.greatest ≡ greatest_after (event_of event.entry) self.old.state.table.greatest }
     {
         match event {
-            Event::Joined(name) => self.board.join(name),
-            Event::Piece(name, piece) => self.board.bring(name, piece),
-            Event::Left(name) => self.board.leave(name),
-            Event::Now(time) => self.board.tick(time),
-            Event::Took(name, count) => self.board.take(name, count),
+            Event::Joined(name) => self.state.join(name),
+            Event::Piece(name, piece) => self.state.bring(name, piece),
+            Event::Left(name) => self.state.leave(name),
+            Event::Now(time) => self.state.tick(time),
+            Event::Took(name, count) => self.state.take(name, count),
             Event::ModemPiece(piece) => self.bring_modem(piece),
             Event::ModemGone => self.lose_modem(),
-            Event::ModemBack => self.board.regain(),
-            Event::ModemTook(count) => self.board.take_modem(count),
+            Event::ModemBack => self.state.regain(),
+            Event::ModemTook(count) => self.state.take_modem(count),
         }
     }
 
     // What a modem sends that is away doesn't count.
     fn bring_modem(&mut self, piece: &[u8])
         requires { length piece.now ≤ LONGEST_PIECE }
-        ensures { self.new ≡ modem_brings piece.now self.old }
+        ensures { self.new ≡ proxy.bring_modem qmi_handlers size_of piece.now self.old }
     {
-        if self.board.away() {
+        if self.state.away() {
             return;
         }
         self.cutter.push(piece);
-        if !hear_all(&mut self.cutter, &mut self.board) {
+        if !hear_all(&mut self.cutter, &mut self.state) {
             self.cutter.restart();
             self.lose();
         }
     }
 
     fn lose_modem(&mut self)
-        ensures { self.new ≡ goes self.old }
+        ensures { self.new ≡ proxy.lose_modem qmi_handlers size_of self.old }
     {
-        if !self.board.away() {
+        if !self.state.away() {
             self.lose();
         }
     }
 
     // The modem is away from here on.
     fn lose(&mut self)
-        ensures { self.new ≡ loses self.old }
+        ensures { self.new ≡ proxy.lose qmi_handlers size_of self.old.state }
     {
-        self.board.lose();
+        self.state.lose();
         self.cutter.restart();
     }
 
@@ -113,81 +112,82 @@ impl QmiCore {
     /// for yet; none for any other name.
     pub fn queued(&mut self, conn: u64) -> &[u8]
         ensures* after { sem 𝓛 (LeavesAsIs self.entry) }
-        ensures queue { result.now ≡ queue_of conn self.old }
+        ensures queue { result.now ≡ waiting_for conn self.old }
         ensures text { (setup : Setup) (events : List history_events.Event) →
             Stands setup events self.old → IsTrue (is_owed conn self.old) → result.now ≡ (text_for setup conn events).waiting }
     {
-        self.board.queued(conn)
+        self.state.queued(conn)
     }
 
     /// The bytes that wait for the modem.
     pub fn queued_modem(&mut self) -> &[u8]
         ensures* after { sem 𝓛 (LeavesAsIs self.entry) }
-        ensures queue { result.now ≡ self.old.desk.waiting }
+        ensures queue { result.now ≡ self.old.state.beside.traffic.waiting }
         ensures text { (setup : Setup) (events : List history_events.Event) →
             Stands setup events self.old → result.now ≡ modem_queue wire (history setup events) }
     {
-        self.board.queued_modem()
+        self.state.queued_modem()
     }
 
     /// The place of the first connection, from this place on in the order of joining, for which bytes
     /// wait.
     pub fn waiting_from(&self, from: usize) -> Option<usize>
-        requires { from ≤ length self.now.sessions }
-        ensures place { result ≡ first_waiting from self.now.sessions }
-        ensures within { IfSome result (λ place. (from ≤ place) × (place < length self.now.sessions)) }
+        requires { from ≤ length self.now.state.table.present }
+        ensures place { result ≡ first_waiting from self.now.state.table.present }
+        ensures within { IfSome result (λ place. (from ≤ place) × (place < length self.now.state.table.present)) }
         ensures fits { IfSome result (λ place. place < usize.MAX) }
     {
-        self.board.waiting_from(from)
+        self.state.waiting_from(from)
     }
 
     /// The next connection to hang up, each once.
     pub fn next_dropped(&mut self) -> Option<u64>
         ensures next { NextDropped self.old self.new result }
+        ensures hung_up { IsNone result → self.new.state.table.dropped ≡ [] }
         ensures stands { (setup : Setup) (events : List history_events.Event) → Stands setup events self.old → Stands setup events self.new }
     {
-        self.board.next_dropped()
+        self.state.next_dropped()
     }
 
     /// Whether the modem is away.
     pub fn away(&self) -> bool
-        ensures { result ≡ self.now.away }
+        ensures { result ≡ self.now.state.beside.away }
     {
-        self.board.away()
+        self.state.away()
     }
 
     /// The greatest time so far that the clock showed, in milliseconds.
     pub fn time(&self) -> u64
-        ensures { result ≡ self.now.time }
+        ensures { result ≡ self.now.state.beside.time }
     {
-        self.board.time()
+        self.state.time()
     }
 
     /// How many connections are there.
     pub fn present(&self) -> usize
-        ensures { result ≡ length self.now.sessions }
+        ensures { result ≡ length self.now.state.table.present }
     {
-        self.board.present()
+        self.state.present()
     }
 
     /// The connection of this place in the order of joining.
     pub fn conn_at(&self, index: usize) -> u64
-        requires { index < length self.now.sessions }
+        requires { index < length self.now.state.table.present }
         ensures { slice_get (names_of self.now) index ≡ Some result }
     {
-        self.board.name_at(index)
+        self.state.name_at(index)
     }
 }
 
 // Hears the modem's whole messages, and says whether the stream is good behind them.
-fn hear_all(cutter: &mut Cutter, board: &mut Switchboard) -> bool
+fn hear_all(cutter: &mut Cutter, state: &mut State) -> bool
     ensures good { result ≡ not (is_invalid (size_of (cut size_of cutter.old.rest).rest)) }
-    ensures heard { board.new ≡ within (hears_all (cut size_of cutter.old.rest).messages) board.old }
+    ensures heard { state.new ≡ proxy.hear_all qmi_handlers size_of (cut size_of cutter.old.rest).messages state.old }
     ensures rest { result ≡ true → (cutter.new.rest ≡ (cut size_of cutter.old.rest).rest) × IsPartial size_of cutter.new.rest }
 {
     loop {
         match cutter.next() {
-            Cut::Whole(span) => board.hear_modem(cutter.bytes(span)),
+            Cut::Whole(span) => state.hear_modem(cutter.bytes(span)),
             Cut::NeedMore => return true,
             Cut::Bad(_) => return false,
         }

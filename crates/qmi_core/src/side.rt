@@ -1,5 +1,6 @@
-use crate::desk::Desk;
+use crate::traffic::Traffic;
 use kit_bytes::Octets;
+use std::marker::Model;
 
 /// What a core keeps beside the clients' connections and the modem's stream.
 #[derive(Drop)]
@@ -12,5 +13,13 @@ pub struct ModemSide {
     pub time: u64,
     /// Whether the modem is away.
     pub away: bool,
-    pub desk: Desk,
+    pub traffic: Traffic,
+}
+
+impl Model for ModemSide {
+    ghost use Rattle.qmi_state.specs.Core as core;
+
+    ghost Value = { core.ModemSide };
+
+    ghost view = { λ s. record { device = s.device; time_limit = s.time_limit; time = s.time; away = s.away; traffic = s.traffic } };
 }

@@ -18,7 +18,7 @@ use Rattle.qmi_proxy.specs.Setup.{Setup}
 use Rattle.qmi_proxy.specs.Clients.{wire}
 use Rattle.qmi_proxy.specs.History.{add, add_all, items_of, history, qmi_protocol}
 use Rattle.qmi_proxy.proofs.Away.{away_agrees}
-use Rattle.qmi_state.specs.Core.{rest_in}
+use Rattle.proxy_state.specs.Stands.{rest_in}
 use Rattle.qmi_solo.specs.Solo.{meet, meet_if, meet_items, meet_event}
 use Rattle.qmi_solo.specs.Part.{fact_if, part}
 use Rattle.qmi_solo.proofs.Fit.{AreGeneral, Fit}
@@ -137,7 +137,7 @@ module _ (s : Setup) (c : ℕ) where
           | None ↦ λ is is' e F.
               let back : history s (ModemBack ∷ solo) ≡ ModemReturned ∷ own = ap (λ (o : Option (List ℕ)). add_all s (returns_once o) own) is' in
               met s c ModemBack (ModemReturned ∷ begun s c events) solo (stream c events) (ap (λ (l : List Fact). ModemReturned ∷ l) A.same ∙ ap (part c) (sym back)) F
-              (subst (Fit true c) (sym back) (fit_add true c s ModemReturns own G tt)) A.sent (ap (λ (o : Option (List ℕ)). rest_in (come_back o)) is')
+              (subst (Fit true c) (sym back) (fit_add true c s ModemReturns own G tt)) A.sent (ap (λ (o : Option (List ℕ)). rest_in size_of (come_back o)) is')
           | Some before ↦ λ is is' e F. absurd (let clash : false ≡ true = e in cc)
         ]
         | Some before ↦ elim o' as (λ o'. bytes_of s c events ≡ Some before → bytes_of s c solo ≡ o' → is_none o' ≡ false → Fit false c (begun s c events) → Alike s c (begun s c events) (meet s ModemBack solo) (stream c events)) [
@@ -145,7 +145,7 @@ module _ (s : Setup) (c : ℕ) where
           | Some own_before ↦ λ is is' e F.
               let nothing : history s (ModemBack ∷ solo) ≡ own = ap (λ (o : Option (List ℕ)). add_all s (returns_once o) own) is' in
               met s c ModemBack (begun s c events) solo (stream c events) (A.same ∙ ap (part c) (sym nothing)) F (subst (Fit true c) (sym nothing) G) A.sent
-              (ap (λ (o : Option (List ℕ)). rest_in (come_back o)) is' ∙ ap rest_in (sym is') ∙ A.whole)
+              (ap (λ (o : Option (List ℕ)). rest_in size_of (come_back o)) is' ∙ ap (rest_in size_of) (sym is') ∙ A.whole)
         ]
       ]
       in both_too (bytes_of s c events) (bytes_of s c solo) refl refl agree F

@@ -10,7 +10,7 @@ use Rattle.proxy_history.specs.Modem.{modem_queue}
 use Rattle.qmi_proxy.specs.Setup.{Setup}
 use Rattle.qmi_proxy.specs.Clients.{wire}
 use Rattle.qmi_proxy.specs.History.{add, items_of, history}
-use Rattle.qmi_state.specs.Core.{greatest_name}
+use Rattle.proxy_history.specs.Coming.{greatest_name}
 use Rattle.qmi_solo.specs.Solo.{take_all, meet, meet_if, piece_limit, pieces_of, meet_pieces, meet_message, heard_alone, meet_items, solo}
 use Rattle.qmi_solo.specs.Law.{MayCome, AreSound}
 

@@ -5,25 +5,25 @@ use Rattle.qmux_frame.specs.declared.kind.MessageKind.{MessageKind}
 use Rattle.qmux_frame.specs.declared.kind.MessageKind.TheVariants as kind
 use Rattle.qmux_frame.specs.Head.{is_control, client_of}
 use Rattle.qmux_frame.specs.Kind.{framed_kind}
-use Rattle.qmux_frame.specs.Control.{is_sync, is_release}
+use Rattle.qmux_frame.specs.Control.{is_sync}
 use Rattle.proxy_history.specs.Items.{Item, Joins, Says, Garbles, Leaves, ModemSays, ModemFails, ModemReturns, ClockShows, Takes, ModemTakes}
-use Rattle.proxy_history.specs.Facts.{Fact, Request, Verdict, Own, Foreign, Away, Full, Forward, Admitted, Ended, NotAdmitted, Judged, Forwarded, Answered, IdHeld, Indicated, Stray, Granted, Freed, Reset}
+use Rattle.proxy_history.specs.Facts.{Fact, Request, Verdict, Forward, Admitted, Ended, NotAdmitted, Judged, Forwarded, Answered, IdHeld, Indicated, Stray, Granted, Freed, Reset}
+use Rattle.proxy_history.specs.Decision.{Decision, Replies, Forwards}
 use Rattle.proxy_history.specs.Connections.{present, is_present, message_count}
 use Rattle.proxy_history.specs.Requests.{in_use, is_pending}
 use Rattle.proxy_history.specs.ClientIds.{held, holder, is_other}
-use Rattle.proxy_history.specs.Modem.{is_away, modem_queue}
+use Rattle.proxy_history.specs.Modem.{modem_queue}
 use Rattle.proxy_history.proofs.Sound.{forwarded_from_in_use}
 use Rattle.qmi_proxy.specs.Limits.{connection_limit}
 use Rattle.qmi_proxy.specs.Setup.{Setup}
-use Rattle.qmi_proxy.specs.Messages.{is_success, uses_id, used_service, used_client, byte_of, value_of}
-use Rattle.qmi_proxy.specs.OwnReplies.{own_reply}
+use Rattle.qmi_proxy.specs.Messages.{uses_id, used_service, used_client}
 use Rattle.qmi_proxy.specs.Text.{note, view_of}
-use Rattle.qmi_proxy.specs.Clients.{number_for, holder_for, wire, has_room, is_number, own_or, verdict_on, request_of, grant_if, forward, judge}
-use Rattle.qmi_proxy.specs.FromModem.{IdChange, NoChange, Grants, Collides, Frees, granted_unless, id_change, brings_id, holder_of_brought, answer, answer_or_late, respond, first_answered_by, abort_all, receivers, tell, hear_as}
+use Rattle.qmi_proxy.specs.Clients.{holder_for, wire, decision_on, request_of, grant_if, forward, judge}
+use Rattle.qmi_proxy.specs.FromModem.{IdChange, NoChange, Grants, Collides, Frees, id_change, holder_of_brought, answer, answer_or_late, respond, first_answered_by, abort_all, receivers, tell, hear_as}
 use Rattle.qmi_proxy.specs.History.{add}
 use Rattle.qmi_proxy.proofs.Sound.{sound_add}
 use Rattle.qmi_proxy.specs.OwnReplies.{is_open}
-use Rattle.qmi_proxy.proofs.Verdicts.{forwarded_ids_are_free}
+use Rattle.qmi_proxy.proofs.Verdicts.{can_go}
 use Rattle.qmi_proxy.proofs.Answered.{found_is, change_free}
 use Rattle.qmi_solo.specs.Part.{part}
 use Rattle.qmi_solo.proofs.Fit.{AreGeneral, ComesFrom, MayBe, IsFit, Fit, older, place_within}
@@ -76,22 +76,18 @@ module _ (alone : Bool) (c : ℕ) (s : Setup) where
     granted_fits true facts free fits = ((from, free refl), fits)
     granted_fits false facts free fits = fits
 
-    forward_fits : (number : Option ℕ) → is_other d (holder_for m past) ≡ false → FitFacts (forward s d m number before)
+    forward_fits : (n : ℕ) → is_other d (holder_for m past) ≡ false → FitFacts (forward s d m n before)
     unfolding held
-    forward_fits None free = (tt, F.fits)
-    forward_fits (Some n) free =
+    forward_fits n free =
         granted_fits (uses_id m) (Forwarded (request_of s d m n before) ∷ before)
         (λ e. sym (ap (λ (b : Bool). is_other d (if b then holder (used_service m) (used_client m) past else None)) e) ∙ free) (forwarded_fits n)
 
-    judge_fits : (verdict : Verdict) → (verdict ≡ Forward → is_other d (holder_for m past) ≡ false) → FitFacts (judge s d m (number_for m past) verdict past)
-    judge_fits Own free = noted_fits (message_count d past + 1) Own
-    judge_fits Foreign free = noted_fits (message_count d past + 1) Foreign
-    judge_fits Away free = noted_fits (message_count d past + 1) Away
-    judge_fits Full free = noted_fits (message_count d past + 1) Full
-    judge_fits Forward free = forward_fits (number_for m past) (free refl)
+    judge_fits : (decision : Decision) → ((n : ℕ) → decision ≡ Forwards n → is_other d (holder_for m past) ≡ false) → FitFacts (judge s d m decision past)
+    judge_fits (Replies verdict) free = noted_fits (message_count d past + 1) verdict
+    judge_fits (Forwards n) free = forward_fits n (free n refl)
 
-    says_fits : FitFacts (judge s d m (number_for m past) (verdict_on s d m past) past)
-    says_fits = judge_fits (verdict_on s d m past) (λ e. forwarded_ids_are_free s (is_open s.device (view_of d past)) d m past e)
+    says_fits : FitFacts (judge s d m (decision_on s d m past) past)
+    says_fits = judge_fits (decision_on s d m past) (λ n e. (can_go s (is_open s.device (view_of d past)) d m past n e).free)
 
   -- ---- messages of the modem ----
 

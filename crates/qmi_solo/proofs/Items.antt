@@ -2,7 +2,7 @@
 use Rattle.std.proofs.Common.{◌≡◌, ℕ, ◌≤◌, Bool, true, false, ◌==◌, nat_lt, if◌then◌else◌, List, [], ◌∷◌, ◌++◌, length, map, refl, ap, sym, ◌∙◌, subst, Option, Some, None}
 use Rattle.proxy_history.specs.History as proxy
 use Rattle.proxy_history.specs.Items.{Joins, Says, Garbles, Leaves, Takes, item_if}
-use Rattle.proxy_history.specs.Facts.{Fact, Verdict, Admitted, Ended, NotAdmitted, BadStream, Closed, Drained}
+use Rattle.proxy_history.specs.Facts.{Fact, Admitted, Ended, NotAdmitted, BadStream, Closed, Drained}
 use Rattle.proxy_history.specs.Connections.{present, is_present}
 use Rattle.proxy_history.specs.Requests.{in_use}
 use Rattle.proxy_history.specs.Modem.{modem_queue}
@@ -10,7 +10,7 @@ use Rattle.qmi_proxy.specs.Limits.{connection_limit}
 use Rattle.qmi_proxy.specs.Setup.{Setup}
 use Rattle.qmux_frame.specs.declared.kind.MessageKind.{MessageKind}
 use Rattle.qmux_frame.specs.declared.kind.MessageKind.TheVariants as kind
-use Rattle.qmi_proxy.specs.Clients.{number_for, wire, verdict_on, hear_client, judge}
+use Rattle.qmi_proxy.specs.Clients.{wire, decision_on, hear_client}
 use Rattle.qmi_proxy.specs.FromModem.{first_answered_by}
 use Rattle.qmi_proxy.specs.History.{add, add_all}
 use Rattle.qmi_solo.specs.Solo.{answer_alone, heard_alone}
@@ -20,7 +20,7 @@ use Rattle.qmi_solo.proofs.Queries.{present-part}
 use Rattle.qmi_solo.proofs.Actions.{self}
 use Rattle.qmi_solo.proofs.Fair.{AreFair}
 use Rattle.qmi_solo.proofs.Fits.{fit_add}
-use Rattle.qmi_solo.proofs.Saying.{says_elsewhere, has_number, fair_said, says_alike, SaidAlike}
+use Rattle.qmi_solo.proofs.Saying.{says_elsewhere, fair_said, says_alike, SaidAlike}
 use Rattle.qmi_solo.proofs.Room.{room_kept}
 
 module _ (s : Setup) (c : ℕ) where
@@ -56,7 +56,7 @@ module _ (s : Setup) (c : ℕ) where
     piece_elsewhere [] false past = refl
     piece_elsewhere (m ∷ messages) bad past =
         piece_elsewhere messages bad (add s (Says d m) past)
-        ∙ either (is_present d past) (hear_client s d m past) past past (says_elsewhere s c d other m (number_for m past) (verdict_on s d m past) past) refl
+        ∙ either (is_present d past) (hear_client s d m past) past past (says_elsewhere s c d other m (decision_on s d m past) past) refl
 
   -- the messages of a client keep a history of all fit
   pub piece_fits : (alone : Bool) (d : ℕ) → ComesFrom alone c d → (messages : List (List ℕ)) (bad : Bool) (past : List Fact) → Fit alone c past → Fit alone c (add_all s (map (λ m. Says d m) messages ++ item_if bad (Garbles d)) past)
@@ -137,10 +137,7 @@ module _ (s : Setup) (c : ℕ) where
 
       room_by : (b b' : Bool) → b ≡ b' → is_present c past ≡ b → length (modem_queue wire (if b' then hear_client s c m own else own)) ≤ length (modem_queue wire (if b then hear_client s c m past else past))
       room_by true true e is =
-          let verdicts : verdict_on s c m past ≡ verdict_on s c m own = (said is).verdict_same_too in
-          subst (λ (v : Verdict). length (modem_queue wire (judge s c m (number_for m own) v own)) ≤ length (modem_queue wire (hear_client s c m past))) verdicts
-          (room_kept s c m (verdict_on s c m past) (number_for m past) (number_for m own) past own P.fit.fits P.alone.fits
-          (has_number s c m past) (λ e. has_number s c m own (sym verdicts ∙ e)) P.room)
+          room_kept s c m (decision_on s c m past) (decision_on s c m own) past own P.fit.fits P.alone.fits (said is).decision_same_too P.room
       room_by true false e is = absurd (cc)
       room_by false true e is = absurd (cc)
       room_by false false e is = P.room

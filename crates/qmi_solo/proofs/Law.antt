@@ -3,6 +3,7 @@ use Rattle.std.proofs.Common.{◌≡◌, ℕ, ◌≤◌, ◌<◌, max, Bool, tru
 use Rattle.std.proofs.lemmas.Bool.{eqb-true, eq-eqb}
 use Rattle.std.proofs.lemmas.List.Elements.{recursion_from_All, All-from_recursion}
 use Rattle.framing.specs.Cutting.{cut_from}
+use Rattle.qmux_frame.specs.Frame.{size_of}
 use Rattle.proxy_history.specs.History as proxy
 use Rattle.proxy_history.specs.Events.{Event, Joined, Piece, Left, ModemPiece, ModemGone, ModemBack, Now, Took, ModemTook}
 use Rattle.proxy_history.specs.Streams.{stream, modem_stream}
@@ -19,7 +20,8 @@ use Rattle.qmi_proxy.specs.Setup.{Setup}
 use Rattle.qmi_proxy.specs.Text.{text, view_of}
 use Rattle.qmi_proxy.specs.Clients.{wire}
 use Rattle.qmi_proxy.specs.History.{qmi_protocol, items_of, history, text_for}
-use Rattle.qmi_state.specs.Core.{greatest_name, rest_in}
+use Rattle.proxy_history.specs.Coming.{greatest_name}
+use Rattle.proxy_state.specs.Stands.{rest_in}
 use Rattle.qmi_solo.specs.Solo.{meet_event, solo}
 use Rattle.qmi_solo.specs.Part.{part}
 use Rattle.qmi_solo.specs.Law.{MayCome, AreSound, tells_of_others, IsLetAlone, GetsTheSameAlone, AloneIsSound, HistoriesAreSame}
@@ -99,7 +101,7 @@ module _ (s : Setup) (c : ℕ) where
 
   alike : (events : List Event) → AreSound s events → AreFair (part c (history s events)) → Alike s c (history s events) (solo s c events) (stream c events)
   unfolding proxy.history part solo stream modem_stream to_modem modem_drained cut_from
-  alike [] sound fair = record { same = refl; fit = record { sound = tt; fits = tt }; alone = record { sound = tt; fits = tt }; sent = refl; whole = elim s.starts_away as (λ b. rest_in (if b then None else Some []) ≡ []) [ true ↦ refl | false ↦ refl ]; empty = refl }
+  alike [] sound fair = record { same = refl; fit = record { sound = tt; fits = tt }; alone = record { sound = tt; fits = tt }; sent = refl; whole = elim s.starts_away as (λ b. rest_in size_of (if b then None else Some []) ≡ []) [ true ↦ refl | false ↦ refl ]; empty = refl }
   alike (event ∷ events) sound fair =
       let K = known events sound.1 in
       alike_event s c event events (solo s c events) (known (event ∷ events) sound).fit (joins_new event events sound.0 K) fair (alike events sound.1 (fair_event s c event events K.fit fair))

@@ -15,7 +15,7 @@ use Rattle.qmi_proxy.specs.Setup.{Setup}
 use Rattle.qmi_proxy.specs.Clients.{wire}
 use Rattle.qmi_proxy.specs.FromModem.{hear_modem}
 use Rattle.qmi_proxy.specs.History.{add_all, history, qmi_protocol}
-use Rattle.qmi_state.specs.Core.{rest_in}
+use Rattle.proxy_state.specs.Stands.{rest_in}
 use Rattle.qmi_solo.specs.Solo.{take_all, meet, piece_limit, pieces_of, meet_pieces}
 use Rattle.qmi_solo.specs.Part.{part}
 use Rattle.qmi_solo.proofs.Fit.{Fit}
@@ -32,14 +32,14 @@ module _ (s : Setup) (c : ℕ) where
     pub fit : Fit false c past
     pub alone : Fit true c (history s solo)
     pub sent : stream c solo ≡ bytes
-    pub whole : rest_in (modem_bytes solo) ≡ []
+    pub whole : rest_in size_of (modem_bytes solo) ≡ []
     pub empty : length (modem_queue wire (history s solo)) ≡ 0
 
   begun_fit : {alone : Bool} (past : List Fact) → Fit alone c past → Fit alone c (EventBegan ∷ past)
   begun_fit past F = record { sound = (tt, F.sound); fits = (tt, F.fits) }
 
   -- the modem takes all that waits
-  takes_all : (past : List Fact) (solo : List Event) (bytes : List ℕ) → part c past ≡ part c (history s solo) → Fit false c past → Fit true c (history s solo) → stream c solo ≡ bytes → rest_in (modem_bytes solo) ≡ []
+  takes_all : (past : List Fact) (solo : List Event) (bytes : List ℕ) → part c past ≡ part c (history s solo) → Fit false c past → Fit true c (history s solo) → stream c solo ≡ bytes → rest_in size_of (modem_bytes solo) ≡ []
       → (count : ℕ) → length (modem_queue wire (history s solo)) ≡ count → Alike past (take_all count solo) bytes
   unfolding proxy.history proxy.add_all part stream modem_stream to_modem modem_drained
   takes_all past solo bytes same F G sent whole zero is = record { same = same; fit = F; alone = G; sent = sent; whole = whole; empty = is }
@@ -53,7 +53,7 @@ module _ (s : Setup) (c : ℕ) where
   }
 
   pub met : (event : Event) (past : List Fact) (solo : List Event) (bytes : List ℕ) → part c past ≡ part c (history s (event ∷ solo)) → Fit false c past → Fit true c (history s (event ∷ solo))
-      → stream c (event ∷ solo) ≡ bytes → rest_in (modem_bytes (event ∷ solo)) ≡ [] → Alike past (meet s event solo) bytes
+      → stream c (event ∷ solo) ≡ bytes → rest_in size_of (modem_bytes (event ∷ solo)) ≡ [] → Alike past (meet s event solo) bytes
   met event past solo bytes same F G sent whole = takes_all past (event ∷ solo) bytes same F G sent whole (length (modem_queue wire (history s (event ∷ solo)))) refl
 
   -- ---- a message in pieces ----
@@ -96,7 +96,7 @@ module _ (s : Setup) (c : ℕ) where
       let G : Fit true c own = begun_fit (history s solo) B.alone in
       met (ModemPiece piece) after solo bytes
       (comes own G B.same B.requests ∙ ap (part c) (sym is)) F (subst (Fit true c) (sym is) (fit_add true c s (ModemSays x) own G tt)) B.sent
-      (ap rest_in (piece_stream solo B.before piece B.stream_is ends.good) ∙ ends.rest)
+      (ap (rest_in size_of) (piece_stream solo B.before piece B.stream_is ends.good) ∙ ends.rest)
 
   none_waits : (solo : List Event) (event : Event) → length (modem_queue wire (history s (event ∷ solo))) ≡ 0 → meet s event solo ≡ event ∷ solo
   none_waits solo event none = ap (λ (n : ℕ). take_all n (event ∷ solo)) none
@@ -142,4 +142,4 @@ module _ (s : Setup) (c : ℕ) where
       → Alike after (meet_pieces s (pieces_of (length x) x) solo) bytes
   whole_message past after solo bytes x before A is comes F message =
       in_pieces (history s solo) after x bytes comes F message (length x) solo [] x
-      (record { same = refl; requests = refl; alone = A.alone; sent = A.sent; before = before; stream_is = is; rest = ap rest_in (sym is) ∙ A.whole; empty = A.empty }) refl
+      (record { same = refl; requests = refl; alone = A.alone; sent = A.sent; before = before; stream_is = is; rest = ap (rest_in size_of) (sym is) ∙ A.whole; empty = A.empty }) refl

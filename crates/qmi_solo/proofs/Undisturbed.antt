@@ -1,7 +1,7 @@
 -- A view that tells of nobody else is one of a fair history.
 use Rattle.std.proofs.Common.{◌≡◌, ℕ, Bool, true, false, ◌==◌, if◌then◌else◌, List, [], ◌∷◌, refl}
 use Rattle.std.specs.List.{AllByRecursion}
-use Rattle.proxy_history.specs.Facts.{Fact, Verdict, Own, Foreign, Away, Full, Forward, NotAdmitted, BadStream, Closed, Admitted, Ended, Judged, Drained, Answered, IdHeld, Expired, Aborted, Indicated, OpeningEnded, SessionsClosed, Reset, ModemLost, ModemReturned, TimeIs}
+use Rattle.proxy_history.specs.Facts.{Fact, Verdict, Own, Foreign, Away, Full, Forward, Ready, Waits, NotAdmitted, BadStream, Closed, Admitted, Ended, Judged, Drained, Answered, IdHeld, Expired, Aborted, Indicated, OpeningEnded, SessionsClosed, Reset, ModemLost, ModemReturned, TimeIs}
 use Rattle.proxy_history.specs.Connections.{contains}
 use Rattle.proxy_history.specs.View.{Entry, Sent, Response, Refused, Indication, OpenedWith, Shut, Collected, End, HeldId, NoAnswer, view, entry_if}
 use Rattle.qmi_proxy.specs.Text.{blank, view_of}
@@ -32,6 +32,8 @@ module _ (c : ℕ) where
   fair_verdict d place m Away is = refl
   fair_verdict d place m Full is = is
   fair_verdict d place m Forward is = refl
+  fair_verdict d place m Ready is = refl
+  fair_verdict d place m Waits is = refl
 
   other_fact : (b : Bool) (fact : Fact) (facts : List Fact) → refuses fact ≡ false → AreFair facts → AreFair (fact_if b fact facts)
   other_fact true fact facts here rest = (here, rest)

@@ -1,7 +1,7 @@
 -- Stories of two clients, and what each of them meets alone. A story is told in its order; lists of events have the newest first.
 use Rattle.std.specs.Prelude.{◌≡◌, ℕ, List, [], ◌∷◌, ◌++◌, reverse, take, drop, codes}
+use Rattle.kit_bytes.specs.Hex.{hex}
 use Rattle.proxy_history.specs.Events.{Event, Joined, Piece, Left, ModemPiece, ModemGone, ModemBack, Now, Took, ModemTook}
-use Rattle.proxy_examples.specs.Hex.{hex}
 use Rattle.proxy_examples.specs.Story.{setup, open_device, opened, get_version, version, version_internal, version_aborted, allocate, id_5, id_6, id_5_to_2, get_model, model, sync, both_open, bytes_for}
 use Rattle.proxy_examples.specs.ClientIds.{dms_indication_for_5}
 use Rattle.qmi_solo.specs.Solo.{solo}

@@ -8,13 +8,14 @@ use Rattle.proxy_history.specs.Facts.{Fact, Request, Answered, IdHeld, Late, Str
 use Rattle.proxy_history.specs.Connections.{present, dropped}
 use Rattle.proxy_history.specs.Requests.{in_use, pending, last_number}
 use Rattle.proxy_history.specs.ClientIds.{Grant, holder_in}
-use Rattle.proxy_history.specs.Modem.{to_modem, modem_drained}
+use Rattle.proxy_history.specs.Modem.{now, is_away, to_modem, modem_drained}
 use Rattle.proxy_history.specs.Noting.{end_overfull}
 use Rattle.proxy_history.specs.View.{view}
 use Rattle.proxy_history.proofs.Lists.{Contains-cons, Contains-cons_cases, Contains-nil}
 use Rattle.proxy_history.proofs.Sound.{forwarded_from_in_use, waits}
 use Rattle.proxy_history.proofs.SoundLaws.{waiting_are_parties}
 use Rattle.proxy_history.specs.Sound.{IsParty, IsFreeFor}
+use Rattle.qmi_proxy.specs.Setup.{Setup}
 use Rattle.qmi_proxy.specs.Limits.{qmi_limits}
 use Rattle.qmi_proxy.specs.Spaces.{control_space, service_space, space_of}
 use Rattle.qmi_proxy.specs.Errors.{client_ids_exhausted}
@@ -23,18 +24,22 @@ use Rattle.qmi_proxy.specs.FromModem.{IdChange, NoChange, Grants, Collides, Free
 use Rattle.qmi_state.specs.Asked.{asked_of}
 use Rattle.qmi_proxy.specs.Regular.{IsAsked, Regular}
 use Rattle.holders.specs.Grants.{granted, releases}
-use Rattle.qmi_state.specs.Desk.{Row, Numbers, Desk, Ask, asks, row_of, rows_of, desk_of, of_control, with_numbers, row_numbered, frees, ids}
-use Rattle.qmi_state.specs.Transitions.{Exchange, tells, change_by, holder_brought, with_held, answers, answers_if, fits, responds_if, responds_to, responds}
-use Rattle.qmi_state.proofs.Asks.{request_in, in_use_is}
+use Rattle.proxy_state.specs.Requests.{RequestInUse, requests_in_use}
+use Rattle.qmi_state.specs.Traffic.{Row, Numbers, Traffic, row_of, rows_of, traffic_of, of_control, with_numbers, row_numbered, frees, ids}
+use Rattle.proxy_state.specs.Stands.{Streams}
+use Rattle.qmi_state.specs.Core.{QmiState}
+use Rattle.qmi_state.specs.Transitions.{with_traffic, tell, change_by, holder_brought, with_held, answers, answers_if, fits, responds_if, responds_to, responds}
+use Rattle.proxy_state.proofs.InUse.{request_in, in_use_is}
 use Rattle.qmi_state.proofs.Apart.{all_apart}
 use Rattle.qmi_state.proofs.Matching.{Search, IsFound, IsNone, Found, search_for, are_different, all_placed, pending_flag, fits_request, request_if}
 use Rattle.qmi_state.proofs.Ids.{holder_is}
 use Rattle.qmi_state.proofs.Heads.{service_kept, client_kept, number_kept, reply_kept, change_is}
-use Rattle.qmi_state.proofs.Accounts.{answered_own, answered_other, held_own, held_other}
-use Rattle.qmi_state.proofs.Desks.{desk_freed}
+use Rattle.qmi_state.proofs.ClientStates.{answered_own, answered_other, held_own, held_other}
+use Rattle.qmi_state.proofs.TrafficSteps.{traffic_freed}
 use Rattle.qmi_proxy.proofs.Answered.{change_free}
 use Rattle.qmi_proxy.proofs.Regulars.{regular_more, asked_of_pending}
-use Rattle.qmi_state.proofs.Keeping.{Keeps, exchange, keeps_quiet, keeps_told, end_if}
+use Rattle.qmi_state.proofs.Keeping as keeping
+use Rattle.qmi_state.proofs.Keeping.{traffic_is, keeps_quiet, keeps_told, end_if}
 
 contains_map : {X Y : Type 0} (f : X → Y) (xs : List X) (x : X) → Contains xs x → Contains (map f xs) (f x)
 contains_map f [] x at = absurd (Contains-nil x at)
@@ -43,87 +48,87 @@ contains_map {Y = Y} f (y ∷ xs) x at =
     (λ (is : y ≡ x). let P : Y → Type 0 = λ (z : Y). Contains (z ∷ map f xs) (f x) in subst P (sym (ap f is)) (zero, omega arith, refl))
     (λ (later : Contains xs x). Contains-cons (f x) (f y) (map f xs) (contains_map f xs x later)) (Contains-cons_cases x y xs at)
 
-pub ask_in_use : (past : List Fact) (a : Ask) → Contains (asks past) a → Contains (in_use past) a.request
-ask_in_use past a at = subst (λ (l : List Request). Contains l a.request) (sym (in_use_is past)) (contains_map request_in (asks past) a at)
+pub ask_in_use : (past : List Fact) (a : RequestInUse) → Contains (requests_in_use past) a → Contains (in_use past) a.request
+ask_in_use past a at = subst (λ (l : List Request). Contains l a.request) (sym (in_use_is past)) (contains_map request_in (requests_in_use past) a at)
 
-pub ask_waits : (past : List Fact) (a : Ask) → Regular past → Contains (asks past) a → a.waits ≡ true → Contains (pending past) a.request
+pub ask_waits : (past : List Fact) (a : RequestInUse) → Regular past → Contains (requests_in_use past) a → a.waits ≡ true → Contains (pending past) a.request
 ask_waits past a R at waiting = waits qmi_limits past a.request R.sound (forwarded_from_in_use past a.request (ask_in_use past a at)) (pending_flag past a R at ∙ waiting)
 
-pub numbers_at : (desk : Desk) (past : List Fact) (m : List ℕ) → desk ≡ desk_of past → (of_control (is_control m) desk).rows ≡ rows_of (space_of m) (asks past)
-numbers_at desk past m is =
-    ap (λ (d : Desk). (of_control (is_control m) d).rows) is
-    ∙ elim (is_control m) as (λ b. (of_control b (desk_of past)).rows ≡ rows_of (if b then control_space else service_space) (asks past)) [ true ↦ refl | false ↦ refl ]
+pub numbers_at : (traffic : Traffic) (past : List Fact) (m : List ℕ) → traffic ≡ traffic_of past → (of_control (is_control m) traffic).rows ≡ rows_of (space_of m) (requests_in_use past)
+numbers_at traffic past m is =
+    ap (λ (d : Traffic). (of_control (is_control m) d).rows) is
+    ∙ elim (is_control m) as (λ b. (of_control b (traffic_of past)).rows ≡ rows_of (if b then control_space else service_space) (requests_in_use past)) [ true ↦ refl | false ↦ refl ]
 
--- the other parts of the desk don't matter
-of_control-held : (control : Bool) (desk : Desk) (held : List Grant) → of_control control (record desk { held = held }) ≡ of_control control desk
-of_control-held true desk held = refl
-of_control-held false desk held = refl
+-- the other parts of the traffic don't matter
+of_control-held : (control : Bool) (traffic : Traffic) (held : List Grant) → of_control control (record traffic { held = held }) ≡ of_control control traffic
+of_control-held true traffic held = refl
+of_control-held false traffic held = refl
 
-abbrev freed_desk : Bool → ℕ → Desk → Desk
-freed_desk control number desk = with_numbers control (frees number (of_control control desk)) desk
+abbrev freed_traffic : Bool → ℕ → Traffic → Traffic
+freed_traffic control number traffic = with_numbers control (frees number (of_control control traffic)) traffic
 
-freed-held : (control : Bool) (number : ℕ) (desk : Desk) (held : List Grant) → freed_desk control number (record desk { held = held }) ≡ record (freed_desk control number desk) { held = held }
-freed-held control number desk held = ap (λ (n : Numbers). record (with_numbers control (frees number n) desk) { held = held }) (of_control-held control desk held)
+freed-held : (control : Bool) (number : ℕ) (traffic : Traffic) (held : List Grant) → freed_traffic control number (record traffic { held = held }) ≡ record (freed_traffic control number traffic) { held = held }
+freed-held control number traffic held = ap (λ (n : Numbers). record (with_numbers control (frees number n) traffic) { held = held }) (of_control-held control traffic held)
 
-module _ (device : List ℕ) (greatest : ℕ) (rests : ℕ → List ℕ) where
-  abbrev Kept : List Fact → Exchange → Type 0
-  Kept past x = Keeps device greatest rests past x
+module _ (s : Setup) (streams : Streams) where
+  abbrev Kept : List Fact → QmiState → Type 0
+  Kept past x = keeping.Kept s streams past x
 
-  module _ (past : List Fact) (x : Exchange) (r : Request) (at : Contains (pending past) r) (used : Contains (in_use past) r) (placed : r.space ≡ space_of r.message) (K : Kept past x) where
+  module _ (past : List Fact) (x : QmiState) (r : Request) (at : Contains (pending past) r) (used : Contains (in_use past) r) (placed : r.space ≡ space_of r.message) (K : Kept past x) where
     asked : IsAsked past r
-    asked = asked_of_pending past r K.regular at
+    asked = asked_of_pending past r K.fine at
 
-    freed_now : freed_desk (is_control r.message) r.number x.desk ≡ freed_desk (is_control r.message) r.number (desk_of past)
-    freed_now = ap (freed_desk (is_control r.message) r.number) K.desk
+    freed_now : freed_traffic (is_control r.message) r.number x.beside.traffic ≡ freed_traffic (is_control r.message) r.number (traffic_of past)
+    freed_now = ap (freed_traffic (is_control r.message) r.number) (traffic_is s streams past x K)
 
     told_answer : (m : List ℕ) → 12 ≤ length m
-        → Kept (end_if device greatest rests r.conn (Answered r m ∷ past)) (tells r.conn (with_number (number_of r.message) m) (exchange x.sessions x.dropped (freed_desk (is_control r.message) r.number x.desk)))
-    unfolding asks present dropped last_number ids to_modem modem_drained
+        → Kept (end_if s streams r.conn (Answered r m ∷ past)) (tell r.conn (with_number (number_of r.message) m) (with_traffic (freed_traffic (is_control r.message) r.number x.beside.traffic) x))
+    unfolding requests_in_use now is_away present dropped last_number ids to_modem modem_drained
     told_answer m long =
-        keeps_told device greatest rests (Answered r m ∷ past) past x r.conn (with_number (number_of r.message) m) (freed_desk (is_control r.message) r.number x.desk)
-        (answered_own device past r m long asked) (λ d differs. answered_other device past r m d differs) refl refl
-        (freed_now ∙ sym (desk_freed r placed (Answered r m ∷ past) past (all_apart past r K.regular.sound used) (λ space. refl) refl refl refl))
-        (regular_more (Answered r m) past at tt tt K.regular) asked.0 K
+        keeps_told s streams (Answered r m ∷ past) past x r.conn (with_number (number_of r.message) m) (freed_traffic (is_control r.message) r.number x.beside.traffic)
+        (answered_own s.device past r m long asked) (λ d differs. answered_other s.device past r m d differs) refl refl refl refl
+        (freed_now ∙ sym (traffic_freed r placed (Answered r m ∷ past) past (all_apart past r K.fine.sound used) (λ space. refl) refl refl refl))
+        (regular_more (Answered r m) past at tt tt K.fine) asked.0 K
 
-    told_held : Kept (end_if device greatest rests r.conn (IdHeld r ∷ past)) (tells r.conn (result_reply r.message client_ids_exhausted) (exchange x.sessions x.dropped (freed_desk (is_control r.message) r.number x.desk)))
-    unfolding asks present dropped last_number ids to_modem modem_drained
+    told_held : Kept (end_if s streams r.conn (IdHeld r ∷ past)) (tell r.conn (result_reply r.message client_ids_exhausted) (with_traffic (freed_traffic (is_control r.message) r.number x.beside.traffic) x))
+    unfolding requests_in_use now is_away present dropped last_number ids to_modem modem_drained
     told_held =
-        keeps_told device greatest rests (IdHeld r ∷ past) past x r.conn (result_reply r.message client_ids_exhausted) (freed_desk (is_control r.message) r.number x.desk)
-        (held_own device past r asked) (λ d differs. held_other device past r d differs) refl refl
-        (freed_now ∙ sym (desk_freed r placed (IdHeld r ∷ past) past (all_apart past r K.regular.sound used) (λ space. refl) refl refl refl))
-        (regular_more (IdHeld r) past at tt tt K.regular) asked.0 K
+        keeps_told s streams (IdHeld r ∷ past) past x r.conn (result_reply r.message client_ids_exhausted) (freed_traffic (is_control r.message) r.number x.beside.traffic)
+        (held_own s.device past r asked) (λ d differs. held_other s.device past r d differs) refl refl refl refl
+        (freed_now ∙ sym (traffic_freed r placed (IdHeld r ∷ past) past (all_apart past r K.fine.sound used) (λ space. refl) refl refl refl))
+        (regular_more (IdHeld r) past at tt tt K.fine) asked.0 K
 
-  kept_late : (past : List Fact) (x : Exchange) (r : Request) → Contains (in_use past) r → r.space ≡ space_of r.message → Kept past x → Kept (Late r ∷ past) (exchange x.sessions x.dropped (freed_desk (is_control r.message) r.number x.desk))
-  unfolding asks present dropped last_number ids to_modem modem_drained view
+  kept_late : (past : List Fact) (x : QmiState) (r : Request) → Contains (in_use past) r → r.space ≡ space_of r.message → Kept past x → Kept (Late r ∷ past) (with_traffic (freed_traffic (is_control r.message) r.number x.beside.traffic) x)
+  unfolding requests_in_use now is_away present dropped last_number ids to_modem modem_drained view
   kept_late past x r used placed K =
-      keeps_quiet device greatest rests (Late r ∷ past) past x (freed_desk (is_control r.message) r.number x.desk) (λ d. refl) refl refl
-      (ap (freed_desk (is_control r.message) r.number) K.desk ∙ sym (desk_freed r placed (Late r ∷ past) past (all_apart past r K.regular.sound used) (λ space. refl) refl refl refl))
-      (regular_more (Late r) past used tt tt K.regular) K
+      keeps_quiet s streams (Late r ∷ past) past x (freed_traffic (is_control r.message) r.number x.beside.traffic) (λ d. refl) refl refl refl refl
+      (ap (freed_traffic (is_control r.message) r.number) (traffic_is s streams past x K) ∙ sym (traffic_freed r placed (Late r ∷ past) past (all_apart past r K.fine.sound used) (λ space. refl) refl refl refl))
+      (regular_more (Late r) past used tt tt K.fine) K
 
-  pub kept_stray : (past : List Fact) (x : Exchange) → Kept past x → Kept (Stray ∷ past) x
-  unfolding asks present dropped last_number ids to_modem modem_drained view
-  kept_stray past x K = keeps_quiet device greatest rests (Stray ∷ past) past x x.desk (λ d. refl) refl refl K.desk (regular_more Stray past tt tt tt K.regular) K
+  pub kept_stray : (past : List Fact) (x : QmiState) → Kept past x → Kept (Stray ∷ past) x
+  unfolding requests_in_use now is_away present dropped last_number ids to_modem modem_drained view
+  kept_stray past x K = keeps_quiet s streams (Stray ∷ past) past x x.beside.traffic (λ d. refl) refl refl refl refl (traffic_is s streams past x K) (regular_more Stray past tt tt tt K.fine) K
 
-  kept_granted : (past : List Fact) (x : Exchange) (c service client : ℕ) → IsParty c past → IsFreeFor c service client past → Kept past x → Kept (Granted c service client ∷ past) (exchange x.sessions x.dropped (record x.desk { held = granted c service client x.desk.held }))
-  unfolding asks present dropped last_number ids to_modem modem_drained view
+  kept_granted : (past : List Fact) (x : QmiState) (c service client : ℕ) → IsParty c past → IsFreeFor c service client past → Kept past x → Kept (Granted c service client ∷ past) (with_traffic (record x.beside.traffic { held = granted c service client x.beside.traffic.held }) x)
+  unfolding requests_in_use now is_away present dropped last_number ids to_modem modem_drained view
   kept_granted past x c service client party free K =
-      keeps_quiet device greatest rests (Granted c service client ∷ past) past x (record x.desk { held = granted c service client x.desk.held }) (λ d. refl) refl refl
-      (ap (λ (d : Desk). let e : Desk = record d { held = granted c service client d.held } in e) K.desk) (regular_more (Granted c service client) past (party, free) tt tt K.regular) K
+      keeps_quiet s streams (Granted c service client ∷ past) past x (record x.beside.traffic { held = granted c service client x.beside.traffic.held }) (λ d. refl) refl refl refl refl
+      (ap (λ (d : Traffic). let e : Traffic = record d { held = granted c service client d.held } in e) (traffic_is s streams past x K)) (regular_more (Granted c service client) past (party, free) tt tt K.fine) K
 
-  kept_given_back : (past : List Fact) (x : Exchange) (c service client : ℕ) → Kept past x → Kept (Freed c service client ∷ past) (exchange x.sessions x.dropped (record x.desk { held = releases c service client x.desk.held }))
-  unfolding asks present dropped last_number ids to_modem modem_drained view
+  kept_given_back : (past : List Fact) (x : QmiState) (c service client : ℕ) → Kept past x → Kept (Freed c service client ∷ past) (with_traffic (record x.beside.traffic { held = releases c service client x.beside.traffic.held }) x)
+  unfolding requests_in_use now is_away present dropped last_number ids to_modem modem_drained view
   kept_given_back past x c service client K =
-      keeps_quiet device greatest rests (Freed c service client ∷ past) past x (record x.desk { held = releases c service client x.desk.held }) (λ d. refl) refl refl
-      (ap (λ (d : Desk). let e : Desk = record d { held = releases c service client d.held } in e) K.desk) (regular_more (Freed c service client) past tt tt tt K.regular) K
+      keeps_quiet s streams (Freed c service client ∷ past) past x (record x.beside.traffic { held = releases c service client x.beside.traffic.held }) (λ d. refl) refl refl refl refl
+      (ap (λ (d : Traffic). let e : Traffic = record d { held = releases c service client d.held } in e) (traffic_is s streams past x K)) (regular_more (Freed c service client) past tt tt tt K.fine) K
 
   -- ---- an answer to a request that waits ----
 
-  module _ (past : List Fact) (x : Exchange) (a : Ask) (m : List ℕ) (long : 12 ≤ length m) (at : Contains (asks past) a) (waiting : a.waits ≡ true) (placed : a.request.space ≡ space_of a.request.message) (K : Kept past x) where
+  module _ (past : List Fact) (x : QmiState) (a : RequestInUse) (m : List ℕ) (long : 12 ≤ length m) (at : Contains (requests_in_use past) a) (waiting : a.waits ≡ true) (placed : a.request.space ≡ space_of a.request.message) (K : Kept past x) where
     abbrev r : Request
     r = a.request
 
-    abbrev x' : Exchange
-    x' = exchange x.sessions x.dropped (freed_desk (is_control r.message) r.number x.desk)
+    abbrev x' : QmiState
+    x' = with_traffic (freed_traffic (is_control r.message) r.number x.beside.traffic) x
 
     numbered : number_of (row_of a).note.head ≡ number_of r.message
     unfolding asked_of
@@ -134,42 +139,42 @@ module _ (device : List ℕ) (greatest : ℕ) (rests : ℕ → List ℕ) where
     replied = reply_kept r.message client_ids_exhausted
 
     is_at : Contains (pending past) r
-    is_at = ask_waits past a K.regular at waiting
+    is_at = ask_waits past a K.fine at waiting
 
-    answered_by : (change : IdChange) → ((service client : ℕ) → change ≡ Grants service client → IsFreeFor r.conn service client past) → Kept (answer device r m change past) (answers (row_of a) m change x')
+    answered_by : (change : IdChange) → ((service client : ℕ) → change ≡ Grants service client → IsFreeFor r.conn service client past) → Kept (answer s.device r m change past) (answers (row_of a) m change x')
     unfolding end_overfull pending in_use
     answered_by NoChange free =
-        subst (λ (n : ℕ). Kept (end_if device greatest rests r.conn (Answered r m ∷ past)) (tells r.conn (with_number n m) x')) (sym numbered) (told_answer past x r is_at (ask_in_use past a at) placed K m long)
+        subst (λ (n : ℕ). Kept (end_if s streams r.conn (Answered r m ∷ past)) (tell r.conn (with_number n m) x')) (sym numbered) (told_answer past x r is_at (ask_in_use past a at) placed K m long)
     answered_by (Grants service client) free =
         let before : List Fact = Granted r.conn service client ∷ past in
-        let held_now : List Grant = granted r.conn service client x.desk.held in
-        let party : IsParty r.conn past = All-contains (λ (q : Request). IsParty q.conn past) (pending past) r (waiting_are_parties qmi_limits past K.regular.sound) is_at in
-        subst (λ (n : ℕ). Kept (end_if device greatest rests r.conn (Answered r m ∷ before)) (tells r.conn (with_number n m) (with_held held_now x'))) (sym numbered)
-        (subst (λ (d : Desk). Kept (end_if device greatest rests r.conn (Answered r m ∷ before)) (tells r.conn (with_number (number_of r.message) m) (exchange x.sessions x.dropped d))) (freed-held (is_control r.message) r.number x.desk held_now)
-        (told_answer before (exchange x.sessions x.dropped (record x.desk { held = held_now })) r is_at (ask_in_use past a at) placed (kept_granted past x r.conn service client party (free service client refl) K) m long))
+        let held_now : List Grant = granted r.conn service client x.beside.traffic.held in
+        let party : IsParty r.conn past = All-contains (λ (q : Request). IsParty q.conn past) (pending past) r (waiting_are_parties qmi_limits past K.fine.sound) is_at in
+        subst (λ (n : ℕ). Kept (end_if s streams r.conn (Answered r m ∷ before)) (tell r.conn (with_number n m) (with_held held_now x'))) (sym numbered)
+        (subst (λ (d : Traffic). Kept (end_if s streams r.conn (Answered r m ∷ before)) (tell r.conn (with_number (number_of r.message) m) (with_traffic d x))) (freed-held (is_control r.message) r.number x.beside.traffic held_now)
+        (told_answer before (with_traffic (record x.beside.traffic { held = held_now }) x) r is_at (ask_in_use past a at) placed (kept_granted past x r.conn service client party (free service client refl) K) m long))
     answered_by Collides free =
-        subst (λ (l : List ℕ). Kept (end_if device greatest rests r.conn (IdHeld r ∷ past)) (tells r.conn l x')) (sym replied) (told_held past x r is_at (ask_in_use past a at) placed K)
+        subst (λ (l : List ℕ). Kept (end_if s streams r.conn (IdHeld r ∷ past)) (tell r.conn l x')) (sym replied) (told_held past x r is_at (ask_in_use past a at) placed K)
     answered_by (Frees service client) free =
         let before : List Fact = Freed r.conn service client ∷ past in
-        let held_now : List Grant = releases r.conn service client x.desk.held in
-        subst (λ (n : ℕ). Kept (end_if device greatest rests r.conn (Answered r m ∷ before)) (tells r.conn (with_number n m) (with_held held_now x'))) (sym numbered)
-        (subst (λ (d : Desk). Kept (end_if device greatest rests r.conn (Answered r m ∷ before)) (tells r.conn (with_number (number_of r.message) m) (exchange x.sessions x.dropped d))) (freed-held (is_control r.message) r.number x.desk held_now)
-        (told_answer before (exchange x.sessions x.dropped (record x.desk { held = held_now })) r is_at (ask_in_use past a at) placed (kept_given_back past x r.conn service client K) m long))
+        let held_now : List Grant = releases r.conn service client x.beside.traffic.held in
+        subst (λ (n : ℕ). Kept (end_if s streams r.conn (Answered r m ∷ before)) (tell r.conn (with_number n m) (with_held held_now x'))) (sym numbered)
+        (subst (λ (d : Traffic). Kept (end_if s streams r.conn (Answered r m ∷ before)) (tell r.conn (with_number (number_of r.message) m) (with_traffic d x))) (freed-held (is_control r.message) r.number x.beside.traffic held_now)
+        (told_answer before (with_traffic (record x.beside.traffic { held = held_now }) x) r is_at (ask_in_use past a at) placed (kept_given_back past x r.conn service client K) m long))
 
-    change_here : change_by (row_of a).conn (row_of a).note m (holder_brought m x'.desk) ≡ id_change r.conn r.message m (holder_of_brought m past)
+    change_here : change_by (row_of a).conn (row_of a).note m (holder_brought m x'.beside.traffic) ≡ id_change r.conn r.message m (holder_of_brought m past)
     change_here =
-        change_is r.conn r.message m (holder_brought m x'.desk)
-        ∙ ap (λ (d : Desk). id_change r.conn r.message m (holder_in (byte_of 0 (value_of 0x01 m)) (byte_of 1 (value_of 0x01 m)) d.held)) K.desk
+        change_is r.conn r.message m (holder_brought m x'.beside.traffic)
+        ∙ ap (λ (d : Traffic). id_change r.conn r.message m (holder_in (byte_of 0 (value_of 0x01 m)) (byte_of 1 (value_of 0x01 m)) d.held)) (traffic_is s streams past x K)
         ∙ ap (id_change r.conn r.message m) (holder_is (byte_of 0 (value_of 0x01 m)) (byte_of 1 (value_of 0x01 m)) past)
 
-    answered_now : Kept (answer device r m (id_change r.conn r.message m (holder_of_brought m past)) past) (answers (row_of a) m (change_by (row_of a).conn (row_of a).note m (holder_brought m x'.desk)) x')
+    answered_now : Kept (answer s.device r m (id_change r.conn r.message m (holder_of_brought m past)) past) (answers (row_of a) m (change_by (row_of a).conn (row_of a).note m (holder_brought m x'.beside.traffic)) x')
     answered_now =
-        subst (λ (change : IdChange). Kept (answer device r m (id_change r.conn r.message m (holder_of_brought m past)) past) (answers (row_of a) m change x')) (sym change_here)
+        subst (λ (change : IdChange). Kept (answer s.device r m (id_change r.conn r.message m (holder_of_brought m past)) past) (answers (row_of a) m change x')) (sym change_here)
         (answered_by (id_change r.conn r.message m (holder_of_brought m past)) (λ service client e. change_free r.conn r.message m past service client e))
 
   -- ---- a response ----
 
-  fits_is : (m : List ℕ) (a : Ask) → fits m (row_of a) ≡ fits_request m a.request
+  fits_is : (m : List ℕ) (a : RequestInUse) → fits m (row_of a) ≡ fits_request m a.request
   unfolding asked_of
   fits_is m a = rw (service_kept a.request.message, client_kept a.request.message) refl
 
@@ -183,35 +188,35 @@ module _ (device : List ℕ) (greatest : ℕ) (rests : ℕ → List ℕ) where
           λ t. elim t as (λ t. (a == b) ≡ t → (t && c) ≡ true → a ≡ b) [ true ↦ λ is h. eqb-true a b is | false ↦ λ is h. absurd (cc) ]
           in step (a == b) refl e
 
-  module _ (past : List Fact) (x : Exchange) (m : List ℕ) (long : 12 ≤ length m) (K : Kept past x) where
+  module _ (past : List Fact) (x : QmiState) (m : List ℕ) (long : 12 ≤ length m) (K : Kept past x) where
     abbrev Responded : Option Request → Option Row → Type 0
-    Responded found row = Kept (respond device found m past) (responds_to row m x)
+    Responded found row = Kept (respond s.device found m past) (responds_to row m x)
 
-    found_if : (a : Ask) → Found m (asks past) a → (fitting : Bool) → fits_request m a.request ≡ fitting → Kept (respond device (request_if fitting a.request) m past) (responds_if fitting (row_of a) m x)
+    found_if : (a : RequestInUse) → Found m (requests_in_use past) a → (fitting : Bool) → fits_request m a.request ≡ fitting → Kept (respond s.device (request_if fitting a.request) m past) (responds_if fitting (row_of a) m x)
     found_if a F true e =
         let r : Request = a.request in
         let placed : r.space ≡ space_of r.message = F.space ∙ ap (λ (b : Bool). if b then control_space else service_space) (sym (same_control m r e)) in
         let control : is_control r.message ≡ is_control m = same_control m r e in
-        let waiting_if : (w : Bool) → a.waits ≡ w → Kept (answer_or_late device w r m past) (answers_if w (row_of a) m (exchange x.sessions x.dropped (freed_desk (is_control r.message) r.number x.desk))) =
-        λ w. elim w as (λ w. a.waits ≡ w → Kept (answer_or_late device w r m past) (answers_if w (row_of a) m (exchange x.sessions x.dropped (freed_desk (is_control r.message) r.number x.desk)))) [
+        let waiting_if : (w : Bool) → a.waits ≡ w → Kept (answer_or_late s.device w r m past) (answers_if w (row_of a) m (with_traffic (freed_traffic (is_control r.message) r.number x.beside.traffic) x)) =
+        λ w. elim w as (λ w. a.waits ≡ w → Kept (answer_or_late s.device w r m past) (answers_if w (row_of a) m (with_traffic (freed_traffic (is_control r.message) r.number x.beside.traffic) x))) [
           | true ↦ λ is. answered_now past x a m long F.at is placed K
           | false ↦ λ is. kept_late past x r (ask_in_use past a F.at) placed K
         ]
         in
-        subst (λ (b : Bool). Kept (respond device (Some r) m past) (answers_if a.waits (row_of a) m (exchange x.sessions x.dropped (freed_desk b r.number x.desk)))) control
-        (subst (λ (w : Bool). Kept (answer_or_late device w r m past) (answers_if a.waits (row_of a) m (exchange x.sessions x.dropped (freed_desk (is_control r.message) r.number x.desk)))) (sym (pending_flag past a K.regular F.at))
+        subst (λ (b : Bool). Kept (respond s.device (Some r) m past) (answers_if a.waits (row_of a) m (with_traffic (freed_traffic b r.number x.beside.traffic) x))) control
+        (subst (λ (w : Bool). Kept (answer_or_late s.device w r m past) (answers_if a.waits (row_of a) m (with_traffic (freed_traffic (is_control r.message) r.number x.beside.traffic) x))) (sym (pending_flag past a K.fine F.at))
         (waiting_if a.waits refl))
     found_if a F false e = kept_stray past x K
 
-    responded : Search m (asks past) → Kept (respond device (first_answered_by m (map request_in (asks past))) m past) (responds_to (row_numbered (number_of m) (rows_of (space_of m) (asks past))) m x)
-    responded (IsNone none) = subst (λ (o : Option Request). Responded o (row_numbered (number_of m) (rows_of (space_of m) (asks past)))) (sym none.answered) (subst (λ (o : Option Row). Responded None o) (sym none.row) (kept_stray past x K))
+    responded : Search m (requests_in_use past) → Kept (respond s.device (first_answered_by m (map request_in (requests_in_use past))) m past) (responds_to (row_numbered (number_of m) (rows_of (space_of m) (requests_in_use past))) m x)
+    responded (IsNone none) = subst (λ (o : Option Request). Responded o (row_numbered (number_of m) (rows_of (space_of m) (requests_in_use past)))) (sym none.answered) (subst (λ (o : Option Row). Responded None o) (sym none.row) (kept_stray past x K))
     responded (IsFound a F) =
-        subst (λ (o : Option Request). Responded o (row_numbered (number_of m) (rows_of (space_of m) (asks past)))) (sym F.answered)
+        subst (λ (o : Option Request). Responded o (row_numbered (number_of m) (rows_of (space_of m) (requests_in_use past)))) (sym F.answered)
         (subst (λ (o : Option Row). Responded (request_if (fits_request m a.request) a.request) o) (sym F.row)
-        (subst (λ (b : Bool). Kept (respond device (request_if (fits_request m a.request) a.request) m past) (responds_if b (row_of a) m x)) (sym (fits_is m a)) (found_if a F (fits_request m a.request) refl)))
+        (subst (λ (b : Bool). Kept (respond s.device (request_if (fits_request m a.request) a.request) m past) (responds_if b (row_of a) m x)) (sym (fits_is m a)) (found_if a F (fits_request m a.request) refl)))
 
-    pub keeps_responds : Kept (respond device (first_answered_by m (in_use past)) m past) (responds m x)
+    pub keeps_responds : Kept (respond s.device (first_answered_by m (in_use past)) m past) (responds m x)
     keeps_responds =
-        subst (λ (l : List Request). Kept (respond device (first_answered_by m l) m past) (responds m x)) (sym (in_use_is past))
-        (subst (λ (l : List Row). Kept (respond device (first_answered_by m (map request_in (asks past))) m past) (responds_to (row_numbered (number_of m) l) m x)) (sym (numbers_at x.desk past m K.desk))
-        (responded (search_for m (asks past) (are_different past K.regular) (all_placed past K.regular))))
+        subst (λ (l : List Request). Kept (respond s.device (first_answered_by m l) m past) (responds m x)) (sym (in_use_is past))
+        (subst (λ (l : List Row). Kept (respond s.device (first_answered_by m (map request_in (requests_in_use past))) m past) (responds_to (row_numbered (number_of m) l) m x)) (sym (numbers_at x.beside.traffic past m (traffic_is s streams past x K)))
+        (responded (search_for m (requests_in_use past) (are_different past K.fine) (all_placed past K.fine))))

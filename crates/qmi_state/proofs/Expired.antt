@@ -7,40 +7,47 @@ use Rattle.qmux_frame.specs.Reply.{result_reply}
 use Rattle.proxy_history.specs.Facts.{Fact, Request, Expired, Aborted}
 use Rattle.proxy_history.specs.Connections.{present, dropped}
 use Rattle.proxy_history.specs.Requests.{pending, is_pending, last_number}
-use Rattle.proxy_history.specs.Modem.{to_modem, modem_drained}
+use Rattle.proxy_history.specs.Modem.{now, is_away, to_modem, modem_drained}
 use Rattle.proxy_history.specs.Noting.{end_overfull, each_pending}
 use Rattle.proxy_history.specs.Unanswered.{due}
 use Rattle.proxy_history.proofs.Lists.{Contains-cons_cases, Contains-nil}
+use Rattle.qmi_proxy.specs.Setup.{Setup}
 use Rattle.qmi_proxy.specs.Spaces.{control_space, service_space, space_of}
 use Rattle.qmi_proxy.specs.Errors.{aborted}
 use Rattle.qmi_proxy.specs.FromModem.{in_expiry_order}
 use Rattle.number_space.specs.Table.{is_due, first_due}
 use Rattle.qmi_state.specs.Asked.{asked_of}
 use Rattle.qmi_proxy.specs.Regular.{IsPlaced, IsAsked, Regular}
-use Rattle.qmi_state.specs.Desk.{Row, Desk, Ask, asks, row_of, rows_of, desk_of, of_control, with_numbers, silences, ids}
-use Rattle.qmi_state.specs.Transitions.{Exchange, tells, refuses, expires_in, expires_space, expires}
-use Rattle.qmi_state.proofs.Asks.{request_in, waits_in, pending_is}
+use Rattle.proxy_state.specs.Requests.{RequestInUse, requests_in_use}
+use Rattle.qmi_state.specs.Traffic.{Row, Traffic, row_of, rows_of, traffic_of, of_control, with_numbers, silences, ids}
+use Rattle.proxy_state.specs.Stands.{Streams}
+use Rattle.qmi_state.specs.Core.{QmiState}
+use Rattle.qmi_state.specs.Transitions.{with_traffic, tell, refuses, expires_in, expires_space, expires}
+use Rattle.proxy_state.proofs.InUse.{request_in, waits_in, pending_is}
 use Rattle.qmi_state.proofs.Apart.{all_apart}
-use Rattle.qmi_state.proofs.Matching.{all_placed, pending_flag, waiting}
+use Rattle.proxy_state.proofs.InUse.{waiting}
+use Rattle.qmi_state.proofs.Matching.{all_placed, pending_flag}
 use Rattle.qmi_state.proofs.Heads.{reply_kept}
-use Rattle.qmi_state.proofs.Accounts.{expired_own, expired_other, aborted_own, aborted_other}
-use Rattle.qmi_state.proofs.Desks.{desk_silenced}
+use Rattle.qmi_state.proofs.ClientStates.{expired_own, expired_other, aborted_own, aborted_other}
+use Rattle.qmi_state.proofs.TrafficSteps.{traffic_silenced}
 use Rattle.qmi_proxy.proofs.Regulars.{regular_more, asked_of_pending}
-use Rattle.qmi_state.proofs.Filters.{filter_shorter}
-use Rattle.qmi_state.proofs.Keeping.{Keeps, exchange, keeps_told, end_if}
+use Rattle.proxy_state.proofs.Filters.{filter_shorter}
+use Rattle.qmi_state.proofs.Keeping as keeping
+use Rattle.qmi_state.proofs.Keeping.{traffic_is, keeps_told, end_if}
 use Rattle.qmi_state.proofs.Answering.{ask_in_use, ask_waits}
-use Rattle.qmi_state.proofs.Expiring.{due_in, FirstDue, NoneDue, IsFirst, IsNone, due_of, few_due, pending_distinct, due_later, act, shrinks_act, each_shrinks, each_waiting, each_append, each_none, each_first, gone}
+use Rattle.proxy_state.proofs.Expiring.{due_in, FirstDue, NoneDue, IsFirst, IsNone, due_of, few_due, due_later, each_shrinks, each_waiting, each_append, each_none, each_first}
+use Rattle.qmi_state.proofs.Expiring.{pending_distinct, act, shrinks_act, gone}
 
 abbrev pub space_if : Bool → ℕ
 space_if control = if control then control_space else service_space
 
-rows_in : (desk : Desk) (past : List Fact) (control : Bool) → desk ≡ desk_of past → (of_control control desk).rows ≡ rows_of (space_if control) (asks past)
-rows_in desk past true is = ap (λ (d : Desk). d.control.rows) is
-rows_in desk past false is = ap (λ (d : Desk). d.services.rows) is
+rows_in : (traffic : Traffic) (past : List Fact) (control : Bool) → traffic ≡ traffic_of past → (of_control control traffic).rows ≡ rows_of (space_if control) (requests_in_use past)
+rows_in traffic past true is = ap (λ (d : Traffic). d.control.rows) is
+rows_in traffic past false is = ap (λ (d : Traffic). d.services.rows) is
 
-placed_at : (list : List Ask) (a : Ask) → Contains list a → AllByRecursion (λ (b : Ask). IsPlaced b.request) list → IsPlaced a.request
+placed_at : (list : List RequestInUse) (a : RequestInUse) → Contains list a → AllByRecursion (λ (b : RequestInUse). IsPlaced b.request) list → IsPlaced a.request
 placed_at [] a at all = absurd (Contains-nil a at)
-placed_at (b ∷ list) a at all = ⊎_elim (λ (is : b ≡ a). subst (λ (x : Ask). IsPlaced x.request) is all.0) (λ (later : Contains list a). placed_at list a later all.1) (Contains-cons_cases a b list at)
+placed_at (b ∷ list) a at all = ⊎_elim (λ (is : b ≡ a). subst (λ (x : RequestInUse). IsPlaced x.request) is all.0) (λ (later : Contains list a). placed_at list a later all.1) (Contains-cons_cases a b list at)
 
 -- where a request is in the space, its message says so
 control_of : (m : List ℕ) (control : Bool) → space_of m ≡ space_if control → is_control m ≡ control
@@ -52,103 +59,103 @@ control_of m control =
     ]
     in step (is_control m)
 
-module _ (device : List ℕ) (greatest : ℕ) (rests : ℕ → List ℕ) where
-  abbrev Kept : List Fact → Exchange → Type 0
-  Kept past x = Keeps device greatest rests past x
+module _ (s : Setup) (streams : Streams) where
+  abbrev Kept : List Fact → QmiState → Type 0
+  Kept past x = keeping.Kept s streams past x
 
-  abbrev silenced_desk : Bool → ℕ → Desk → Desk
-  silenced_desk control number desk = with_numbers control (silences number (of_control control desk)) desk
+  abbrev silenced_traffic : Bool → ℕ → Traffic → Traffic
+  silenced_traffic control number traffic = with_numbers control (silences number (of_control control traffic)) traffic
 
-  module _ (past : List Fact) (x : Exchange) (a : Ask) (at : Contains (asks past) a) (waits : a.waits ≡ true) (K : Kept past x) where
+  module _ (past : List Fact) (x : QmiState) (a : RequestInUse) (at : Contains (requests_in_use past) a) (waits : a.waits ≡ true) (K : Kept past x) where
     abbrev r : Request
     r = a.request
 
     is_at : Contains (pending past) r
-    is_at = ask_waits past a K.regular at waits
+    is_at = ask_waits past a K.fine at waits
 
     asked : IsAsked past r
-    asked = asked_of_pending past r K.regular is_at
+    asked = asked_of_pending past r K.fine is_at
 
     placed : r.space ≡ space_of r.message
-    placed = (placed_at (asks past) a at (all_placed past K.regular)).0
+    placed = (placed_at (requests_in_use past) a at (all_placed past K.fine)).0
 
     replied : result_reply (row_of a).note.head aborted ≡ result_reply r.message aborted
     unfolding asked_of
     replied = reply_kept r.message aborted
 
-    told_expired : Kept (end_if device greatest rests r.conn (Expired r ∷ past)) (tells r.conn (result_reply r.message aborted) (exchange x.sessions x.dropped (silenced_desk (is_control r.message) r.number x.desk)))
-    unfolding asks present dropped last_number ids to_modem modem_drained
+    told_expired : Kept (end_if s streams r.conn (Expired r ∷ past)) (tell r.conn (result_reply r.message aborted) (with_traffic (silenced_traffic (is_control r.message) r.number x.beside.traffic) x))
+    unfolding requests_in_use now is_away present dropped last_number ids to_modem modem_drained
     told_expired =
-        keeps_told device greatest rests (Expired r ∷ past) past x r.conn (result_reply r.message aborted) (silenced_desk (is_control r.message) r.number x.desk)
-        (expired_own device past r asked) (λ d differs. expired_other device past r d differs) refl refl
-        (ap (silenced_desk (is_control r.message) r.number) K.desk ∙ sym (desk_silenced r placed (Expired r ∷ past) past (all_apart past r K.regular.sound (ask_in_use past a at)) (λ space. refl) refl refl refl))
-        (regular_more (Expired r) past is_at tt tt K.regular) asked.0 K
+        keeps_told s streams (Expired r ∷ past) past x r.conn (result_reply r.message aborted) (silenced_traffic (is_control r.message) r.number x.beside.traffic)
+        (expired_own s.device past r asked) (λ d differs. expired_other s.device past r d differs) refl refl refl refl
+        (ap (silenced_traffic (is_control r.message) r.number) (traffic_is s streams past x K) ∙ sym (traffic_silenced r placed (Expired r ∷ past) past (all_apart past r K.fine.sound (ask_in_use past a at)) (λ space. refl) refl refl refl))
+        (regular_more (Expired r) past is_at tt tt K.fine) asked.0 K
 
-    told_aborted : Kept (end_if device greatest rests r.conn (Aborted r ∷ past)) (tells r.conn (result_reply r.message aborted) (exchange x.sessions x.dropped (silenced_desk (is_control r.message) r.number x.desk)))
-    unfolding asks present dropped last_number ids to_modem modem_drained
+    told_aborted : Kept (end_if s streams r.conn (Aborted r ∷ past)) (tell r.conn (result_reply r.message aborted) (with_traffic (silenced_traffic (is_control r.message) r.number x.beside.traffic) x))
+    unfolding requests_in_use now is_away present dropped last_number ids to_modem modem_drained
     told_aborted =
-        keeps_told device greatest rests (Aborted r ∷ past) past x r.conn (result_reply r.message aborted) (silenced_desk (is_control r.message) r.number x.desk)
-        (aborted_own device past r asked) (λ d differs. aborted_other device past r d differs) refl refl
-        (ap (silenced_desk (is_control r.message) r.number) K.desk ∙ sym (desk_silenced r placed (Aborted r ∷ past) past (all_apart past r K.regular.sound (ask_in_use past a at)) (λ space. refl) refl refl refl))
-        (regular_more (Aborted r) past is_at tt tt K.regular) asked.0 K
+        keeps_told s streams (Aborted r ∷ past) past x r.conn (result_reply r.message aborted) (silenced_traffic (is_control r.message) r.number x.beside.traffic)
+        (aborted_own s.device past r asked) (λ d differs. aborted_other s.device past r d differs) refl refl refl refl
+        (ap (silenced_traffic (is_control r.message) r.number) (traffic_is s streams past x K) ∙ sym (traffic_silenced r placed (Aborted r ∷ past) past (all_apart past r K.fine.sound (ask_in_use past a at)) (λ space. refl) refl refl refl))
+        (regular_more (Aborted r) past is_at tt tt K.fine) asked.0 K
 
-    told_either : (flag : Bool) → Kept (act device flag r past) (tells r.conn (result_reply r.message aborted) (exchange x.sessions x.dropped (silenced_desk (is_control r.message) r.number x.desk)))
+    told_either : (flag : Bool) → Kept (act s.device flag r past) (tell r.conn (result_reply r.message aborted) (with_traffic (silenced_traffic (is_control r.message) r.number x.beside.traffic) x))
     unfolding end_overfull
     told_either true = told_expired
     told_either false = told_aborted
 
-    pub kept_refused : (flag control : Bool) → r.space ≡ space_if control → Kept (act device flag r past) (refuses control (row_of a) x)
+    pub kept_refused : (flag control : Bool) → r.space ≡ space_if control → Kept (act s.device flag r past) (refuses control (row_of a) x)
     kept_refused flag control space =
-        subst (λ (l : List ℕ). Kept (act device flag r past) (tells r.conn l (exchange x.sessions x.dropped (silenced_desk control r.number x.desk)))) (sym replied)
-        (subst (λ (b : Bool). Kept (act device flag r past) (tells r.conn (result_reply r.message aborted) (exchange x.sessions x.dropped (silenced_desk b r.number x.desk)))) (control_of r.message control (sym placed ∙ space)) (told_either flag))
+        subst (λ (l : List ℕ). Kept (act s.device flag r past) (tell r.conn l (with_traffic (silenced_traffic control r.number x.beside.traffic) x))) (sym replied)
+        (subst (λ (b : Bool). Kept (act s.device flag r past) (tell r.conn (result_reply r.message aborted) (with_traffic (silenced_traffic b r.number x.beside.traffic) x))) (control_of r.message control (sym placed ∙ space)) (told_either flag))
 
   -- ---- a space ----
 
   module _ (flag control : Bool) (time : ℕ) where
     abbrev goes : List Request → List Fact → List Fact
-    goes requests past = each_pending (act device flag) requests past
+    goes requests past = each_pending (act s.device flag) requests past
 
     abbrev due_at : List Fact → List Request
     due_at past = due_in (space_if control) time (pending past)
 
-    expires_none : (x : Exchange) (count : ℕ) → first_due time (of_control control x.desk).rows ≡ None → expires_in count control time x ≡ x
+    expires_none : (x : QmiState) (count : ℕ) → first_due time (of_control control x.beside.traffic).rows ≡ None → expires_in count control time x ≡ x
     unfolding expires_in
     expires_none x zero none = refl
     expires_none x (suc count) none = ap (λ o. elim o [ None ↦ x | Some row ↦ expires_in count control time (refuses control row x) ]) none
 
-    expires_some : (x : Exchange) (count : ℕ) (row : Row) → first_due time (of_control control x.desk).rows ≡ Some row → expires_in (suc count) control time x ≡ expires_in count control time (refuses control row x)
+    expires_some : (x : QmiState) (count : ℕ) (row : Row) → first_due time (of_control control x.beside.traffic).rows ≡ Some row → expires_in (suc count) control time x ≡ expires_in count control time (refuses control row x)
     unfolding expires_in
     expires_some x count row some = ap (λ o. elim o [ None ↦ x | Some row ↦ expires_in count control time (refuses control row x) ]) some
 
-    due_asks : (past : List Fact) → due_at past ≡ due_in (space_if control) time (waiting (asks past))
+    due_asks : (past : List Fact) → due_at past ≡ due_in (space_if control) time (waiting (requests_in_use past))
     due_asks past = ap (due_in (space_if control) time) (pending_is past)
 
-    first_is : (past : List Fact) (x : Exchange) → Kept past x → first_due time (of_control control x.desk).rows ≡ find (is_due time) (rows_of (space_if control) (asks past))
-    first_is past x K = ap (find (is_due time)) (rows_in x.desk past control K.desk)
+    first_is : (past : List Fact) (x : QmiState) → Kept past x → first_due time (of_control control x.beside.traffic).rows ≡ find (is_due time) (rows_of (space_if control) (requests_in_use past))
+    first_is past x K = ap (find (is_due time)) (rows_in x.beside.traffic past control (traffic_is s streams past x K))
 
     -- what is left to be refused is what is due then
     rest_is : (past : List Fact) (r : Request) (rest : List Request) → Regular past → due_at past ≡ r ∷ rest
-        → filter (λ q. is_pending q (act device flag r past)) rest ≡ due_at (act device flag r past)
+        → filter (λ q. is_pending q (act s.device flag r past)) rest ≡ due_at (act s.device flag r past)
     rest_is past r rest R is =
-        let after : List Fact = act device flag r past in
+        let after : List Fact = act s.device flag r past in
         let later : due_at after ≡ filter (λ (q : Request). is_pending q after) (r ∷ rest) =
-        due_later (space_if control) time past after (pending_distinct past R) (shrinks_act device flag r past) ∙ ap (filter (λ (q : Request). is_pending q after)) is
+        due_later (space_if control) time past after (pending_distinct past R) (shrinks_act s.device flag r past) ∙ ap (filter (λ (q : Request). is_pending q after)) is
         in
-        sym (later ∙ ap (λ (b : Bool). cond b (r ∷ filter (λ (q : Request). is_pending q after) rest) (filter (λ (q : Request). is_pending q after) rest)) (gone device flag r past))
+        sym (later ∙ ap (λ (b : Bool). cond b (r ∷ filter (λ (q : Request). is_pending q after) rest) (filter (λ (q : Request). is_pending q after) rest)) (gone s.device flag r past))
 
-    none_left : (count : ℕ) (past : List Fact) (x : Exchange) → Kept past x → NoneDue (space_if control) time (asks past) → Kept (goes (due_at past) past) (expires_in count control time x)
+    none_left : (count : ℕ) (past : List Fact) (x : QmiState) → Kept past x → NoneDue asked_of (space_if control) time (requests_in_use past) → Kept (goes (due_at past) past) (expires_in count control time x)
     none_left count past x K none =
-        subst (λ (l : List Fact). Kept l (expires_in count control time x)) (sym (ap (λ (l : List Request). goes l past) (due_asks past ∙ none.due) ∙ each_none device flag past))
+        subst (λ (l : List Fact). Kept l (expires_in count control time x)) (sym (ap (λ (l : List Request). goes l past) (due_asks past ∙ none.due) ∙ each_none (act s.device flag) (shrinks_act s.device flag) past))
         (subst (Kept past) (sym (expires_none x count (first_is past x K ∙ none.row))) K)
 
-    first_left : (count : ℕ) → ((past : List Fact) (x : Exchange) → length (due_at past) ≤ count → Kept past x → Kept (goes (due_at past) past) (expires_in count control time x))
-        → (past : List Fact) (x : Exchange) → length (due_at past) ≤ suc count → Kept past x → (a : Ask) → FirstDue (space_if control) time (asks past) a → Kept (goes (due_at past) past) (expires_in (suc count) control time x)
+    first_left : (count : ℕ) → ((past : List Fact) (x : QmiState) → length (due_at past) ≤ count → Kept past x → Kept (goes (due_at past) past) (expires_in count control time x))
+        → (past : List Fact) (x : QmiState) → length (due_at past) ≤ suc count → Kept past x → (a : RequestInUse) → FirstDue asked_of (space_if control) time (requests_in_use past) a → Kept (goes (due_at past) past) (expires_in (suc count) control time x)
     first_left count further past x few K a F =
         let r : Request = a.request in
-        let after : List Fact = act device flag r past in
+        let after : List Fact = act s.device flag r past in
         let is : due_at past ≡ r ∷ F.rest = due_asks past ∙ F.due in
         let fewer : length (r ∷ F.rest) ≤ suc count = subst (λ (l : List Request). length l ≤ suc count) is few in
-        let left = rest_is past r F.rest K.regular is in
+        let left = rest_is past r F.rest K.fine is in
         let less : length (due_at after) ≤ count =
         (let shorter = filter_shorter (λ (q : Request). is_pending q after) F.rest in
         let same : length (filter (λ (q : Request). is_pending q after) F.rest) ≡ length (due_at after) = ap length left in
@@ -156,51 +163,51 @@ module _ (device : List ℕ) (greatest : ℕ) (rests : ℕ → List ℕ) where
         in
         subst (λ (l : List Fact). Kept l (expires_in (suc count) control time x))
         (sym (ap (λ (l : List Request). goes l past) is
-        ∙ each_first device flag r F.rest past (pending_flag past a K.regular F.at ∙ F.waits)
-        ∙ each_waiting device flag F.rest after ∙ ap (λ (l : List Request). goes l after) left))
+        ∙ each_first (act s.device flag) (shrinks_act s.device flag) r F.rest past (pending_flag past a K.fine F.at ∙ F.waits)
+        ∙ each_waiting (act s.device flag) (shrinks_act s.device flag) F.rest after ∙ ap (λ (l : List Request). goes l after) left))
         (subst (Kept (goes (due_at after) after)) (sym (expires_some x count (row_of a) (first_is past x K ∙ F.row)))
         (further after (refuses control (row_of a) x) less (kept_refused past x a F.at F.waits K flag control F.placed)))
 
-    none_first : (past : List Fact) (x : Exchange) → length (due_at past) ≤ 0 → Kept past x → (a : Ask) → FirstDue (space_if control) time (asks past) a → Kept (goes (due_at past) past) (expires_in 0 control time x)
+    none_first : (past : List Fact) (x : QmiState) → length (due_at past) ≤ 0 → Kept past x → (a : RequestInUse) → FirstDue asked_of (space_if control) time (requests_in_use past) a → Kept (goes (due_at past) past) (expires_in 0 control time x)
     none_first past x few K a F =
         let is : due_at past ≡ a.request ∷ F.rest = due_asks past ∙ F.due in
         let none : length (a.request ∷ F.rest) ≤ 0 = subst (λ (l : List Request). length l ≤ 0) is few in
         absurd (omega arith)
 
-    kept_space : (count : ℕ) (past : List Fact) (x : Exchange) → length (due_at past) ≤ count → Kept past x → Kept (goes (due_at past) past) (expires_in count control time x)
+    kept_space : (count : ℕ) (past : List Fact) (x : QmiState) → length (due_at past) ≤ count → Kept past x → Kept (goes (due_at past) past) (expires_in count control time x)
     kept_space zero past x few K =
-        elim (due_of (space_if control) time (asks past)) as (λ d. Kept (goes (due_at past) past) (expires_in 0 control time x)) [
+        elim (due_of asked_of (space_if control) time (requests_in_use past)) as (λ d. Kept (goes (due_at past) past) (expires_in 0 control time x)) [
           | IsNone none ↦ none_left 0 past x K none
           | IsFirst a F ↦ none_first past x few K a F
         ]
     kept_space (suc count) past x few K =
-        elim (due_of (space_if control) time (asks past)) as (λ d. Kept (goes (due_at past) past) (expires_in (suc count) control time x)) [
+        elim (due_of asked_of (space_if control) time (requests_in_use past)) as (λ d. Kept (goes (due_at past) past) (expires_in (suc count) control time x)) [
           | IsNone none ↦ none_left (suc count) past x K none
           | IsFirst a F ↦ first_left count (kept_space count) past x few K a F
         ]
 
-    pub kept_whole_space : (past : List Fact) (x : Exchange) → Kept past x → Kept (goes (due_at past) past) (expires_space control time x)
+    pub kept_whole_space : (past : List Fact) (x : QmiState) → Kept past x → Kept (goes (due_at past) past) (expires_space control time x)
     kept_whole_space past x K =
-        kept_space (length (of_control control x.desk).rows) past x
-        (subst (λ (l : List Request). length l ≤ length (of_control control x.desk).rows) (sym (due_asks past))
-        (subst (λ (l : List Row). length (due_in (space_if control) time (waiting (asks past))) ≤ length l) (sym (rows_in x.desk past control K.desk)) (few_due (space_if control) time (asks past)))) K
+        kept_space (length (of_control control x.beside.traffic).rows) past x
+        (subst (λ (l : List Request). length l ≤ length (of_control control x.beside.traffic).rows) (sym (due_asks past))
+        (subst (λ (l : List Row). length (due_in (space_if control) time (waiting (requests_in_use past))) ≤ length l) (sym (rows_in x.beside.traffic past control (traffic_is s streams past x K))) (few_due asked_of (space_if control) time (requests_in_use past)))) K
 
   -- ---- both spaces ----
 
-  module _ (flag : Bool) (time : ℕ) (past : List Fact) (x : Exchange) (K : Kept past x) where
+  module _ (flag : Bool) (time : ℕ) (past : List Fact) (x : QmiState) (K : Kept past x) where
     abbrev first_due_ones : List Request
     first_due_ones = due_in control_space time (pending past)
 
     abbrev middle : List Fact
-    middle = each_pending (act device flag) first_due_ones past
+    middle = each_pending (act s.device flag) first_due_ones past
 
-    second_is : each_pending (act device flag) (due_in service_space time (pending middle)) middle ≡ each_pending (act device flag) (in_expiry_order (due time (pending past))) past
+    second_is : each_pending (act s.device flag) (due_in service_space time (pending middle)) middle ≡ each_pending (act s.device flag) (in_expiry_order (due time (pending past))) past
     second_is =
-        ap (λ (l : List Request). each_pending (act device flag) l middle) (due_later service_space time past middle (pending_distinct past K.regular) (each_shrinks device flag first_due_ones past))
-        ∙ sym (each_waiting device flag (due_in service_space time (pending past)) middle)
-        ∙ sym (each_append device flag first_due_ones (due_in service_space time (pending past)) past)
+        ap (λ (l : List Request). each_pending (act s.device flag) l middle) (due_later service_space time past middle (pending_distinct past K.fine) (each_shrinks (act s.device flag) (shrinks_act s.device flag) first_due_ones past))
+        ∙ sym (each_waiting (act s.device flag) (shrinks_act s.device flag) (due_in service_space time (pending past)) middle)
+        ∙ sym (each_append (act s.device flag) (shrinks_act s.device flag) first_due_ones (due_in service_space time (pending past)) past)
 
-    pub kept_expires : Kept (each_pending (act device flag) (in_expiry_order (due time (pending past))) past) (expires time x)
+    pub kept_expires : Kept (each_pending (act s.device flag) (in_expiry_order (due time (pending past))) past) (expires time x)
     kept_expires =
         subst (λ (l : List Fact). Kept l (expires time x)) second_is
         (kept_whole_space flag false time middle (expires_space true time x) (kept_whole_space flag true time past x K))
@@ -210,7 +217,7 @@ module _ (device : List ℕ) (greatest : ℕ) (rests : ℕ → List ℕ) where
   abbrev last_time : ℕ
   last_time = 2 ^ 64 - 1
 
-  all_due : (list : List Ask) → AllByRecursion (λ (a : Ask). IsPlaced a.request) list → due last_time (waiting list) ≡ waiting list
+  all_due : (list : List RequestInUse) → AllByRecursion (λ (a : RequestInUse). IsPlaced a.request) list → due last_time (waiting list) ≡ waiting list
   all_due [] all = refl
   all_due (a ∷ list) all =
       let rest = all_due list all.1 in
@@ -221,7 +228,7 @@ module _ (device : List ℕ) (greatest : ℕ) (rests : ℕ → List ℕ) where
         | false ↦ rest
       ]
 
-  pub kept_aborts : (past : List Fact) (x : Exchange) → Kept past x → Kept (each_pending (act device false) (in_expiry_order (pending past)) past) (expires last_time x)
+  pub kept_aborts : (past : List Fact) (x : QmiState) → Kept past x → Kept (each_pending (act s.device false) (in_expiry_order (pending past)) past) (expires last_time x)
   kept_aborts past x K =
-      let every : due last_time (pending past) ≡ pending past = ap (due last_time) (pending_is past) ∙ all_due (asks past) (all_placed past K.regular) ∙ sym (pending_is past) in
-      subst (λ (l : List Request). Kept (each_pending (act device false) (in_expiry_order l) past) (expires last_time x)) every (kept_expires false last_time past x K)
+      let every : due last_time (pending past) ≡ pending past = ap (due last_time) (pending_is past) ∙ all_due (requests_in_use past) (all_placed past K.fine) ∙ sym (pending_is past) in
+      subst (λ (l : List Request). Kept (each_pending (act s.device false) (in_expiry_order l) past) (expires last_time x)) every (kept_expires false last_time past x K)

@@ -1,91 +1,110 @@
 -- What a message of a client makes of a core.
-use Rattle.std.proofs.Common.{◌≡◌, ℕ, ◌+◌, Bool, true, false, not, ◌&&◌, ◌||◌, ◌==◌, List, ◌∷◌, ◌++◌, length, map, filter, refl, ap, sym, ◌∙◌, subst, arith, Option, Some, None, if◌then◌else◌}
-use Rattle.std.proofs.lemmas.Bool.{eqb-true, or_parts}
+use Rattle.std.proofs.Common.{◌≡◌, ℕ, ◌+◌, Bool, true, false, not, ◌==◌, List, ◌∷◌, ◌++◌, length, map, filter, refl, ap, sym, ◌∙◌, subst, arith, Option, Some, None, if◌then◌else◌}
+use Rattle.std.proofs.lemmas.Bool.{eqb-true}
 use Rattle.std.proofs.lemmas.Simd.{map-map}
+use Rattle.outbox.specs.Queue.{Queue, queues_if}
+use Rattle.outbox.specs.Queue as queue
+use Rattle.connections.specs.Table.{Connection, Table}
+use Rattle.connections.specs.Hearing.{Hearing}
 use Rattle.qmux_frame.specs.Head.{is_control}
 use Rattle.qmux_frame.specs.Reply.{with_number}
-use Rattle.proxy_history.specs.Facts.{Fact, Request, Verdict, Forward, Ended, NoRoom, Judged, Forwarded, Granted}
+use Rattle.proxy_history.specs.Facts.{Fact, Request, Verdict, Own, Forward, Ended, NoRoom, Judged, Forwarded, Granted}
+use Rattle.proxy_history.specs.Decision.{Decision, Replies, Forwards}
 use Rattle.proxy_history.specs.Connections.{present, dropped, contains, message_count}
 use Rattle.proxy_history.specs.Requests.{in_use, last_number, number_after, numbers_in_use}
 use Rattle.proxy_history.specs.ClientIds.{held, holder, holder_in, is_other}
 use Rattle.proxy_history.specs.Sound.{IsFreeFor}
-use Rattle.qmi_proxy.proofs.Verdicts.{used_id_is_free}
-use Rattle.proxy_history.specs.Modem.{is_away, to_modem, modem_drained, modem_queue}
-use Rattle.proxy_history.specs.View.{view, sent_count}
+use Rattle.qmi_proxy.proofs.Verdicts.{used_id_is_free, can_go}
+use Rattle.proxy_history.specs.Modem.{now, is_away, to_modem, modem_drained, modem_queue}
+use Rattle.proxy_history.specs.View.{Sent, view, sent_count}
+use Rattle.proxy_history.specs.Noting.{end_overfull}
 use Rattle.proxy_history.proofs.Sound.{party_from_present}
+use Rattle.proxy_state.specs.Stands.{Streams, connection_as, connection_of}
+use Rattle.proxy_state.specs.Faithful.{settled_if, settled}
+use Rattle.proxy_state.proofs.Lists.{filter_map_is}
+use Rattle.proxy_state.proofs.Changed.{changed_found, changed_same}
+use Rattle.proxy_state.proofs.ClientStates.{ended_other, overfull_waiting}
+use Rattle.proxy_state.proofs.Keeping.{found_there, keeps_changed, keeps_dropped}
+use Rattle.proxy_state.proofs.Telling.{lacks_is, still_waits, end_if_is}
 use Rattle.qmi_proxy.specs.Setup.{Setup}
+use Rattle.qmi_proxy.specs.Limits.{outbox_limit}
 use Rattle.qmi_proxy.specs.Spaces.{control_space, service_space, limit_of, top_of}
 use Rattle.qmi_proxy.specs.Messages.{uses_id, used_service, used_client}
-use Rattle.qmi_proxy.specs.OwnReplies.{own_reply, is_opening, is_open}
+use Rattle.qmi_proxy.specs.OwnReplies.{step, is_open, view_decides}
 use Rattle.qmi_proxy.specs.Text.{view_of, rendering}
-use Rattle.qmi_proxy.specs.Clients.{wire, number_for, holder_for, has_room, own_or, shared_verdict_of, verdict_on, request_of, grant_if}
+use Rattle.qmi_proxy.specs.Clients.{wire, number_for, holder_for, has_room, deadline_of, shared_decision_of, decision_on, request_of, grant_if, forward, judge}
+use Rattle.qmi_proxy.specs.Clients as clients
+use Rattle.qmi_proxy.specs.History.{qmi_protocol}
 use Rattle.number_space.specs.Table.{next_number}
 use Rattle.qmi_proxy.specs.Regular.{IsPlaced, Regular}
 use Rattle.holders.specs.Grants.{granted}
-use Rattle.qmi_state.specs.Desk.{Row, Desk, Ask, asks, row_of, rows_of, desk_of, of_control, with_numbers, gives, number_at, granted_if, row_for, forwards, ids}
-use Rattle.qmi_state.specs.Core.{Account, Session, account_of, session_in, session_of}
-use Rattle.qmi_state.specs.Transitions.{Exchange, update, drops, lacks_room, reply_as, holder_at, verdict_of, Hearing}
-use Rattle.qmi_state.proofs.Asks.{request_in, in_use_is}
+use Rattle.qmi_state.specs.declared.client.Client.{Client}
+use Rattle.proxy_state.specs.Requests.{RequestInUse, requests_in_use}
+use Rattle.qmi_state.specs.Traffic.{Row, Traffic, row_of, rows_of, traffic_of, of_control, with_numbers, gives, number_at, granted_if, row_for, forwards, ids}
+use Rattle.qmi_state.specs.Core.{ModemSide, QmiState, side_of, kept_of}
+use Rattle.qmi_state.specs.Transitions.{with_traffic, give_up, reply_as, holder_at, decision_of, act_on, hear_client, qmi_handlers}
+use Rattle.proxy_state.proofs.InUse.{request_in, in_use_is}
 use Rattle.qmi_state.proofs.Ids.{holder_is}
-use Rattle.qmi_state.proofs.Lists.{filter_map_is}
-use Rattle.qmi_state.proofs.Updates.{update_found, without_update}
-use Rattle.qmi_state.proofs.Accounts.{judged, judged_own, judged_other, forwarded_same}
-use Rattle.qmi_state.proofs.Desks.{desk_forwarded}
+use Rattle.qmi_state.proofs.ClientStates.{ClientState, client_state_of, lacks_room, judged_own, judged_other, forwarded_same}
+use Rattle.qmi_state.proofs.TrafficSteps.{traffic_forwarded}
 use Rattle.qmi_proxy.proofs.Walk.{newest}
 use Rattle.qmi_proxy.proofs.Regulars.{regular_more}
-use Rattle.qmi_state.proofs.Keeping.{Keeps, exchange, on_account, with_account, keeps_changed, keeps_quiet, keeps_overfull, found_there, account_named}
+use Rattle.qmi_state.proofs.Keeping as keeping
+use Rattle.qmi_state.proofs.Keeping.{follows_connections, traffic_is, keeps_quiet, end_if}
 
 -- ---- the number that it would get ----
 
-numbers_used : (space : ℕ) (past : List Fact) → map (λ row. row.number) (rows_of space (asks past)) ≡ numbers_in_use space past
+numbers_used : (space : ℕ) (past : List Fact) → map (λ row. row.number) (rows_of space (requests_in_use past)) ≡ numbers_in_use space past
 numbers_used space past =
-    map-map (λ (row : Row). row.number) row_of (filter (λ (a : Ask). a.request.space == space) (asks past))
-    ∙ sym (map-map (λ (r : Request). r.number) request_in (filter (λ (a : Ask). a.request.space == space) (asks past)))
-    ∙ ap (map (λ (r : Request). r.number)) (sym (filter_map_is (λ (r : Request). r.space == space) request_in (asks past)))
+    map-map (λ (row : Row). row.number) row_of (filter (λ (a : RequestInUse). a.request.space == space) (requests_in_use past))
+    ∙ sym (map-map (λ (r : Request). r.number) request_in (filter (λ (a : RequestInUse). a.request.space == space) (requests_in_use past)))
+    ∙ ap (map (λ (r : Request). r.number)) (sym (filter_map_is (λ (r : Request). r.space == space) request_in (requests_in_use past)))
     ∙ ap (λ (l : List Request). map (λ (r : Request). r.number) (filter (λ (r : Request). r.space == space) l)) (sym (in_use_is past))
 
-pub number_is : (m : List ℕ) (past : List Fact) → number_at m (desk_of past) ≡ number_for m past
+pub number_is : (m : List ℕ) (past : List Fact) → number_at m (traffic_of past) ≡ number_for m past
 number_is m past =
-    elim (is_control m) as (λ b. next_number (of_control b (desk_of past)) ≡ (let space = if b then control_space else service_space in number_after (limit_of space) (top_of space) (last_number space past) (numbers_in_use space past))) [
+    elim (is_control m) as (λ b. next_number (of_control b (traffic_of past)) ≡ (let space = if b then control_space else service_space in number_after (limit_of space) (top_of space) (last_number space past) (numbers_in_use space past))) [
       | true ↦ ap (number_after 255 255 (last_number control_space past)) (numbers_used control_space past)
       | false ↦ ap (number_after 1024 65535 (last_number service_space past)) (numbers_used service_space past)
     ]
 
-module _ (s : Setup) (greatest : ℕ) (rests : ℕ → List ℕ) where
-  abbrev pub Kept : List Fact → Exchange → Type 0
-  Kept past x = Keeps s.device greatest rests past x
+-- ---- what is decided ----
 
-  module _ (c : ℕ) (m : List ℕ) (past : List Fact) (x : Exchange) (a : Account) (there : contains c (present past) ≡ true) (K : Kept past x) (is : account_of s.device past c ≡ a) where
-    abbrev pub place : ℕ
+holder_same : (m : List ℕ) (past : List Fact) → holder_for m past ≡ holder_at m (traffic_of past)
+holder_same m past = elim (uses_id m) as (λ b. (if b then holder (used_service m) (used_client m) past else None) ≡ (if b then holder_in (used_service m) (used_client m) (ids past) else None)) [ true ↦ sym (holder_is (used_service m) (used_client m) past) | false ↦ refl ]
+
+decision_is : (s : Setup) (c : ℕ) (m : List ℕ) (past : List Fact) → decision_on s c m past ≡ decision_of (is_away s.starts_away past) c m (is_open s.device (view_of c past)) (traffic_of past)
+decision_is s c m past =
+    let opened : Bool = is_open s.device (view_of c past) in
+    let away : Bool = is_away s.starts_away past in
+    let room : Bool = has_room (length (modem_queue wire past)) m in
+    ap (λ (o : Option ℕ). if view_decides opened m then Replies Own else shared_decision_of c o away room (number_for m past)) (holder_same m past)
+    ∙ ap (λ (o : Option ℕ). if view_decides opened m then Replies Own else shared_decision_of c (holder_at m (traffic_of past)) away room o) (sym (number_is m past))
+
+module _ (s : Setup) (streams : Streams) where
+  abbrev Kept : List Fact → QmiState → Type 0
+  Kept past x = keeping.Kept s streams past x
+
+  module _ (c : ℕ) (m : List ℕ) (past : List Fact) (x : QmiState) (there : contains c (present past) ≡ true) (K : Kept past x) where
+    abbrev place : ℕ
     place = message_count c past + 1
-
-    holder_same : holder_for m past ≡ holder_at m (desk_of past)
-    holder_same = elim (uses_id m) as (λ b. (if b then holder (used_service m) (used_client m) past else None) ≡ (if b then holder_in (used_service m) (used_client m) (ids past) else None)) [ true ↦ sym (holder_is (used_service m) (used_client m) past) | false ↦ refl ]
-
-    pub verdict_is : verdict_on s c m past ≡ verdict_of s.device (is_away s.starts_away past) c m a.opened x.desk
-    verdict_is =
-        let opened : Bool = is_open s.device (view_of c past) in
-        ap (λ (o : Option ℕ). own_or (own_reply s.device (view_of c past) m) (shared_verdict_of c o (is_away s.starts_away past) (number_for m past) (has_room (length (modem_queue wire past)) m))) holder_same
-        ∙ ap (λ (o : Option ℕ). own_or (own_reply s.device (view_of c past) m) (shared_verdict_of c (holder_at m (desk_of past)) (is_away s.starts_away past) o (has_room (length (modem_queue wire past)) m))) (sym (number_is m past))
-        ∙ ap (λ (d : Desk). verdict_of s.device (is_away s.starts_away past) c m opened d) (sym K.desk)
-        ∙ ap (λ (b : Account). verdict_of s.device (is_away s.starts_away past) c m b.opened x.desk) is
 
     -- ---- what is forwarded ----
 
     abbrev pub after : List Fact
     after = Judged c place m Forward ∷ past
 
-    pub kept_judged : Kept after x
-    unfolding present dropped asks last_number ids to_modem modem_drained
+    kept_judged : Kept after x
+    unfolding present dropped requests_in_use now is_away last_number ids to_modem modem_drained
     kept_judged =
-        keeps_quiet s.device greatest rests after past x x.desk
-        (λ d. same d) refl refl K.desk (regular_more (Judged c place m Forward) past there tt tt K.regular) K
+        keeps_quiet s streams after past x x.beside.traffic
+        (λ d. same d) refl refl refl refl (traffic_is s streams past x K) (regular_more (Judged c place m Forward) past there tt tt K.fine) K
       where
-        same : (d : ℕ) → account_of s.device after d ≡ account_of s.device past d
+        same : (d : ℕ) → client_state_of s.device after d ≡ client_state_of s.device past d
         same d =
-            let step : (b : Bool) → (c == d) ≡ b → account_of s.device after d ≡ account_of s.device past d =
-            λ b. elim b as (λ b. (c == d) ≡ b → account_of s.device after d ≡ account_of s.device past d) [
-              | true ↦ λ e. subst (λ (n : ℕ). account_of s.device after n ≡ account_of s.device past n) (eqb-true c d e) (judged_own s.device past c place m Forward ∙ forwarded_same s.device past c m)
+            let step : (b : Bool) → (c == d) ≡ b → client_state_of s.device after d ≡ client_state_of s.device past d =
+            λ b. elim b as (λ b. (c == d) ≡ b → client_state_of s.device after d ≡ client_state_of s.device past d) [
+              | true ↦ λ e. subst (λ (n : ℕ). client_state_of s.device after n ≡ client_state_of s.device past n) (eqb-true c d e) (judged_own s.device past c place m Forward ∙ forwarded_same s.device past c m)
               | false ↦ λ e. judged_other s.device past c place d m Forward e
             ]
             in step (c == d) refl
@@ -105,109 +124,130 @@ module _ (s : Setup) (greatest : ℕ) (rests : ℕ → List ℕ) where
       regular_sent =
           let own = newest s c m n past there in
           let at : r.place ≡ sent_count (view_of c after) = own.place in
-          regular_more (Forwarded r) after (record { serial = refl; sender = party_from_present c after there; number = numbered }) (placed, (own.sender, omega arith, own.message)) tt kept_judged.regular
+          regular_more (Forwarded r) after (record { serial = refl; sender = party_from_present c after there; number = numbered }) (placed, (own.sender, omega arith, own.message)) tt kept_judged.fine
 
-      desk_sent : record (with_numbers (is_control m) (gives (row_of (record { request = r; waits = true })) (of_control (is_control m) x.desk)) x.desk) { waiting = x.desk.waiting ++ with_number n m } ≡ desk_of sent
-      desk_sent =
-          ap (λ (d : Desk). let e : Desk = record (with_numbers (is_control m) (gives (row_of (record { request = r; waits = true })) (of_control (is_control m) d)) d) { waiting = d.waiting ++ with_number n m } in e) kept_judged.desk
-          ∙ sym (desk_forwarded r refl after kept_judged.regular.drained)
+      traffic_sent : record (with_numbers (is_control m) (gives (row_of (record { request = r; waits = true })) (of_control (is_control m) x.beside.traffic)) x.beside.traffic) { waiting = x.beside.traffic.waiting ++ with_number n m } ≡ traffic_of sent
+      traffic_sent =
+          ap (λ (d : Traffic). let e : Traffic = record (with_numbers (is_control m) (gives (row_of (record { request = r; waits = true })) (of_control (is_control m) d)) d) { waiting = d.waiting ++ with_number n m } in e) (traffic_is s streams after x kept_judged)
+          ∙ sym (traffic_forwarded r refl after kept_judged.fine.drained)
 
-      kept_sent : Kept sent (exchange x.sessions x.dropped (record (with_numbers (is_control m) (gives (row_of (record { request = r; waits = true })) (of_control (is_control m) x.desk)) x.desk) { waiting = x.desk.waiting ++ with_number n m }))
-      unfolding present dropped view
-      kept_sent = keeps_quiet s.device greatest rests sent after x _ (λ d. refl) refl refl desk_sent regular_sent kept_judged
+      kept_sent : Kept sent (with_traffic (record (with_numbers (is_control m) (gives (row_of (record { request = r; waits = true })) (of_control (is_control m) x.beside.traffic)) x.beside.traffic) { waiting = x.beside.traffic.waiting ++ with_number n m }) x)
+      unfolding present dropped view now is_away
+      kept_sent = keeps_quiet s streams sent after x _ (λ d. refl) refl refl refl refl traffic_sent regular_sent kept_judged
 
-      kept_granted_if : (b : Bool) (y : Exchange) → (b ≡ true → IsFreeFor c (used_service m) (used_client m) past) → Kept sent y → Kept (grant_if b c m sent) (exchange y.sessions y.dropped (record y.desk { held = granted_if b c m y.desk.held }))
-      unfolding present dropped view asks last_number ids held to_modem modem_drained
+      kept_granted_if : (b : Bool) (y : QmiState) → (b ≡ true → IsFreeFor c (used_service m) (used_client m) past) → Kept sent y → Kept (grant_if b c m sent) (with_traffic (record y.beside.traffic { held = granted_if b c m y.beside.traffic.held }) y)
+      unfolding present dropped view requests_in_use now is_away last_number ids held to_modem modem_drained
       kept_granted_if true y free L =
-          keeps_quiet s.device greatest rests (Granted c (used_service m) (used_client m) ∷ sent) sent y _ (λ d. refl) refl refl
-          (ap (λ (d : Desk). let e : Desk = record d { held = granted c (used_service m) (used_client m) d.held } in e) L.desk)
-          (regular_more (Granted c (used_service m) (used_client m)) sent (party_from_present c sent there, free refl) tt tt L.regular) L
+          keeps_quiet s streams (Granted c (used_service m) (used_client m) ∷ sent) sent y _ (λ d. refl) refl refl refl refl
+          (ap (λ (d : Traffic). let e : Traffic = record d { held = granted c (used_service m) (used_client m) d.held } in e) (traffic_is s streams sent y L))
+          (regular_more (Granted c (used_service m) (used_client m)) sent (party_from_present c sent there, free refl) tt tt L.fine) L
       kept_granted_if false y free L = L
 
       forwards_is : (deadline : ℕ) → deadline ≡ r.deadline
-          → record (with_numbers (is_control m) (gives (row_of (record { request = r; waits = true })) (of_control (is_control m) x.desk)) x.desk) { waiting = x.desk.waiting ++ with_number n m; held = granted_if (uses_id m) c m x.desk.held } ≡ forwards deadline c m n x.desk
+          → record (with_numbers (is_control m) (gives (row_of (record { request = r; waits = true })) (of_control (is_control m) x.beside.traffic)) x.beside.traffic) { waiting = x.beside.traffic.waiting ++ with_number n m; held = granted_if (uses_id m) c m x.beside.traffic.held } ≡ forwards deadline c m n x.beside.traffic
       forwards_is deadline same =
-          elim (is_control m) as (λ b. (let e : Desk = record (with_numbers b (gives (row_for r.deadline c m n) (of_control b x.desk)) x.desk) { waiting = x.desk.waiting ++ with_number n m; held = granted_if (uses_id m) c m x.desk.held } in e)
+          elim (is_control m) as (λ b. (let e : Traffic = record (with_numbers b (gives (row_for r.deadline c m n) (of_control b x.beside.traffic)) x.beside.traffic) { waiting = x.beside.traffic.waiting ++ with_number n m; held = granted_if (uses_id m) c m x.beside.traffic.held } in e)
           ≡ record {
-            control = if b then gives (row_for r.deadline c m n) x.desk.control else x.desk.control;
-            services = if b then x.desk.services else gives (row_for r.deadline c m n) x.desk.services;
-            held = granted_if (uses_id m) c m x.desk.held;
-            waiting = x.desk.waiting ++ with_number n m;
+            control = if b then gives (row_for r.deadline c m n) x.beside.traffic.control else x.beside.traffic.control;
+            services = if b then x.beside.traffic.services else gives (row_for r.deadline c m n) x.beside.traffic.services;
+            held = granted_if (uses_id m) c m x.beside.traffic.held;
+            waiting = x.beside.traffic.waiting ++ with_number n m;
           }) [ true ↦ refl | false ↦ refl ]
-          ∙ ap (λ (t : ℕ). forwards t c m n x.desk) (sym same)
+          ∙ ap (λ (t : ℕ). forwards t c m n x.beside.traffic) (sym same)
 
-      pub kept_forwarded : (deadline : ℕ) → deadline ≡ r.deadline → is_other c (holder_for m past) ≡ false → Kept (grant_if (uses_id m) c m sent) (exchange x.sessions x.dropped (forwards deadline c m n x.desk))
+      pub kept_forwarded : (deadline : ℕ) → deadline ≡ r.deadline → is_other c (holder_for m past) ≡ false → Kept (grant_if (uses_id m) c m sent) (with_traffic (forwards deadline c m n x.beside.traffic) x)
       kept_forwarded deadline same free =
-          subst (λ (d : Desk). Kept (grant_if (uses_id m) c m sent) (exchange x.sessions x.dropped d)) (forwards_is deadline same)
+          subst (λ (d : Traffic). Kept (grant_if (uses_id m) c m sent) (with_traffic d x)) (forwards_is deadline same)
           (kept_granted_if (uses_id m) _ (used_id_is_free c m past free) kept_sent)
 
     -- ---- what is replied to ----
 
-    abbrev pub reply_hearing : Verdict → Hearing
-    reply_hearing verdict =
-        let reply : List ℕ = reply_as s.device a.opened m verdict in
-        record {
-          account = record {
-            opened = (not (lacks_room reply a) && is_opening s.device m verdict) || a.opened;
-            waiting = if lacks_room reply a then a.waiting else a.waiting ++ reply;
-            is_over = a.is_over;
-          };
-          desk = x.desk;
-          has_room = not (lacks_room reply a);
-        }
+    abbrev was : ClientState
+    was = client_state_of s.device past c
+
+    abbrev it : Connection Client
+    it = connection_of (qmi_protocol s) (kept_of s) streams.rests past c
+
+    -- what is heard leaves the client's outbox as it is
+    forwarded_is : (side : ModemSide) → settled_if qmi_handlers true c (record { client = it.client; outbox = it.outbox; beside = side; has_room = true }) x ≡ record x { beside = side }
+    forwarded_is side =
+        ap (λ (l : List (Connection Client)). let y : QmiState = record { table = record x.table { present = l }; beside = side } in y)
+        (changed_found c (λ l. record l { client = it.client; outbox = it.outbox }) (λ l. l) x.table.present it (found_there (qmi_protocol s) (kept_of s) streams past x c K.holds there) refl ∙ changed_same c x.table.present)
 
     module _ (verdict : Verdict) where
-      abbrev pub facts : List Fact
+      abbrev facts : List Fact
       facts = Judged c place m verdict ∷ past
 
-      abbrev pub reply : List ℕ
-      reply = reply_as s.device a.opened m verdict
+      abbrev reply : List ℕ
+      reply = reply_as s.device was.client.opened m verdict
 
-      abbrev pub change : Account → Account
-      change = judged s.device m verdict
+      abbrev outbox : Queue
+      outbox = record { bytes = was.waiting; capacity = outbox_limit }
 
-      pub own : account_of s.device facts c ≡ change a
-      own = judged_own s.device past c place m verdict ∙ ap change is
+      abbrev heard_as : Bool → Hearing Client ModemSide
+      heard_as found = record {
+        client = record { opened = if found then step s.device was.client.opened (Sent m verdict) else was.client.opened };
+        outbox = queues_if found reply outbox;
+        beside = x.beside;
+        has_room = found;
+      }
 
-      kept_facts : Kept facts (exchange (update c (on_account change) x.sessions) x.dropped x.desk)
-      unfolding present dropped asks last_number ids to_modem modem_drained
-      kept_facts =
-          keeps_changed s.device greatest rests facts past x c change x.desk (judged_own s.device past c place m verdict) (λ d differs. judged_other s.device past c place d m verdict differs) refl refl K.desk
-          (regular_more (Judged c place m verdict) past there tt tt K.regular) there K
+      lacks : lacks_room reply was ≡ not (queue.has_room reply outbox)
+      lacks = lacks_is outbox_limit reply (streams.rests c) c was (K.fits c there)
 
-      there_still : contains c (present facts) ≡ true
+      replied_if : (found : Bool) → queue.has_room reply outbox ≡ found → Kept (if not found then Ended c NoRoom ∷ facts else facts) (settled_if qmi_handlers found c (heard_as found) x)
+      unfolding present dropped now is_away requests_in_use last_number ids to_modem modem_drained connection_of
+      replied_if true found =
+          let fits : lacks_room reply was ≡ false = lacks ∙ ap not found in
+          let own = judged_own s.device past c place m verdict in
+          keeps_changed (qmi_protocol s) (kept_of s) Regular streams facts past x c (λ l. record l { client = (heard_as true).client; outbox = (heard_as true).outbox }) x.beside
+          (ap (connection_as outbox_limit (streams.rests c) c) own
+          ∙ ap (λ (b : Bool). connection_as outbox_limit (streams.rests c) c (let a : ClientState = record { client = (heard_as true).client; waiting = if b then was.waiting else was.waiting ++ reply; is_over = b } in a)) fits)
+          (ap (λ (a : ClientState). a.is_over) own ∙ fits)
+          (λ d differs. judged_other s.device past c place d m verdict differs) refl refl K.holds.beside (regular_more (Judged c place m verdict) past there tt tt K.fine) there K
+      replied_if false full =
+          let over : lacks_room reply was ≡ true = lacks ∙ ap not full in
+          let own = judged_own s.device past c place m verdict in
+          let judged_regular : Regular facts = regular_more (Judged c place m verdict) past there tt tt K.fine in
+          keeps_dropped (qmi_protocol s) (kept_of s) Regular streams (Ended c NoRoom ∷ facts) past x c (give_up c x.beside)
+          (λ d differs. ended_other (qmi_protocol s) (kept_of s) facts c NoRoom d differs ∙ judged_other s.device past c place d m verdict differs)
+          refl (ap (give_up c) K.holds.beside ∙ (follows_connections s).ended c NoRoom streams.messages facts) (regular_more (Ended c NoRoom) facts there tt tt judged_regular) there K
+          outbox
+          (sym (overfull_waiting (qmi_protocol s) (kept_of s) facts c ∙ ap (λ (a : ClientState). a.waiting) own ∙ still_waits outbox_limit reply (streams.rests c) c was (K.fits c there) over))
+          refl
+
+      replied_is : Kept (end_if s streams c facts) (settled_if qmi_handlers (queue.has_room reply outbox) c (heard_as (queue.has_room reply outbox)) x)
       unfolding present
-      there_still = there
+      replied_is =
+          let found : Bool = queue.has_room reply outbox in
+          let over : (rendering s.device c facts).is_over ≡ not found = ap (λ (a : ClientState). a.is_over) (judged_own s.device past c place m verdict) ∙ lacks in
+          subst (λ (l : List Fact). Kept l (settled_if qmi_handlers found c (heard_as found) x)) (sym (end_if_is (qmi_protocol s) (kept_of s) qmi_handlers Regular (follows_connections s) streams c facts (not found) there over)) (replied_if found refl)
 
-      pub is_over : (rendering s.device c facts).is_over ≡ lacks_room reply a
-      is_over = ap (λ (b : Account). b.is_over) own
+  -- ---- whatever is decided ----
 
-      named : session_in c x.sessions ≡ Some (session_of s.device rests past c)
-      named = found_there s.device greatest rests past x c K there
+  module _ (c : ℕ) (m : List ℕ) (past : List Fact) (table : Table Client) (there : contains c (present past) ≡ true) (K : Kept past (record { table = table; beside = side_of s past })) where
+    abbrev x : QmiState
+    x = record { table = table; beside = side_of s past }
 
-      -- the reply finds room
-      pub heard_is : lacks_room reply a ≡ false → change a ≡ (reply_hearing verdict).account
-      heard_is room =
-          let was : a.is_over ≡ false = (or_parts a.is_over _ room).0 in
-          ap (λ (b : Bool). let after : Account = record { opened = is_opening s.device m verdict || a.opened; waiting = if b then a.waiting else a.waiting ++ reply; is_over = b } in after) room
-          ∙ ap (λ (b : Bool). let after : Account = record { opened = is_opening s.device m verdict || a.opened; waiting = a.waiting ++ reply; is_over = b } in after) (sym was)
-          ∙ sym (ap (λ (b : Bool). let after : Account = record { opened = (not b && is_opening s.device m verdict) || a.opened; waiting = if b then a.waiting else a.waiting ++ reply; is_over = a.is_over } in after) room)
+    abbrev one : Connection Client
+    one = connection_of (qmi_protocol s) (kept_of s) streams.rests past c
 
-      pub kept_room : lacks_room reply a ≡ false → Kept facts (exchange (update c (with_account (reply_hearing verdict).account) x.sessions) x.dropped x.desk)
-      kept_room room =
-          subst (λ (l : List Session). Kept facts (exchange l x.dropped x.desk))
-          (update_found c (on_account change) (with_account (reply_hearing verdict).account) x.sessions (session_of s.device rests past c) named
-          (ap (λ (b : Account). with_account (change b) (session_of s.device rests past c)) (account_named s.device greatest rests past c ∙ is) ∙ ap (λ (b : Account). with_account b (session_of s.device rests past c)) (heard_is room)))
-          kept_facts
+    decided : (decision : Decision) → decision_on s c m past ≡ decision → Kept (judge s c m decision past) (settled qmi_handlers c (act_on c m decision one.client one.outbox (side_of s past)) x)
+    unfolding end_overfull connection_of now
+    decided (Replies verdict) e = replied_is c m past x there K verdict
+    decided (Forwards n) e =
+        let can = can_go s (is_open s.device (view_of c past)) c m past n e in
+        subst (Kept (forward s c m n (Judged c (message_count c past + 1) m Forward ∷ past))) (sym (forwarded_is c m past x there K (record (side_of s past) { traffic = forwards (deadline_of (now past) s.time_limit) c m n (traffic_of past) })))
+        (kept_forwarded c m past x there K n can.number (deadline_of (now past) s.time_limit) refl can.free)
 
-      -- it lacks room
-      waits_still : lacks_room reply a ≡ true → (reply_hearing verdict).account.waiting ≡ (account_of s.device facts c).waiting
-      waits_still over =
-          ap (λ (b : Bool). if b then a.waiting else a.waiting ++ reply) over
-          ∙ sym (ap (λ (b : Account). b.waiting) own ∙ ap (λ (b : Bool). if b then a.waiting else a.waiting ++ reply) over)
+    heard_here : Kept (clients.hear_client s c m past) (settled qmi_handlers c (hear_client c m one.client one.outbox (side_of s past)) x)
+    unfolding connection_of
+    heard_here =
+        subst (λ (decision : Decision). Kept (clients.hear_client s c m past) (settled qmi_handlers c (act_on c m decision one.client one.outbox (side_of s past)) x)) (decision_is s c m past) (decided (decision_on s c m past) refl)
 
-      pub kept_over : lacks_room reply a ≡ true → Kept (Ended c NoRoom ∷ facts) (drops c (reply_hearing verdict).account.waiting (exchange x.sessions x.dropped x.desk))
-      kept_over over =
-          let waiting : List ℕ = (reply_hearing verdict).account.waiting in
-          subst (λ (l : List Session). Kept (Ended c NoRoom ∷ facts) (exchange l (drops c waiting x).dropped (drops c waiting x).desk)) (without_update c (on_account change) (λ t. refl) x.sessions)
-          (keeps_overfull s.device greatest rests facts (exchange (update c (on_account change) x.sessions) x.dropped x.desk) c waiting there_still (waits_still over) kept_facts)
+  pub keeps_heard : (c : ℕ) (m : List ℕ) (past : List Fact) (x : QmiState) → contains c (present past) ≡ true → Kept past x
+      → (let l : Connection Client = connection_of (qmi_protocol s) (kept_of s) streams.rests past c in Kept (clients.hear_client s c m past) (settled qmi_handlers c (hear_client c m l.client l.outbox x.beside) x))
+  keeps_heard c m past x there K =
+      let l : Connection Client = connection_of (qmi_protocol s) (kept_of s) streams.rests past c in
+      subst (λ (side : ModemSide). let y : QmiState = record { table = x.table; beside = side } in Kept (clients.hear_client s c m past) (settled qmi_handlers c (hear_client c m l.client l.outbox side) y)) (sym K.holds.beside)
+      (heard_here c m past x.table there (subst (λ (side : ModemSide). Kept past (record { table = x.table; beside = side })) K.holds.beside K))

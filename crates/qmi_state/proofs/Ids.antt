@@ -11,9 +11,9 @@ use Rattle.proxy_history.proofs.Lists.{Contains-cons, Contains-cons_cases, Conta
 use Rattle.proxy_history.proofs.SoundLaws.{holders_are_parties}
 use Rattle.qmi_proxy.specs.Limits.{qmi_limits}
 use Rattle.holders.specs.Grants.{granted, is_before, is_behind}
-use Rattle.qmi_state.specs.Desk.{ids}
-use Rattle.qmi_state.proofs.Filters.{filter_swap}
-use Rattle.qmi_state.proofs.Rows.{both_ways}
+use Rattle.qmi_state.specs.Traffic.{ids}
+use Rattle.proxy_state.proofs.Filters.{filter_swap}
+use Rattle.proxy_state.proofs.Rows.{both_ways}
 
 -- the grants of one id
 abbrev of : ℕ → ℕ → List Grant → List Grant

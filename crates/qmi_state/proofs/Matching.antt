@@ -1,80 +1,34 @@
 -- The request that a response answers is the one of its number in its space.
-use Rattle.std.proofs.Common.{◌≡◌, ℕ, zero, Bool, true, false, cond, ◌&&◌, ◌||◌, ◌==◌, List, [], ◌∷◌, map, filter, find, refl, ap, sym, ◌∙◌, subst, ⊎_elim, arith, Contains, AllPairs, Option, Some, None, if◌then◌else◌}
+use Rattle.std.proofs.Common.{◌≡◌, ℕ, zero, Bool, true, false, cond, ◌&&◌, ◌==◌, List, [], ◌∷◌, map, filter, find, refl, ap, sym, ◌∙◌, subst, arith, Contains, AllPairs, Option, Some, None, if◌then◌else◌}
 use Rattle.std.specs.List.{AllByRecursion}
 use Rattle.std.proofs.lemmas.Bool.{eqb-true, eq-eqb, false_from_ne_true, and_parts}
-use Rattle.std.proofs.lemmas.List.Elements.{recursion_from_All}
 use Rattle.qmux_frame.specs.Head.{service_of, client_of, number_of}
 use Rattle.proxy_history.specs.Facts.{Fact, Request}
 use Rattle.proxy_history.specs.Requests.{has_request, is_pending}
 use Rattle.proxy_history.specs.Sound.{Differ}
-use Rattle.proxy_history.proofs.Lists.{Contains-cons, Contains-cons_cases, Contains-nil}
+use Rattle.proxy_history.proofs.Lists.{Contains-cons}
 use Rattle.proxy_history.proofs.SoundLaws.{in_use_differ}
 use Rattle.qmi_proxy.specs.Limits.{qmi_limits}
 use Rattle.qmi_proxy.specs.Spaces.{control_space, service_space, space_of}
 use Rattle.qmi_proxy.specs.FromModem.{is_answered_by, first_answered_by}
 use Rattle.qmi_proxy.specs.Regular.{IsPlaced, Regular}
-use Rattle.qmi_state.specs.Desk.{Row, Ask, asks, row_of, rows_of, row_numbered}
-use Rattle.qmi_state.proofs.Asks.{request_in, waits_in, in_use_is, pending_is}
-use Rattle.qmi_proxy.proofs.Apart.{head_all, tail_pairs, within}
-use Rattle.qmi_state.proofs.Apart.{all_map}
+use Rattle.proxy_state.specs.Requests.{RequestInUse, requests_in_use}
+use Rattle.qmi_state.specs.Traffic.{Row, row_of, rows_of, row_numbered}
+use Rattle.proxy_state.proofs.InUse.{request_in, in_use_is, pending_is, all_map, AreDifferent, different_from, waits_flag}
+use Rattle.qmi_proxy.proofs.Apart.{within}
 
 -- ---- no two of the requests in use are alike ----
 
-unfoldable pub AreDifferent : List Ask → Type 0
-AreDifferent [] = Unit {0}
-AreDifferent (a ∷ list) = AllByRecursion (λ (b : Ask). Differ a.request b.request) list × AreDifferent list
+pub are_different : (past : List Fact) → Regular past → AreDifferent (requests_in_use past)
+are_different past R = different_from (requests_in_use past) (subst (AllPairs Differ) (in_use_is past) (in_use_differ qmi_limits within past R.sound))
 
-different_from : (list : List Ask) → AllPairs Differ (map request_in list) → AreDifferent list
-unfolding AreDifferent
-different_from [] pairs = tt
-different_from (a ∷ list) pairs =
-    (all_map (Differ a.request) request_in list (recursion_from_All (Differ a.request) (map request_in list) (head_all Differ a.request (map request_in list) pairs)), different_from list (tail_pairs Differ a.request (map request_in list) pairs))
-
-pub are_different : (past : List Fact) → Regular past → AreDifferent (asks past)
-are_different past R = different_from (asks past) (subst (AllPairs Differ) (in_use_is past) (in_use_differ qmi_limits within past R.sound))
-
-pub all_placed : (past : List Fact) → Regular past → AllByRecursion (λ a. IsPlaced a.request) (asks past)
-all_placed past R = all_map IsPlaced request_in (asks past) (subst (AllByRecursion IsPlaced) (in_use_is past) R.placed)
+pub all_placed : (past : List Fact) → Regular past → AllByRecursion (λ a. IsPlaced a.request) (requests_in_use past)
+all_placed past R = all_map IsPlaced request_in (requests_in_use past) (subst (AllByRecursion IsPlaced) (in_use_is past) R.placed)
 
 -- ---- whether the sender waits ----
 
-abbrev pub waiting : List Ask → List Request
-waiting list = map request_in (filter waits_in list)
-
-none_has : (r : Request) (list : List Ask) → AllByRecursion (λ (b : Ask). Differ r b.request) list → has_request r (waiting list) ≡ false
-none_has r [] all = refl
-none_has r (b ∷ list) all =
-    let differs : (r.serial == b.request.serial) ≡ false = false_from_ne_true (r.serial == b.request.serial) (λ e. all.0.0 (eqb-true r.serial b.request.serial e)) in
-    elim b.waits as (λ w. has_request r (map request_in (cond w (b ∷ filter waits_in list) (filter waits_in list))) ≡ false) [
-      | true ↦ ap (λ (t : Bool). t || has_request r (waiting list)) differs ∙ none_has r list all.1
-      | false ↦ none_has r list all.1
-    ]
-
-waits_flag : (list : List Ask) (a : Ask) → AreDifferent list → Contains list a → has_request a.request (waiting list) ≡ a.waits
-unfolding AreDifferent
-waits_flag [] a different at = absurd (Contains-nil a at)
-waits_flag (b ∷ list) a different at =
-    ⊎_elim
-    (λ (is : b ≡ a). subst (λ (x : Ask). has_request x.request (map request_in (cond b.waits (b ∷ filter waits_in list) (filter waits_in list))) ≡ x.waits) is
-    (elim b.waits as (λ w. has_request b.request (map request_in (cond w (b ∷ filter waits_in list) (filter waits_in list))) ≡ w) [
-      | true ↦ ap (λ (t : Bool). t || has_request b.request (waiting list)) (eq-eqb b.request.serial b.request.serial refl)
-      | false ↦ none_has b.request list different.0
-    ]))
-    (λ (later : Contains list a).
-    let apart : Differ b.request a.request = by_place list later different.0 in
-    let differs : (a.request.serial == b.request.serial) ≡ false = false_from_ne_true (a.request.serial == b.request.serial) (λ e. apart.0 (sym (eqb-true a.request.serial b.request.serial e))) in
-    elim b.waits as (λ w. has_request a.request (map request_in (cond w (b ∷ filter waits_in list) (filter waits_in list))) ≡ a.waits) [
-      | true ↦ ap (λ (t : Bool). t || has_request a.request (waiting list)) differs ∙ waits_flag list a different.1 later
-      | false ↦ waits_flag list a different.1 later
-    ])
-    (Contains-cons_cases a b list at)
-  where
-    by_place : (others : List Ask) → Contains others a → AllByRecursion (λ (c : Ask). Differ b.request c.request) others → Differ b.request a.request
-    by_place [] at all = absurd (Contains-nil a at)
-    by_place (c ∷ others) at all = ⊎_elim (λ (is : c ≡ a). subst (λ (x : Ask). Differ b.request x.request) is all.0) (λ (rest : Contains others a). by_place others rest all.1) (Contains-cons_cases a c others at)
-
-pub pending_flag : (past : List Fact) (a : Ask) → Regular past → Contains (asks past) a → is_pending a.request past ≡ a.waits
-pending_flag past a R at = ap (has_request a.request) (pending_is past) ∙ waits_flag (asks past) a (are_different past R) at
+pub pending_flag : (past : List Fact) (a : RequestInUse) → Regular past → Contains (requests_in_use past) a → is_pending a.request past ≡ a.waits
+pending_flag past a R at = ap (has_request a.request) (pending_is past) ∙ waits_flag (requests_in_use past) a (are_different past R) at
 
 -- ---- the request that is answered ----
 
@@ -85,19 +39,19 @@ abbrev pub request_if : Bool → Request → Option Request
 request_if true r = Some r
 request_if false r = None
 
-pub record Found (m : List ℕ) (list : List Ask) (a : Ask) : Type 0 where
+pub record Found (m : List ℕ) (list : List RequestInUse) (a : RequestInUse) : Type 0 where
   pub at : Contains list a
   pub row : row_numbered (number_of m) (rows_of (space_of m) list) ≡ Some (row_of a)
   pub answered : first_answered_by m (map request_in list) ≡ request_if (fits_request m a.request) a.request
   pub number : a.request.number ≡ number_of m
   pub space : a.request.space ≡ space_of m
 
-pub record NotFound (m : List ℕ) (list : List Ask) : Type 0 where
+pub record NotFound (m : List ℕ) (list : List RequestInUse) : Type 0 where
   pub row : row_numbered (number_of m) (rows_of (space_of m) list) ≡ None
   pub answered : first_answered_by m (map request_in list) ≡ None
 
-pub data Search (m : List ℕ) (list : List Ask) : Type 0 where
-  IsFound : (a : Ask) → Found m list a → Search m list
+pub data Search (m : List ℕ) (list : List RequestInUse) : Type 0 where
+  IsFound : (a : RequestInUse) → Found m list a → Search m list
   IsNone : NotFound m list → Search m list
 
 same_space : (q m : List ℕ) → service_of q ≡ service_of m → space_of q ≡ space_of m
@@ -110,14 +64,14 @@ answered_is m q placed e =
     let heads = and_parts (service_of q.message == service_of m) (client_of q.message == client_of m) parts.0 in
     (placed.0 ∙ same_space q.message m (eqb-true (service_of q.message) (service_of m) heads.0), eqb-true q.number (number_of m) parts.1)
 
-none_answered : (m : List ℕ) (r : Request) (list : List Ask) → r.space ≡ space_of m → r.number ≡ number_of m → AllByRecursion (λ (b : Ask). Differ r b.request) list → AllByRecursion (λ (b : Ask). IsPlaced b.request) list → first_answered_by m (map request_in list) ≡ None
+none_answered : (m : List ℕ) (r : Request) (list : List RequestInUse) → r.space ≡ space_of m → r.number ≡ number_of m → AllByRecursion (λ (b : RequestInUse). Differ r b.request) list → AllByRecursion (λ (b : RequestInUse). IsPlaced b.request) list → first_answered_by m (map request_in list) ≡ None
 none_answered m r [] space number all placed = refl
 none_answered m r (b ∷ list) space number all placed =
     let isnt : is_answered_by m b.request ≡ false = false_from_ne_true (is_answered_by m b.request) (λ e. let at = answered_is m b.request placed.0 e in all.0.1 (space ∙ sym at.0) (number ∙ sym at.1)) in
     ap (λ (t : Bool). if t then Some b.request else first_answered_by m (map request_in list)) isnt ∙ none_answered m r list space number all.1 placed.1
 
 module _ (m : List ℕ) where
-  later_found : (b : Ask) (list : List Ask) → cond (b.request.space == space_of m) (find (λ (row : Row). number_of m == row.number) (row_of b ∷ rows_of (space_of m) list)) (row_numbered (number_of m) (rows_of (space_of m) list)) ≡ row_numbered (number_of m) (rows_of (space_of m) list)
+  later_found : (b : RequestInUse) (list : List RequestInUse) → cond (b.request.space == space_of m) (find (λ (row : Row). number_of m == row.number) (row_of b ∷ rows_of (space_of m) list)) (row_numbered (number_of m) (rows_of (space_of m) list)) ≡ row_numbered (number_of m) (rows_of (space_of m) list)
       → is_answered_by m b.request ≡ false → Search m list → Search m (b ∷ list)
   later_found b list skipped isnt (IsFound a found) = IsFound a (record {
     at = Contains-cons a b list found.at;
@@ -127,17 +81,17 @@ module _ (m : List ℕ) where
     space = found.space;
   })
     where
-      rows_step : (b : Ask) (list : List Ask) → row_numbered (number_of m) (rows_of (space_of m) (b ∷ list)) ≡ cond (b.request.space == space_of m) (find (λ (row : Row). number_of m == row.number) (row_of b ∷ rows_of (space_of m) list)) (row_numbered (number_of m) (rows_of (space_of m) list))
-      rows_step b list = elim (b.request.space == space_of m) as (λ t. row_numbered (number_of m) (map row_of (cond t (b ∷ filter (λ (a : Ask). a.request.space == space_of m) list) (filter (λ (a : Ask). a.request.space == space_of m) list))) ≡ cond t (find (λ (row : Row). number_of m == row.number) (row_of b ∷ rows_of (space_of m) list)) (row_numbered (number_of m) (rows_of (space_of m) list))) [ true ↦ refl | false ↦ refl ]
+      rows_step : (b : RequestInUse) (list : List RequestInUse) → row_numbered (number_of m) (rows_of (space_of m) (b ∷ list)) ≡ cond (b.request.space == space_of m) (find (λ (row : Row). number_of m == row.number) (row_of b ∷ rows_of (space_of m) list)) (row_numbered (number_of m) (rows_of (space_of m) list))
+      rows_step b list = elim (b.request.space == space_of m) as (λ t. row_numbered (number_of m) (map row_of (cond t (b ∷ filter (λ (a : RequestInUse). a.request.space == space_of m) list) (filter (λ (a : RequestInUse). a.request.space == space_of m) list))) ≡ cond t (find (λ (row : Row). number_of m == row.number) (row_of b ∷ rows_of (space_of m) list)) (row_numbered (number_of m) (rows_of (space_of m) list))) [ true ↦ refl | false ↦ refl ]
   later_found b list skipped isnt (IsNone none) = IsNone (record {
     row = rows_step b list ∙ skipped ∙ none.row;
     answered = ap (λ (t : Bool). if t then Some b.request else first_answered_by m (map request_in list)) isnt ∙ none.answered;
   })
     where
-      rows_step : (b : Ask) (list : List Ask) → row_numbered (number_of m) (rows_of (space_of m) (b ∷ list)) ≡ cond (b.request.space == space_of m) (find (λ (row : Row). number_of m == row.number) (row_of b ∷ rows_of (space_of m) list)) (row_numbered (number_of m) (rows_of (space_of m) list))
-      rows_step b list = elim (b.request.space == space_of m) as (λ t. row_numbered (number_of m) (map row_of (cond t (b ∷ filter (λ (a : Ask). a.request.space == space_of m) list) (filter (λ (a : Ask). a.request.space == space_of m) list))) ≡ cond t (find (λ (row : Row). number_of m == row.number) (row_of b ∷ rows_of (space_of m) list)) (row_numbered (number_of m) (rows_of (space_of m) list))) [ true ↦ refl | false ↦ refl ]
+      rows_step : (b : RequestInUse) (list : List RequestInUse) → row_numbered (number_of m) (rows_of (space_of m) (b ∷ list)) ≡ cond (b.request.space == space_of m) (find (λ (row : Row). number_of m == row.number) (row_of b ∷ rows_of (space_of m) list)) (row_numbered (number_of m) (rows_of (space_of m) list))
+      rows_step b list = elim (b.request.space == space_of m) as (λ t. row_numbered (number_of m) (map row_of (cond t (b ∷ filter (λ (a : RequestInUse). a.request.space == space_of m) list) (filter (λ (a : RequestInUse). a.request.space == space_of m) list))) ≡ cond t (find (λ (row : Row). number_of m == row.number) (row_of b ∷ rows_of (space_of m) list)) (row_numbered (number_of m) (rows_of (space_of m) list))) [ true ↦ refl | false ↦ refl ]
 
-  pub search_for : (list : List Ask) → AreDifferent list → AllByRecursion (λ (b : Ask). IsPlaced b.request) list → Search m list
+  pub search_for : (list : List RequestInUse) → AreDifferent list → AllByRecursion (λ (b : RequestInUse). IsPlaced b.request) list → Search m list
   unfolding AreDifferent
   search_for [] different placed = IsNone (record { row = refl; answered = refl })
   search_for (b ∷ list) different placed =
@@ -151,7 +105,7 @@ module _ (m : List ℕ) where
               IsFound b (record {
                 at = (zero, omega arith, refl);
                 row =
-                    ap (λ (t : Bool). row_numbered (number_of m) (map row_of (cond t (b ∷ filter (λ (a : Ask). a.request.space == space_of m) list) (filter (λ (a : Ask). a.request.space == space_of m) list)))) i
+                    ap (λ (t : Bool). row_numbered (number_of m) (map row_of (cond t (b ∷ filter (λ (a : RequestInUse). a.request.space == space_of m) list) (filter (λ (a : RequestInUse). a.request.space == space_of m) list)))) i
                     ∙ ap (λ (t : Bool). cond t (Some (row_of b)) (row_numbered (number_of m) (rows_of (space_of m) list))) e;
                 answered =
                     let numbered : (b.request.number == number_of m) ≡ true = eq-eqb b.request.number (number_of m) number in

@@ -13,25 +13,26 @@ use Rattle.proxy_history.specs.Sound.{IsParty}
 use Rattle.qmi_proxy.specs.Spaces.{control_space, service_space, limit_of, top_of}
 use Rattle.qmi_proxy.specs.Clients.{wire}
 use Rattle.qmi_proxy.specs.Regular.{IsAsked, Regular}
-use Rattle.qmi_state.specs.Desk.{Desk, Ask, asks, silenced_if, rows_of, desk_of, ids}
-use Rattle.qmi_state.proofs.Asks.{request_in, waits_in, pending_is}
+use Rattle.proxy_state.specs.Requests.{RequestInUse, requests_in_use, silenced_if}
+use Rattle.qmi_state.specs.Traffic.{Traffic, rows_of, traffic_of, ids}
+use Rattle.proxy_state.proofs.InUse.{request_in, waits_in, pending_is}
 use Rattle.qmi_state.proofs.Ids.{ids_are_parties}
 use Rattle.proxy_history.proofs.Lists.{ne_apart}
-use Rattle.qmi_state.proofs.Matching.{waiting}
+use Rattle.proxy_state.proofs.InUse.{waiting}
 
 module _ (c : ℕ) where
-  silences_none : (list : List Ask) → AllByRecursion (λ (r : Request). (c == r.conn) ≡ false) (waiting list) → map (λ a. silenced_if (c == a.request.conn) a) list ≡ list
+  silences_none : (list : List RequestInUse) → AllByRecursion (λ (r : Request). (c == r.conn) ≡ false) (waiting list) → map (λ a. silenced_if (c == a.request.conn) a) list ≡ list
   silences_none [] all = refl
   silences_none (a ∷ list) all =
       let step : (w : Bool) → a.waits ≡ w → AllByRecursion (λ (r : Request). (c == r.conn) ≡ false) (map request_in (cond w (a ∷ filter waits_in list) (filter waits_in list))) → silenced_if (c == a.request.conn) a ∷ map (λ a. silenced_if (c == a.request.conn) a) list ≡ a ∷ list =
       λ w. elim w as (λ w. a.waits ≡ w → AllByRecursion (λ (r : Request). (c == r.conn) ≡ false) (map request_in (cond w (a ∷ filter waits_in list) (filter waits_in list))) → silenced_if (c == a.request.conn) a ∷ map (λ a. silenced_if (c == a.request.conn) a) list ≡ a ∷ list) [
-        | true ↦ λ e others. ap (λ (b : Bool). silenced_if b a ∷ map (λ (a : Ask). silenced_if (c == a.request.conn) a) list) others.0 ∙ ap (λ (l : List Ask). a ∷ l) (silences_none list others.1)
-        | false ↦ λ e others. ap (λ (x : Ask). x ∷ map (λ (a : Ask). silenced_if (c == a.request.conn) a) list) (silent (c == a.request.conn) e) ∙ ap (λ (l : List Ask). a ∷ l) (silences_none list others)
+        | true ↦ λ e others. ap (λ (b : Bool). silenced_if b a ∷ map (λ (a : RequestInUse). silenced_if (c == a.request.conn) a) list) others.0 ∙ ap (λ (l : List RequestInUse). a ∷ l) (silences_none list others.1)
+        | false ↦ λ e others. ap (λ (x : RequestInUse). x ∷ map (λ (a : RequestInUse). silenced_if (c == a.request.conn) a) list) (silent (c == a.request.conn) e) ∙ ap (λ (l : List RequestInUse). a ∷ l) (silences_none list others)
       ]
       in step a.waits refl all
     where
       silent : (b : Bool) → a.waits ≡ false → silenced_if b a ≡ a
-      silent true e = ap (λ (w : Bool). let x : Ask = record { request = a.request; waits = w } in x) (sym e)
+      silent true e = ap (λ (w : Bool). let x : RequestInUse = record { request = a.request; waits = w } in x) (sym e)
       silent false e = refl
 
   holds_none : (grants : List Grant) → AllByRecursion (λ (g : Grant). (c == g.conn) ≡ false) grants → filter (λ g. not (c == g.conn)) grants ≡ grants
@@ -50,11 +51,11 @@ module _ (c : ℕ) where
       nobody : (c == 0 || contains c (present past)) ≡ false
       nobody = let positive : (c == 0) ≡ false = grind (arith, nat_tests, some) in ap (λ (b : Bool). b || contains c (present past)) positive ∙ absent
 
-pub desk_of_stranger : (past : List Fact) (c : ℕ) (why : Why) → 1 ≤ c → contains c (present past) ≡ false → Regular past → desk_of (Ended c why ∷ past) ≡ desk_of past
-unfolding asks last_number ids to_modem modem_drained
-desk_of_stranger past c why some absent R =
-    let none : map (λ (a : Ask). silenced_if (c == a.request.conn) a) (asks past) ≡ asks past =
-    silences_none c (asks past)
+pub traffic_of_stranger : (past : List Fact) (c : ℕ) (why : Why) → 1 ≤ c → contains c (present past) ≡ false → Regular past → traffic_of (Ended c why ∷ past) ≡ traffic_of past
+unfolding requests_in_use last_number ids to_modem modem_drained
+traffic_of_stranger past c why some absent R =
+    let none : map (λ (a : RequestInUse). silenced_if (c == a.request.conn) a) (requests_in_use past) ≡ requests_in_use past =
+    silences_none c (requests_in_use past)
     (subst (AllByRecursion (λ (r : Request). (c == r.conn) ≡ false)) (pending_is past)
     (all_weaker (IsAsked past) (λ (r : Request). (c == r.conn) ≡ false) (λ r asked. let other : (r.conn == c) ≡ false = ne_apart r.conn c (present past) asked.0 absent in grind (arith, nat_tests, other)) (pending past) R.asked))
     in
@@ -63,10 +64,10 @@ desk_of_stranger past c why some absent R =
     (all_weaker (λ (g : Grant). IsParty g.conn past) (λ (g : Grant). (c == g.conn) ≡ false) (λ g party. not_party c past g.conn some absent party) (ids past)
     (ids_are_parties past R.sound))
     in
-    ap (λ (list : List Ask). let d : Desk = record {
+    ap (λ (list : List RequestInUse). let d : Traffic = record {
       control = record { rows = rows_of control_space list; last = last_number control_space past; limit = limit_of control_space; top = top_of control_space };
       services = record { rows = rows_of service_space list; last = last_number service_space past; limit = limit_of service_space; top = top_of service_space };
       held = filter (λ (g : Grant). not (c == g.conn)) (ids past);
       waiting = modem_queue wire past;
     } in d) none
-    ∙ ap (λ (grants : List Grant). record (desk_of past) { held = grants }) unheld
+    ∙ ap (λ (grants : List Grant). record (traffic_of past) { held = grants }) unheld

@@ -1,4 +1,4 @@
 pub mod Asked
-pub mod Desk
+pub mod Traffic
 pub mod Core
 pub mod Transitions

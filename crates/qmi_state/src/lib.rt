@@ -2,5 +2,7 @@
 #![tactic(auto)]
 
 mod asked;
+mod client;
 
 pub use asked::Asked;
+pub use client::Client;

@@ -5,7 +5,7 @@ use Rattle.framing.specs.Cutting.{Cutting, cut}
 use Rattle.framing.proofs.Standing.{part_is}
 use Rattle.framing.proofs.Cuts.{cut-partial, cut-bad}
 use Rattle.connections.specs.Hearing.{hears_all}
-use Rattle.connections.proofs.Heard.{Begins, partial_is, rest_one, messages_one, heard_one, over_one, heard_none}
+use Rattle.connections.proofs.Heard.{Begins, partial_is, rest_one, messages_one, heard_one, over_one, heard_out}
 use Rattle.connections.proofs.connection.hear_all.Goals as goal
 
 pub hear-requires : goal.hear-requires
@@ -52,11 +52,7 @@ returns-then-not-hear g c =
 pub returns-in-NeedMore : goal.returns-in-NeedMore
 returns-in-NeedMore g c =
     let part : cut g.F.Framing.size c.loop-span.stream.rest ≡ record { messages = []; rest = c.loop-span.stream.rest } = cut-partial g.F.Framing.size g.met.F.Framing.kept c.loop-span.stream.rest c.in-NeedMore.ensures.next.0 in
-    let all =
-    heard_none g.S.Hears.hears c.args.name c.loop-span.client c.loop-span.outbox c.loop-span.beside
-    ∙ sym (ap (λ (k : Cutting). hears_all g.S.Hears.hears c.args.name k.messages c.loop-span.client c.loop-span.outbox c.loop-span.beside) part)
-    ∙ c.loop-span.invariant.hears
-    in
+    let all = heard_out g.S.Hears.hears c.args.name g.F.Framing.size c.loop-span.stream.rest c.loop-span.client c.loop-span.outbox c.loop-span.beside part ∙ c.loop-span.invariant.hears in
     let rest : c.loop-span.stream.rest ≡ (cut g.F.Framing.size c.args.stream.now.rest).rest = sym (ap (λ (k : Cutting). k.rest) part) ∙ c.loop-span.invariant.rest in
     let good : is_invalid (g.F.Framing.size (cut g.F.Framing.size c.args.stream.now.rest).rest) ≡ false = sym (ap (λ (l : List ℕ). is_invalid (g.F.Framing.size l)) rest) ∙ partial_is _ _ c.in-NeedMore.ensures.next.0 in
     record {
@@ -73,11 +69,7 @@ returns-in-NeedMore g c =
 pub returns-in-Bad : goal.returns-in-Bad
 returns-in-Bad g c =
     let part : cut g.F.Framing.size c.loop-span.stream.rest ≡ record { messages = []; rest = c.loop-span.stream.rest } = cut-bad g.F.Framing.size g.met.F.Framing.kept c.loop-span.stream.rest c.in-Bad.ensures.next.0 in
-    let all =
-    heard_none g.S.Hears.hears c.args.name c.loop-span.client c.loop-span.outbox c.loop-span.beside
-    ∙ sym (ap (λ (k : Cutting). hears_all g.S.Hears.hears c.args.name k.messages c.loop-span.client c.loop-span.outbox c.loop-span.beside) part)
-    ∙ c.loop-span.invariant.hears
-    in
+    let all = heard_out g.S.Hears.hears c.args.name g.F.Framing.size c.loop-span.stream.rest c.loop-span.client c.loop-span.outbox c.loop-span.beside part ∙ c.loop-span.invariant.hears in
     let rest : c.loop-span.stream.rest ≡ (cut g.F.Framing.size c.args.stream.now.rest).rest = sym (ap (λ (k : Cutting). k.rest) part) ∙ c.loop-span.invariant.rest in
     let bad : is_invalid (g.F.Framing.size (cut g.F.Framing.size c.args.stream.now.rest).rest) ≡ true = sym (ap (λ (l : List ℕ). is_invalid (g.F.Framing.size l)) rest) ∙ ap is_invalid c.in-Bad.ensures.next.0 in
     record {

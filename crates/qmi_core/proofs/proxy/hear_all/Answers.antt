@@ -7,7 +7,8 @@ use Rattle.qmux_frame.specs.Frame.{size_of}
 use Rattle.qmux_frame.specs.Framing.{size_of-kept, size_of-positive}
 use Rattle.framing.specs.Framing.{is_invalid}
 use Rattle.connections.proofs.Heard.{Begins, rest_one, messages_one, partial_is}
-use Rattle.qmi_core.proofs.Proxies.{modem_heard_one, modem_heard_none}
+use Rattle.proxy_state.proofs.Hearing.{heard_one, heard_none}
+use Rattle.qmi_state.specs.Transitions.{qmi_handlers}
 use Rattle.qmi_core.proofs.proxy.hear_all.Goals as goal
 
 pub loop-span-preserved : goal.loop-span-preserved
@@ -16,7 +17,7 @@ loop-span-preserved c =
     let begins : Begins size_of c.loop-span.cutter.rest c.next.new.self.rest c.bytes.result.now =
     record { count = found.count; message = c.bytes.ensures ∙ part_is size_of found.gives; after_it = found.gives.rest; whole = found.message } in
     record {
-      heard = modem_heard_one c.bytes.result.now (cut size_of c.loop-span.cutter.rest).messages (cut size_of c.next.new.self.rest).messages c.loop-span.board c.hear_modem.new.self c.hear_modem.ensures (messages_one size_of size_of-kept size_of-positive begins) ∙ c.loop-span.invariant.heard;
+      heard = heard_one qmi_handlers size_of c.bytes.result.now (cut size_of c.loop-span.cutter.rest).messages (cut size_of c.next.new.self.rest).messages c.loop-span.state c.hear_modem.new.self c.hear_modem.ensures (messages_one size_of size_of-kept size_of-positive begins) ∙ c.loop-span.invariant.heard;
       rest = rest_one size_of size_of-kept size_of-positive begins ∙ c.loop-span.invariant.rest;
     }
 
@@ -27,7 +28,7 @@ returns-in-NeedMore c =
     let good : is_invalid (size_of (cut size_of c.args.cutter.now.rest).rest) ≡ false = sym (ap (λ (l : List ℕ). is_invalid (size_of l)) rest) ∙ partial_is _ _ c.in-NeedMore.ensures.next.0 in
     record {
       good = sym (ap not good);
-      heard = modem_heard_none c.loop-span.cutter.rest c.loop-span.board part ∙ c.loop-span.invariant.heard;
+      heard = heard_none qmi_handlers size_of c.loop-span.cutter.rest c.loop-span.state part ∙ c.loop-span.invariant.heard;
       rest = λ _. (ap (λ r. r.rest) c.in-NeedMore.ensures.next.1 ∙ rest, rw c.in-NeedMore.ensures.next.1 c.in-NeedMore.ensures.next.0);
     }
 
@@ -38,6 +39,6 @@ returns-in-Bad c =
     let bad : is_invalid (size_of (cut size_of c.args.cutter.now.rest).rest) ≡ true = sym (ap (λ (l : List ℕ). is_invalid (size_of l)) rest) ∙ ap is_invalid c.in-Bad.ensures.next.0 in
     record {
       good = sym (ap not bad);
-      heard = modem_heard_none c.loop-span.cutter.rest c.loop-span.board part ∙ c.loop-span.invariant.heard;
+      heard = heard_none qmi_handlers size_of c.loop-span.cutter.rest c.loop-span.state part ∙ c.loop-span.invariant.heard;
       rest = λ e. absurd (false≢true e);
     }

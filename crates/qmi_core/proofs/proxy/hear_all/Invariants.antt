@@ -1,14 +1,14 @@
 use Rattle.std.proofs.Common.{◌≡◌, length}
 use Rattle.framing.specs.Cutting.{cut}
 use Rattle.qmux_frame.specs.Frame.{size_of}
-use Rattle.qmi_state.specs.Transitions.{hears_all}
-use Rattle.qmi_core.specs.View.{within}
+use Rattle.proxy_state.specs.Step.{hear_all}
+use Rattle.qmi_state.specs.Transitions.{qmi_handlers}
 use Rattle.qmi_core.proofs.proxy.hear_all.Given as goal
 
 -- what is left to hear, heard, is what there was to hear, heard
 abbrev pub invariant-loop-span : goal.invariant-loop-span
 invariant-loop-span l = record {
-  heard : within (hears_all (cut size_of l.cutter.rest).messages) l.board ≡ within (hears_all (cut size_of l.initial.cutter.rest).messages) l.initial.board;
+  heard : hear_all qmi_handlers size_of (cut size_of l.cutter.rest).messages l.state ≡ hear_all qmi_handlers size_of (cut size_of l.initial.cutter.rest).messages l.initial.state;
   rest : (cut size_of l.cutter.rest).rest ≡ (cut size_of l.initial.cutter.rest).rest;
 }
 

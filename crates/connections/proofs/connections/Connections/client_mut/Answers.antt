@@ -7,20 +7,8 @@ use Rattle.connections.proofs.connections.Connections.client_mut.Goals as goal
 
 pub invariant_of-self-lent : goal.invariant_of-self-lent
 invariant_of-self-lent g c w =
-    let t : Table g.row.T.Denot = table c.self.inside.present.items c.self.inside.dropped.items c.self.inside.greatest c.self.inside.limit c.self.inside.room in
     let k : Connection g.row.T.Denot = c.index_mut-connection.result.now in
-    record {
-      regular =
-          regular_set t c.self.invariant.regular c.args.place (with_client w k) k
-          (ap (λ (l : Connection g.row.T.Denot). l.name) c.index_mut-connection.ensures.value) (ap (λ (l : Connection g.row.T.Denot). l.outbox.capacity) c.index_mut-connection.ensures.value);
-      left = c.self.invariant.left;
-      free = c.self.invariant.free;
-      places = c.self.invariant.places;
-      few = c.self.invariant.few;
-      present_room = c.self.invariant.present_room;
-      dropped_room = c.self.invariant.dropped_room;
-      free_room = c.self.invariant.free_room;
-    }
+    record { regular = regular_set c.self.invariant.regular c.args.place k (with_client w k) c.index_mut-connection.ensures.value refl refl; places = c.self.invariant.places }
 
 pub returns : goal.returns
 returns g c =

@@ -11,11 +11,13 @@ invariant_of-result g c =
       regular =
           subst (λ (l : List (Connection g.row.T.Denot)). IsRegular (table l c.in_ok-with_capacity-2.field-0.items 0 c.from-limit.result c.args.room)) (sym c.in_ok-with_capacity.ensures.items)
           (regular_none c.in_ok-with_capacity-2.field-0.items c.from-limit.result c.args.room);
-      left = subst (λ (l : List Dropped). HaveRoom c.args.room l) (sym c.in_ok-with_capacity-2.ensures.items) tt;
-      free = c.in_ok-open_places.ensures.rooms;
-      places = omega (arith, nobody, c.in_ok-with_capacity.ensures.len, c.in_ok-open_places.ensures.count);
-      few = omega (arith, c.in_ok-with_capacity.ensures.len, c.in_ok-with_capacity-2.ensures.len);
-      present_room = c.in_ok-with_capacity.ensures.capacity;
-      dropped_room = c.in_ok-with_capacity-2.ensures.capacity;
-      free_room = c.in_ok-open_places.ensures.capacity;
+      places = record {
+        left = subst (λ (l : List Dropped). HaveRoom c.args.room l) (sym c.in_ok-with_capacity-2.ensures.items) tt;
+        free = c.in_ok-open_places.ensures.rooms;
+        count = omega (arith, nobody, c.in_ok-with_capacity.ensures.len, c.in_ok-open_places.ensures.count);
+        few = omega (arith, c.in_ok-with_capacity.ensures.len, c.in_ok-with_capacity-2.ensures.len);
+        present_room = c.in_ok-with_capacity.ensures.capacity;
+        dropped_room = c.in_ok-with_capacity-2.ensures.capacity;
+        free_room = c.in_ok-open_places.ensures.capacity;
+      };
     }

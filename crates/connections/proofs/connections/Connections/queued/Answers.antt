@@ -8,9 +8,9 @@ use Rattle.connections.proofs.connections.Connections.queued.Goals as goal
 
 pub returns-in-Some : goal.returns-in-Some
 returns-in-Some g c =
-    let t : Table g.row.T.Denot = table c.self.inside.present.items c.self.inside.dropped.items c.self.inside.greatest c.self.inside.limit c.self.inside.room in
-    let is : Some c.in-Some.place ≡ position (is_named c.args.name) t.present = c.in-Some.ensures ∙ ap (position (is_named c.args.name)) c.deref.ensures.value in
-    c.queued.ensures ∙ sym (queue_is t c.args.self.now c.self.view_is c.args.name c.in-Some.place is c.index-connection.result.now c.index-connection.ensures)
+    let stands : Some c.in-Some.place ≡ position (is_named c.args.name) c.args.self.now.present =
+    c.in-Some.ensures ∙ ap (position (is_named c.args.name)) c.deref.ensures.value ∙ ap (λ (o : Table g.row.T.Denot). position (is_named c.args.name) o.present) c.self.view_is
+    in c.queued.ensures ∙ sym (queue_is c.self.view_is c.args.name c.in-Some.place stands c.index-connection.result.now c.index-connection.ensures)
 
 pub returns-in-None : goal.returns-in-None
 returns-in-None g c =

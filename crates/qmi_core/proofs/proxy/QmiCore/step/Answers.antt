@@ -1,34 +1,61 @@
 use Rattle.std.proofs.Common.{ap, ◌∙◌}
 use Rattle.hub_io.specs.Events.{event_of}
-use Rattle.qmi_state.proofs.Steps.{stands_as}
-use Rattle.qmi_core.specs.Core.{pieces, ticks, takes, returns, modem_takes}
-use Rattle.qmi_core.specs.View.{with_rest}
-use Rattle.qmi_core.proofs.Proxies.{joined_is, left_is}
+use Rattle.proxy_history.specs.Events.{Joined, Piece, Left, ModemPiece, ModemGone, ModemBack, Now, Took, ModemTook}
+use Rattle.qmi_state.specs.Core.{QmiState, QmiCore}
+use Rattle.qmi_state.proofs.Steps.{stands_as, regained}
+use Rattle.qmi_state.proofs.Greatest.{greatest_as}
+use Rattle.qmi_state.specs.Transitions.{step, regain}
 use Rattle.qmi_core.proofs.proxy.QmiCore.step.Goals as goal
 
 pub returns-in-Joined-clause-stands : goal.returns-in-Joined-clause-stands
-returns-in-Joined-clause-stands c = stands_as _ _ _ _ (ap event_of c.in-Joined.is) (joined_is c.self.inside.cutter.rest c.self.inside.board c.args.self.now c.self.view_is c.in-Joined.name c.join.new.self c.join.ensures) c.requires
+returns-in-Joined-clause-stands c =
+    stands_as _ (Joined c.in-Joined.name) _ _ (ap event_of c.in-Joined.is)
+    (ap (λ (x : QmiState). let v : QmiCore = record { state = x; rest = c.self.inside.cutter.rest } in v) c.join.ensures ∙ ap (step (Joined c.in-Joined.name)) c.self.view_is) c.requires
 
 pub returns-in-Piece-clause-stands : goal.returns-in-Piece-clause-stands
-returns-in-Piece-clause-stands c = stands_as _ _ _ _ (ap event_of c.in-Piece.is) (ap (with_rest c.self-in-Piece.inside.cutter.rest) c.bring.ensures ∙ ap (pieces c.in-Piece.name c.in-Piece.piece.now) c.self-in-Piece.view_is) c.requires
+returns-in-Piece-clause-stands c =
+    stands_as _ (Piece c.in-Piece.name c.in-Piece.piece.now) _ _ (ap event_of c.in-Piece.is)
+    (ap (λ (x : QmiState). let v : QmiCore = record { state = x; rest = c.self-in-Piece.inside.cutter.rest } in v) c.bring.ensures ∙ ap (step (Piece c.in-Piece.name c.in-Piece.piece.now)) c.self-in-Piece.view_is) c.requires
 
 pub returns-in-Left-clause-stands : goal.returns-in-Left-clause-stands
-returns-in-Left-clause-stands c = stands_as _ _ _ _ (ap event_of c.in-Left.is) (left_is c.self-in-Left.inside.cutter.rest c.self-in-Left.inside.board c.args.self.now c.self-in-Left.view_is c.in-Left.name c.leave.new.self c.leave.ensures) c.requires
+returns-in-Left-clause-stands c =
+    stands_as _ (Left c.in-Left.name) _ _ (ap event_of c.in-Left.is)
+    (ap (λ (x : QmiState). let v : QmiCore = record { state = x; rest = c.self-in-Left.inside.cutter.rest } in v) c.leave.ensures ∙ ap (step (Left c.in-Left.name)) c.self-in-Left.view_is) c.requires
 
 pub returns-in-Now-clause-stands : goal.returns-in-Now-clause-stands
-returns-in-Now-clause-stands c = stands_as _ _ _ _ (ap event_of c.in-Now.is) (ap (with_rest c.self-in-Now.inside.cutter.rest) c.tick.ensures ∙ ap (ticks c.in-Now.time) c.self-in-Now.view_is) c.requires
+returns-in-Now-clause-stands c =
+    stands_as _ (Now c.in-Now.time) _ _ (ap event_of c.in-Now.is)
+    (ap (λ (x : QmiState). let v : QmiCore = record { state = x; rest = c.self-in-Now.inside.cutter.rest } in v) c.tick.ensures ∙ ap (step (Now c.in-Now.time)) c.self-in-Now.view_is) c.requires
+
+pub returns-in-Now-clause-greatest : goal.returns-in-Now-clause-greatest
+returns-in-Now-clause-greatest c =
+    greatest_as _ (Now c.in-Now.time) c.args.self.now (record { state = c.tick.new.self; rest = c.self-in-Now.inside.cutter.rest }) (ap event_of c.in-Now.is)
+    (ap (λ (x : QmiState). let v : QmiCore = record { state = x; rest = c.self-in-Now.inside.cutter.rest } in v) c.tick.ensures ∙ ap (step (Now c.in-Now.time)) c.self-in-Now.view_is)
 
 pub returns-in-Took-clause-stands : goal.returns-in-Took-clause-stands
-returns-in-Took-clause-stands c = stands_as _ _ _ _ (ap event_of c.in-Took.is) (ap (with_rest c.self-in-Took.inside.cutter.rest) c.take.ensures ∙ ap (takes c.in-Took.name c.in-Took.count) c.self-in-Took.view_is) c.requires
+returns-in-Took-clause-stands c =
+    stands_as _ (Took c.in-Took.name c.in-Took.count) _ _ (ap event_of c.in-Took.is)
+    (ap (λ (x : QmiState). let v : QmiCore = record { state = x; rest = c.self-in-Took.inside.cutter.rest } in v) c.take.ensures ∙ ap (step (Took c.in-Took.name c.in-Took.count)) c.self-in-Took.view_is) c.requires
 
 pub returns-in-ModemPiece-clause-stands : goal.returns-in-ModemPiece-clause-stands
-returns-in-ModemPiece-clause-stands c = stands_as _ _ _ _ (ap event_of c.in-ModemPiece.is) c.bring_modem.ensures c.requires
+returns-in-ModemPiece-clause-stands c = stands_as _ (ModemPiece c.in-ModemPiece.piece.now) _ _ (ap event_of c.in-ModemPiece.is) c.bring_modem.ensures c.requires
+
+pub returns-in-ModemPiece-clause-greatest : goal.returns-in-ModemPiece-clause-greatest
+returns-in-ModemPiece-clause-greatest c = greatest_as _ (ModemPiece c.in-ModemPiece.piece.now) c.args.self.now c.bring_modem.new.self (ap event_of c.in-ModemPiece.is) c.bring_modem.ensures
 
 pub returns-in-ModemGone-clause-stands : goal.returns-in-ModemGone-clause-stands
-returns-in-ModemGone-clause-stands c = stands_as _ _ _ _ (ap event_of c.in-ModemGone.is) c.lose_modem.ensures c.requires
+returns-in-ModemGone-clause-stands c = stands_as _ ModemGone _ _ (ap event_of c.in-ModemGone.is) c.lose_modem.ensures c.requires
+
+pub returns-in-ModemGone-clause-greatest : goal.returns-in-ModemGone-clause-greatest
+returns-in-ModemGone-clause-greatest c = greatest_as _ ModemGone c.args.self.now c.lose_modem.new.self (ap event_of c.in-ModemGone.is) c.lose_modem.ensures
 
 pub returns-in-ModemBack-clause-stands : goal.returns-in-ModemBack-clause-stands
-returns-in-ModemBack-clause-stands c = stands_as _ _ _ _ (ap event_of c.in-ModemBack.is) (ap (with_rest c.self-in-ModemBack.inside.cutter.rest) c.regain.ensures ∙ ap returns c.self-in-ModemBack.view_is) c.requires
+returns-in-ModemBack-clause-stands c =
+    let back : QmiCore → QmiCore = λ (v : QmiCore). let w : QmiCore = record v { state = record v.state { beside = regain v.state.beside } } in w in
+    stands_as _ ModemBack _ _ (ap event_of c.in-ModemBack.is)
+    (regained c.args.self.now _ (ap (λ (x : QmiState). let v : QmiCore = record { state = x; rest = c.self-in-ModemBack.inside.cutter.rest } in v) c.regain.ensures ∙ ap back c.self-in-ModemBack.view_is)) c.requires
 
 pub returns-in-ModemTook-clause-stands : goal.returns-in-ModemTook-clause-stands
-returns-in-ModemTook-clause-stands c = stands_as _ _ _ _ (ap event_of c.in-ModemTook.is) (ap (with_rest c.self-in-ModemTook.inside.cutter.rest) c.take_modem.ensures ∙ ap (modem_takes c.in-ModemTook.count) c.self-in-ModemTook.view_is) c.requires
+returns-in-ModemTook-clause-stands c =
+    stands_as _ (ModemTook c.in-ModemTook.count) _ _ (ap event_of c.in-ModemTook.is)
+    (ap (λ (x : QmiState). let v : QmiCore = record { state = x; rest = c.self-in-ModemTook.inside.cutter.rest } in v) c.take_modem.ensures ∙ ap (step (ModemTook c.in-ModemTook.count)) c.self-in-ModemTook.view_is) c.requires

@@ -1,0 +1,17 @@
+pub mod Lists
+pub mod Names
+pub mod Changed
+pub mod ClientStates
+pub mod Keeping
+pub mod Telling
+pub mod Clients
+pub mod Modem
+pub mod Waiting
+pub mod Steps
+pub mod Hearing
+pub mod Filters
+pub mod InUse
+pub mod Rows
+pub mod Expiring
+pub mod Places
+pub mod Chosen

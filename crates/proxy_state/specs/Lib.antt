@@ -1,0 +1,7 @@
+pub mod State
+pub mod Step
+pub mod Stands
+pub mod Faithful
+pub mod Laws
+pub mod Requests
+pub mod Chosen

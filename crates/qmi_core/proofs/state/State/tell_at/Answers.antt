@@ -1,0 +1,58 @@
+use Rattle.std.proofs.Common.{◌≡◌, ℕ, true, false, List, sym, ◌∙◌, ap, arith, append-nil}
+use Rattle.connections.specs.Table.{Connection, connection_in, finds_room}
+use Rattle.qmi_state.specs.declared.client.Client.{Client}
+use Rattle.qmi_state.specs.Transitions.{give_up, tell}
+use Rattle.proxy_state.specs.Chosen.{StandsAt}
+use Rattle.proxy_state.proofs.Places.{connection_at, stands_at}
+use Rattle.proxy_state.proofs.Chosen.{turn_by, turn_on, turn_off}
+use Rattle.qmi_core.specs.State.{is_chosen}
+use Rattle.qmi_core.proofs.Tells.{still_chosen}
+use Rattle.qmi_core.proofs.state.State.tell_at.Goals as goal
+
+pub returns : goal.returns
+returns c =
+    let present : List (Connection Client) = c.args.self.now.table.present in
+    let bytes : List ℕ = c.args.bytes.now in
+    let s : Connection Client = connection_at (record { opened = false }) present c.args.index in
+    let at : StandsAt s present c.args.index = stands_at (record { opened = false }) present c.args.index c.requires in
+    let named : c.name_at-name.result ≡ s.name = c.name_at-name.ensures.named s at in
+    let is : is_chosen c.args.audience c.args.self.now.beside s ≡ true = sym (c.is_chosen.ensures s at) ∙ c.if-not-is_chosen.false in
+    let made : c.tell.new.self ≡ tell s.name bytes c.args.self.now =
+    c.tell.ensures.told ∙ ap (λ (l : List ℕ). tell c.name_at-name.result l c.args.self.now) (append-nil bytes) ∙ ap (λ (n : ℕ). tell n bytes c.args.self.now) named
+    in
+    let stays : false ≡ finds_room bytes (connection_in s.name present) =
+    sym c.if-tell.false ∙ c.tell.ensures.stays ∙ ap (λ (l : List ℕ). finds_room l (connection_in c.name_at-name.result present)) (append-nil bytes) ∙ ap (λ (n : ℕ). finds_room bytes (connection_in n present)) named
+    in
+    let all = turn_off give_up (is_chosen c.args.audience) (still_chosen c.args.audience) bytes c.args.index c.args.self.now s c.requires at c.name_at-name.ensures.rising is c.tell.new.self made stays in
+    record { told = all.0; fewer = all.1 }
+
+pub returns-then-not-is_chosen : goal.returns-then-not-is_chosen
+returns-then-not-is_chosen c =
+    let present : List (Connection Client) = c.args.self.now.table.present in
+    let bytes : List ℕ = c.args.bytes.now in
+    let s : Connection Client = connection_at (record { opened = false }) present c.args.index in
+    let at : StandsAt s present c.args.index = stands_at (record { opened = false }) present c.args.index c.requires in
+    record { told = turn_by give_up (is_chosen c.args.audience) (still_chosen c.args.audience) bytes c.args.index c.args.self.now s c.requires at (sym (c.is_chosen.ensures s at) ∙ c.if-not-is_chosen.true); fewer = omega arith }
+
+pub returns-then-tell : goal.returns-then-tell
+returns-then-tell c =
+    let present : List (Connection Client) = c.args.self.now.table.present in
+    let bytes : List ℕ = c.args.bytes.now in
+    let s : Connection Client = connection_at (record { opened = false }) present c.args.index in
+    let at : StandsAt s present c.args.index = stands_at (record { opened = false }) present c.args.index c.requires in
+    let named : c.name_at-name.result ≡ s.name = c.name_at-name.ensures.named s at in
+    let is : is_chosen c.args.audience c.args.self.now.beside s ≡ true = sym (c.is_chosen.ensures s at) ∙ c.if-not-is_chosen.false in
+    let made : c.tell.new.self ≡ tell s.name bytes c.args.self.now =
+    c.tell.ensures.told ∙ ap (λ (l : List ℕ). tell c.name_at-name.result l c.args.self.now) (append-nil bytes) ∙ ap (λ (n : ℕ). tell n bytes c.args.self.now) named
+    in
+    let stays : true ≡ finds_room bytes (connection_in s.name present) =
+    sym c.if-tell.true ∙ c.tell.ensures.stays ∙ ap (λ (l : List ℕ). finds_room l (connection_in c.name_at-name.result present)) (append-nil bytes) ∙ ap (λ (n : ℕ). finds_room bytes (connection_in n present)) named
+    in
+    let all = turn_on give_up (is_chosen c.args.audience) (still_chosen c.args.audience) bytes c.args.index c.args.self.now s c.requires at c.name_at-name.ensures.rising is c.tell.new.self made stays in
+    record { told = all.0; fewer = all.1 }
+
+pub overflow_add-result : goal.overflow_add-result
+overflow_add-result c = omega (arith, c.requires, c.name_at-name.ensures.few)
+
+pub overflow_add-result-then-tell : goal.overflow_add-result-then-tell
+overflow_add-result-then-tell c = omega (arith, c.requires, c.name_at-name.ensures.few)
