@@ -9,3 +9,5 @@ mod grants;
 mod numbers;
 #[cfg(test)]
 mod outboxes;
+#[cfg(test)]
+mod subscribers;

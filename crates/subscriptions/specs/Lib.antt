@@ -1,0 +1,4 @@
+pub mod Lists
+pub mod Clients
+pub mod Calls
+pub mod Laws
