@@ -1,4 +1,10 @@
 pub mod Table
 pub mod View
+pub mod Requests
+pub mod Answers
+pub mod Paths
+pub mod SubscribeLists
+pub mod Events
+pub mod Writing
 pub mod Laws
 pub mod Examples

@@ -2,6 +2,7 @@
 -- Source: the tables of the services Basic Connect, SMS, USSD and Phonebook in the USB-IF MBIM specification 1.0, and libmbim's data/mbim-service-proxy-control.json.
 use Rattle.std.specs.Prelude.{ℕ, List, [], ◌∷◌, Option, Some, None, Bool, chars, codes, bytes_eq, ◌==◌, ◌&&◌, if◌then◌else◌}
 use Prim.Native.String.{String}
+use Rattle.kit_bytes.specs.declared.services.TheConstants.{BASIC_CONNECT, SMS, USSD, PHONEBOOK, STK}
 use Rattle.mbim_fields.specs.Layout as layout
 use Rattle.mbim_fields.specs.Layout.{in_place, binary, structure, Form, one, each, run, perhaps, Layout}
 use Rattle.mbim_fields.specs.View.{NamedForm, layout_of}
@@ -14,10 +15,10 @@ pub record Row : Type 0 where
   pub cid : ℕ
   pub query : Option Layout
   pub set : Option Layout
-  pub done : Option Layout
+  pub done : Layout
 
-abbrev pub command : List ℕ → ℕ → Option Layout → Option Layout → Option Layout → Row
-command service cid query set done = record { service = service; cid = cid; query = query; set = set; done = done }
+abbrev pub command : List ℕ → ℕ → Option Layout → Option Layout → List NamedForm → Row
+command service cid query set done = record { service = service; cid = cid; query = query; set = set; done = layout_of done }
 
 -- there is no such buffer
 abbrev pub none : Option Layout
@@ -81,16 +82,19 @@ structures place named = each place (structure (layout_of named))
 -- ---- services: the bytes of their UUIDs, in the order in which they are written ----
 
 abbrev pub basic_connect : List ℕ
-basic_connect = 0xA2 ∷ 0x89 ∷ 0xCC ∷ 0x33 ∷ 0xBC ∷ 0xBB ∷ 0x8B ∷ 0x4F ∷ 0xB6 ∷ 0xB0 ∷ 0x13 ∷ 0x3E ∷ 0xC2 ∷ 0xAA ∷ 0xE6 ∷ 0xDF ∷ []
+basic_connect = BASIC_CONNECT
 
 abbrev pub sms : List ℕ
-sms = 0x53 ∷ 0x3F ∷ 0xBE ∷ 0xEB ∷ 0x14 ∷ 0xFE ∷ 0x44 ∷ 0x67 ∷ 0x9F ∷ 0x90 ∷ 0x33 ∷ 0xA2 ∷ 0x23 ∷ 0xE5 ∷ 0x6C ∷ 0x3F ∷ []
+sms = SMS
 
 abbrev pub ussd : List ℕ
-ussd = 0xE5 ∷ 0x50 ∷ 0xA0 ∷ 0xC8 ∷ 0x5E ∷ 0x82 ∷ 0x47 ∷ 0x9E ∷ 0x82 ∷ 0xF7 ∷ 0x10 ∷ 0xAB ∷ 0xF4 ∷ 0xC3 ∷ 0x35 ∷ 0x1F ∷ []
+ussd = USSD
 
 abbrev pub phonebook : List ℕ
-phonebook = 0x4B ∷ 0xF3 ∷ 0x84 ∷ 0x76 ∷ 0x1E ∷ 0x6A ∷ 0x41 ∷ 0xDB ∷ 0xB1 ∷ 0xD8 ∷ 0xBE ∷ 0xD2 ∷ 0x89 ∷ 0xC2 ∷ 0x5B ∷ 0xDB ∷ []
+phonebook = PHONEBOOK
+
+abbrev pub stk : List ℕ
+stk = STK
 
 abbrev pub proxy_control : List ℕ
 proxy_control = 0x83 ∷ 0x8C ∷ 0xF7 ∷ 0xFB ∷ 0x8D ∷ 0x0D ∷ 0x4D ∷ 0x7F ∷ 0x87 ∷ 0x1E ∷ 0xD7 ∷ 0x1D ∷ 0xBE ∷ 0xFB ∷ 0xB3 ∷ 0x9B ∷ []
@@ -105,6 +109,9 @@ event = field "DeviceServiceId" uuid ∷ field "CidsCount" u32 ∷ field "Cids" 
 
 abbrev pub events : List NamedForm
 events = field "EventsCount" u32 ∷ field "Events" (structures 0 event) ∷ []
+
+abbrev pub configuration : List NamedForm
+configuration = field "DevicePath" text ∷ field "Timeout" u32 ∷ []
 
 abbrev pub connection : List NamedForm
 connection = field "SessionId" u32 ∷ field "ActivationState" u32 ∷ field "VoiceCallState" u32 ∷ field "IPType" u32 ∷ field "ContextType" uuid ∷ field "NwError" u32 ∷ []
@@ -130,76 +137,76 @@ phonebook_entry = field "EntryIndex" u32 ∷ field "Number" text ∷ field "Name
 -- ---- the commands: service, CID, query, set, answer ----
 
 abbrev pub device_caps : Row
-device_caps = command basic_connect 1 empty none (fields (field "DeviceType" u32 ∷ field "CellularClass" u32 ∷ field "VoiceClass" u32 ∷ field "SimClass" u32 ∷ field "DataClass" u32 ∷ field "SmsCaps" u32 ∷ field "ControlCaps" u32 ∷ field "MaxSessions" u32 ∷ field "CustomDataClass" text ∷ field "DeviceId" text ∷ field "FirmwareInfo" text ∷ field "HardwareInfo" text ∷ []))
+device_caps = command basic_connect 1 empty none (field "DeviceType" u32 ∷ field "CellularClass" u32 ∷ field "VoiceClass" u32 ∷ field "SimClass" u32 ∷ field "DataClass" u32 ∷ field "SmsCaps" u32 ∷ field "ControlCaps" u32 ∷ field "MaxSessions" u32 ∷ field "CustomDataClass" text ∷ field "DeviceId" text ∷ field "FirmwareInfo" text ∷ field "HardwareInfo" text ∷ [])
 
 abbrev pub subscriber_ready : Row
-subscriber_ready = command basic_connect 2 empty none (fields (field "ReadyState" u32 ∷ field "SubscriberId" text ∷ field "SimIccId" text ∷ field "ReadyInfo" u32 ∷ field "TelephoneNumbersCount" u32 ∷ field "TelephoneNumbers" (texts 4) ∷ []))
+subscriber_ready = command basic_connect 2 empty none (field "ReadyState" u32 ∷ field "SubscriberId" text ∷ field "SimIccId" text ∷ field "ReadyInfo" u32 ∷ field "TelephoneNumbersCount" u32 ∷ field "TelephoneNumbers" (texts 4) ∷ [])
 
 abbrev pub radio_state : Row
-radio_state = command basic_connect 3 empty (fields (field "RadioState" u32 ∷ [])) (fields radio_states)
+radio_state = command basic_connect 3 empty (fields (field "RadioState" u32 ∷ [])) radio_states
 
 abbrev pub pin : Row
-pin = command basic_connect 4 empty none (fields (field "PinType" u32 ∷ field "PinState" u32 ∷ field "RemainingAttempts" u32 ∷ []))
+pin = command basic_connect 4 empty none (field "PinType" u32 ∷ field "PinState" u32 ∷ field "RemainingAttempts" u32 ∷ [])
 
 abbrev pub home_provider : Row
-home_provider = command basic_connect 6 empty none (fields provider)
+home_provider = command basic_connect 6 empty none provider
 
 abbrev pub visible_providers : Row
-visible_providers = command basic_connect 8 (fields (field "Action" u32 ∷ [])) none (fields (field "ProvidersCount" u32 ∷ field "Providers" (structures 0 provider) ∷ []))
+visible_providers = command basic_connect 8 (fields (field "Action" u32 ∷ [])) none (field "ProvidersCount" u32 ∷ field "Providers" (structures 0 provider) ∷ [])
 
 abbrev pub register_state : Row
-register_state = command basic_connect 9 empty none (fields (field "NwError" u32 ∷ field "RegisterState" u32 ∷ field "RegisterMode" u32 ∷ field "AvailableDataClasses" u32 ∷ field "CurrentCellularClass" u32 ∷ field "ProviderId" text ∷ field "ProviderName" text ∷ field "RoamingText" text ∷ field "RegistrationFlag" u32 ∷ []))
+register_state = command basic_connect 9 empty none (field "NwError" u32 ∷ field "RegisterState" u32 ∷ field "RegisterMode" u32 ∷ field "AvailableDataClasses" u32 ∷ field "CurrentCellularClass" u32 ∷ field "ProviderId" text ∷ field "ProviderName" text ∷ field "RoamingText" text ∷ field "RegistrationFlag" u32 ∷ [])
 
 abbrev pub packet_service : Row
-packet_service = command basic_connect 10 empty (fields (field "PacketServiceAction" u32 ∷ [])) (fields packet_state)
+packet_service = command basic_connect 10 empty (fields (field "PacketServiceAction" u32 ∷ [])) packet_state
 
 abbrev pub signal_state : Row
-signal_state = command basic_connect 11 empty none (fields (field "Rssi" u32 ∷ field "ErrorRate" u32 ∷ field "SignalStrengthInterval" u32 ∷ field "RssiThreshold" u32 ∷ field "ErrorRateThreshold" u32 ∷ []))
+signal_state = command basic_connect 11 empty none (field "Rssi" u32 ∷ field "ErrorRate" u32 ∷ field "SignalStrengthInterval" u32 ∷ field "RssiThreshold" u32 ∷ field "ErrorRateThreshold" u32 ∷ [])
 
 abbrev pub connect : Row
-connect = command basic_connect 12 (fields connection) (fields (field "SessionId" u32 ∷ field "ActivationCommand" u32 ∷ field "AccessString" text ∷ field "UserName" text ∷ field "Password" text ∷ field "Compression" u32 ∷ field "AuthProtocol" u32 ∷ field "IPType" u32 ∷ field "ContextType" uuid ∷ [])) (fields connection)
+connect = command basic_connect 12 (fields connection) (fields (field "SessionId" u32 ∷ field "ActivationCommand" u32 ∷ field "AccessString" text ∷ field "UserName" text ∷ field "Password" text ∷ field "Compression" u32 ∷ field "AuthProtocol" u32 ∷ field "IPType" u32 ∷ field "ContextType" uuid ∷ [])) connection
 
 abbrev pub ip_configuration : Row
-ip_configuration = command basic_connect 15 (fields ip_settings) none (fields ip_settings)
+ip_configuration = command basic_connect 15 (fields ip_settings) none ip_settings
 
 abbrev pub device_services : Row
-device_services = command basic_connect 16 empty none (fields (field "DeviceServicesCount" u32 ∷ field "MaxDssSessions" u32 ∷ field "DeviceServices" (structures 0 device_service) ∷ []))
+device_services = command basic_connect 16 empty none (field "DeviceServicesCount" u32 ∷ field "MaxDssSessions" u32 ∷ field "DeviceServices" (structures 0 device_service) ∷ [])
 
 abbrev pub subscribe_list : Row
-subscribe_list = command basic_connect 19 none (fields events) (fields events)
+subscribe_list = command basic_connect 19 none (fields events) events
 
 abbrev pub packet_statistics : Row
-packet_statistics = command basic_connect 20 empty none (fields (field "InDiscards" u32 ∷ field "InErrors" u32 ∷ field "InOctets" u64 ∷ field "InPackets" u64 ∷ field "OutOctets" u64 ∷ field "OutPackets" u64 ∷ field "OutErrors" u32 ∷ field "OutDiscards" u32 ∷ []))
+packet_statistics = command basic_connect 20 empty none (field "InDiscards" u32 ∷ field "InErrors" u32 ∷ field "InOctets" u64 ∷ field "InPackets" u64 ∷ field "OutOctets" u64 ∷ field "OutPackets" u64 ∷ field "OutErrors" u32 ∷ field "OutDiscards" u32 ∷ [])
 
 abbrev pub sms_configuration : Row
-sms_configuration = command sms 1 empty none (fields (field "SmsStorageState" u32 ∷ field "Format" u32 ∷ field "MaxMessages" u32 ∷ field "CdmaShortMessageSize" u32 ∷ field "ScAddress" text ∷ []))
+sms_configuration = command sms 1 empty none (field "SmsStorageState" u32 ∷ field "Format" u32 ∷ field "MaxMessages" u32 ∷ field "CdmaShortMessageSize" u32 ∷ field "ScAddress" text ∷ [])
 
 abbrev pub sms_read : Row
-sms_read = command sms 2 (fields (field "Format" u32 ∷ field "Flag" u32 ∷ field "MessageIndex" u32 ∷ [])) none (fields (field "Format" u32 ∷ field "MessagesCount" u32 ∷ field "Messages" (structures 1 sms_message) ∷ []))
+sms_read = command sms 2 (fields (field "Format" u32 ∷ field "Flag" u32 ∷ field "MessageIndex" u32 ∷ [])) none (field "Format" u32 ∷ field "MessagesCount" u32 ∷ field "Messages" (structures 1 sms_message) ∷ [])
 
 abbrev pub sms_delete : Row
-sms_delete = command sms 4 none (fields (field "Flag" u32 ∷ field "MessageIndex" u32 ∷ [])) empty
+sms_delete = command sms 4 none (fields (field "Flag" u32 ∷ field "MessageIndex" u32 ∷ [])) []
 
 abbrev pub sms_store_status : Row
-sms_store_status = command sms 5 empty none (fields (field "Flag" u32 ∷ field "MessageIndex" u32 ∷ []))
+sms_store_status = command sms 5 empty none (field "Flag" u32 ∷ field "MessageIndex" u32 ∷ [])
 
 abbrev pub ussd_exchange : Row
-ussd_exchange = command ussd 1 none (fields (field "Action" u32 ∷ field "DataCodingScheme" u32 ∷ field "Payload" bytes ∷ [])) (fields (field "Response" u32 ∷ field "SessionState" u32 ∷ field "DataCodingScheme" u32 ∷ field "Payload" bytes ∷ []))
+ussd_exchange = command ussd 1 none (fields (field "Action" u32 ∷ field "DataCodingScheme" u32 ∷ field "Payload" bytes ∷ [])) (field "Response" u32 ∷ field "SessionState" u32 ∷ field "DataCodingScheme" u32 ∷ field "Payload" bytes ∷ [])
 
 abbrev pub phonebook_configuration : Row
-phonebook_configuration = command phonebook 1 empty none (fields (field "State" u32 ∷ field "TotalEntries" u32 ∷ field "UsedEntries" u32 ∷ field "MaxNumberLength" u32 ∷ field "MaxNameLength" u32 ∷ []))
+phonebook_configuration = command phonebook 1 empty none (field "State" u32 ∷ field "TotalEntries" u32 ∷ field "UsedEntries" u32 ∷ field "MaxNumberLength" u32 ∷ field "MaxNameLength" u32 ∷ [])
 
 abbrev pub phonebook_read : Row
-phonebook_read = command phonebook 2 (fields (field "FilterFlag" u32 ∷ field "FilterIndex" u32 ∷ [])) none (fields (field "EntryCount" u32 ∷ field "Entries" (structures 0 phonebook_entry) ∷ []))
+phonebook_read = command phonebook 2 (fields (field "FilterFlag" u32 ∷ field "FilterIndex" u32 ∷ [])) none (field "EntryCount" u32 ∷ field "Entries" (structures 0 phonebook_entry) ∷ [])
 
 abbrev pub phonebook_delete : Row
-phonebook_delete = command phonebook 3 none (fields (field "FilterFlag" u32 ∷ field "FilterIndex" u32 ∷ [])) empty
+phonebook_delete = command phonebook 3 none (fields (field "FilterFlag" u32 ∷ field "FilterIndex" u32 ∷ [])) []
 
 abbrev pub phonebook_write : Row
-phonebook_write = command phonebook 4 none (fields (field "SaveFlag" u32 ∷ field "SaveIndex" u32 ∷ field "Number" text ∷ field "Name" text ∷ [])) empty
+phonebook_write = command phonebook 4 none (fields (field "SaveFlag" u32 ∷ field "SaveIndex" u32 ∷ field "Number" text ∷ field "Name" text ∷ [])) []
 
 abbrev pub proxy_configuration : Row
-proxy_configuration = command proxy_control 1 none (fields (field "DevicePath" text ∷ field "Timeout" u32 ∷ [])) empty
+proxy_configuration = command proxy_control 1 none (fields configuration) []
 
 abbrev pub rows : List Row
 rows =
@@ -210,7 +217,11 @@ rows =
 abbrev pub layout_in : Row → Way → Option Layout
 layout_in row Query = row.query
 layout_in row Set = row.set
-layout_in row Done = row.done
+layout_in row Done = Some row.done
+
+-- the layout of what is sent, a set or a query
+abbrev pub layout_sent : Row → (set : Bool) → Option Layout
+layout_sent row set = if set then row.set else row.query
 
 -- it is this command's row
 abbrev pub is_of : Row → List ℕ → ℕ → Bool

@@ -106,12 +106,12 @@ const PHONEBOOK_ENTRY: FieldShape = FieldShape(&[
     Field("Name", TEXT),
 ]);
 
-static DEVICE_CAPS: Row = Row {
+pub(crate) static DEVICE_CAPS: Row = Row {
     service: Service::BasicConnect,
     cid: 1,
     query: Some(EMPTY),
     set: None,
-    done: Some(FieldShape(&[
+    done: FieldShape(&[
         Field("DeviceType", U32),
         Field("CellularClass", U32),
         Field("VoiceClass", U32),
@@ -124,69 +124,69 @@ static DEVICE_CAPS: Row = Row {
         Field("DeviceId", TEXT),
         Field("FirmwareInfo", TEXT),
         Field("HardwareInfo", TEXT),
-    ])),
+    ]),
 };
 
-static SUBSCRIBER_READY: Row = Row {
+pub(crate) static SUBSCRIBER_READY: Row = Row {
     service: Service::BasicConnect,
     cid: 2,
     query: Some(EMPTY),
     set: None,
-    done: Some(FieldShape(&[
+    done: FieldShape(&[
         Field("ReadyState", U32),
         Field("SubscriberId", TEXT),
         Field("SimIccId", TEXT),
         Field("ReadyInfo", U32),
         Field("TelephoneNumbersCount", U32),
         Field("TelephoneNumbers", Each(4, Text)),
-    ])),
+    ]),
 };
 
-static RADIO_STATE: Row = Row {
+pub(crate) static RADIO_STATE: Row = Row {
     service: Service::BasicConnect,
     cid: 3,
     query: Some(EMPTY),
     set: Some(FieldShape(&[Field("RadioState", U32)])),
-    done: Some(RADIO_STATES),
+    done: RADIO_STATES,
 };
 
-static PIN: Row = Row {
+pub(crate) static PIN: Row = Row {
     service: Service::BasicConnect,
     cid: 4,
     query: Some(EMPTY),
     set: None,
-    done: Some(FieldShape(&[
+    done: FieldShape(&[
         Field("PinType", U32),
         Field("PinState", U32),
         Field("RemainingAttempts", U32),
-    ])),
+    ]),
 };
 
-static HOME_PROVIDER: Row = Row {
+pub(crate) static HOME_PROVIDER: Row = Row {
     service: Service::BasicConnect,
     cid: 6,
     query: Some(EMPTY),
     set: None,
-    done: Some(PROVIDER),
+    done: PROVIDER,
 };
 
-static VISIBLE_PROVIDERS: Row = Row {
+pub(crate) static VISIBLE_PROVIDERS: Row = Row {
     service: Service::BasicConnect,
     cid: 8,
     query: Some(FieldShape(&[Field("Action", U32)])),
     set: None,
-    done: Some(FieldShape(&[
+    done: FieldShape(&[
         Field("ProvidersCount", U32),
         Field("Providers", Each(0, Structure(PROVIDER))),
-    ])),
+    ]),
 };
 
-static REGISTER_STATE: Row = Row {
+pub(crate) static REGISTER_STATE: Row = Row {
     service: Service::BasicConnect,
     cid: 9,
     query: Some(EMPTY),
     set: None,
-    done: Some(FieldShape(&[
+    done: FieldShape(&[
         Field("NwError", U32),
         Field("RegisterState", U32),
         Field("RegisterMode", U32),
@@ -196,32 +196,32 @@ static REGISTER_STATE: Row = Row {
         Field("ProviderName", TEXT),
         Field("RoamingText", TEXT),
         Field("RegistrationFlag", U32),
-    ])),
+    ]),
 };
 
-static PACKET_SERVICE: Row = Row {
+pub(crate) static PACKET_SERVICE: Row = Row {
     service: Service::BasicConnect,
     cid: 10,
     query: Some(EMPTY),
     set: Some(FieldShape(&[Field("PacketServiceAction", U32)])),
-    done: Some(PACKET_STATE),
+    done: PACKET_STATE,
 };
 
-static SIGNAL_STATE: Row = Row {
+pub(crate) static SIGNAL_STATE: Row = Row {
     service: Service::BasicConnect,
     cid: 11,
     query: Some(EMPTY),
     set: None,
-    done: Some(FieldShape(&[
+    done: FieldShape(&[
         Field("Rssi", U32),
         Field("ErrorRate", U32),
         Field("SignalStrengthInterval", U32),
         Field("RssiThreshold", U32),
         Field("ErrorRateThreshold", U32),
-    ])),
+    ]),
 };
 
-static CONNECT: Row = Row {
+pub(crate) static CONNECT: Row = Row {
     service: Service::BasicConnect,
     cid: 12,
     query: Some(CONNECTION),
@@ -236,43 +236,43 @@ static CONNECT: Row = Row {
         Field("IPType", U32),
         Field("ContextType", UUID),
     ])),
-    done: Some(CONNECTION),
+    done: CONNECTION,
 };
 
-static IP_CONFIGURATION: Row = Row {
+pub(crate) static IP_CONFIGURATION: Row = Row {
     service: Service::BasicConnect,
     cid: 15,
     query: Some(IP_SETTINGS),
     set: None,
-    done: Some(IP_SETTINGS),
+    done: IP_SETTINGS,
 };
 
-static DEVICE_SERVICES: Row = Row {
+pub(crate) static DEVICE_SERVICES: Row = Row {
     service: Service::BasicConnect,
     cid: 16,
     query: Some(EMPTY),
     set: None,
-    done: Some(FieldShape(&[
+    done: FieldShape(&[
         Field("DeviceServicesCount", U32),
         Field("MaxDssSessions", U32),
         Field("DeviceServices", Each(0, Structure(DEVICE_SERVICE))),
-    ])),
+    ]),
 };
 
-static SUBSCRIBE_LIST: Row = Row {
+pub(crate) static SUBSCRIBE_LIST: Row = Row {
     service: Service::BasicConnect,
     cid: 19,
     query: None,
     set: Some(EVENTS),
-    done: Some(EVENTS),
+    done: EVENTS,
 };
 
-static PACKET_STATISTICS: Row = Row {
+pub(crate) static PACKET_STATISTICS: Row = Row {
     service: Service::BasicConnect,
     cid: 20,
     query: Some(EMPTY),
     set: None,
-    done: Some(FieldShape(&[
+    done: FieldShape(&[
         Field("InDiscards", U32),
         Field("InErrors", U32),
         Field("InOctets", U64),
@@ -281,24 +281,24 @@ static PACKET_STATISTICS: Row = Row {
         Field("OutPackets", U64),
         Field("OutErrors", U32),
         Field("OutDiscards", U32),
-    ])),
+    ]),
 };
 
-static SMS_CONFIGURATION: Row = Row {
+pub(crate) static SMS_CONFIGURATION: Row = Row {
     service: Service::Sms,
     cid: 1,
     query: Some(EMPTY),
     set: None,
-    done: Some(FieldShape(&[
+    done: FieldShape(&[
         Field("SmsStorageState", U32),
         Field("Format", U32),
         Field("MaxMessages", U32),
         Field("CdmaShortMessageSize", U32),
         Field("ScAddress", TEXT),
-    ])),
+    ]),
 };
 
-static SMS_READ: Row = Row {
+pub(crate) static SMS_READ: Row = Row {
     service: Service::Sms,
     cid: 2,
     query: Some(FieldShape(&[
@@ -307,30 +307,30 @@ static SMS_READ: Row = Row {
         Field("MessageIndex", U32),
     ])),
     set: None,
-    done: Some(FieldShape(&[
+    done: FieldShape(&[
         Field("Format", U32),
         Field("MessagesCount", U32),
         Field("Messages", Each(1, Structure(SMS_MESSAGE))),
-    ])),
+    ]),
 };
 
-static SMS_DELETE: Row = Row {
+pub(crate) static SMS_DELETE: Row = Row {
     service: Service::Sms,
     cid: 4,
     query: None,
     set: Some(FieldShape(&[Field("Flag", U32), Field("MessageIndex", U32)])),
-    done: Some(EMPTY),
+    done: EMPTY,
 };
 
-static SMS_STORE_STATUS: Row = Row {
+pub(crate) static SMS_STORE_STATUS: Row = Row {
     service: Service::Sms,
     cid: 5,
     query: Some(EMPTY),
     set: None,
-    done: Some(FieldShape(&[Field("Flag", U32), Field("MessageIndex", U32)])),
+    done: FieldShape(&[Field("Flag", U32), Field("MessageIndex", U32)]),
 };
 
-static USSD_EXCHANGE: Row = Row {
+pub(crate) static USSD_EXCHANGE: Row = Row {
     service: Service::Ussd,
     cid: 1,
     query: None,
@@ -339,48 +339,48 @@ static USSD_EXCHANGE: Row = Row {
         Field("DataCodingScheme", U32),
         Field("Payload", BYTES),
     ])),
-    done: Some(FieldShape(&[
+    done: FieldShape(&[
         Field("Response", U32),
         Field("SessionState", U32),
         Field("DataCodingScheme", U32),
         Field("Payload", BYTES),
-    ])),
+    ]),
 };
 
-static PHONEBOOK_CONFIGURATION: Row = Row {
+pub(crate) static PHONEBOOK_CONFIGURATION: Row = Row {
     service: Service::Phonebook,
     cid: 1,
     query: Some(EMPTY),
     set: None,
-    done: Some(FieldShape(&[
+    done: FieldShape(&[
         Field("State", U32),
         Field("TotalEntries", U32),
         Field("UsedEntries", U32),
         Field("MaxNumberLength", U32),
         Field("MaxNameLength", U32),
-    ])),
+    ]),
 };
 
-static PHONEBOOK_READ: Row = Row {
+pub(crate) static PHONEBOOK_READ: Row = Row {
     service: Service::Phonebook,
     cid: 2,
     query: Some(FieldShape(&[Field("FilterFlag", U32), Field("FilterIndex", U32)])),
     set: None,
-    done: Some(FieldShape(&[
+    done: FieldShape(&[
         Field("EntryCount", U32),
         Field("Entries", Each(0, Structure(PHONEBOOK_ENTRY))),
-    ])),
+    ]),
 };
 
-static PHONEBOOK_DELETE: Row = Row {
+pub(crate) static PHONEBOOK_DELETE: Row = Row {
     service: Service::Phonebook,
     cid: 3,
     query: None,
     set: Some(FieldShape(&[Field("FilterFlag", U32), Field("FilterIndex", U32)])),
-    done: Some(EMPTY),
+    done: EMPTY,
 };
 
-static PHONEBOOK_WRITE: Row = Row {
+pub(crate) static PHONEBOOK_WRITE: Row = Row {
     service: Service::Phonebook,
     cid: 4,
     query: None,
@@ -390,15 +390,15 @@ static PHONEBOOK_WRITE: Row = Row {
         Field("Number", TEXT),
         Field("Name", TEXT),
     ])),
-    done: Some(EMPTY),
+    done: EMPTY,
 };
 
-static PROXY_CONFIGURATION: Row = Row {
+pub(crate) static PROXY_CONFIGURATION: Row = Row {
     service: Service::ProxyControl,
     cid: 1,
     query: None,
     set: Some(FieldShape(&[Field("DevicePath", TEXT), Field("Timeout", U32)])),
-    done: Some(EMPTY),
+    done: EMPTY,
 };
 
 // All of them.

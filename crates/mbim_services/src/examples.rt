@@ -1,6 +1,6 @@
 //! Worked examples, byte for byte.
 
-ghost use Rattle.mbim_services.specs.Examples.{NoSuchCommand, PairPastTheEnd, PairUpToTheEnd, ConfigurationBytes, SessionBytes, NoEventBytes, AllEventsBytes};
+ghost use Rattle.mbim_services.specs.Examples.{NoSuchCommand, PairPastTheEnd, PairUpToTheEnd, ConfigurationBytes, ConnectBytes, RadioBytes, SessionBytes, NoEventBytes, AllEventsBytes};
 
 /// SMS has no command with the CID 3.
 pub fn an_unknown_command_has_no_layout()
@@ -20,6 +20,16 @@ pub fn a_pair_up_to_the_end_is_read()
 /// The buffer by which a tool names its modem to the proxy.
 pub fn a_configuration_has_forty_bytes()
     ensures { ConfigurationBytes }
+{}
+
+/// The buffer that activates a session.
+pub fn a_connection_has_its_texts_behind_it()
+    ensures { ConnectBytes }
+{}
+
+/// The buffer that turns the radio on.
+pub fn a_radio_state_has_four_bytes()
+    ensures { RadioBytes }
 {}
 
 /// The query for the addresses of a session.

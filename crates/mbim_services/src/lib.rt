@@ -1,12 +1,25 @@
-//! MBIM's services: the layouts of the buffers of their commands.
+//! MBIM's services: their commands, the layouts of the buffers, what each request sends, and what its
+//! answer says.
 //!
 //! Source: the USB-IF MBIM specification 1.0, and of the proxy's own service libmbim.
 #![tactic(auto)]
 
+mod answers;
 mod commands;
+mod events;
 pub mod examples;
 mod laws;
+mod lists;
+mod paths;
+mod requests;
+mod sent;
 mod table;
 
-pub use laws::{each_command_stands_once, each_layout_is_well_made};
+pub use answers::{AnswerFault, MbimAnswer, done};
+pub use events::Events;
+pub use laws::{each_command_stands_once, each_layout_is_well_made, each_request_has_a_buffer};
+pub use lists::{LONGEST_LIST, MOST_PAIRS, write_events};
+pub use paths::config_path_is;
+pub use requests::{LONGEST_BUFFER, command};
+pub use sent::Command;
 pub use table::{Service, Way, layout};

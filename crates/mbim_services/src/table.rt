@@ -1,9 +1,10 @@
 ghost use Rattle.std.specs.Prelude.{◌≡◌, map, option_map};
 ghost use Rattle.mbim_fields.specs.View.{shape_view};
-ghost use Rattle.mbim_services.specs.Table.{is_of, find, layout_in, layout_for};
+ghost use Rattle.mbim_services.specs.Table.{is_of, find, layout_in, layout_sent, layout_for};
 ghost use Rattle.mbim_services.specs.View.{row_view, service_view};
 
 use crate::commands::rows;
+use kit_bytes::services;
 use mbim_fields::FieldShape;
 use uuid::Uuid;
 
@@ -18,6 +19,8 @@ pub enum Service {
     Ussd,
     /// The phone book on the SIM.
     Phonebook,
+    /// The applications on the SIM, its toolkit.
+    Stk,
     /// The proxy itself.
     ProxyControl,
 }
@@ -41,7 +44,7 @@ pub(crate) struct Row {
     pub(crate) cid: u32,
     pub(crate) query: Option<FieldShape>,
     pub(crate) set: Option<FieldShape>,
-    pub(crate) done: Option<FieldShape>,
+    pub(crate) done: FieldShape,
 }
 
 impl Service {
@@ -50,22 +53,11 @@ impl Service {
         ensures { result ≡ service_view self }
     {
         Uuid::from_bytes(match self {
-            Service::BasicConnect => [
-                0xA2, 0x89, 0xCC, 0x33, 0xBC, 0xBB, 0x8B, 0x4F, 0xB6, 0xB0, 0x13, 0x3E, 0xC2, 0xAA,
-                0xE6, 0xDF,
-            ],
-            Service::Sms => [
-                0x53, 0x3F, 0xBE, 0xEB, 0x14, 0xFE, 0x44, 0x67, 0x9F, 0x90, 0x33, 0xA2, 0x23, 0xE5,
-                0x6C, 0x3F,
-            ],
-            Service::Ussd => [
-                0xE5, 0x50, 0xA0, 0xC8, 0x5E, 0x82, 0x47, 0x9E, 0x82, 0xF7, 0x10, 0xAB, 0xF4, 0xC3,
-                0x35, 0x1F,
-            ],
-            Service::Phonebook => [
-                0x4B, 0xF3, 0x84, 0x76, 0x1E, 0x6A, 0x41, 0xDB, 0xB1, 0xD8, 0xBE, 0xD2, 0x89, 0xC2,
-                0x5B, 0xDB,
-            ],
+            Service::BasicConnect => services::BASIC_CONNECT,
+            Service::Sms => services::SMS,
+            Service::Ussd => services::USSD,
+            Service::Phonebook => services::PHONEBOOK,
+            Service::Stk => services::STK,
             Service::ProxyControl => [
                 0x83, 0x8C, 0xF7, 0xFB, 0x8D, 0x0D, 0x4D, 0x7F, 0x87, 0x1E, 0xD7, 0x1D, 0xBE, 0xFB,
                 0xB3, 0x9B,
@@ -81,8 +73,15 @@ impl Row {
         match way {
             Way::Query => self.query,
             Way::Set => self.set,
-            Way::Done => self.done,
+            Way::Done => Some(self.done),
         }
+    }
+
+    // The layout of the buffer of its set, or of its query.
+    pub(crate) fn layout_sent(&self, set: bool) -> Option<FieldShape>
+        ensures { option_map shape_view result ≡ layout_sent (row_view self.now) set }
+    {
+        if set { self.set } else { self.query }
     }
 
     fn is_of(&self, service: Uuid, cid: u32) -> bool

@@ -1,0 +1,370 @@
+ghost use Rattle.std.specs.Prelude.{◌≡◌, ◌≤◌, true, false, [], ◌∷◌, length, map, Some, None, option_map, option_and_then, IsSome, IsTrue, IfOk, IfSome};
+ghost use Rattle.std.specs.Str.{all_scalars};
+ghost use Rattle.kit_bytes.specs.declared.short.TheConstants.{LONGEST_SHORT_TEXT, LONGEST_SHORT_OCTETS, LONGEST_PATH};
+ghost use Rattle.mbim_fields.specs.Value as field;
+ghost use Rattle.mbim_fields.specs.Value.{list_of};
+ghost use Rattle.mbim_fields.specs.Canon.{canon};
+ghost use Rattle.mbim_fields.specs.View.{shape_view, value_view, val_view};
+ghost use Rattle.mbim_services.specs.Requests as spec;
+ghost use Rattle.mbim_services.specs.Requests.{IsInRange, IsText, sent_by, buffer_sent};
+ghost use Rattle.mbim_services.specs.View.{row_view};
+
+use crate::commands;
+use crate::sent::Command;
+use crate::table::Row;
+use kit_bytes::{Octets, PathText, ShortOctets, ShortText, Text};
+use mbim_fields::{EncodeFault, FieldShape, FieldVal, FieldValue, encode_fields};
+use mbim_requests::{ContextIpType, MbimRequest};
+use std::alloc::{AllocError, Global};
+use uuid::Uuid;
+
+/// How many bytes the buffer of a command has at most.
+pub const LONGEST_BUFFER: usize = 8_204;
+
+// The seconds for which the proxy is to wait for its modem.
+const TIMEOUT: u32 = 30;
+
+// The type of a context that leads to the internet.
+const INTERNET: [u8; 16] = [
+    0x7E, 0x5E, 0x2A, 0x7E, 0x4E, 0x6F, 0x72, 0x72, 0x73, 0x6B, 0x65, 0x6E, 0x7E, 0x5E, 0x2A, 0x7E,
+];
+
+/// The command that a request sends.
+pub fn command(alloc: Global, body: &MbimRequest) -> Result<Command, AllocError>
+    ensures uuid { IfOk result (λ command. command.uuid ≡ (sent_by body.now).row.service) }
+    ensures cid { IfOk result (λ command. command.cid ≡ (sent_by body.now).row.cid) }
+    ensures set { IfOk result (λ command. command.set ≡ (sent_by body.now).set) }
+    ensures buffer { IfOk result (λ command. buffer_sent (sent_by body.now) ≡ Some command.buffer) }
+    ensures short { IfOk result (λ command. length command.buffer ≤ LONGEST_BUFFER) }
+{
+    let row = row_of(body);
+    let set = sets(body);
+    let values = FieldVal::from(values_of(alloc, body)?);
+    let buffer = encoded(alloc, row.layout_sent(set), &values)?;
+    Ok(Command {
+        uuid: row.service.uuid(),
+        cid: row.cid,
+        set,
+        buffer,
+    })
+}
+
+// The encoding of values, which have one in this layout.
+fn encoded(
+    alloc: Global,
+    shape: Option<FieldShape>,
+    values: &FieldVal,
+) -> Result<Octets, AllocError>
+    requires { IsSome (option_and_then (λ layout. canon layout (list_of (val_view values.now))) (option_map shape_view shape)) }
+    ensures { IfOk result (λ octets. option_and_then (λ layout. canon layout (list_of (val_view values.now))) (option_map shape_view shape) ≡ Some octets) }
+{
+    let Some(shape) = shape else { unreachable!() };
+    match encode_fields(alloc, &shape, values) {
+        Ok(octets) => Ok(octets),
+        Err(EncodeFault::OutOfMemory) => Err(AllocError),
+        Err(EncodeFault::Misfit) => unreachable!(),
+    }
+}
+
+// The line of the table that a request has.
+pub(crate) fn row_of(body: &MbimRequest) -> &'static Row
+    ensures { row_view result.now ≡ (sent_by body.now).row }
+{
+    match body {
+        MbimRequest::QueryDeviceCaps => &commands::DEVICE_CAPS,
+        MbimRequest::QuerySubscriberReadyStatus => &commands::SUBSCRIBER_READY,
+        MbimRequest::QueryRadioState => &commands::RADIO_STATE,
+        MbimRequest::SetRadioState(_) => &commands::RADIO_STATE,
+        MbimRequest::QueryPinState => &commands::PIN,
+        MbimRequest::QueryHomeProvider => &commands::HOME_PROVIDER,
+        MbimRequest::QueryVisibleProviders => &commands::VISIBLE_PROVIDERS,
+        MbimRequest::QueryRegistrationState => &commands::REGISTER_STATE,
+        MbimRequest::QueryPacketServiceState => &commands::PACKET_SERVICE,
+        MbimRequest::AttachPacketService => &commands::PACKET_SERVICE,
+        MbimRequest::DetachPacketService => &commands::PACKET_SERVICE,
+        MbimRequest::QuerySignalState => &commands::SIGNAL_STATE,
+        MbimRequest::Connect { .. } => &commands::CONNECT,
+        MbimRequest::Disconnect(_) => &commands::CONNECT,
+        MbimRequest::QueryConnectionState(_) => &commands::CONNECT,
+        MbimRequest::QueryIpConfiguration(_) => &commands::IP_CONFIGURATION,
+        MbimRequest::QueryDeviceServices => &commands::DEVICE_SERVICES,
+        MbimRequest::QueryPacketStatistics => &commands::PACKET_STATISTICS,
+        MbimRequest::SmsQueryConfiguration => &commands::SMS_CONFIGURATION,
+        MbimRequest::SmsReadAll => &commands::SMS_READ,
+        MbimRequest::SmsRead(_) => &commands::SMS_READ,
+        MbimRequest::SmsDelete(_) => &commands::SMS_DELETE,
+        MbimRequest::SmsQueryStoreStatus => &commands::SMS_STORE_STATUS,
+        MbimRequest::UssdInitiate(_, _) => &commands::USSD_EXCHANGE,
+        MbimRequest::UssdContinue(_, _) => &commands::USSD_EXCHANGE,
+        MbimRequest::UssdCancel => &commands::USSD_EXCHANGE,
+        MbimRequest::PhonebookQueryConfiguration => &commands::PHONEBOOK_CONFIGURATION,
+        MbimRequest::PhonebookReadAll => &commands::PHONEBOOK_READ,
+        MbimRequest::PhonebookRead(_) => &commands::PHONEBOOK_READ,
+        MbimRequest::PhonebookDelete(_) => &commands::PHONEBOOK_DELETE,
+        MbimRequest::PhonebookWrite { .. } => &commands::PHONEBOOK_WRITE,
+        MbimRequest::ProxyConfiguration(_) => &commands::PROXY_CONFIGURATION,
+    }
+}
+
+// Whether a request's command changes something.
+fn sets(body: &MbimRequest) -> bool
+    ensures { result ≡ (sent_by body.now).set }
+{
+    matches!(
+        body,
+        MbimRequest::SetRadioState(_)
+            | MbimRequest::AttachPacketService
+            | MbimRequest::DetachPacketService
+            | MbimRequest::Connect { .. }
+            | MbimRequest::Disconnect(_)
+            | MbimRequest::SmsDelete(_)
+            | MbimRequest::UssdInitiate(_, _)
+            | MbimRequest::UssdContinue(_, _)
+            | MbimRequest::UssdCancel
+            | MbimRequest::PhonebookDelete(_)
+            | MbimRequest::PhonebookWrite { .. }
+            | MbimRequest::ProxyConfiguration(_)
+    )
+}
+
+// The values of the fields of a request's buffer.
+fn values_of(alloc: Global, body: &MbimRequest) -> Result<Vec<FieldValue>, AllocError>
+    ensures values { IfOk result (λ values. map value_view values.items ≡ (sent_by body.now).values) }
+    ensures in_range { IfOk result (λ _. IsInRange body.now) }
+{
+    match body {
+        MbimRequest::SetRadioState(on) => Ok(vec![in alloc; number(u32::from(*on))]?),
+        MbimRequest::QueryVisibleProviders => Ok(vec![in alloc; number(0)]?),
+        MbimRequest::AttachPacketService => Ok(vec![in alloc; number(0)]?),
+        MbimRequest::DetachPacketService => Ok(vec![in alloc; number(1)]?),
+        MbimRequest::Connect {
+            session_id,
+            access_string,
+            username,
+            password,
+            ip_type,
+        } => {
+            let access_string = text_given(alloc, access_string)?;
+            let username = text_given(alloc, username)?;
+            let password = text_given(alloc, password)?;
+            connection(
+                alloc,
+                *session_id,
+                1,
+                access_string,
+                username,
+                password,
+                *ip_type,
+            )
+        }
+        MbimRequest::Disconnect(session_id) => {
+            let (access_string, username, password) = (
+                no_text(alloc),
+                no_text(alloc),
+                no_text(alloc),
+            );
+            connection(
+                alloc,
+                *session_id,
+                0,
+                access_string,
+                username,
+                password,
+                ContextIpType::Default,
+            )
+        }
+        MbimRequest::QueryConnectionState(session_id) => Ok(vec![in alloc;
+            number(*session_id),
+            number(0),
+            number(0),
+            number(0),
+            internet(),
+            number(0),
+        ]?),
+        MbimRequest::QueryIpConfiguration(session_id) => ip_configuration_of(alloc, *session_id),
+        MbimRequest::SmsReadAll => Ok(vec![in alloc; number(0), number(0), number(0)]?),
+        MbimRequest::SmsRead(index) => Ok(vec![in alloc; number(0), number(1), number(*index)]?),
+        MbimRequest::SmsDelete(index) => Ok(vec![in alloc; number(1), number(*index)]?),
+        MbimRequest::UssdInitiate(scheme, payload) => {
+            let payload = short_octets(alloc, payload)?;
+            Ok(vec![in alloc; number(0), number(u32::from(*scheme)), payload]?)
+        }
+        MbimRequest::UssdContinue(scheme, payload) => {
+            let payload = short_octets(alloc, payload)?;
+            Ok(vec![in alloc; number(1), number(u32::from(*scheme)), payload]?)
+        }
+        MbimRequest::UssdCancel => {
+            let nothing = FieldValue::Octets(Octets::new(alloc));
+            Ok(vec![in alloc; number(2), number(0), nothing]?)
+        }
+        MbimRequest::PhonebookReadAll => Ok(vec![in alloc; number(0), number(0)]?),
+        MbimRequest::PhonebookRead(index) => Ok(vec![in alloc; number(1), number(*index)]?),
+        MbimRequest::PhonebookDelete(index) => Ok(vec![in alloc; number(1), number(*index)]?),
+        MbimRequest::PhonebookWrite {
+            name,
+            number: phone,
+            index,
+        } => {
+            let phone = short_text(alloc, phone)?;
+            let name = short_text(alloc, name)?;
+            let (flag, index) = save_place(*index);
+            Ok(vec![in alloc; number(flag), number(index), phone, name]?)
+        }
+        MbimRequest::ProxyConfiguration(path) => {
+            let path = path_text(alloc, path)?;
+            Ok(vec![in alloc; path, number(TIMEOUT)]?)
+        }
+        MbimRequest::QueryDeviceCaps
+        | MbimRequest::QuerySubscriberReadyStatus
+        | MbimRequest::QueryRadioState
+        | MbimRequest::QueryPinState
+        | MbimRequest::QueryHomeProvider
+        | MbimRequest::QueryRegistrationState
+        | MbimRequest::QueryPacketServiceState
+        | MbimRequest::QuerySignalState
+        | MbimRequest::QueryDeviceServices
+        | MbimRequest::QueryPacketStatistics
+        | MbimRequest::SmsQueryConfiguration
+        | MbimRequest::SmsQueryStoreStatus
+        | MbimRequest::PhonebookQueryConfiguration => Ok(Vec::new(alloc)),
+    }
+}
+
+// What is to become of a session.
+fn connection(
+    alloc: Global,
+    session_id: u32,
+    activation: u32,
+    access_string: FieldValue,
+    username: FieldValue,
+    password: FieldValue,
+    ip_type: ContextIpType,
+) -> Result<Vec<FieldValue>, AllocError>
+    ensures { IfOk result (λ values. map value_view values.items ≡ spec.connection session_id (field.number activation) (value_view access_string) (value_view username) (value_view password) ip_type) }
+{
+    Ok(vec![in alloc;
+        number(session_id),
+        number(activation),
+        access_string,
+        username,
+        password,
+        number(0),
+        number(0),
+        context_ip_type(ip_type),
+        internet(),
+    ]?)
+}
+
+// The query for the addresses of a session: all but its id is empty.
+fn ip_configuration_of(alloc: Global, session_id: u32) -> Result<Vec<FieldValue>, AllocError>
+    ensures { IfOk result (λ values. map value_view values.items ≡ spec.ip_configuration_of session_id) }
+{
+    Ok(vec![in alloc;
+        number(session_id),
+        number(0),
+        number(0),
+        number(0),
+        no_elements(alloc),
+        number(0),
+        no_elements(alloc),
+        absent(),
+        absent(),
+        number(0),
+        no_elements(alloc),
+        number(0),
+        no_elements(alloc),
+        number(0),
+        number(0),
+    ]?)
+}
+
+fn number(number: u32) -> FieldValue
+    ensures { value_view result ≡ field.number number }
+{
+    FieldValue::Number(u64::from(number))
+}
+
+fn internet() -> FieldValue
+    ensures { value_view result ≡ spec.internet }
+{
+    FieldValue::Uuid(Uuid::from_bytes(INTERNET))
+}
+
+fn absent() -> FieldValue
+    ensures { value_view result ≡ field.absent }
+{
+    FieldValue::Absent
+}
+
+fn no_text(alloc: Global) -> FieldValue
+    ensures { value_view result ≡ spec.no_text }
+{
+    FieldValue::Text(Text::from(String::new(alloc)))
+}
+
+fn no_elements(alloc: Global) -> FieldValue
+    ensures { value_view result ≡ spec.no_elements }
+{
+    FieldValue::List(FieldVal::from(Vec::new(alloc)))
+}
+
+fn text_of(alloc: Global, text: &Text) -> Result<FieldValue, AllocError>
+    ensures value { IfOk result (λ value. value_view value ≡ field.text_of text.now) }
+    ensures scalars { IfOk result (λ _. IsTrue (all_scalars text.now)) }
+{
+    Ok(FieldValue::Text(Text::from_str(alloc, text.as_str())?))
+}
+
+fn short_text(alloc: Global, text: &ShortText) -> Result<FieldValue, AllocError>
+    ensures value { IfOk result (λ value. value_view value ≡ field.text_of text.now) }
+    ensures range { IfOk result (λ _. IsText LONGEST_SHORT_TEXT text.now) }
+{
+    text_of(alloc, text.value())
+}
+
+fn path_text(alloc: Global, path: &PathText) -> Result<FieldValue, AllocError>
+    ensures value { IfOk result (λ value. value_view value ≡ field.text_of path.now) }
+    ensures range { IfOk result (λ _. IsText LONGEST_PATH path.now) }
+{
+    text_of(alloc, path.value())
+}
+
+// What isn't there is empty.
+fn text_given(alloc: Global, text: &Option<ShortText>) -> Result<FieldValue, AllocError>
+    ensures value { IfOk result (λ value. value_view value ≡ spec.text_given text.now) }
+    ensures range { IfOk result (λ _. IfSome text.now (IsText LONGEST_SHORT_TEXT)) }
+{
+    match text {
+        Some(text) => short_text(alloc, text),
+        None => Ok(no_text(alloc)),
+    }
+}
+
+fn short_octets(alloc: Global, octets: &ShortOctets) -> Result<FieldValue, AllocError>
+    ensures value { IfOk result (λ value. value_view value ≡ field.octets octets.now) }
+    ensures range { IfOk result (λ _. length octets.now ≤ LONGEST_SHORT_OCTETS) }
+{
+    Ok(FieldValue::Octets(Octets::from_slice(alloc, octets.value().as_slice())?))
+}
+
+fn context_ip_type(ip_type: ContextIpType) -> FieldValue
+    ensures { value_view result ≡ spec.context_ip_type ip_type }
+{
+    number(match ip_type {
+        ContextIpType::Default => 0,
+        ContextIpType::Ipv4 => 1,
+        ContextIpType::Ipv6 => 2,
+        ContextIpType::Ipv4v6 => 3,
+    })
+}
+
+// The flag of a place in the phone book, and its index: this one, or one that isn't used.
+fn save_place(index: Option<u32>) -> (u32, u32)
+    ensures flag { field.number result.0 ≡ spec.save_flag index }
+    ensures index { field.number result.1 ≡ spec.save_index index }
+{
+    match index {
+        Some(index) => (1, index),
+        None => (0, 0),
+    }
+}
