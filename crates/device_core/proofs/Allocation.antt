@@ -12,6 +12,7 @@ use Rattle.qmi_services.specs.Table.{client_id, needed}
 use Rattle.qmi_services.specs.Answers.{FieldValue, Says}
 use Rattle.qmi_services.specs.declared.answers.QmiAnswer.{QmiAnswer}
 use Rattle.qmi_services.specs.declared.answers.QmiAnswer.TheVariants.{Success, Failure}
+use Rattle.link_session.specs.Marks.{Placed}
 use Rattle.device_core.specs.Hearing.{failure_in}
 use Rattle.device_core.specs.Session.{Reads, allocated_in}
 
@@ -56,9 +57,9 @@ says_some None fields says = absurd (cc)
 says_some (Some bytes) fields says = second_of bytes (two_bytes says.0 bytes says.2)
 
 -- an answer that is read and no failure has one
-pub allocated-some : (service place : ℕ) (message : List ℕ) (answer : QmiAnswer) → failure_in answer ≡ None → Reads (Allocate service) place message (Ok answer) → IsSome (allocated_in (tlvs_in message))
-allocated-some service place message (Success fields) none reads = says_some _ reads.1.1.0 reads.1.1.3
-allocated-some service place message (Failure error) none reads = absurd (cc)
+pub allocated-some : (service : ℕ) (message : Placed) (answer : QmiAnswer) → failure_in answer ≡ None → Reads (Allocate service) message (Ok answer) → IsSome (allocated_in (tlvs_in message.bytes))
+allocated-some service message (Success fields) none reads = says_some _ reads.1.1.0 reads.1.1.3
+allocated-some service message (Failure error) none reads = absurd (cc)
 
 -- it is the client id
 pub allocated-in : {message bytes tlvs : List ℕ} {client : ℕ} → tlvs ≡ tlvs_in bytes → bytes ≡ message → allocated_in tlvs ≡ Some client → allocated_in (tlvs_in message) ≡ Some client

@@ -1,5 +1,5 @@
 -- The whole message of a request, and which message answers it.
-use Rattle.std.specs.Prelude.{ℕ, Bool, ◌==◌, ◌&&◌, List}
+use Rattle.std.specs.Prelude.{ℕ, Bool, ◌==◌, ◌&&◌, if◌then◌else◌, List}
 use Rattle.tlv_codec.specs.Tlv.{tlv_text}
 use Rattle.qmux_frame.specs.declared.kind.MessageKind.TheVariants as kind
 use Rattle.qmux_frame.specs.declared.writing.NewMessage.{NewMessage}
@@ -8,7 +8,11 @@ use Rattle.qmux_frame.specs.Head.{service_of, client_of, number_of}
 use Rattle.qmux_frame.specs.Kind.{flags_for, is_response, kind_of}
 use Rattle.qmux_frame.specs.Writing.{message_text}
 use Rattle.qmi_requests.specs.declared.QmiRequest.{QmiRequest}
-use Rattle.device_core.specs.declared.waiting.Wanted.{Wanted}
+use Rattle.qmux_frame.specs.Frame.{size_of}
+use Rattle.link_session.specs.Waiting.{Judge}
+use Rattle.link_session.specs.Asking.{Asked}
+use Rattle.link_session.specs.declared.waiting.Meaning.TheVariants.{NoAnswer, Answer}
+use Rattle.device_core.specs.declared.wanted.Wanted.{Wanted}
 use Rattle.qmi_services.specs.Requests.{row_of, inputs_of}
 
 -- what is asked, with the client id and the number of its message
@@ -41,3 +45,12 @@ answers wanted message =
 
 abbrev pub wanted_by : Request → Wanted
 wanted_by request = record { service = (row_of request.body).service; client = request.client; number = request.number }
+
+-- whatever came before
+abbrev pub judge_by : Wanted → Judge
+judge_by wanted = λ before message. if answers wanted message.bytes then Answer else NoAnswer
+
+-- ---- what is asked ----
+
+abbrev pub asked : Request → Asked
+asked request = record { size = size_of; text = message_of request; judge = judge_by (wanted_by request) }

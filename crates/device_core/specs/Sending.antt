@@ -1,36 +1,14 @@
 -- What a session does in all: it sends the requests of its plan, one after another, and takes.
-use Rattle.std.specs.Prelude.{◌≡◌, ℕ, ◌+◌, ◌==◌, if◌then◌else◌, List, [], ◌∷◌, ◌++◌, take, All, Option, Some, None, Result, Ok, Err}
-use Rattle.std.specs.List.{flat_map}
-use Rattle.link_io.specs.Calls.{Call, Opened, Sent, Closed}
+use Rattle.std.specs.Prelude.{ℕ, ◌+◌, ◌==◌, if◌then◌else◌, List, [], ◌∷◌, All, map, Option, Some, None, Result}
+use Rattle.link_io.specs.Calls.{Call}
+use Rattle.link_session.specs.declared.fault.SessionFault.{SessionFault}
+use Rattle.link_session.specs.Sending.{IsSendOrTake, EndsWell, SendsInOrder}
 use Rattle.qmi_services.specs.declared.answers.QmiAnswer.{QmiAnswer}
 use Rattle.qmi_services.specs.declared.answers.QmiAnswer.TheVariants.{Success, Failure}
 use Rattle.qmi_services.specs.declared.answers.QmiEnd.{QmiEnd}
-use Rattle.device_core.specs.declared.fault.SessionFault.{SessionFault}
 use Rattle.device_core.specs.declared.plan.QmiPlan.{QmiPlan}
 use Rattle.device_core.specs.Requests.{Request, message_of}
-use Rattle.device_core.specs.Marks.{IsTake}
 use Rattle.device_core.specs.Session.{Session, service, proxy_open, allocate, command, release}
-
--- ---- the calls ----
-
--- a call of `send` or of `take`
-abbrev pub IsSendOrTake : Call → Type 0
-IsSendOrTake (Sent bytes ok) = Unit {0}
-IsSendOrTake call = IsTake call
-
--- the bytes that the calls sent
-unfoldable pub sent_in : List Call → List ℕ
-sent_in [] = []
-sent_in (Sent bytes ok ∷ calls) = bytes ++ sent_in calls
-sent_in (_ ∷ calls) = sent_in calls
-
--- the bytes that had been sent before each take, where these had been sent before the calls
-unfoldable pub sent_before_takes : List ℕ → List Call → List (List ℕ)
-sent_before_takes sent [] = []
-sent_before_takes sent (Sent bytes ok ∷ calls) = sent_before_takes (sent ++ bytes) calls
-sent_before_takes sent (Opened path ok ∷ calls) = sent_before_takes sent calls
-sent_before_takes sent (Closed ∷ calls) = sent_before_takes sent calls
-sent_before_takes sent (_ ∷ calls) = sent ∷ sent_before_takes sent calls
 
 -- ---- the requests ----
 
@@ -63,20 +41,16 @@ abbrev pub IsSuccess : QmiAnswer → Type 0
 IsSuccess (Success fields) = Unit {0}
 IsSuccess (Failure error) = ⊥
 
-abbrev pub EndsWell : Result QmiEnd SessionFault → Type 0
-EndsWell (Ok end) = IsSuccess end.answer
-EndsWell (Err why) = ⊥
+abbrev pub IsGood : QmiEnd → Type 0
+IsGood end = IsSuccess end.answer
 
--- whole messages, those of the first of the requests
-abbrev pub AreFirst : List Request → List ℕ → Type 0
-AreFirst requests sent = (count : ℕ) × (sent ≡ flat_map message_of (take count requests))
+-- the messages of requests
+abbrev pub messages_of : List Request → List (List ℕ)
+messages_of = map message_of
 
--- calls sent the messages of these requests: before each take whole ones, in all up to some byte, and all of them where the session ends well
-pub record SendsRequests (requests : List Request) (calls : List Call) (result : Result QmiEnd SessionFault) : Type 0 where
-  pub before_takes : All (AreFirst requests) (sent_before_takes [] calls)
-  pub unsent : List ℕ
-  pub in_all : flat_map message_of requests ≡ sent_in calls ++ unsent
-  pub ends : EndsWell result → unsent ≡ []
+-- calls sent the messages of these requests in order
+abbrev pub SendsRequests : List Request → List Call → Result QmiEnd SessionFault → Type 0
+SendsRequests requests calls result = SendsInOrder (messages_of requests) calls (EndsWell IsGood result)
 
 -- each call of a session is a send or a take
 abbrev pub SessionsSendAndTake : Type 0

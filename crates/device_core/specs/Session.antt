@@ -1,10 +1,9 @@
 -- A tool's whole session: the requests of a plan, each behind the answer to the one before, and how it ends.
 -- Source: the order in which libqmi's qmi_device_open and qmi_device_allocate_client (src/libqmi-glib/qmi-device.c) and qmicli ask.
-use Rattle.std.specs.Prelude.{◌≡◌, ◌≢◌, ◌⊎◌, ℕ, ◌+◌, true, false, ◌==◌, if◌then◌else◌, List, [], ◌∷◌, ◌++◌, slice_get, option_and_then, Option, Some, None, Result, Ok, Err}
-use Rattle.kit_io.specs.Told.{Grows}
+use Rattle.std.specs.Prelude.{◌≡◌, ◌≢◌, ◌⊎◌, ℕ, ◌+◌, true, false, ◌==◌, if◌then◌else◌, List, slice_get, option_and_then, Option, Some, None, Result, Ok, Err}
 use Rattle.qmux_frame.specs.Head.{is_framed, tlvs_in}
 use Rattle.tlv_codec.specs.Tlv.{tlv_value}
-use Rattle.link_io.specs.Calls.{Call, Sent}
+use Rattle.link_io.specs.Calls.{Call}
 use Rattle.qmi_requests.specs.declared.QmiRequest.{QmiRequest}
 use Rattle.qmi_requests.specs.declared.QmiRequest.TheVariants.{ProxyOpen, Allocate, Release}
 use Rattle.qmi_services.specs.declared.answers.QmiAnswer.{QmiAnswer}
@@ -12,58 +11,23 @@ use Rattle.qmi_services.specs.declared.answers.QmiAnswer.TheVariants.{Success, F
 use Rattle.qmi_services.specs.declared.answers.AnswerFault.TheVariants.{Unread}
 use Rattle.qmi_services.specs.Requests.{row_of}
 use Rattle.qmi_services.specs.Answers.{Answers}
-use Rattle.device_core.specs.declared.fault.SessionFault.{SessionFault}
-use Rattle.device_core.specs.declared.fault.SessionFault.TheVariants as fault
+use Rattle.link_session.specs.declared.fault.SessionFault.{SessionFault}
+use Rattle.link_session.specs.declared.fault.SessionFault.TheVariants as fault
+use Rattle.link_session.specs.Marks.{Placed}
+use Rattle.link_session.specs.Waiting.{Heard, nothing_heard}
+use Rattle.link_session.specs.Asking.{Stops, Step, ReadsThen}
 use Rattle.device_core.specs.declared.plan.QmiPlan.{QmiPlan}
 use Rattle.qmi_services.specs.declared.answers.QmiEnd.{QmiEnd}
-use Rattle.device_core.specs.Requests.{Request, message_of, wanted_by}
-use Rattle.device_core.specs.Waiting.{Heard, Outcome, Answered, Fails, Waits}
+use Rattle.device_core.specs.Requests.{Request, asked}
 
--- ---- one request ----
-
--- a request is sent, and its answer is waited for
-pub data Asks (request : Request) (heard : Heard) (calls : List Call) (outcome : Outcome) (later : Heard) : Type 0 where
-  -- there is no memory for its message
-  unmade : calls ≡ [] → outcome ≡ Fails fault.OutOfMemory → Asks request heard calls outcome later
-  unsent : (front rest : List ℕ) → message_of request ≡ front ++ rest → calls ≡ Sent front false ∷ [] → outcome ≡ Fails fault.LinkFault → Asks request heard calls outcome later
-  sent : (takes : List Call) → calls ≡ Sent (message_of request) true ∷ takes → Waits (wanted_by request) heard takes outcome later → Asks request heard calls outcome later
+-- ---- what answers say ----
 
 -- what an answer says to a request: one that isn't framed or doesn't read breaks the session where it begins
-abbrev pub Reads : QmiRequest → ℕ → List ℕ → Result QmiAnswer SessionFault → Type 0
-Reads body place message (Ok answer) = (is_framed message ≡ true) × Answers (row_of body).output (tlvs_in message) (Ok answer)
-Reads body place message (Err (fault.Broken at)) = (at ≡ place) × ((is_framed message ≡ false) ⊎ Answers (row_of body).output (tlvs_in message) (Err Unread))
-Reads body place message (Err fault.OutOfMemory) = Unit {0}
-Reads body place message (Err _) = ⊥
-
--- ---- what follows ----
-
--- the session ends so, and nothing more is called
-abbrev pub Stops : Result QmiEnd SessionFault → List Call → Result QmiEnd SessionFault → Type 0
-Stops end calls result = (calls ≡ []) × (result ≡ end)
-
-abbrev pub AfterOutcome : Outcome → List Call → Result QmiEnd SessionFault → (ℕ → List ℕ → Type 0) → Type 0
-AfterOutcome (Answered place message) calls result Then = Then place message
-AfterOutcome (Fails why) calls result Then = Stops (Err why) calls result
-
--- a request, and what follows where it is answered
-pub record Step (request : Request) (heard : Heard) (calls : List Call) (result : Result QmiEnd SessionFault) (Then : ℕ → List ℕ → Heard → List Call → Type 0) : Type 0 where
-  pub own : List Call
-  pub more : List Call
-  pub outcome : Outcome
-  pub later : Heard
-  pub are : calls ≡ own ++ more
-  pub asks : Asks request heard own outcome later
-  pub follows : AfterOutcome outcome more result (λ place message. Then place message later more)
-
-abbrev pub AfterReading : Result QmiAnswer SessionFault → List Call → Result QmiEnd SessionFault → (QmiAnswer → Type 0) → Type 0
-AfterReading (Ok answer) calls result Then = Then answer
-AfterReading (Err why) calls result Then = Stops (Err why) calls result
-
--- an answer is read, and what follows where it reads
-pub record ReadsThen (body : QmiRequest) (place : ℕ) (message : List ℕ) (calls : List Call) (result : Result QmiEnd SessionFault) (Then : QmiAnswer → Type 0) : Type 0 where
-  pub read : Result QmiAnswer SessionFault
-  pub reads : Reads body place message read
-  pub follows : AfterReading read calls result Then
+abbrev pub Reads : QmiRequest → Placed → Result QmiAnswer SessionFault → Type 0
+Reads body message (Ok answer) = (is_framed message.bytes ≡ true) × Answers (row_of body).output (tlvs_in message.bytes) (Ok answer)
+Reads body message (Err (fault.Broken place)) = (place ≡ message.place) × ((is_framed message.bytes ≡ false) ⊎ Answers (row_of body).output (tlvs_in message.bytes) (Err Unread))
+Reads body message (Err fault.OutOfMemory) = Unit {0}
+Reads body message (Err _) = ⊥
 
 -- the end with this failure before the command
 abbrev pub failed : ℕ → QmiEnd
@@ -87,15 +51,15 @@ abbrev pub release : QmiPlan → ℕ → ℕ → Request
 release plan client number = record { body = Release (service plan) client; client = 0; number = number }
 
 -- the answer to Release must be framed, and isn't read
-abbrev pub released : ℕ → List ℕ → QmiAnswer → Result QmiEnd SessionFault
-released place message answer = if is_framed message then end_with answer None else Err (fault.Broken place)
+abbrev pub released : Placed → QmiAnswer → Result QmiEnd SessionFault
+released message answer = if is_framed message.bytes then end_with answer None else Err (fault.Broken message.place)
 
 -- what becomes of the client id
 pub data Finishes (plan : QmiPlan) (client number : ℕ) (answer : QmiAnswer) (heard : Heard) (calls : List Call) (result : Result QmiEnd SessionFault) : Type 0 where
   without : service plan ≡ 0 → Stops (end_with answer None) calls result → Finishes plan client number answer heard calls result
   keeping : service plan ≢ 0 → plan.keep ≡ true → Stops (end_with answer (Some (service plan, client))) calls result → Finishes plan client number answer heard calls result
   releasing : service plan ≢ 0 → plan.keep ≡ false
-      → Step (release plan client number) heard calls result (λ place message later more. Stops (released place message answer) more result)
+      → Step (asked (release plan client number)) heard calls result (λ before message later more. Stops (released message answer) more result)
       → Finishes plan client number answer heard calls result
 
 abbrev pub command : QmiPlan → ℕ → ℕ → Request
@@ -104,8 +68,8 @@ command plan client number = record { body = plan.request; client = client; numb
 -- the command, from the number of the next request to service 0 on
 abbrev pub Commands : QmiPlan → ℕ → ℕ → Heard → List Call → Result QmiEnd SessionFault → Type 0
 Commands plan client number heard calls result =
-    Step (command plan client number) heard calls result (λ place message later more.
-    ReadsThen plan.request place message more result (λ answer. Finishes plan client number answer later more result))
+    Step (asked (command plan client number)) heard calls result (λ before message later more.
+    ReadsThen (Reads plan.request message) more result (λ answer. Finishes plan client number answer later more result))
 
 -- the second number of the first Allocation, which is a service and a client id of one byte each
 -- Source: the message `Allocate CID` in libqmi's data/qmi-service-ctl.json.
@@ -124,27 +88,18 @@ pub data Chooses (plan : QmiPlan) (number : ℕ) (heard : Heard) (calls : List C
   control : service plan ≡ 0 → Commands plan 0 number heard calls result → Chooses plan number heard calls result
   given : (client : ℕ) → service plan ≢ 0 → plan.cid ≡ Some client → Commands plan client number heard calls result → Chooses plan number heard calls result
   allocating : service plan ≢ 0 → plan.cid ≡ None
-      → Step (allocate plan number) heard calls result (λ place message later more.
-      ReadsThen (Allocate (service plan)) place message more result (λ answer. OnSuccess answer more result (CommandsAs plan message (number + 1) later more result)))
+      → Step (asked (allocate plan number)) heard calls result (λ before message later more.
+      ReadsThen (Reads (Allocate (service plan)) message) more result (λ answer. OnSuccess answer more result (CommandsAs plan message.bytes (number + 1) later more result)))
       → Chooses plan number heard calls result
 
 abbrev pub proxy_open : QmiPlan → Request
 proxy_open plan = record { body = ProxyOpen plan.device; client = 0; number = 1 }
-
-abbrev pub nothing_heard : Heard
-nothing_heard = record { taken = []; left = [] }
 
 -- the session, with all its calls
 pub data Session (plan : QmiPlan) (calls : List Call) (result : Result QmiEnd SessionFault) : Type 0 where
   no_memory : Stops (Err fault.OutOfMemory) calls result → Session plan calls result
   direct : plan.proxied ≡ false → Chooses plan 1 nothing_heard calls result → Session plan calls result
   proxied : plan.proxied ≡ true
-      → Step (proxy_open plan) nothing_heard calls result (λ place message later more.
-      ReadsThen (ProxyOpen plan.device) place message more result (λ answer. OnSuccess answer more result (Chooses plan 2 later more result)))
+      → Step (asked (proxy_open plan)) nothing_heard calls result (λ before message later more.
+      ReadsThen (Reads (ProxyOpen plan.device) message) more result (λ answer. OnSuccess answer more result (Chooses plan 2 later more result)))
       → Session plan calls result
-
--- a link's calls have grown by some like this
-pub record Makes (Like : List Call → Type 0) (before after : Option (List Call)) : Type 0 where
-  pub calls : List Call
-  pub are : Like calls
-  pub grows : Grows before calls after

@@ -3,7 +3,7 @@ ghost use Rattle.framing.specs.Framing.{IsMessage};
 ghost use Rattle.qmux_frame.specs.Frame.{size_of};
 ghost use Rattle.device_core.specs.Session.{Reads, allocated_in};
 
-use crate::fault::SessionFault;
+use link_session::SessionFault;
 use qmi_requests::QmiRequest;
 use qmi_services::{AnswerFault, QmiAnswer, answer};
 use qmux_frame::{Head, tlvs_in};
@@ -21,7 +21,7 @@ pub(crate) fn read(
     message: &[u8],
 ) -> Result<QmiAnswer, SessionFault>
     requires { IsMessage size_of message.now }
-    ensures { Reads body.now place message.now result }
+    ensures { Reads body.now (record { place = place; bytes = message.now }) result }
 {
     if !Head::read(message).framed {
         return Err(SessionFault::Broken { place });

@@ -1,57 +1,52 @@
 //! The requests to service 0 that a session makes of its own.
 
 ghost use Rattle.std.specs.Prelude.{◌≡◌, ◌≤◌, Ok, Err, IfOk};
-ghost use Rattle.std.specs.Str.{encode_utf8_all};
 ghost use Rattle.kit_io.specs.Causes.{Rose};
 ghost use Rattle.qmi_requests.specs.declared.QmiRequest.TheVariants.{Allocate, ProxyOpen, Release};
-ghost use Rattle.device_core.specs.Requests.{Request};
-ghost use Rattle.device_core.specs.Waiting.{Heard};
+ghost use Rattle.qmux_frame.specs.Frame.{size_of};
+ghost use Rattle.device_core.specs.Requests.{Request, asked};
+ghost use Rattle.link_session.specs.Waiting.{Heard};
 ghost use Rattle.device_core.specs.Session.{Reads};
-ghost use Rattle.device_core.specs.Hearing.{AsksFor, IsGiven, RepliesTo, Stands, found_in};
+ghost use Rattle.link_session.specs.Hearing.{AsksFor, IsGiven, Stands, placed_in};
+ghost use Rattle.device_core.specs.Hearing.{KeepsNothing, RepliesTo};
 
-use crate::exchange::{Reply, ask, exchange};
-use crate::fault::SessionFault;
-use crate::incoming::{Found, Incoming};
-use kit_bytes::{PathText, Text};
+use crate::exchange::{ask, exchange};
+use kit_bytes::PathText;
 use link_io::Link;
+use link_session::{Found, Incoming, Reply, SessionFault};
 use qmi_requests::QmiRequest;
-use std::alloc::{AllocError, Global};
+use qmi_services::QmiAnswer;
+use qmux_frame::Qmux;
+use std::alloc::Global;
 
 /// Asks the proxy behind the link for the device at this path.
 pub(crate) fn open_proxy<L: Link>(
     alloc: Global,
     link: &mut L,
-    incoming: &mut Incoming,
+    incoming: &mut Incoming<Qmux>,
     device: &PathText,
-) -> Result<Reply, SessionFault>
-    ensures asks { (heard : Heard) → Stands incoming.old heard
+) -> Result<Reply<QmiAnswer>, SessionFault>
+    ensures asks { (heard : Heard) → Stands size_of incoming.old heard
         → RepliesTo (record { body = ProxyOpen device.now; client = 0; number = 1 }) heard result incoming.new (L.calls link.old) (L.calls link.new) }
     ensures link_fault { result ≡ Err SessionFault.LinkFault → Rose (L.faults link.old) (L.faults link.new) }
     ensures later { L.faults link.old ≤ L.faults link.new }
     ensures later_open { L.open_faults link.old ≤ L.open_faults link.new }
 {
-    let body = QmiRequest::ProxyOpen(copy_of(alloc, device)?);
+    let body = QmiRequest::ProxyOpen(device.copy(alloc)?);
     ask(alloc, link, incoming, &body, 0, 1)
-}
-
-fn copy_of(alloc: Global, path: &PathText) -> Result<PathText, AllocError>
-    ensures { IfOk result (λ copy. encode_utf8_all copy ≡ encode_utf8_all path.now) }
-{
-    let text = Text::from_str(alloc, path.value().as_str())?;
-    Ok(PathText::of(text).unwrap())
 }
 
 /// Asks for a client id of a service.
 pub(crate) fn allocate<L: Link>(
     alloc: Global,
     link: &mut L,
-    incoming: &mut Incoming,
+    incoming: &mut Incoming<Qmux>,
     service: u8,
     number: u8,
-) -> Result<Reply, SessionFault>
-    ensures asks { (heard : Heard) → Stands incoming.old heard
+) -> Result<Reply<QmiAnswer>, SessionFault>
+    ensures asks { (heard : Heard) → Stands size_of incoming.old heard
         → RepliesTo (record { body = Allocate service; client = 0; number = number }) heard result incoming.new (L.calls link.old) (L.calls link.new) }
-    ensures given { IfOk result (λ reply. IsGiven incoming.new reply.found × Reads (Allocate service) reply.found.place (found_in incoming.new reply.found) (Ok reply.answer)) }
+    ensures given { IfOk result (λ reply. IsGiven size_of incoming.new reply.found × Reads (Allocate service) (placed_in incoming.new reply.found) (Ok reply.answer)) }
     ensures link_fault { result ≡ Err SessionFault.LinkFault → Rose (L.faults link.old) (L.faults link.new) }
     ensures later { L.faults link.old ≤ L.faults link.new }
     ensures later_open { L.open_faults link.old ≤ L.open_faults link.new }
@@ -64,14 +59,14 @@ pub(crate) fn allocate<L: Link>(
 pub(crate) fn release<L: Link>(
     alloc: Global,
     link: &mut L,
-    incoming: &mut Incoming,
+    incoming: &mut Incoming<Qmux>,
     service: u8,
     client: u8,
     number: u8,
 ) -> Result<Found, SessionFault>
-    ensures asks { (heard : Heard) → Stands incoming.old heard
-        → AsksFor (record { body = Release service client; client = 0; number = number }) heard result incoming.new (L.calls link.old) (L.calls link.new) }
-    ensures given { IfOk result (IsGiven incoming.new) }
+    ensures asks { (heard : Heard) → Stands size_of incoming.old heard
+        → AsksFor (asked (record { body = Release service client; client = 0; number = number })) KeepsNothing heard result incoming.new (L.calls link.old) (L.calls link.new) }
+    ensures given { IfOk result (IsGiven size_of incoming.new) }
     ensures link_fault { result ≡ Err SessionFault.LinkFault → Rose (L.faults link.old) (L.faults link.new) }
     ensures later { L.faults link.old ≤ L.faults link.new }
     ensures later_open { L.open_faults link.old ≤ L.open_faults link.new }

@@ -4,17 +4,14 @@
 mod answer;
 mod control;
 mod exchange;
-mod fault;
-mod incoming;
 mod laws;
-mod mark;
 mod message;
 mod plan;
 mod session;
-mod waiting;
+mod wanted;
 
-pub use fault::SessionFault;
 pub use laws::sessions_send_their_requests;
+pub use link_session::SessionFault;
 pub use message::request_message;
 pub use plan::QmiPlan;
 pub use session::qmi_session;

@@ -2,20 +2,22 @@ ghost use Rattle.std.specs.Prelude.{◌≡◌, ◌==◌, ◌≤◌, if◌then◌
 ghost use Rattle.kit_io.specs.Causes.{Rose};
 ghost use Rattle.qmux_frame.specs.Head.{tlvs_in};
 ghost use Rattle.qmi_services.specs.Requests.{row_of};
-ghost use Rattle.device_core.specs.Session.{Chooses, Commands, CommandsAs, Finishes, Makes, Session, allocated_in, failed};
-ghost use Rattle.device_core.specs.Waiting.{Heard};
-ghost use Rattle.device_core.specs.Hearing.{IsGiven, Stands, found_in};
+ghost use Rattle.qmux_frame.specs.Frame.{size_of};
+ghost use Rattle.link_session.specs.Asking.{Makes};
+ghost use Rattle.device_core.specs.Session.{Chooses, Commands, CommandsAs, Finishes, Session, allocated_in, failed};
+ghost use Rattle.link_session.specs.Waiting.{Heard};
+ghost use Rattle.link_session.specs.Hearing.{IsGiven, Stands, found_in};
+ghost use Rattle.device_core.specs.Hearing.{failure_in};
 
 use crate::answer::allocated;
 use crate::control::{allocate, open_proxy, release};
 use crate::exchange::ask;
-use crate::fault::SessionFault;
-use crate::incoming::{Found, Incoming};
 use crate::plan::QmiPlan;
 use link_io::Link;
+use link_session::{Found, Incoming, SessionFault};
 use qmi_requests::QmiRequest;
 use qmi_services::{QmiAnswer, QmiEnd, service_of};
-use qmux_frame::{Head, tlvs_in};
+use qmux_frame::{Head, Qmux, tlvs_in};
 use std::alloc::Global;
 
 /// A whole session with a QMI modem, over a link that is open.
@@ -44,6 +46,16 @@ pub fn qmi_session<L: Link>(
     }
 }
 
+/// The error, where an answer is a failure.
+fn failure(answer: &QmiAnswer) -> Option<u16>
+    ensures { result ≡ failure_in answer.now }
+{
+    match answer {
+        QmiAnswer::Failure(error) => Some(*error),
+        QmiAnswer::Success(_) => None,
+    }
+}
+
 /// The end of a session whose command wasn't sent.
 fn failed(error: u16) -> QmiEnd
     ensures { result ≡ failed error }
@@ -59,12 +71,12 @@ fn failed(error: u16) -> QmiEnd
 fn choose_client<L: Link>(
     alloc: Global,
     link: &mut L,
-    incoming: &mut Incoming,
+    incoming: &mut Incoming<Qmux>,
     plan: &QmiPlan,
     number: u8,
 ) -> Result<QmiEnd, SessionFault>
     requires { number ≤ 2 }
-    ensures chooses { (heard : Heard) → Stands incoming.old heard → Makes (λ calls. Chooses plan.now number heard calls result) (L.calls link.old) (L.calls link.new) }
+    ensures chooses { (heard : Heard) → Stands size_of incoming.old heard → Makes (λ calls. Chooses plan.now number heard calls result) (L.calls link.old) (L.calls link.new) }
     ensures link_fault { result ≡ Err SessionFault.LinkFault → Rose (L.faults link.old) (L.faults link.new) }
     ensures later { L.faults link.old ≤ L.faults link.new }
     ensures later_open { L.open_faults link.old ≤ L.open_faults link.new }
@@ -77,7 +89,7 @@ fn choose_client<L: Link>(
         return run_command(alloc, link, incoming, plan, client, number);
     }
     let reply = allocate(alloc, link, incoming, service, number)?;
-    if let Some(error) = reply.failure() {
+    if let Some(error) = failure(&reply.answer) {
         return Ok(failed(error));
     }
     run_allocated(alloc, link, incoming, plan, reply.found, number + 1)
@@ -87,14 +99,14 @@ fn choose_client<L: Link>(
 fn run_allocated<L: Link>(
     alloc: Global,
     link: &mut L,
-    incoming: &mut Incoming,
+    incoming: &mut Incoming<Qmux>,
     plan: &QmiPlan,
     found: Found,
     number: u8,
 ) -> Result<QmiEnd, SessionFault>
-    requires given { IsGiven incoming.old found }
+    requires given { IsGiven size_of incoming.old found }
     requires allocates { IsSome (allocated_in (tlvs_in (found_in incoming.old found))) }
-    ensures commands { (heard : Heard) → Stands incoming.old heard
+    ensures commands { (heard : Heard) → Stands size_of incoming.old heard
         → Makes (λ calls. CommandsAs plan.now (found_in incoming.old found) number heard calls result) (L.calls link.old) (L.calls link.new) }
     ensures link_fault { result ≡ Err SessionFault.LinkFault → Rose (L.faults link.old) (L.faults link.new) }
     ensures later { L.faults link.old ≤ L.faults link.new }
@@ -108,12 +120,12 @@ fn run_allocated<L: Link>(
 fn run_command<L: Link>(
     alloc: Global,
     link: &mut L,
-    incoming: &mut Incoming,
+    incoming: &mut Incoming<Qmux>,
     plan: &QmiPlan,
     client: u8,
     number: u8,
 ) -> Result<QmiEnd, SessionFault>
-    ensures commands { (heard : Heard) → Stands incoming.old heard → Makes (λ calls. Commands plan.now client number heard calls result) (L.calls link.old) (L.calls link.new) }
+    ensures commands { (heard : Heard) → Stands size_of incoming.old heard → Makes (λ calls. Commands plan.now client number heard calls result) (L.calls link.old) (L.calls link.new) }
     ensures link_fault { result ≡ Err SessionFault.LinkFault → Rose (L.faults link.old) (L.faults link.new) }
     ensures later { L.faults link.old ≤ L.faults link.new }
     ensures later_open { L.open_faults link.old ≤ L.open_faults link.new }
@@ -141,13 +153,13 @@ fn command_number(body: &QmiRequest, next: u8) -> u8
 fn finish<L: Link>(
     alloc: Global,
     link: &mut L,
-    incoming: &mut Incoming,
+    incoming: &mut Incoming<Qmux>,
     plan: &QmiPlan,
     client: u8,
     number: u8,
     answer: QmiAnswer,
 ) -> Result<QmiEnd, SessionFault>
-    ensures finishes { (heard : Heard) → Stands incoming.old heard → Makes (λ calls. Finishes plan.now client number answer heard calls result) (L.calls link.old) (L.calls link.new) }
+    ensures finishes { (heard : Heard) → Stands size_of incoming.old heard → Makes (λ calls. Finishes plan.now client number answer heard calls result) (L.calls link.old) (L.calls link.new) }
     ensures link_fault { result ≡ Err SessionFault.LinkFault → Rose (L.faults link.old) (L.faults link.new) }
     ensures later { L.faults link.old ≤ L.faults link.new }
     ensures later_open { L.open_faults link.old ≤ L.open_faults link.new }

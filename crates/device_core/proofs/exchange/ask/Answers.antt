@@ -1,5 +1,5 @@
 use Rattle.std.proofs.lemmas.Result.{err_from_is_err_and}
-use Rattle.device_core.proofs.Steps.{RepliesTo-fails, RepliesTo-reads, RepliesTo-unread}
+use Rattle.link_session.proofs.Steps.{RepliesTo-fails, RepliesTo-reads, RepliesTo-unread}
 use Rattle.device_core.proofs.exchange.ask.Goals as goal
 
 pub returns-in_err-found-clause-asks : goal.returns-in_err-found-clause-asks

@@ -1,10 +1,12 @@
 use Rattle.std.proofs.Common.{◌≡◌, None, sym, ◌∙◌, ap, Ok, rules}
 use Rattle.std.proofs.lemmas.Result.{err_from_is_err_and}
 use Rattle.qmi_services.specs.declared.answers.QmiEnd.{QmiEnd}
-use Rattle.device_core.specs.Hearing.{failure_in, found_in}
+use Rattle.link_session.specs.Hearing.{placed_in}
+use Rattle.device_core.specs.Hearing.{failure_in}
 use Rattle.device_core.specs.Session.{allocating, control, given}
 use Rattle.device_core.proofs.Allocation.{allocated-some}
-use Rattle.device_core.proofs.Steps.{Makes-map, Makes-none, OnSuccess-failure, OnSuccess-none, Step-read, Step-unread}
+use Rattle.link_session.proofs.Steps.{Makes-map, Makes-none, Step-read, Step-unread}
+use Rattle.device_core.proofs.Steps.{OnSuccess-failure, OnSuccess-none}
 use Rattle.device_core.proofs.session.choose_client.Goals as goal
 
 pub returns-then-service-eq0-clause-chooses : goal.returns-then-service-eq0-clause-chooses
@@ -44,4 +46,4 @@ returns-clause-chooses g c = λ heard stands.
 pub run_allocated-requires-clause-allocates : goal.run_allocated-requires-clause-allocates
 run_allocated-requires-clause-allocates g c =
     let no_failure : failure_in c.in_ok-reply.reply.answer ≡ None = search rules in
-    allocated-some c.service_of-service.result c.in_ok-reply.reply.found.place (found_in c.allocate.new.incoming c.in_ok-reply.reply.found) c.in_ok-reply.reply.answer no_failure c.in_ok-reply.ensures.given.1
+    allocated-some c.service_of-service.result (placed_in c.allocate.new.incoming c.in_ok-reply.reply.found) c.in_ok-reply.reply.answer no_failure c.in_ok-reply.ensures.given.1

@@ -1,7 +1,9 @@
 use Rattle.std.proofs.Common.{refl}
 use Rattle.std.proofs.lemmas.Result.{err_from_is_err_and}
+use Rattle.link_session.specs.Hearing.{placed_in}
 use Rattle.device_core.specs.Session.{releasing}
-use Rattle.device_core.proofs.Steps.{Makes-map, Makes-none, Step-fails, Step-goes, end-framed, end-unframed}
+use Rattle.link_session.proofs.Steps.{Makes-map, Makes-none, Step-fails, Step-goes}
+use Rattle.device_core.proofs.Steps.{end-framed, end-unframed}
 use Rattle.device_core.proofs.session.finish.Goals as goal
 
 pub returns-in_err-found-clause-finishes : goal.returns-in_err-found-clause-finishes
@@ -15,10 +17,10 @@ pub returns-then-not-read-clause-finishes : goal.returns-then-not-read-clause-fi
 returns-then-not-read-clause-finishes g c = λ heard stands.
     let other = rw c.service_of-service.ensures at c.if-service-eq0.false in
     let asked = rw c.service_of-service.ensures at (c.in_ok-found.ensures.asks heard stands) in
-    Makes-map (λ calls step. releasing other c.if-plan.false step) (Step-goes asked (Makes-none _ (refl, end-unframed c.read.ensures c.bytes.ensures _ _ c.if-not-read.true)))
+    Makes-map (λ calls step. releasing other c.if-plan.false step) (Step-goes asked (Makes-none _ (refl, end-unframed (placed_in c.release.new.incoming c.in_ok-found.found) c.read.ensures c.bytes.ensures _ c.if-not-read.true)))
 
 pub returns-clause-finishes : goal.returns-clause-finishes
 returns-clause-finishes g c = λ heard stands.
     let other = rw c.service_of-service.ensures at c.if-service-eq0.false in
     let asked = rw c.service_of-service.ensures at (c.in_ok-found.ensures.asks heard stands) in
-    Makes-map (λ calls step. releasing other c.if-plan.false step) (Step-goes asked (Makes-none _ (refl, end-framed c.read.ensures c.bytes.ensures _ _ c.if-not-read.false)))
+    Makes-map (λ calls step. releasing other c.if-plan.false step) (Step-goes asked (Makes-none _ (refl, end-framed (placed_in c.release.new.incoming c.in_ok-found.found) c.read.ensures c.bytes.ensures _ c.if-not-read.false)))

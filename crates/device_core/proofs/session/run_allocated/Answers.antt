@@ -1,5 +1,5 @@
 use Rattle.device_core.proofs.Allocation.{allocated-in}
-use Rattle.device_core.proofs.Steps.{Makes-map}
+use Rattle.link_session.proofs.Steps.{Makes-map}
 use Rattle.device_core.proofs.session.run_allocated.Goals as goal
 
 pub returns-clause-commands : goal.returns-clause-commands

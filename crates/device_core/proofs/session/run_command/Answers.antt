@@ -1,5 +1,5 @@
 use Rattle.std.proofs.lemmas.Result.{err_from_is_err_and}
-use Rattle.device_core.proofs.Steps.{Step-read, Step-unread}
+use Rattle.link_session.proofs.Steps.{Step-read, Step-unread}
 use Rattle.device_core.proofs.session.run_command.Goals as goal
 
 pub returns-in_err-reply-clause-commands : goal.returns-in_err-reply-clause-commands

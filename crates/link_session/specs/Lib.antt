@@ -1,0 +1,5 @@
+pub mod Marks
+pub mod Waiting
+pub mod Asking
+pub mod Hearing
+pub mod Sending

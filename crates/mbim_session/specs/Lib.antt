@@ -1,0 +1,5 @@
+pub mod Requests
+pub mod Answers
+pub mod Session
+pub mod Hearing
+pub mod Sending

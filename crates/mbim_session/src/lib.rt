@@ -1,0 +1,16 @@
+//! A tool's session with an MBIM modem, over a link that is open.
+#![tactic(auto)]
+
+mod asking;
+mod command_answer;
+mod laws;
+mod message;
+mod opening;
+mod plan;
+mod session;
+mod wanted;
+
+pub use laws::sessions_send_their_messages;
+pub use message::command_message;
+pub use plan::{MbimEnd, MbimPlan};
+pub use session::mbim_session;
