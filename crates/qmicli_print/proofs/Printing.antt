@@ -1,5 +1,5 @@
--- How the texts of lists and sequences grow, element by element.
-use Rattle.std.proofs.Common.{◌≡◌, ℕ, suc, zero, ◌+◌, ◌<◌, ◌≤◌, min, List, [], ◌∷◌, ◌++◌, length, take, drop, get_or, map, Some, refl, sym, ◌∙◌, ap, arith, append_assoc, add-zero, decimal, encode_utf8_all, rules}
+-- How the text of a sequence grows, field by field.
+use Rattle.std.proofs.Common.{◌≡◌, ℕ, suc, zero, ◌+◌, ◌<◌, ◌≤◌, min, List, [], ◌∷◌, ◌++◌, length, take, drop, get_or, map, Some, refl, sym, ◌∙◌, ap, arith, append_assoc, encode_utf8_all, rules}
 use Rattle.std.specs.List.{take-map}
 use Rattle.std.proofs.lemmas.List.{append-nil, map_more, length-map, length-take-le}
 use Rattle.qmi_shapes.specs.declared.shape.Prefix.{Prefix}
@@ -14,17 +14,8 @@ use Rattle.qmi_values.specs.View.{val_view}
 use Rattle.qmi_values.proofs.Depth.{depth, fields_depth}
 use Rattle.qmi_values.proofs.Readings.{around, depth_in}
 use Rattle.qmi_shapes.proofs.Views.{view-form}
-use Rattle.qmicli_print.specs.Printed.{each_text, list_text, value_text, fields_text}
-use Rattle.qmicli_print.specs.Texts.{heading, deeper}
-
--- one element more
-pub each_text-push : (shown : List ℕ → Value → List ℕ) (place : ℕ) (values : List Value) (value : Value)
-    → each_text shown place (values ++ value ∷ []) ≡ each_text shown place values ++ shown (decimal (place + length values)) value
-each_text-push shown place [] value = append-nil (shown (decimal place) value) ∙ ap (λ (n : ℕ). shown (decimal n) value) (sym (add-zero place))
-each_text-push shown place (first ∷ values) value =
-    let same : place + 1 + length values ≡ place + length (first ∷ values) = omega arith in
-    ap (λ (l : List ℕ). shown (decimal place) first ++ l) (each_text-push shown (place + 1) values value ∙ ap (λ (n : ℕ). each_text shown (place + 1) values ++ shown (decimal n) value) same)
-    ∙ sym (append_assoc (shown (decimal place) first) (each_text shown (place + 1) values) (shown (decimal (place + length (first ∷ values))) value))
+use Rattle.print_text.specs.Lines.{heading, deeper}
+use Rattle.qmicli_print.specs.Printed.{list_text, value_text, fields_text}
 
 -- one field more
 pub fields_text-push : (named : List NamedForm) (last : NamedForm) (indent : List ℕ) (values : List Value) (value : Value) → length named ≡ length values
@@ -93,19 +84,6 @@ value_text-sequence all indent inner name out headed fields items values value f
     ap (λ (l : List ℕ). out ++ l) same ∙ sym (append_assoc out (heading indent name) inside) ∙ ap (λ (l : List ℕ). l ++ inside) (sym head)
 
 module _ (indent before now new : List ℕ) where
-  -- the elements so far, and one more
-  pub elements-more : (form : Form) (items : List Val) (i : ℕ) (item : Val) (name : List ℕ) → i < length items → item ≡ get_or items i item → name ≡ decimal (i + 1)
-      → now ≡ before ++ each_text (value_text form indent) 1 (map val_view (take i items)) → new ≡ now ++ value_text form indent name (val_view item)
-      → new ≡ before ++ each_text (value_text form indent) 1 (map val_view (take (i + 1) items))
-  elements-more form items i item name less is named so_far adds =
-      let done : List Value = map val_view (take i items) in
-      let step : map val_view (take (i + 1) items) ≡ done ++ val_view item ∷ [] = map_more val_view items i item less ∙ ap (λ (v : Val). done ++ val_view v ∷ []) (sym is) in
-      let place : 1 + length done ≡ i + 1 = omega (arith, length-map (take i items) val_view, length-take-le i items (omega (arith, less))) in
-      let push = each_text-push (value_text form indent) 1 done (val_view item) in
-      let last : value_text form indent (decimal (1 + length done)) (val_view item) ≡ value_text form indent name (val_view item) = ap (λ (n : List ℕ). value_text form indent n (val_view item)) (ap decimal place ∙ sym named) in
-      adds ∙ ap (λ (l : List ℕ). l ++ value_text form indent name (val_view item)) so_far ∙ append_assoc before _ _
-      ∙ ap (λ (l : List ℕ). before ++ l) (ap (λ (l : List ℕ). each_text (value_text form indent) 1 done ++ l) (sym last) ∙ sym push ∙ ap (each_text (value_text form indent) 1) (sym step))
-
   -- the fields so far, and one more
   pub fields-more : (fields : List ShapeField) (items : List Val) (i : ℕ) (field : ShapeField) (item : Val) (name : List ℕ) → i < length fields → i < length items → field ≡ get_or fields i field → item ≡ get_or items i item
       → name ≡ encode_utf8_all field.name → now ≡ before ++ fields_text (fields_of (map field_view (take i fields))) indent (map val_view (take i items))

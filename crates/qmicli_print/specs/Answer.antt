@@ -1,19 +1,15 @@
 -- What is printed of a session's end.
-use Rattle.std.specs.Prelude.{ℕ, List, [], ◌∷◌, ◌++◌, Option, Some, None, codes, decimal, encode_utf8_all}
+use Rattle.std.specs.Prelude.{ℕ, List, [], ◌++◌, Option, Some, None, codes, decimal, encode_utf8_all}
 use Rattle.std.specs.List.{flat_map}
 use Rattle.qmi_services.specs.declared.answers.QmiAnswer.{QmiAnswer}
 use Rattle.qmi_services.specs.declared.answers.QmiEnd.{QmiEnd}
 use Rattle.qmi_services.specs.declared.answers.QmiAnswer.TheVariants.{Success, Failure}
 use Rattle.qmi_services.specs.Answers.{FieldValue, fields_view}
-use Rattle.qmicli_print.specs.Printed.{spaces, value_text}
+use Rattle.print_text.specs.Lines.{spaces, or_ok}
+use Rattle.qmicli_print.specs.Printed.{value_text}
 
 abbrev pub field_text : FieldValue → List ℕ
 field_text field = value_text field.form (spaces 0) (encode_utf8_all field.name) field.value
-
--- where nothing else is printed
-abbrev pub or_ok : List ℕ → List ℕ
-or_ok [] = codes "ok\n"
-or_ok (byte ∷ text) = byte ∷ text
 
 unfoldable pub kept_line : ℕ → ℕ → List ℕ
 kept_line service id = codes "client id kept: service " ++ decimal service ++ codes ", id " ++ decimal id ++ codes "\n"

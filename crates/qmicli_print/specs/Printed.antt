@@ -1,26 +1,18 @@
 -- The text of a value, by its form and its name.
-use Rattle.std.specs.Prelude.{ℕ, ◌+◌, ◌*◌, List, [], ◌∷◌, ◌++◌, length, replicate, encode_utf8_all, decimal, if◌then◌else◌}
+use Rattle.std.specs.Prelude.{ℕ, List, [], ◌∷◌, ◌++◌, encode_utf8_all, if◌then◌else◌}
 use Rattle.std.specs.Fmt.{signed_decimal}
 use Rattle.std.specs.List.{flat_map}
+use Rattle.print_text.specs.Lines.{line, heading, deeper, counted_text}
 use Rattle.qmi_shapes.specs.Form.{Form, unsigned, signed, string, array, sequence, Fields, field}
 use Rattle.qmi_values.specs.Value.{Value, number, integer, text, elements, members, list_of}
 use Rattle.qmicli_print.specs.Words.{is_bytes, shown_as}
-use Rattle.qmicli_print.specs.Texts.{line, heading, deeper, escaped, hex_of, number_text}
-
--- two spaces for each level
-abbrev pub spaces : ℕ → List ℕ
-spaces level = replicate (2 * level) 32
-
--- the texts of elements, which are named by their places
-abbrev pub each_text : (List ℕ → Value → List ℕ) → ℕ → List Value → List ℕ
-each_text shown place [] = []
-each_text shown place (value ∷ values) = shown (decimal place) value ++ each_text shown (place + 1) values
+use Rattle.qmicli_print.specs.Texts.{escaped, hex_of, number_text}
 
 -- the text of a list whose elements are shown so
 abbrev pub list_text : (List ℕ → List ℕ → Value → List ℕ) → List ℕ → List ℕ → List Value → List ℕ
 list_text shown indent name values =
     if is_bytes (shown_as name) then line indent name (flat_map hex_of values)
-    else line indent name (decimal (length values)) ++ each_text (shown (deeper indent)) 1 values
+    else counted_text shown indent name values
 
 -- a value that isn't of its form has no text
 abbrev mutual

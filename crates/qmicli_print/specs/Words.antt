@@ -1,21 +1,18 @@
 -- How fields are shown, by their names, and the words for their numbers.
 -- Source: the numbers are those of libqmi's enums QmiService, QmiDmsOperatingMode, QmiNasRegistrationState and QmiWdsConnectionStatus; the fields' names and the words are the program's own.
-use Rattle.std.specs.Prelude.{ℕ, ◌==◌, Bool, true, false, List, [], ◌∷◌, Option, Some, None, bytes_eq, codes, if◌then◌else◌}
+use Rattle.std.specs.Prelude.{ℕ, Bool, true, false, List, [], ◌∷◌, Option, None, codes}
+use Rattle.print_text.specs.Words.{by_name, word_in}
 use Rattle.qmicli_print.specs.declared.shown.Shown.{Shown}
 use Rattle.qmicli_print.specs.declared.shown.Shown.TheVariants.{Plainly, Service, Mode, Registration, Connection, Address, Bytes}
 
--- how the field of a name is shown, by a list of names
-abbrev pub shown_by : List (List ℕ × Shown) → List ℕ → Shown
-shown_by [] name = Plainly
-shown_by (row ∷ rows) name = if bytes_eq name row.0 then row.1 else shown_by rows name
-
+-- how the field of a name is shown
 abbrev pub shown_as : List ℕ → Shown
 shown_as name =
-    shown_by
+    by_name
     ((codes "Service", Service) ∷ (codes "Mode", Mode) ∷ (codes "Registration", Registration) ∷ (codes "Connection", Connection)
     ∷ (codes "Primary DNS", Address) ∷ (codes "Secondary DNS", Address) ∷ (codes "Address", Address) ∷ (codes "Gateway", Address) ∷ (codes "Mask", Address)
     ∷ (codes "Data", Bytes) ∷ [])
-    name
+    Plainly name
 
 abbrev pub is_address : Shown → Bool
 is_address Address = true
@@ -24,11 +21,6 @@ is_address _ = false
 abbrev pub is_bytes : Shown → Bool
 is_bytes Bytes = true
 is_bytes _ = false
-
--- the word for a number in a table
-abbrev pub word_in : List (ℕ × List ℕ) → ℕ → Option (List ℕ)
-word_in [] n = None
-word_in (row ∷ rows) n = if n == row.0 then Some row.1 else word_in rows n
 
 -- the word for a number that is shown so
 abbrev pub word_of : Shown → ℕ → Option (List ℕ)

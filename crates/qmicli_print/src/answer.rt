@@ -1,11 +1,11 @@
-ghost use Rattle.std.specs.Prelude.{◌≡◌, ◌++◌, decimal, map, IfOk, OnOk};
+ghost use Rattle.std.specs.Prelude.{◌≡◌, ◌++◌, map, IfOk, OnOk};
 ghost use Rattle.std.specs.List.{flat_map};
 ghost use Rattle.qmi_services.specs.Answers.{field_view};
 ghost use Rattle.qmicli_print.specs.Answer.{end_text, field_text, kept_line};
 
 use crate::print_field;
-use itoa::Buffer;
 use kit_bytes::Octets;
+use print_text::{or_ok, push_number};
 use qmi_services::{Field, QmiAnswer, QmiEnd};
 use std::alloc::{AllocError, Global};
 
@@ -16,10 +16,7 @@ pub fn qmi_text(alloc: Global, end: &QmiEnd) -> Result<Octets, AllocError>
     let QmiAnswer::Success(fields) = &end.answer else {
         return Ok(Octets::new(alloc));
     };
-    let mut text = fields_text(alloc, fields.as_slice())?;
-    if text.as_slice().is_empty() {
-        text.extend_from_slice(b"ok\n")?;
-    }
+    let mut text = or_ok(fields_text(alloc, fields.as_slice())?)?;
     if let Some((service, id)) = end.kept {
         push_kept(&mut text, service, id)?;
     }
@@ -46,10 +43,4 @@ fn push_kept(text: &mut Octets, service: u8, id: u8) -> Result<(), AllocError>
     push_number(text, ", id ", id)?;
     text.extend_from_slice(b"\n")?;
     Ok(())
-}
-
-fn push_number(text: &mut Octets, front: &str, number: u8) -> Result<(), AllocError>
-    ensures { OnOk result (text.new ≡ text.old ++ front.now ++ decimal number) }
-{
-    text.extend_from_slices(front.as_bytes(), Buffer::new().format(number).as_bytes())
 }

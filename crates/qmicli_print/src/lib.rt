@@ -9,4 +9,3 @@ mod texts;
 pub use answer::qmi_text;
 pub use print::print_field;
 pub use shown::service_word;
-pub use texts::hex_pair;

@@ -1,12 +1,14 @@
 ghost use Rattle.std.specs.Prelude.{◌≡◌, ◌++◌, encode_utf8_all, map, OnOk, OnErr};
 ghost use Rattle.qmi_shapes.specs.View.{fields_of, field_view, shape_view};
 ghost use Rattle.qmi_values.specs.View.{val_view};
-ghost use Rattle.qmicli_print.specs.Printed.{each_text, fields_text, list_text, spaces, value_text};
+ghost use Rattle.print_text.specs.Lines.{each_text, spaces};
+ghost use Rattle.qmicli_print.specs.Printed.{fields_text, list_text, value_text};
 
 use crate::shown::shown_for;
-use crate::texts::{deeper, escaped_text, hex_text, number_text, push_heading, push_line};
+use crate::texts::{escaped_text, hex_text, number_text};
 use itoa::Buffer;
 use kit_bytes::{Octets, Text};
+use print_text::{deeper, push_heading, push_line};
 use qmi_shapes::{Shape, ShapeField};
 use qmi_values::Val;
 use std::alloc::{AllocError, Global};

@@ -2,13 +2,15 @@ use Rattle.std.proofs.Common.{◌≡◌, ◌++◌, ℕ, length, min, arith, ap, 
 use Rattle.qmi_shapes.specs.View.{shape_view, fields_view}
 use Rattle.qmi_values.specs.View.{val_view}
 use Rattle.qmi_shapes.proofs.Views.{view-List, view-Seq}
-use Rattle.qmicli_print.proofs.Printing.{field_depth, value_text-list, value_text-sequence, elements-more, fields-more, fields_text-all}
+use Rattle.print_text.proofs.Elements.{elements-more}
+use Rattle.qmicli_print.specs.Printed.{value_text}
+use Rattle.qmicli_print.proofs.Printing.{field_depth, value_text-list, value_text-sequence, fields-more, fields_text-all}
 use Rattle.qmicli_print.proofs.print.+print.Goals as goal
 
 pub print_elements-loop-index-preserved : goal.print_elements-loop-index-preserved
 print_elements-loop-index-preserved t c =
-    elements-more c.args.indent.now c.args.out.now c.loop-index.out c.print_value.new.out _ c.args.vals.now c.loop-index.index c.index-vals-index.result c.format.result.now c.loop-index-test.true c.index-vals-index.is c.format.ensures.text
-    c.loop-index.invariant c.in_ok-print_value.ensures
+    elements-more (value_text (shape_view c.args.element.now) c.args.indent.now) val_view c.args.vals.now c.loop-index.index c.index-vals-index.result c.args.out.now c.loop-index.out c.print_value.new.out c.format.result.now c.loop-index-test.true
+    c.index-vals-index.is c.format.ensures.text c.loop-index.invariant c.in_ok-print_value.ensures
 
 pub print_fields-print_value-requires : goal.print_fields-print_value-requires
 print_fields-print_value-requires t c =

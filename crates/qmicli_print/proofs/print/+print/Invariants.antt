@@ -2,7 +2,8 @@ use Rattle.std.proofs.Common.{◌≡◌, ◌+◌, ◌*◌, ◌++◌, map, take}
 use Rattle.qmi_shapes.specs.View.{fields_of, shape_view, field_view}
 use Rattle.qmi_values.proofs.Depth.{depth, fields_depth}
 use Rattle.qmi_values.specs.View.{val_view}
-use Rattle.qmicli_print.specs.Printed.{each_text, value_text, fields_text}
+use Rattle.print_text.specs.Lines.{each_text}
+use Rattle.qmicli_print.specs.Printed.{value_text, fields_text}
 use Rattle.qmicli_print.proofs.print.+print.Given as goal
 
 abbrev pub invariant-print_elements-loop-index : goal.invariant-print_elements-loop-index

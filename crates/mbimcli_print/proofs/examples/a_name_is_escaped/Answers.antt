@@ -1,0 +1,7 @@
+use Rattle.std.proofs.Common.{refl}
+use Rattle.mbimcli_print.proofs.Computed.{computed}
+use Rattle.mbimcli_print.proofs.examples.a_name_is_escaped.Goals as goal
+
+pub returns : goal.returns
+unfolding computed
+returns c = refl

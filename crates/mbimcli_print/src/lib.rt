@@ -1,0 +1,10 @@
+//! The text in which answers of an MBIM modem are printed.
+#![tactic(auto)]
+
+mod answer;
+pub mod examples;
+mod print;
+mod texts;
+mod words;
+
+pub use answer::mbim_text;

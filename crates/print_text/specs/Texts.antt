@@ -1,0 +1,32 @@
+-- The texts of numbers, of bytes and of addresses.
+use Rattle.std.specs.Prelude.{ℕ, ◌/◌, ◌%◌, ◌==◌, ◌&&◌, not, nat_le, Bool, List, [], ◌∷◌, ◌++◌, Option, Some, None, slice_index, codes, decimal}
+use Rattle.std.specs.List.{flat_map}
+
+abbrev pub in_parentheses : Option (List ℕ) → List ℕ
+in_parentheses None = []
+in_parentheses (Some word) = codes " (" ++ word ++ codes ")"
+
+-- a number with its word
+unfoldable pub worded : ℕ → Option (List ℕ) → List ℕ
+worded n word = decimal n ++ in_parentheses word
+
+-- a byte as two of sixteen digits
+abbrev pub pair_of : List ℕ → ℕ → List ℕ
+pair_of digits byte = slice_index digits (byte / 16) ∷ slice_index digits (byte % 16) ∷ []
+
+-- a byte as two hexadecimal digits in upper case
+abbrev pub hex_pair : ℕ → List ℕ
+hex_pair byte = pair_of (codes "0123456789ABCDEF") byte
+
+-- a byte as two hexadecimal digits in lower case
+abbrev pub lower_hex_pair : ℕ → List ℕ
+lower_hex_pair byte = pair_of (codes "0123456789abcdef") byte
+
+-- the code of printable ASCII but the backslash
+abbrev pub is_plain : ℕ → Bool
+is_plain code = nat_le 32 code && nat_le code 126 && not (code == 92)
+
+-- the bytes of an IPv4 address in decimal, with dots between
+unfoldable pub ipv4_text : List ℕ → List ℕ
+ipv4_text [] = []
+ipv4_text (byte ∷ bytes) = decimal byte ++ flat_map (λ next. codes "." ++ decimal next) bytes

@@ -1,0 +1,8 @@
+//! The lines in which a modem's answers are printed, and the texts in them.
+#![tactic(auto)]
+
+mod lines;
+mod texts;
+
+pub use lines::{deeper, or_ok, push_heading, push_line};
+pub use texts::{hex_pair, ipv4_text, lower_hex_pair, push_number, worded};

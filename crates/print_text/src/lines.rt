@@ -1,0 +1,46 @@
+ghost use Rattle.std.specs.Prelude.{◌≡◌, ◌++◌, IfOk, OnOk};
+ghost use Rattle.print_text.specs.Lines.{deeper, heading, line, or_ok};
+
+use kit_bytes::Octets;
+use std::alloc::{AllocError, Global};
+
+/// Adds a line with a name and a text, behind the spaces of its level.
+#[tactic(auto, unfolding(crate::specs::Lines::line))]
+pub fn push_line(out: &mut Octets, indent: &[u8], name: &str, text: &[u8]) -> Result<(), AllocError>
+    ensures { OnOk result (out.new ≡ out.old ++ line indent.now name.now text.now) }
+{
+    out.extend_from_slices(indent, name.as_bytes())?;
+    out.extend_from_slices(b": ", text)?;
+    out.extend_from_slice(b"\n")?;
+    Ok(())
+}
+
+/// Adds a line with a name alone, behind the spaces of its level.
+#[tactic(auto, unfolding(crate::specs::Lines::heading))]
+pub fn push_heading(out: &mut Octets, indent: &[u8], name: &str) -> Result<(), AllocError>
+    ensures { OnOk result (out.new ≡ out.old ++ heading indent.now name.now) }
+{
+    out.extend_from_slices(indent, name.as_bytes())?;
+    out.extend_from_slice(b":\n")?;
+    Ok(())
+}
+
+/// The spaces of the next level: two more.
+#[tactic(auto, unfolding(crate::specs::Lines::deeper))]
+pub fn deeper(alloc: Global, indent: &[u8]) -> Result<Octets, AllocError>
+    ensures { IfOk result (λ more. more ≡ deeper indent.now) }
+{
+    let mut more = Octets::from_slice(alloc, indent)?;
+    more.extend_from_slice(b"  ")?;
+    Ok(more)
+}
+
+/// The text of an answer's lines, which is `ok` where there is no line.
+pub fn or_ok(mut lines: Octets) -> Result<Octets, AllocError>
+    ensures { IfOk result (λ text. text ≡ or_ok lines) }
+{
+    if lines.as_slice().is_empty() {
+        lines.extend_from_slice(b"ok\n")?;
+    }
+    Ok(lines)
+}
