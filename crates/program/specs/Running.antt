@@ -6,11 +6,15 @@ use Rattle.link_io.specs.Calls as link
 use Rattle.hub_io.specs.Record as hub
 use Rattle.file_io.specs.Calls as file
 use Rattle.qmi_requests.specs.declared.QmiRequest.{QmiRequest}
+use Rattle.mbim_requests.specs.declared.MbimRequest.{MbimRequest}
 use Rattle.device_core.specs.declared.plan.QmiPlan.{QmiPlan}
+use Rattle.mbim_session.specs.declared.plan.MbimPlan.{MbimPlan}
 use Rattle.tool_words.specs.declared.command.ToolCommand.{ToolCommand}
-use Rattle.tool_words.specs.declared.command.ToolCommand.TheVariants.{Qmicli, Describe, Proxy}
+use Rattle.tool_words.specs.declared.command.ToolCommand.TheVariants.{Qmicli, Mbimcli, Describe, Proxy}
 use Rattle.tool_words.specs.declared.fault.UsageKind.{UsageKind}
 use Rattle.tool_runs.specs.Asking.{Asks}
+use Rattle.tool_runs.specs.Qmi.{qmi_asked}
+use Rattle.tool_runs.specs.Mbim.{mbim_asked}
 use Rattle.tool_runs.specs.Describing.{Describes}
 use Rattle.program.specs.declared.status.Status.{Status}
 use Rattle.program.specs.declared.status.Status.TheVariants as status
@@ -38,15 +42,20 @@ abbrev pub path_to : Bool → List ℕ → List ℕ → List ℕ
 path_to true device socket = encode_utf8_all socket
 path_to false device socket = encode_utf8_all device
 
-abbrev pub plan_of : List ℕ → Bool → Option ℕ → Bool → QmiRequest → QmiPlan
-plan_of device proxied cid keep request = record { device = device; proxied = proxied; cid = cid; keep = keep; request = request }
+abbrev pub qmi_plan : List ℕ → Bool → Option ℕ → Bool → QmiRequest → QmiPlan
+qmi_plan device proxied cid keep request = record { device = device; proxied = proxied; cid = cid; keep = keep; request = request }
+
+abbrev pub mbim_plan : List ℕ → Bool → Bool → MbimRequest → MbimPlan
+mbim_plan device proxied close request = record { device = device; proxied = proxied; close = close; request = request }
 
 -- ---- what the words ask for ----
 
 -- a tool asks a modem or describes a file, and a proxy serves
 abbrev pub RunsCommand : ToolCommand → Told → Told → Status → Type 0
 RunsCommand (Qmicli device proxied cid keep request socket bridge) before after result =
-    EndsAs result (λ ends. Asks (path_to proxied device socket) (plan_of device proxied cid keep request) before.link after.link before.out ends after.out)
+    EndsAs result (λ ends. Asks (path_to proxied device socket) (qmi_asked (qmi_plan device proxied cid keep request)) before.link after.link before.out ends after.out)
+RunsCommand (Mbimcli device proxied close request socket bridge) before after result =
+    EndsAs result (λ ends. Asks (path_to proxied device socket) (mbim_asked (mbim_plan device proxied close request)) before.link after.link before.out ends after.out)
 RunsCommand (Describe path) before after result = EndsAs result (λ ends. Describes (encode_utf8_all path) before.files after.files before.out ends after.out)
 RunsCommand (Proxy kind device socket bridge empty time turns) before after result = hub.Since before.hub after.hub (ServesProxy kind (asked_in device socket empty time turns) result)
 
@@ -71,6 +80,7 @@ pub record Objects (L H F O : Type 0) : Type 0 where
 -- what a command has no use for is left as it was: hub and files by one that asks a modem, link and hub by one that describes a file, and all but the hub by a proxy
 abbrev pub CommandLeavesAlone : {L H F O : Type 0} → ToolCommand → Objects L H F O → Objects L H F O → Type 0
 CommandLeavesAlone (Qmicli device proxied cid keep request socket bridge) before after = (after.hub ≡ before.hub) × (after.files ≡ before.files)
+CommandLeavesAlone (Mbimcli device proxied close request socket bridge) before after = (after.hub ≡ before.hub) × (after.files ≡ before.files)
 CommandLeavesAlone (Describe path) before after = (after.link ≡ before.link) × (after.hub ≡ before.hub)
 CommandLeavesAlone (Proxy kind device socket bridge empty time turns) before after = (after.link ≡ before.link) × (after.files ≡ before.files) × (after.out ≡ before.out)
 

@@ -9,12 +9,13 @@ ghost use Rattle.program.specs.Status.{line_of};
 use crate::proxy::{serve, settings_of};
 use crate::report::report;
 use crate::status::Status;
-use crate::tool::{ask_modem, describe_file};
+use crate::tool::{ask_modem, describe_file, path_to};
 use device_core::QmiPlan;
 use file_io::Files;
 use hub_io::Hub;
 use kit_io::Sink;
 use link_io::Link;
+use mbim_session::MbimPlan;
 use std::alloc::{AllocError, Global};
 use tool_words::{ToolCommand, WordFault, command_of};
 
@@ -93,7 +94,35 @@ fn run_command<O: Sink, L: Link, H: Hub, F: Files>(
                 keep,
                 request,
             };
-            ask_modem(alloc, &plan, &socket, out, link)
+            ask_modem(
+                alloc,
+                path_to(proxied, &plan.device, &socket),
+                &plan,
+                out,
+                link,
+            )
+        }
+        ToolCommand::Mbimcli {
+            device,
+            proxied,
+            close,
+            request,
+            socket,
+            bridge: _bridge,
+        } => {
+            let plan = MbimPlan {
+                device,
+                proxied,
+                close,
+                request,
+            };
+            ask_modem(
+                alloc,
+                path_to(proxied, &plan.device, &socket),
+                &plan,
+                out,
+                link,
+            )
         }
         ToolCommand::Describe { file } => describe_file(alloc, &file, out, files),
         ToolCommand::Proxy {

@@ -1,34 +1,39 @@
 ghost use Rattle.std.specs.Prelude.{◌≡◌};
 ghost use Rattle.std.specs.Str.{encode_utf8_all};
 ghost use Rattle.kit_io.specs.Causes.{Rose};
-ghost use Rattle.tool_runs.specs.Asking.{Asks, HasFailed};
+ghost use Rattle.tool_runs.specs.Asking.{Asks, asked_of, HasFailed};
 ghost use Rattle.tool_runs.specs.Describing.{Describes};
 ghost use Rattle.program.specs.Running.{path_to};
 ghost use Rattle.program.specs.Status.{IsOfTool, EndsAs};
 
 use crate::status::Status;
-use device_core::QmiPlan;
 use file_io::Files;
 use kit_bytes::PathText;
 use kit_io::Sink;
 use link_io::Link;
 use std::alloc::Global;
-use tool_runs::{ask, describe};
+use tool_runs::{Session, ask, describe};
 
-// Asks a modem, directly or through the proxy behind a socket, and prints its answer.
-pub fn ask_modem<O: Sink, L: Link>(
+// Where a tool's link leads: to the device, or to the socket of the proxy that has it.
+pub fn path_to<'a>(proxied: bool, device: &'a PathText, socket: &'a PathText) -> &'a PathText
+    ensures { encode_utf8_all result.now ≡ path_to proxied device.now socket.now }
+{
+    if proxied { socket } else { device }
+}
+
+// Asks a modem over a link to this path, and prints its answer.
+pub fn ask_modem<S: Session, O: Sink, L: Link>(
     alloc: Global,
-    plan: &QmiPlan,
-    socket: &PathText,
+    path: &PathText,
+    plan: &S,
     out: &mut O,
     link: &mut L,
 ) -> Status
-    ensures asks { EndsAs result (λ ends. Asks (path_to plan.now.proxied plan.now.device socket.now) plan.now (L.calls link.old) (L.calls link.new) (O.taken out.old) ends (O.taken out.new)) }
+    ensures asks { EndsAs result (λ ends. Asks (encode_utf8_all path.now) (asked_of S.session S.refused S.printed plan.now) (L.calls link.old) (L.calls link.new) (O.taken out.old) ends (O.taken out.new)) }
     ensures own { IsOfTool result }
     ensures link_fault { result ≡ Status.LinkFault → HasFailed L.faults L.open_faults link.old link.new }
     ensures write_fault { result ≡ Status.WriteFault → Rose (O.faults out.old) (O.faults out.new) }
 {
-    let path = if plan.proxied { socket } else { &plan.device };
     Status::from(ask(alloc, path, plan, out, link))
 }
 

@@ -3,14 +3,22 @@ use Rattle.std.proofs.Common.{◌≡◌, ℕ, Bool, true, false, List, [], ◌�
 use Rattle.std.proofs.lemmas.List.{append-nil}
 use Rattle.std.proofs.lemmas.List.Elements.{All-nil, All-head, All-tail}
 use Rattle.std.proofs.lemmas.List.Sums.{sum_by-append}
-use Rattle.std.specs.List.{flat_map}
+use Rattle.std.specs.List.{concat}
 use Rattle.link_io.specs.Calls.{Call, Opened, Sent, Took, WasQuiet, WasEnd, TakeFailed, Closed}
+use Rattle.link_session.specs.declared.fault.SessionFault.{SessionFault}
+use Rattle.link_session.specs.Sending.{AreFirst, EndsWell, IsSendOrTake, SendsInOrder, sent_before_takes, sent_in}
+use Rattle.link_session.proofs.Sending.{Sends, before-append, sent_in-append}
 use Rattle.qmi_services.specs.declared.answers.QmiEnd.{QmiEnd}
-use Rattle.device_core.specs.declared.fault.SessionFault.{SessionFault}
 use Rattle.device_core.specs.declared.plan.QmiPlan.{QmiPlan}
-use Rattle.device_core.specs.Requests.{Request, message_of}
-use Rattle.device_core.specs.Sending.{AreFirst, IsSendOrTake, SendsRequests, requests_of, sent_before_takes, sent_in}
-use Rattle.device_core.proofs.Sending.{Session-sends, before-append, sent_in-append}
+use Rattle.device_core.specs.Session as qmi
+use Rattle.device_core.specs.Sending as qmi_sending
+use Rattle.device_core.specs.Sending.{SendsRequests, requests_of}
+use Rattle.device_core.proofs.Sending.{Session-sends as qmi_sends}
+use Rattle.mbim_session.specs.declared.plan.MbimPlan.{MbimPlan}
+use Rattle.mbim_session.specs.declared.plan.MbimEnd.{MbimEnd}
+use Rattle.mbim_session.specs.Session as mbim
+use Rattle.mbim_session.specs.Sending as mbim_sending
+use Rattle.mbim_session.proofs.Sending.{Session-sends as mbim_sends}
 use Rattle.tool_runs.specs.Asking.{Exchange, not_opened, opened}
 use Rattle.tool_runs.specs.Calling.{IsOneVisit, is_opening, is_closing}
 
@@ -34,12 +42,13 @@ none_among is none (call ∷ calls) each =
     let rest : count_by is calls ≡ 0 = none_among is none calls (All-tail IsSendOrTake call calls each) in
     count-append is (call ∷ []) calls ∙ ap (λ (n : ℕ). n + count_by is calls) here ∙ ap (λ (n : ℕ). 0 + n) rest
 
-module _ (path : List ℕ) (plan : QmiPlan) (calls : List Call) (result : Result QmiEnd SessionFault) where
-  pub Exchange-visits : Exchange path plan calls result → IsOneVisit path calls
-  Exchange-visits (not_opened are is) =
+module _ {End : Type 0} (path : List ℕ) (Session : List Call → Result End SessionFault → Type 0) (calls : List Call) (result : Result End SessionFault) where
+  -- a session that only sends and takes is one visit
+  pub Exchange-visits : ((own : List Call) → Session own result → All IsSendOrTake own) → Exchange path Session calls result → IsOneVisit path calls
+  Exchange-visits only (not_opened are is) =
       rw are (record { ok = false; later = []; first = refl; openings = refl; closings = refl; last = λ ok. absurd (cc) })
-  Exchange-visits (opened own session are) =
-      let each = (Session-sends plan own result session).each in
+  Exchange-visits only (opened own session are) =
+      let each : All IsSendOrTake own = only own session in
       let no_opening : count_by is_opening own ≡ 0 = none_among is_opening (λ call is. (neither call is).0) own each in
       let no_closing : count_by is_closing own ≡ 0 = none_among is_closing (λ call is. (neither call is).1) own each in
       let then_none : count_by is_opening (own ++ Closed ∷ []) ≡ 0 = count-append is_opening own (Closed ∷ []) ∙ ap (λ (n : ℕ). n + 0) no_opening in
@@ -53,23 +62,39 @@ module _ (path : List ℕ) (plan : QmiPlan) (calls : List Call) (result : Result
         last = λ ok. (Opened path true ∷ own, refl);
       })
 
-  pub Exchange-sends : Exchange path plan calls result → (allocated : ℕ) × SendsRequests (requests_of plan allocated) calls result
+  -- and what a session sends is sent
+  pub Exchange-sends : (IsGood : End → Type 0) (texts : ℕ → List (List ℕ)) → ((own : List Call) → Session own result → Sends IsGood texts own result)
+      → Exchange path Session calls result → (choice : ℕ) × SendsInOrder (texts choice) calls (EndsWell IsGood result)
   unfolding sent_in sent_before_takes
-  Exchange-sends (not_opened are is) =
-      let requests : List Request = requests_of plan 0 in
-      rw (are, is) (0, record { before_takes = All-nil (AreFirst requests); unsent = flat_map message_of requests; in_all = refl; ends = λ ends. absurd ends })
-  Exchange-sends (opened own session are) =
-      let sends = Session-sends plan own result session in
-      let requests : List Request = requests_of plan sends.allocated in
-      let P : List (List ℕ) → Type 0 = λ (l : List (List ℕ)). All (AreFirst requests) l in
+  Exchange-sends IsGood texts sends (not_opened are is) =
+      rw (are, is) (0, record { before_takes = All-nil (AreFirst (texts 0)); unsent = concat (texts 0); in_all = refl; ends = λ ends. absurd ends })
+  Exchange-sends IsGood texts sends (opened own session are) =
+      let made : Sends IsGood texts own result = sends own session in
+      let P : List (List ℕ) → Type 0 = λ (l : List (List ℕ)). All (AreFirst (texts made.choice)) l in
       let same : sent_in (own ++ Closed ∷ []) ≡ sent_in own = sent_in-append own (Closed ∷ []) ∙ append-nil (sent_in own) in
       let same_before : sent_before_takes [] (own ++ Closed ∷ []) ≡ sent_before_takes [] own = before-append [] own (Closed ∷ []) ∙ append-nil (sent_before_takes [] own) in
       rw are (
-        sends.allocated,
+        made.choice,
         record {
-          before_takes = subst P (sym same_before) (sends.before []);
-          unsent = sends.left;
-          in_all = sends.in_all ∙ ap (λ (l : List ℕ). l ++ sends.left) (sym same);
-          ends = sends.ends;
+          before_takes = subst P (sym same_before) (made.before []);
+          unsent = made.left;
+          in_all = made.in_all ∙ ap (λ (l : List ℕ). l ++ made.left) (sym same);
+          ends = made.ends;
         },
       )
+
+-- ---- of each tool ----
+
+pub qmi_visits : (path : List ℕ) (plan : QmiPlan) (calls : List Call) (result : Result QmiEnd SessionFault) → Exchange path (qmi.Session plan) calls result → IsOneVisit path calls
+qmi_visits path plan calls result = Exchange-visits path (qmi.Session plan) calls result (λ own session. (qmi_sends plan own result session).each)
+
+pub qmi_requests_sent : (path : List ℕ) (plan : QmiPlan) (calls : List Call) (result : Result QmiEnd SessionFault) → Exchange path (qmi.Session plan) calls result
+    → (allocated : ℕ) × SendsRequests (requests_of plan allocated) calls result
+qmi_requests_sent path plan calls result = Exchange-sends path (qmi.Session plan) calls result qmi_sending.IsGood (λ n. qmi_sending.messages_of (requests_of plan n)) (λ own session. qmi_sends plan own result session)
+
+pub mbim_visits : (path : List ℕ) (plan : MbimPlan) (calls : List Call) (result : Result MbimEnd SessionFault) → Exchange path (mbim.Session plan) calls result → IsOneVisit path calls
+mbim_visits path plan calls result = Exchange-visits path (mbim.Session plan) calls result (λ own session. (mbim_sends plan own result session).each)
+
+pub mbim_messages_sent : (path : List ℕ) (plan : MbimPlan) (calls : List Call) (result : Result MbimEnd SessionFault) → Exchange path (mbim.Session plan) calls result
+    → SendsInOrder (mbim_sending.messages_of plan) calls (EndsWell mbim_sending.IsGood result)
+mbim_messages_sent path plan calls result exchange = (Exchange-sends path (mbim.Session plan) calls result mbim_sending.IsGood (λ n. mbim_sending.messages_of plan) (λ own session. mbim_sends plan own result session) exchange).1

@@ -1,7 +1,7 @@
 -- Which session a command's end tells of.
 use Rattle.std.proofs.Common.{◌≡◌, refl}
-use Rattle.device_core.specs.declared.fault.SessionFault.{SessionFault}
-use Rattle.device_core.specs.declared.fault.SessionFault.TheVariants as fault
+use Rattle.link_session.specs.declared.fault.SessionFault.{SessionFault}
+use Rattle.link_session.specs.declared.fault.SessionFault.TheVariants as fault
 use Rattle.tool_runs.specs.declared.run_end.RunEnd.TheVariants as run
 use Rattle.tool_runs.specs.Asking.{end_of}
 

@@ -1,30 +1,25 @@
 -- What a command that asks a modem does to its link, and what it prints.
-use Rattle.std.specs.Prelude.{◌≡◌, ◌⊎◌, ℕ, List, [], ◌∷◌, ◌++◌, true, false, Option, Result, Ok, Err}
+use Rattle.std.specs.Prelude.{◌≡◌, ◌⊎◌, ℕ, Bool, List, [], ◌∷◌, ◌++◌, true, false, Option, Some, None, Result, Ok, Err}
 use Rattle.kit_io.specs.Causes.{Rose}
 use Rattle.kit_io.specs.Told.{Grows, GrowsByFront}
 use Rattle.link_io.specs.Calls.{Call, Opened, Closed}
-use Rattle.qmi_services.specs.declared.answers.QmiAnswer.{QmiAnswer}
-use Rattle.qmi_services.specs.declared.answers.QmiAnswer.TheVariants.{Success, Failure}
-use Rattle.device_core.specs.declared.fault.SessionFault.{SessionFault}
-use Rattle.device_core.specs.declared.fault.SessionFault.TheVariants as fault
-use Rattle.device_core.specs.declared.plan.QmiPlan.{QmiPlan}
-use Rattle.qmi_services.specs.declared.answers.QmiEnd.{QmiEnd}
-use Rattle.device_core.specs.Session.{Session}
-use Rattle.qmicli_print.specs.Answer.{end_text}
+use Rattle.link_session.specs.declared.fault.SessionFault.{SessionFault}
+use Rattle.link_session.specs.declared.fault.SessionFault.TheVariants as fault
 use Rattle.tool_runs.specs.declared.run_end.RunEnd.{RunEnd}
 use Rattle.tool_runs.specs.declared.run_end.RunEnd.TheVariants as run
+use Rattle.tool_runs.specs.declared.session.Refusal.{Refusal}
 
 -- ---- the link ----
 
--- The calls on a link to this path. A link that opened is closed once, as the last call.
-pub data Exchange (path : List ℕ) (plan : QmiPlan) (calls : List Call) (result : Result QmiEnd SessionFault) : Type 0 where
-  not_opened : calls ≡ Opened path false ∷ [] → result ≡ Err fault.LinkFault → Exchange path plan calls result
-  opened : (own : List Call) → Session plan own result → calls ≡ (Opened path true ∷ own) ++ Closed ∷ [] → Exchange path plan calls result
+-- The calls on a link to this path over which such a session was had. A link that opened is closed once, as the last call.
+pub data Exchange {End : Type 0} (path : List ℕ) (Session : List Call → Result End SessionFault → Type 0) (calls : List Call) (result : Result End SessionFault) : Type 0 where
+  not_opened : calls ≡ Opened path false ∷ [] → result ≡ Err fault.LinkFault → Exchange path Session calls result
+  opened : (own : List Call) → Session own result → calls ≡ (Opened path true ∷ own) ++ Closed ∷ [] → Exchange path Session calls result
 
 -- a link's calls have grown by such an exchange
-pub record Exchanges (path : List ℕ) (plan : QmiPlan) (before : Option (List Call)) (result : Result QmiEnd SessionFault) (after : Option (List Call)) : Type 0 where
+pub record Exchanges {End : Type 0} (path : List ℕ) (Session : List Call → Result End SessionFault → Type 0) (before : Option (List Call)) (result : Result End SessionFault) (after : Option (List Call)) : Type 0 where
   pub calls : List Call
-  pub exchange : Exchange path plan calls result
+  pub exchange : Exchange path Session calls result
   pub grows : Grows before calls after
 
 -- a count of the link's faults has risen
@@ -41,12 +36,9 @@ PrintsText text before run.OutOfMemory after = Grows before [] after
 PrintsText text before _ after = ⊥
 
 -- nothing is printed of a refusal
-abbrev pub PrintsAnswer : QmiAnswer → List ℕ → Option (List ℕ) → RunEnd → Option (List ℕ) → Type 0
-PrintsAnswer (Failure error) text before ends after = (ends ≡ run.Denied false error) × Grows before [] after
-PrintsAnswer (Success fields) text before ends after = PrintsText text before ends after
-
-abbrev pub Prints : QmiEnd → Option (List ℕ) → RunEnd → Option (List ℕ) → Type 0
-Prints end before ends after = PrintsAnswer end.answer (end_text end) before ends after
+abbrev pub Prints : Option Refusal → List ℕ → Option (List ℕ) → RunEnd → Option (List ℕ) → Type 0
+Prints (Some refusal) text before ends after = (ends ≡ run.Denied refusal.function refusal.code) × Grows before [] after
+Prints None text before ends after = PrintsText text before ends after
 
 -- how a command ends whose session has no end of its own
 abbrev pub end_of : SessionFault → RunEnd
@@ -57,20 +49,31 @@ end_of (fault.Broken place) = run.Broken place
 end_of fault.Flooded = run.Flooded
 end_of fault.OutOfMemory = run.OutOfMemory
 
-abbrev pub Says : Result QmiEnd SessionFault → Option (List ℕ) → RunEnd → Option (List ℕ) → Type 0
-Says (Ok end) before ends after = Prints end before ends after
-Says (Err why) before ends after = (ends ≡ end_of why) × Grows before [] after
+-- from how a tool's sessions end: with a refusal, or with a text
+abbrev pub Says : {End : Type 0} → (End → Option Refusal) → (End → List ℕ) → Result End SessionFault → Option (List ℕ) → RunEnd → Option (List ℕ) → Type 0
+Says refused printed (Ok end) before ends after = Prints (refused end) (printed end) before ends after
+Says refused printed (Err why) before ends after = (ends ≡ end_of why) × Grows before [] after
 
 -- ---- the command ----
 
--- the session of the plan was had over a link to this path, and its end was printed
-pub record AsksModem (path : List ℕ) (plan : QmiPlan) (before after : Option (List Call)) (out : Option (List ℕ)) (ends : RunEnd) (printed : Option (List ℕ)) : Type 0 where
-  pub result : Result QmiEnd SessionFault
-  pub exchanges : Exchanges path plan before result after
-  pub says : Says result out ends printed
+-- a tool's sessions of a plan: which calls they make and how they end, and what that says
+pub record Asked (End : Type 0) : Type 1 where
+  pub Session : List Call → Result End SessionFault → Type 0
+  pub refused : End → Option Refusal
+  pub printed : End → List ℕ
+
+-- by which session a plan has, and what its end says
+abbrev pub asked_of : {Plan End : Type 0} → (Plan → List Call → Result End SessionFault → Type 0) → (End → Option Refusal) → (End → List ℕ) → Plan → Asked End
+asked_of session refused printed plan = record { Session = session plan; refused = refused; printed = printed }
+
+-- such a session was had over a link to this path, and its end was printed
+pub record AsksModem {End : Type 0} (path : List ℕ) (asked : Asked End) (before after : Option (List Call)) (out : Option (List ℕ)) (ends : RunEnd) (printed : Option (List ℕ)) : Type 0 where
+  pub result : Result End SessionFault
+  pub exchanges : Exchanges path asked.Session before result after
+  pub says : Says asked.refused asked.printed result out ends printed
 
 -- or there was no memory for the first call
-abbrev pub Asks : List ℕ → QmiPlan → Option (List Call) → Option (List Call) → Option (List ℕ) → RunEnd → Option (List ℕ) → Type 0
-Asks path plan before after out ends printed =
-    AsksModem path plan before after out ends printed
+abbrev pub Asks : {End : Type 0} → List ℕ → Asked End → Option (List Call) → Option (List Call) → Option (List ℕ) → RunEnd → Option (List ℕ) → Type 0
+Asks path asked before after out ends printed =
+    AsksModem path asked before after out ends printed
     ⊎ ((ends ≡ run.OutOfMemory) × Grows before [] after × Grows out [] printed)

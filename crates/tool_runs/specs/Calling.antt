@@ -1,10 +1,16 @@
 -- What the calls on a link come to, over a whole command.
 use Rattle.std.specs.Prelude.{◌≡◌, ℕ, Bool, true, false, List, [], ◌∷◌, ◌++◌, count_by, if◌then◌else◌, Result}
 use Rattle.link_io.specs.Calls.{Call, Opened, Closed}
+use Rattle.link_session.specs.declared.fault.SessionFault.{SessionFault}
+use Rattle.link_session.specs.Sending.{EndsWell, SendsInOrder}
 use Rattle.qmi_services.specs.declared.answers.QmiEnd.{QmiEnd}
-use Rattle.device_core.specs.declared.fault.SessionFault.{SessionFault}
 use Rattle.device_core.specs.declared.plan.QmiPlan.{QmiPlan}
+use Rattle.device_core.specs.Session as qmi
 use Rattle.device_core.specs.Sending.{SendsRequests, requests_of}
+use Rattle.mbim_session.specs.declared.plan.MbimPlan.{MbimPlan}
+use Rattle.mbim_session.specs.declared.plan.MbimEnd.{MbimEnd}
+use Rattle.mbim_session.specs.Session as mbim
+use Rattle.mbim_session.specs.Sending.{IsGood, messages_of}
 use Rattle.tool_runs.specs.Asking.{Exchange}
 
 abbrev pub is_opening : Call → Bool
@@ -26,11 +32,16 @@ pub record IsOneVisit (path : List ℕ) (calls : List Call) : Type 0 where
 
 -- ---- the laws ----
 
+-- of sessions with a QMI modem, and with an MBIM modem
 abbrev pub ExchangesAreOneVisit : Type 0
-ExchangesAreOneVisit = (path : List ℕ) (plan : QmiPlan) (calls : List Call) (result : Result QmiEnd SessionFault) → Exchange path plan calls result → IsOneVisit path calls
+ExchangesAreOneVisit =
+    ((path : List ℕ) (plan : QmiPlan) (calls : List Call) (result : Result QmiEnd SessionFault) → Exchange path (qmi.Session plan) calls result → IsOneVisit path calls)
+    × ((path : List ℕ) (plan : MbimPlan) (calls : List Call) (result : Result MbimEnd SessionFault) → Exchange path (mbim.Session plan) calls result → IsOneVisit path calls)
 
 -- what is sent are the requests of the plan
 abbrev pub ExchangesSendTheRequests : Type 0
 ExchangesSendTheRequests =
-    (path : List ℕ) (plan : QmiPlan) (calls : List Call) (result : Result QmiEnd SessionFault) → Exchange path plan calls result
-    → (allocated : ℕ) × SendsRequests (requests_of plan allocated) calls result
+    ((path : List ℕ) (plan : QmiPlan) (calls : List Call) (result : Result QmiEnd SessionFault) → Exchange path (qmi.Session plan) calls result
+    → (allocated : ℕ) × SendsRequests (requests_of plan allocated) calls result)
+    × ((path : List ℕ) (plan : MbimPlan) (calls : List Call) (result : Result MbimEnd SessionFault) → Exchange path (mbim.Session plan) calls result
+    → SendsInOrder (messages_of plan) calls (EndsWell IsGood result))

@@ -13,8 +13,8 @@ use Rattle.message_tables.specs.Messages.{MessageForm}
 use Rattle.message_tables.specs.Tables.{tables_in}
 use Rattle.qmicli_print.specs.declared.shown.Shown.TheVariants.{Service}
 use Rattle.qmicli_print.specs.Words.{word_of}
-use Rattle.qmicli_print.specs.Texts.{hex_pair}
-use Rattle.qmicli_print.specs.Answer.{or_ok}
+use Rattle.print_text.specs.Texts.{hex_pair}
+use Rattle.print_text.specs.Lines.{or_ok}
 use Rattle.tool_runs.specs.declared.run_end.RunEnd.{RunEnd}
 use Rattle.tool_runs.specs.declared.run_end.RunEnd.TheVariants as run
 

@@ -1,3 +1,5 @@
 pub mod Asking
+pub mod Qmi
+pub mod Mbim
 pub mod Describing
 pub mod Calling

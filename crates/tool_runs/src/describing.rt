@@ -12,7 +12,8 @@ use itoa::Buffer;
 use kit_bytes::{Octets, PathText};
 use kit_io::{Sink, WriteFault, write_all_to};
 use message_tables::{Message, Tables, read_tables};
-use qmicli_print::{hex_pair, service_word};
+use print_text::hex_pair;
+use qmicli_print::service_word;
 use std::alloc::{AllocError, Global};
 
 /// Reads the descriptions in the file at a path, and prints a line for each message.

@@ -4,9 +4,13 @@
 mod asking;
 mod describing;
 mod laws;
+mod mbim;
+mod qmi;
 mod run_end;
+mod session;
 
 pub use asking::ask;
 pub use describing::describe;
 pub use laws::links_are_opened_and_closed_once;
 pub use run_end::RunEnd;
+pub use session::{Refusal, Session};

@@ -1,7 +1,7 @@
 ghost use Rattle.std.specs.Prelude.{◌≡◌};
 
-use device_core::SessionFault;
 use file_io::FileFault;
+use link_session::SessionFault;
 use message_tables::TableFault;
 
 /// How a command ended.

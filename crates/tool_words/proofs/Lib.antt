@@ -1,6 +1,9 @@
 pub mod Building
 pub mod Rows
 pub mod Choosing
+pub mod Chains
 pub mod Reading
 pub mod Numbers
 pub mod Names
+pub mod Views
+pub mod Simple

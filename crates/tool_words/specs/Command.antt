@@ -1,10 +1,13 @@
 -- What the words of a command line ask for.
 use Rattle.std.specs.Prelude.{ℕ, List, [], ◌∷◌, Option, Some, None, Result, Err, codes, if◌then◌else◌}
 use Rattle.std.specs.Str.{bytes_eq}
-use Rattle.clap.specs.Walk.{Text}
-use Rattle.kit_bytes.specs.declared.Kind.TheVariants.{Qmi}
-use Rattle.tool_words.specs.Proxy.{proxy_in, proxy_name}
-use Rattle.tool_words.specs.Qmicli.{qmicli_in}
+use Rattle.clap.specs.Simple.{App}
+use Rattle.clap.specs.Walk.{Row, Text}
+use Rattle.kit_bytes.specs.declared.Kind.TheVariants.{Qmi, Mbim}
+use Rattle.tool_words.specs.Answers.{read_by}
+use Rattle.tool_words.specs.Mbimcli.{mbimcli_app, mbimcli_asked}
+use Rattle.tool_words.specs.Proxy.{proxy_app, proxy_asked, proxy_name}
+use Rattle.tool_words.specs.Qmicli.{qmicli_app, qmicli_asked}
 use Rattle.tool_words.specs.declared.command.Tool.{Tool}
 use Rattle.tool_words.specs.declared.command.Tool.TheVariants as tool
 use Rattle.tool_words.specs.declared.command.ToolCommand.{ToolCommand}
@@ -15,16 +18,28 @@ use Rattle.tool_words.specs.declared.fault.UsageKind.TheVariants as usage
 unfoldable pub tool_named : List ℕ → Option Tool
 tool_named word =
     if bytes_eq word (codes "qmicli") then Some tool.Qmicli
+    else if bytes_eq word (codes "mbimcli") then Some tool.Mbimcli
     else if bytes_eq word (proxy_name Qmi) then Some (tool.Proxy Qmi)
+    else if bytes_eq word (proxy_name Mbim) then Some (tool.Proxy Mbim)
     else None
 
--- what the words of a tool ask for
-abbrev pub asked_of : Option Tool → List Text → Result ToolCommand UsageKind
-asked_of (Some tool.Qmicli) words = qmicli_in words
-asked_of (Some (tool.Proxy kind)) words = proxy_in kind words
-asked_of None words = Err usage.UnknownTool
+-- the options of a tool
+abbrev pub tool_app : Tool → App
+tool_app tool.Qmicli = qmicli_app
+tool_app tool.Mbimcli = mbimcli_app
+tool_app (tool.Proxy kind) = proxy_app kind
+
+-- what its words ask for, by the options that they give
+abbrev pub tool_asked : Tool → List Row → Result ToolCommand UsageKind
+tool_asked tool.Qmicli rows = qmicli_asked rows
+tool_asked tool.Mbimcli rows = mbimcli_asked rows
+tool_asked (tool.Proxy kind) rows = proxy_asked kind rows
+
+abbrev pub read_if_named : Option Tool → List Text → Result ToolCommand UsageKind
+read_if_named (Some tool) words = read_by (tool_app tool) (tool_asked tool) words
+read_if_named None words = Err usage.UnknownTool
 
 -- what the words ask for, whose first names the tool, or the first reason that fits why they are refused
 unfoldable pub command_in : List Text → Result ToolCommand UsageKind
 command_in [] = Err usage.NoTool
-command_in (word ∷ more) = asked_of (tool_named word) (word ∷ more)
+command_in (word ∷ more) = read_if_named (tool_named word) (word ∷ more)

@@ -2,10 +2,16 @@ pub mod Spelling
 pub mod Reading
 pub mod Given
 pub mod Sole
-pub mod Keys
 pub mod Values
+pub mod Keys
+pub mod Commands
 pub mod Answers
+pub mod Defaults
+pub mod Link
+pub mod ModemTools
 pub mod Proxy
 pub mod QmiCommands
 pub mod Qmicli
+pub mod MbimCommands
+pub mod Mbimcli
 pub mod Command

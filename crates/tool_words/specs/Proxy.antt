@@ -1,10 +1,11 @@
 -- The words of a proxy, by the kind of its modem.
 use Rattle.std.specs.Prelude.{ℕ, ◌*◌, ◌^◌, ◌==◌, ◌||◌, Bool, true, List, [], ◌∷◌, Option, Some, None, Result, Err, codes, if◌then◌else◌, option_and_then}
 use Rattle.clap.specs.Simple.{App}
-use Rattle.clap.specs.Walk.{Row, Text}
+use Rattle.clap.specs.Walk.{Row}
 use Rattle.kit_bytes.specs.declared.Kind.{Kind}
 use Rattle.kit_bytes.specs.declared.Kind.TheVariants.{Qmi, Mbim}
-use Rattle.tool_words.specs.Answers.{or_value, read_by}
+use Rattle.tool_words.specs.Answers.{or_value}
+use Rattle.tool_words.specs.Defaults.{bridge_socket, proxy_socket}
 use Rattle.tool_words.specs.Given.{is_given, value_given}
 use Rattle.tool_words.specs.Reading.{with_options, without_options}
 use Rattle.tool_words.specs.Spelling.{Spelling, flag, or_letter, valued}
@@ -16,16 +17,11 @@ use Rattle.tool_words.specs.declared.fault.UsageKind.TheVariants as usage
 use Rattle.tool_words.specs.declared.proxy.ProxyOption.{ProxyOption}
 use Rattle.tool_words.specs.declared.proxy.ProxyOption.TheVariants as option
 
--- ---- its names ----
+-- ---- its name ----
 
 abbrev pub proxy_name : Kind → List ℕ
 proxy_name Qmi = codes "qmi-proxy"
 proxy_name Mbim = codes "mbim-proxy"
-
--- the socket on which it listens where none is named
-abbrev pub proxy_socket : Kind → List ℕ
-proxy_socket Qmi = codes "/tmp/qmi-proxy.sock"
-proxy_socket Mbim = codes "/tmp/mbim-proxy.sock"
 
 -- ---- the options ----
 
@@ -56,7 +52,7 @@ unfoldable pub proxy_values : Kind → List Row → Option ToolCommand
 proxy_values kind rows = do
   device ← option_and_then (device_in true) (value_given proxy_spelling rows option.Device)
   socket ← path_or (proxy_socket kind) (value_given proxy_spelling rows option.Socket)
-  bridge ← path_or (codes "/tmp/modemkit.bridge") (value_given proxy_spelling rows option.Bridge)
+  bridge ← path_or bridge_socket (value_given proxy_spelling rows option.Bridge)
   seconds ← number_or 30 0 86400 (value_given proxy_spelling rows option.EmptyTimeout)
   time ← number_or 30000 1 86400000 (value_given proxy_spelling rows option.Time)
   turns ← number_or (10 ^ 12) 0 (10 ^ 12) (value_given proxy_spelling rows option.Turns)
@@ -67,6 +63,3 @@ proxy_values kind rows = do
 -- a device must be named, and then each value must read
 unfoldable pub proxy_asked : Kind → List Row → Result ToolCommand UsageKind
 proxy_asked kind rows = if is_given proxy_spelling rows option.Device then or_value (proxy_values kind rows) else Err usage.NoDevice
-
-unfoldable pub proxy_in : Kind → List Text → Result ToolCommand UsageKind
-proxy_in kind words = read_by (proxy_app kind) (proxy_asked kind) words

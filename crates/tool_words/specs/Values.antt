@@ -1,8 +1,8 @@
 -- The values of options.
-use Rattle.std.specs.Prelude.{◌≡◌, ℕ, ◌==◌, ◌&&◌, ◌||◌, ◌^◌, Bool, false, not, nat_eq, nat_lt, nat_le, codes, List, length, slice_index, Option, Some, None, Result, Ok, Err, if◌then◌else◌, option_and_then, option_map, unwrap_or}
+use Rattle.std.specs.Prelude.{◌≡◌, ℕ, ◌==◌, ◌&&◌, ◌||◌, ◌-◌, ◌^◌, Bool, false, not, nat_eq, nat_lt, nat_le, codes, List, length, slice_index, Option, Some, None, Result, Ok, Err, if◌then◌else◌, option_and_then, option_map, unwrap_or}
 use Rattle.std.specs.Char.{is_ascii_digit}
 use Rattle.hex.specs.Hex.{decode_of}
-use Rattle.std.specs.List.{list_all, starts_with}
+use Rattle.std.specs.List.{after_first, before_first, list_all, position_or_len, starts_with}
 use Rattle.std.specs.Result.{result_ok}
 use Rattle.std.specs.Str.{chars}
 use Rattle.std.specs.Str.Parse.{digits_value}
@@ -32,7 +32,13 @@ if_within least most number = if nat_le least number && nat_le number most then 
 unfoldable pub number_within : ℕ → ℕ → List ℕ → Option ℕ
 number_within least most text = option_and_then (if_within least most) (number_in text)
 
--- the same, or the default where there is no text
+abbrev pub number_8_in : List ℕ → Option ℕ
+number_8_in = number_within 0 (2 ^ 8 - 1)
+
+abbrev pub number_32_in : List ℕ → Option ℕ
+number_32_in = number_within 0 (2 ^ 32 - 1)
+
+-- the number, or the default where there is no text
 unfoldable pub number_or : ℕ → ℕ → ℕ → Option (List ℕ) → Option ℕ
 number_or default least most (Some text) = number_within least most text
 number_or default least most None = Some default
@@ -60,6 +66,11 @@ short_in text = if nat_le (length text) 1000 then Some (chars text) else None
 abbrev pub optional : {A : Type 0} → (List ℕ → Option A) → Option (List ℕ) → Option (Option A)
 optional read None = Some None
 optional read (Some text) = option_map (λ value. Some value) (read text)
+
+-- the text before the first of these bytes and the one behind it, if there is one
+abbrev pub split_at : ℕ → List ℕ → Option (List ℕ × List ℕ)
+split_at separator text = if nat_lt (position_or_len (λ byte. byte == separator) text) (length text)
+    then Some (before_first (λ byte. byte == separator) text, after_first (λ byte. byte == separator) text) else None
 
 -- ---- bytes ----
 

@@ -1,18 +1,23 @@
-ghost use Rattle.std.specs.Prelude.{◌≡◌, map, string_bytes};
-ghost use Rattle.tool_words.specs.Command.{command_in, tool_named};
-ghost use Rattle.tool_words.specs.Answers.{Answers};
+ghost use Rattle.std.specs.Prelude.{◌≡◌, IfOk, map, string_bytes};
+ghost use Rattle.clap.specs.Words.{app_of, found_of, rows_of};
+ghost use Rattle.tool_words.specs.Answers.{Answers, read_by};
+ghost use Rattle.tool_words.specs.Command.{command_in, tool_app, tool_asked, tool_named};
 
-use crate::proxy::{proxy_command, proxy_name};
-use crate::qmicli::qmicli_command;
+use crate::mbimcli::{mbimcli_asked, mbimcli_reader};
+use crate::proxy::{proxy_asked, proxy_name, proxy_reader};
+use crate::qmicli::{qmicli_asked, qmicli_reader};
+use crate::reader::read_words;
 use crate::{UsageKind, WordFault};
+use clap::{ArgMatches, Command};
 use kit_bytes::{Kind, PathText};
+use mbim_requests::MbimRequest;
 use qmi_requests::QmiRequest;
-use std::alloc::Global;
+use std::alloc::{AllocError, Global};
 
 /// What the program is to do.
 #[derive(Debug, Drop)]
 pub enum ToolCommand {
-    /// Sends a request to a modem and prints its answer.
+    /// Sends a request to a QMI modem and prints its answer.
     Qmicli {
         device: PathText,
         /// Whether the device is reached through the proxy behind the socket.
@@ -22,6 +27,17 @@ pub enum ToolCommand {
         /// Whether an allocated client id is kept.
         keep: bool,
         request: QmiRequest,
+        socket: PathText,
+        bridge: PathText,
+    },
+    /// The same with an MBIM modem.
+    Mbimcli {
+        device: PathText,
+        /// Whether the device is reached through the proxy behind the socket.
+        proxied: bool,
+        /// Whether the modem is closed afterwards.
+        close: bool,
+        request: MbimRequest,
         socket: PathText,
         bridge: PathText,
     },
@@ -48,6 +64,7 @@ pub enum ToolCommand {
 #[derive(Clone, Copy, Debug, PartialEq, Eq)]
 enum Tool {
     Qmicli,
+    Mbimcli,
     /// The proxy for a kind of modem.
     Proxy(Kind),
 }
@@ -58,11 +75,44 @@ fn tool_named(word: &str) -> Option<Tool>
 {
     if word == "qmicli" {
         Some(Tool::Qmicli)
+    } else if word == "mbimcli" {
+        Some(Tool::Mbimcli)
     } else if word == proxy_name(Kind::Qmi) {
         Some(Tool::Proxy(Kind::Qmi))
+    } else if word == proxy_name(Kind::Mbim) {
+        Some(Tool::Proxy(Kind::Mbim))
     } else {
         None
     }
+}
+
+// The options of a tool.
+fn reader<'a>(alloc: Global, tool: Tool) -> Result<Command<'a>, AllocError>
+    ensures { IfOk result (λ command. app_of command ≡ tool_app tool) }
+{
+    match tool {
+        Tool::Qmicli => qmicli_reader(alloc),
+        Tool::Mbimcli => mbimcli_reader(alloc),
+        Tool::Proxy(kind) => proxy_reader(alloc, kind),
+    }
+}
+
+// What the words ask for that give its options so.
+fn asked(alloc: Global, tool: Tool, matches: &ArgMatches<'_>) -> Result<ToolCommand, WordFault>
+    ensures { Answers (tool_asked tool (rows_of (found_of matches.now))) result }
+{
+    match tool {
+        Tool::Qmicli => qmicli_asked(alloc, matches),
+        Tool::Mbimcli => mbimcli_asked(alloc, matches),
+        Tool::Proxy(kind) => proxy_asked(alloc, kind, matches),
+    }
+}
+
+fn read_tool(alloc: Global, tool: Tool, words: &[String]) -> Result<ToolCommand, WordFault>
+    ensures { Answers (read_by (tool_app tool) (tool_asked tool) (map string_bytes words.now)) result }
+{
+    let matches = read_words(reader(alloc, tool)?, words)?;
+    asked(alloc, tool, &matches)
 }
 
 /// What the words ask for. The first one names the tool.
@@ -74,8 +124,7 @@ pub fn command_of(alloc: Global, words: &[String]) -> Result<ToolCommand, WordFa
         return Err(WordFault::Usage(UsageKind::NoTool));
     }
     match tool_named(words[0].as_str()) {
-        Some(Tool::Qmicli) => qmicli_command(alloc, words),
-        Some(Tool::Proxy(kind)) => proxy_command(alloc, kind, words),
+        Some(tool) => read_tool(alloc, tool, words),
         None => Err(WordFault::Usage(UsageKind::UnknownTool)),
     }
 }

@@ -2,14 +2,20 @@
 #![tactic(auto)]
 
 mod command;
+mod defaults;
 mod fault;
 mod given;
 mod keys;
+mod link;
+mod mbim_commands;
+mod mbimcli;
+mod modem_tools;
 mod options;
 mod proxy;
 mod qmi_commands;
 mod qmicli;
 mod reader;
+mod sole;
 mod values;
 
 pub use command::{ToolCommand, command_of};

@@ -1,19 +1,56 @@
 ghost use Rattle.std.specs.Prelude.{◌≡◌};
-ghost use Rattle.tool_words.specs.Spelling.{Spelling};
+ghost use Rattle.tool_words.specs.Spelling.{Spelling, flag, or_letter, spelled, valued};
+
+/// How the words spell an option.
+#[derive(Clone, Copy, Debug)]
+pub struct OptionSpelling {
+    /// Its name, which stands behind two dashes.
+    pub name: &'static str,
+    /// Its letter, if it has one, which stands behind one dash.
+    pub letter: Option<char>,
+    /// Whether a value follows it.
+    pub takes_value: bool,
+}
 
 /// An option of a tool.
 pub trait ToolOption: Copy + Drop {
     ghost spelling: { Self → Spelling };
 
-    /// Its name, which stands behind two dashes.
-    fn name(self) -> &'static str
-        ensures { result.now ≡ (spelling self).name };
+    /// How the words spell it.
+    fn spelling(self) -> OptionSpelling
+        ensures { spelled result ≡ spelling self };
+}
 
-    /// Its letter, if it has one, which stands behind one dash.
-    fn letter(self) -> Option<char>
-        ensures { result ≡ (spelling self).letter };
+/// An option without a value.
+pub fn flag(name: &'static str) -> OptionSpelling
+    ensures { spelled result ≡ flag name.now }
+{
+    OptionSpelling {
+        name,
+        letter: None,
+        takes_value: false,
+    }
+}
 
-    /// Whether a value follows it.
-    fn takes_value(self) -> bool
-        ensures { result ≡ (spelling self).takes_value };
+/// An option with a value.
+pub fn valued(name: &'static str) -> OptionSpelling
+    ensures { spelled result ≡ valued name.now }
+{
+    OptionSpelling {
+        name,
+        letter: None,
+        takes_value: true,
+    }
+}
+
+impl OptionSpelling {
+    /// The same option, which has a letter too.
+    pub fn or_letter(self, letter: char) -> OptionSpelling
+        ensures { spelled result ≡ or_letter letter (spelled self) }
+    {
+        OptionSpelling {
+            letter: Some(letter),
+            ..self
+        }
+    }
 }

@@ -1,12 +1,13 @@
-ghost use Rattle.std.specs.Prelude.{◌≡◌, ◌≤◌, true, IfOk, map, string_bytes, option_and_then, option_map};
+ghost use Rattle.std.specs.Prelude.{◌≡◌, ◌≤◌, true, IfOk, option_and_then, option_map};
 ghost use Rattle.clap.specs.Words.{app_of, found_of, rows_of};
 ghost use Rattle.tool_words.specs.Answers.{Answers};
-ghost use Rattle.tool_words.specs.Proxy.{empty_time, proxy_app, proxy_asked, proxy_in, proxy_name, proxy_options, proxy_socket, proxy_spelling, proxy_values};
+ghost use Rattle.tool_words.specs.Proxy.{empty_time, proxy_app, proxy_asked, proxy_name, proxy_options, proxy_spelling, proxy_values};
 ghost use Rattle.tool_words.specs.Values.{Gives, device_in};
 
+use crate::defaults::{bridge_socket, proxy_socket};
 use crate::given::{is_given, value_given};
-use crate::options::ToolOption;
-use crate::reader::{add_options, read_words, without_options};
+use crate::options::{OptionSpelling, ToolOption, flag, valued};
+use crate::reader::{add_options, without_options};
 use crate::values::{device, number_or, path_or};
 use crate::{ToolCommand, UsageKind, WordFault};
 use clap::{ArgMatches, Command};
@@ -20,16 +21,6 @@ pub fn proxy_name(kind: Kind) -> &'static str
     match kind {
         Kind::Qmi => "qmi-proxy",
         Kind::Mbim => "mbim-proxy",
-    }
-}
-
-/// The socket on which a proxy listens where none is named.
-pub fn proxy_socket(kind: Kind) -> &'static str
-    ensures { result.now ≡ proxy_socket kind }
-{
-    match kind {
-        Kind::Qmi => "/tmp/qmi-proxy.sock",
-        Kind::Mbim => "/tmp/mbim-proxy.sock",
     }
 }
 
@@ -48,27 +39,16 @@ pub enum ProxyOption {
 impl ToolOption for ProxyOption {
     ghost spelling = { proxy_spelling };
 
-    fn name(self) -> &'static str {
+    fn spelling(self) -> OptionSpelling {
         match self {
-            ProxyOption::Device => "device",
-            ProxyOption::Socket => "socket",
-            ProxyOption::Bridge => "bridge",
-            ProxyOption::NoExit => "no-exit",
-            ProxyOption::EmptyTimeout => "empty-timeout",
-            ProxyOption::Time => "time",
-            ProxyOption::Turns => "turns",
+            ProxyOption::Device => valued("device").or_letter('d'),
+            ProxyOption::Socket => valued("socket"),
+            ProxyOption::Bridge => valued("bridge"),
+            ProxyOption::NoExit => flag("no-exit"),
+            ProxyOption::EmptyTimeout => valued("empty-timeout"),
+            ProxyOption::Time => valued("time"),
+            ProxyOption::Turns => valued("turns"),
         }
-    }
-
-    fn letter(self) -> Option<char> {
-        match self {
-            ProxyOption::Device => Some('d'),
-            _ => None,
-        }
-    }
-
-    fn takes_value(self) -> bool {
-        !matches!(self, ProxyOption::NoExit)
     }
 }
 
@@ -89,7 +69,8 @@ fn options() -> &'static [ProxyOption]
     PROXY_OPTIONS.as_slice()
 }
 
-fn proxy_reader<'a>(alloc: Global, kind: Kind) -> Result<Command<'a>, AllocError>
+/// The options of a proxy.
+pub fn proxy_reader<'a>(alloc: Global, kind: Kind) -> Result<Command<'a>, AllocError>
     ensures { IfOk result (λ command. app_of command ≡ proxy_app kind) }
 {
     let name: &'a str = proxy_name(kind);
@@ -125,7 +106,7 @@ fn values(alloc: Global, kind: Kind, matches: &ArgMatches<'_>) -> Result<ToolCom
     let socket = value_given(matches, ProxyOption::Socket);
     let socket = path_or(alloc, proxy_socket(kind), socket)?;
     let bridge = value_given(matches, ProxyOption::Bridge);
-    let bridge = path_or(alloc, "/tmp/modemkit.bridge", bridge)?;
+    let bridge = path_or(alloc, bridge_socket(), bridge)?;
     let stays = is_given(matches, ProxyOption::NoExit);
     let seconds = value_given(matches, ProxyOption::EmptyTimeout);
     let seconds = number_or(30, 0, 86_400, seconds)?;
@@ -144,20 +125,17 @@ fn values(alloc: Global, kind: Kind, matches: &ArgMatches<'_>) -> Result<ToolCom
     })
 }
 
+/// What the words of a proxy ask for.
 #[tactic(auto, unfolding(crate::specs::Proxy::proxy_asked))]
-fn asked(alloc: Global, kind: Kind, matches: &ArgMatches<'_>) -> Result<ToolCommand, WordFault>
+pub fn proxy_asked(
+    alloc: Global,
+    kind: Kind,
+    matches: &ArgMatches<'_>,
+) -> Result<ToolCommand, WordFault>
     ensures { Answers (proxy_asked kind (rows_of (found_of matches.now))) result }
 {
     if !is_given(matches, ProxyOption::Device) {
         return Err(WordFault::Usage(UsageKind::NoDevice));
     }
     values(alloc, kind, matches)
-}
-
-/// The proxy that its words ask for.
-pub fn proxy_command(alloc: Global, kind: Kind, words: &[String]) -> Result<ToolCommand, WordFault>
-    ensures { Answers (proxy_in kind (map string_bytes words.now)) result }
-{
-    let matches = read_words(proxy_reader(alloc, kind)?, words)?;
-    asked(alloc, kind, &matches)
 }

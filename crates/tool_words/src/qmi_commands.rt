@@ -1,11 +1,11 @@
-ghost use Rattle.std.specs.Prelude.{◌≡◌, MatchOption, None, Some, option_map};
-ghost use Rattle.tool_words.specs.Keys.{split_at};
-ghost use Rattle.tool_words.specs.QmiCommands.{command_spelling, describes, ip_type_in, line_of, mode_in, qmi_commands, start_network_in, stored_in};
-ghost use Rattle.tool_words.specs.Values.{Gives, number_within, optional};
+ghost use Rattle.std.specs.Prelude.{◌≡◌, map, option_map};
+ghost use Rattle.tool_words.specs.Keys.{keyed};
+ghost use Rattle.tool_words.specs.QmiCommands.{ip_type_in, mode_in, network_of, qmi_asks, qmi_commands, qmi_line, qmi_spelling, start_network_in, stored_in};
+ghost use Rattle.tool_words.specs.Values.{Gives, optional};
 
-use crate::keys::network_keys;
-use crate::options::ToolOption;
-use crate::values::{number_within, octets, or_fault, short};
+use crate::keys::{parts_in, text_of_key, value_of};
+use crate::options::{OptionSpelling, ToolOption, flag, valued};
+use crate::values::{at_comma, number_8, number_32, octets, or_fault};
 use crate::{UsageKind, WordFault};
 use qmi_requests::QmiRequest;
 use std::alloc::Global;
@@ -65,52 +65,34 @@ static QMI_COMMANDS: [QmiCommand; 23] = [
 ];
 
 impl ToolOption for QmiCommand {
-    ghost spelling = { command_spelling };
+    ghost spelling = { qmi_spelling };
 
-    fn name(self) -> &'static str {
+    fn spelling(self) -> OptionSpelling {
         match self {
-            QmiCommand::GetServiceVersionInfo => "get-service-version-info",
-            QmiCommand::DmsGetCapabilities => "dms-get-capabilities",
-            QmiCommand::DmsGetManufacturer => "dms-get-manufacturer",
-            QmiCommand::DmsGetModel => "dms-get-model",
-            QmiCommand::DmsGetRevision => "dms-get-revision",
-            QmiCommand::DmsGetMsisdn => "dms-get-msisdn",
-            QmiCommand::DmsGetIds => "dms-get-ids",
-            QmiCommand::DmsGetOperatingMode => "dms-get-operating-mode",
-            QmiCommand::DmsSetOperatingMode => "dms-set-operating-mode",
-            QmiCommand::NasGetSignalStrength => "nas-get-signal-strength",
-            QmiCommand::NasNetworkScan => "nas-network-scan",
-            QmiCommand::NasGetServingSystem => "nas-get-serving-system",
-            QmiCommand::NasGetHomeNetwork => "nas-get-home-network",
-            QmiCommand::WdsStartNetwork => "wds-start-network",
-            QmiCommand::WdsStopNetwork => "wds-stop-network",
-            QmiCommand::WdsGetPacketServiceStatus => "wds-get-packet-service-status",
-            QmiCommand::WdsGetChannelRates => "wds-get-channel-rates",
-            QmiCommand::WdsGetCurrentSettings => "wds-get-current-settings",
-            QmiCommand::WmsRawSend => "wms-raw-send",
-            QmiCommand::WmsRawRead => "wms-raw-read",
-            QmiCommand::WmsDelete => "wms-delete",
-            QmiCommand::WmsListMessages => "wms-list-messages",
-            QmiCommand::DescribeTables => "describe-tables",
+            QmiCommand::GetServiceVersionInfo => flag("get-service-version-info"),
+            QmiCommand::DmsGetCapabilities => flag("dms-get-capabilities"),
+            QmiCommand::DmsGetManufacturer => flag("dms-get-manufacturer"),
+            QmiCommand::DmsGetModel => flag("dms-get-model"),
+            QmiCommand::DmsGetRevision => flag("dms-get-revision"),
+            QmiCommand::DmsGetMsisdn => flag("dms-get-msisdn"),
+            QmiCommand::DmsGetIds => flag("dms-get-ids"),
+            QmiCommand::DmsGetOperatingMode => flag("dms-get-operating-mode"),
+            QmiCommand::DmsSetOperatingMode => valued("dms-set-operating-mode"),
+            QmiCommand::NasGetSignalStrength => flag("nas-get-signal-strength"),
+            QmiCommand::NasNetworkScan => flag("nas-network-scan"),
+            QmiCommand::NasGetServingSystem => flag("nas-get-serving-system"),
+            QmiCommand::NasGetHomeNetwork => flag("nas-get-home-network"),
+            QmiCommand::WdsStartNetwork => valued("wds-start-network"),
+            QmiCommand::WdsStopNetwork => valued("wds-stop-network"),
+            QmiCommand::WdsGetPacketServiceStatus => flag("wds-get-packet-service-status"),
+            QmiCommand::WdsGetChannelRates => flag("wds-get-channel-rates"),
+            QmiCommand::WdsGetCurrentSettings => flag("wds-get-current-settings"),
+            QmiCommand::WmsRawSend => valued("wms-raw-send"),
+            QmiCommand::WmsRawRead => valued("wms-raw-read"),
+            QmiCommand::WmsDelete => valued("wms-delete"),
+            QmiCommand::WmsListMessages => valued("wms-list-messages"),
+            QmiCommand::DescribeTables => valued("describe-tables"),
         }
-    }
-
-    fn letter(self) -> Option<char> {
-        None
-    }
-
-    fn takes_value(self) -> bool {
-        matches!(
-            self,
-            QmiCommand::DmsSetOperatingMode
-                | QmiCommand::WdsStartNetwork
-                | QmiCommand::WdsStopNetwork
-                | QmiCommand::WmsRawSend
-                | QmiCommand::WmsRawRead
-                | QmiCommand::WmsDelete
-                | QmiCommand::WmsListMessages
-                | QmiCommand::DescribeTables
-        )
     }
 }
 
@@ -122,11 +104,11 @@ pub fn qmi_commands() -> &'static [QmiCommand]
     QMI_COMMANDS.as_slice()
 }
 
-/// Whether a command prints descriptions of messages, and so asks nothing of a modem.
-pub fn describes(command: QmiCommand) -> bool
-    ensures { result ≡ describes command }
+/// Whether a command sends a request to a modem. One doesn't: it prints descriptions of messages.
+pub fn asks(command: QmiCommand) -> bool
+    ensures { result ≡ qmi_asks command }
 {
-    matches!(command, QmiCommand::DescribeTables)
+    !matches!(command, QmiCommand::DescribeTables)
 }
 
 /// The request that a command gives with this value.
@@ -135,7 +117,7 @@ pub fn request(
     command: QmiCommand,
     value: Option<&str>,
 ) -> Result<QmiRequest, WordFault>
-    ensures { Gives ((line_of command).request (option_map (λ t. t.now) value.entry)) result }
+    ensures { Gives ((qmi_line command).request (option_map (λ t. t.now) value.entry)) result }
 {
     match command {
         QmiCommand::GetServiceVersionInfo => Ok(QmiRequest::GetServiceVersionInfo),
@@ -218,17 +200,21 @@ fn ip_type_if_given(text: Option<&str>) -> Result<Option<u8>, WordFault>
     Ok(Some(ip_type))
 }
 
-#[tactic(auto, unfolding(crate::specs::QmiCommands::start_network_in))]
-fn start_network(alloc: Global, text: &str) -> Result<QmiRequest, WordFault>
-    ensures { Gives (start_network_in text.now) result }
+#[tactic(auto, unfolding(crate::specs::Keys::keyed))]
+fn ip_type_of_key(names: &[&str], parts: &[&str]) -> Result<Option<u8>, WordFault>
+    ensures { Gives (keyed ip_type_in (map (λ name. name.now) names.now) (map (λ part. part.now) parts.now)) result }
 {
-    let Some(keys) = network_keys(alloc, text)? else {
-        return Err(WordFault::Usage(UsageKind::Value));
-    };
-    let apn = short(alloc, keys.apn)?;
-    let username = short(alloc, keys.username)?;
-    let password = short(alloc, keys.password)?;
-    let ip_type = ip_type_if_given(keys.ip_type)?;
+    ip_type_if_given(or_fault(value_of(names, parts))?)
+}
+
+#[tactic(auto, unfolding(crate::specs::QmiCommands::network_of))]
+fn network_of(alloc: Global, parts: &[&str]) -> Result<QmiRequest, WordFault>
+    ensures { Gives (network_of (map (λ part. part.now) parts.now)) result }
+{
+    let apn = text_of_key(alloc, &["apn"], parts)?;
+    let username = text_of_key(alloc, &["username"], parts)?;
+    let password = text_of_key(alloc, &["password"], parts)?;
+    let ip_type = ip_type_of_key(&["ip-type"], parts)?;
     Ok(QmiRequest::WdsStartNetwork {
         apn,
         username,
@@ -237,31 +223,22 @@ fn start_network(alloc: Global, text: &str) -> Result<QmiRequest, WordFault>
     })
 }
 
-fn number_8(text: &str) -> Option<u8>
-    ensures { result ≡ number_within 0 255 text.now }
+#[tactic(auto, unfolding(crate::specs::QmiCommands::start_network_in))]
+fn start_network(alloc: Global, text: &str) -> Result<QmiRequest, WordFault>
+    ensures { Gives (start_network_in text.now) result }
 {
-    let number = number_within(0, 0xFF, text)?;
-    Some(number as u8)
-}
-
-fn number_32(text: &str) -> Option<u32>
-    ensures { result ≡ number_within 0 4294967295 text.now }
-{
-    let number = number_within(0, 0xFFFF_FFFF, text)?;
-    Some(number as u32)
-}
-
-fn storage_and_index(text: &str) -> Option<(&str, &str)>
-    ensures { MatchOption result (split_at 44 text.now ≡ None) (λ pair. split_at 44 text.now ≡ Some (pair.0.now, pair.1.now)) }
-{
-    text.split_once(',')
+    let names = ["apn", "username", "password", "ip-type"];
+    match parts_in(alloc, &names, text)? {
+        Some(parts) => network_of(alloc, &parts),
+        None => Err(WordFault::Usage(UsageKind::Value)),
+    }
 }
 
 #[tactic(auto, unfolding(crate::specs::QmiCommands::stored_in))]
 fn stored(text: &str) -> Option<(u8, u32)>
     ensures { result ≡ stored_in text.now }
 {
-    let (storage, index) = storage_and_index(text)?;
+    let (storage, index) = at_comma(text)?;
     let storage = number_8(storage)?;
     let index = number_32(index)?;
     Some((storage, index))

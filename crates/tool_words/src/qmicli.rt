@@ -1,68 +1,39 @@
-ghost use Rattle.std.specs.Prelude.{◌≡◌, IfOk, map, string_bytes, option_map};
+ghost use Rattle.std.specs.Prelude.{◌≡◌, IfOk, option_map};
 ghost use Rattle.clap.specs.Words.{app_of, found_of, rows_of};
 ghost use Rattle.tool_words.specs.Answers.{Answers};
-ghost use Rattle.tool_words.specs.Qmicli.{described, needs_device, opens_device, qmi_settings, qmicli_app, qmicli_asked, qmicli_in, qmicli_values, sent, setting_spelling, settings_in};
-ghost use Rattle.tool_words.specs.Values.{Gives, device_in, number_within, optional};
+ghost use Rattle.tool_words.specs.QmiCommands.{qmi_asks};
+ghost use Rattle.tool_words.specs.Qmicli.{described, qmi_asked, qmi_sent, qmi_setting_spelling, qmi_settings, qmicli_app, qmicli_asked, qmicli_values};
+ghost use Rattle.tool_words.specs.Values.{Gives, number_within, optional};
 
-use crate::given::{is_given, sole_command, value_given};
-use crate::options::ToolOption;
-use crate::proxy::proxy_socket;
-use crate::qmi_commands::{QmiCommand, describes, qmi_commands, request};
-use crate::reader::{add_options, read_words, without_options};
-use crate::values::{device, number_within, or_fault, path, path_or};
+use crate::given::{is_given, value_given};
+use crate::link::{LinkSettings, link_given};
+use crate::modem_tools::{ModemCommand, modem_tool, modem_tool_asked};
+use crate::options::{OptionSpelling, ToolOption, flag, valued};
+use crate::qmi_commands::{QmiCommand, asks, qmi_commands, request};
+use crate::values::{number_within, or_fault, path};
 use crate::{ToolCommand, UsageKind, WordFault};
 use clap::{ArgMatches, Command};
-use kit_bytes::{Kind, PathText};
+use kit_bytes::Kind;
 use qmi_requests::QmiRequest;
 use std::alloc::{AllocError, Global};
 
-/// An option of `qmicli` that says how its command is run.
+/// An option of `qmicli` that says how its command is run, beside those of the link.
 #[derive(Clone, Copy, Debug, PartialEq, Eq)]
 pub enum QmiSetting {
-    Device,
-    DeviceOpenProxy,
-    Socket,
-    Bridge,
     ClientCid,
     ClientNoReleaseCid,
 }
 
-static QMI_SETTINGS: [QmiSetting; 6] = [
-    QmiSetting::Device,
-    QmiSetting::DeviceOpenProxy,
-    QmiSetting::Socket,
-    QmiSetting::Bridge,
-    QmiSetting::ClientCid,
-    QmiSetting::ClientNoReleaseCid,
-];
+static QMI_SETTINGS: [QmiSetting; 2] = [QmiSetting::ClientCid, QmiSetting::ClientNoReleaseCid];
 
 impl ToolOption for QmiSetting {
-    ghost spelling = { setting_spelling };
+    ghost spelling = { qmi_setting_spelling };
 
-    fn name(self) -> &'static str {
+    fn spelling(self) -> OptionSpelling {
         match self {
-            QmiSetting::Device => "device",
-            QmiSetting::DeviceOpenProxy => "device-open-proxy",
-            QmiSetting::Socket => "socket",
-            QmiSetting::Bridge => "bridge",
-            QmiSetting::ClientCid => "client-cid",
-            QmiSetting::ClientNoReleaseCid => "client-no-release-cid",
+            QmiSetting::ClientCid => valued("client-cid"),
+            QmiSetting::ClientNoReleaseCid => flag("client-no-release-cid"),
         }
-    }
-
-    fn letter(self) -> Option<char> {
-        match self {
-            QmiSetting::Device => Some('d'),
-            QmiSetting::DeviceOpenProxy => Some('p'),
-            _ => None,
-        }
-    }
-
-    fn takes_value(self) -> bool {
-        !matches!(
-            self,
-            QmiSetting::DeviceOpenProxy | QmiSetting::ClientNoReleaseCid
-        )
     }
 }
 
@@ -73,37 +44,12 @@ fn settings() -> &'static [QmiSetting]
     QMI_SETTINGS.as_slice()
 }
 
-fn qmicli_reader<'a>(alloc: Global) -> Result<Command<'a>, AllocError>
-    ensures { IfOk result (λ command. app_of command ≡ qmicli_app) }
+/// The options of `qmicli`.
+pub fn qmicli_reader<'a>(alloc: Global) -> Result<Command<'a>, AllocError>
+    ensures { IfOk result (λ tool. app_of tool ≡ qmicli_app) }
 {
-    let command = add_options(alloc, without_options(alloc, "qmicli"), settings())?;
-    let command = add_options(alloc, command, qmi_commands())?;
-    Ok(command)
-}
-
-/// The settings, with defaults filled in.
-#[derive(Debug, Drop)]
-pub struct QmiSettings {
-    pub device: Option<PathText>,
-    pub proxied: bool,
-    pub socket: PathText,
-    pub bridge: PathText,
-    pub cid: Option<u8>,
-    pub keep: bool,
-}
-
-fn device_if_given(
-    alloc: Global,
-    opens: bool,
-    text: Option<&str>,
-) -> Result<Option<PathText>, WordFault>
-    ensures { Gives (optional (device_in opens) (option_map (λ t. t.now) text.entry)) result }
-{
-    let Some(text) = text else {
-        return Ok(None);
-    };
-    let device = device(alloc, opens, text)?;
-    Ok(Some(device))
+    let tool = modem_tool(alloc, "qmicli", settings(), qmi_commands())?;
+    Ok(tool)
 }
 
 fn cid_if_given(text: Option<&str>) -> Result<Option<u8>, WordFault>
@@ -118,38 +64,6 @@ fn cid_if_given(text: Option<&str>) -> Result<Option<u8>, WordFault>
     }
 }
 
-fn opens_device(asks: bool, proxied: bool) -> bool
-    ensures { result ≡ opens_device asks proxied }
-{
-    asks && !proxied
-}
-
-#[tactic(auto, unfolding(crate::specs::Qmicli::settings_in))]
-fn settings_given(
-    alloc: Global,
-    asks: bool,
-    matches: &ArgMatches<'_>,
-) -> Result<QmiSettings, WordFault>
-    ensures { Gives (settings_in asks (rows_of (found_of matches.now))) result }
-{
-    let proxied = is_given(matches, QmiSetting::DeviceOpenProxy);
-    let device = value_given(matches, QmiSetting::Device);
-    let device = device_if_given(alloc, opens_device(asks, proxied), device)?;
-    let socket = value_given(matches, QmiSetting::Socket);
-    let socket = path_or(alloc, proxy_socket(Kind::Qmi), socket)?;
-    let bridge = value_given(matches, QmiSetting::Bridge);
-    let bridge = path_or(alloc, "/tmp/modemkit.bridge", bridge)?;
-    let cid = cid_if_given(value_given(matches, QmiSetting::ClientCid))?;
-    Ok(QmiSettings {
-        device,
-        proxied,
-        socket,
-        bridge,
-        cid,
-        keep: is_given(matches, QmiSetting::ClientNoReleaseCid),
-    })
-}
-
 fn description(alloc: Global, file: Option<&str>) -> Result<ToolCommand, WordFault>
     ensures { Gives (described (option_map (λ t. t.now) file.entry)) result }
 {
@@ -157,67 +71,66 @@ fn description(alloc: Global, file: Option<&str>) -> Result<ToolCommand, WordFau
     Ok(ToolCommand::Describe { file })
 }
 
-fn sending(settings: QmiSettings, request: QmiRequest) -> Result<ToolCommand, WordFault>
-    ensures { Gives (sent settings request) result }
+fn sending(
+    link: LinkSettings,
+    cid: Option<u8>,
+    keep: bool,
+    request: QmiRequest,
+) -> Result<ToolCommand, WordFault>
+    ensures { Gives (qmi_sent link cid keep request) result }
 {
-    let device = or_fault(settings.device)?;
+    let device = or_fault(link.device)?;
     Ok(ToolCommand::Qmicli {
         device,
-        proxied: settings.proxied,
-        cid: settings.cid,
-        keep: settings.keep,
+        proxied: link.proxied,
+        cid,
+        keep,
         request,
-        socket: settings.socket,
-        bridge: settings.bridge,
+        socket: link.socket,
+        bridge: link.bridge,
     })
 }
 
-#[tactic(auto, unfolding(crate::specs::Qmicli::qmicli_values))]
-fn values(
+#[tactic(auto, unfolding(crate::specs::Qmicli::qmi_asked))]
+fn asking(
     alloc: Global,
-    matches: &ArgMatches<'_>,
+    link: LinkSettings,
+    cid: Option<u8>,
     command: QmiCommand,
+    matches: &ArgMatches<'_>,
 ) -> Result<ToolCommand, WordFault>
-    ensures { Gives (qmicli_values command (rows_of (found_of matches.now))) result }
+    ensures { Gives (qmi_asked link cid command (rows_of (found_of matches.now))) result }
 {
-    let value = value_given(matches, command);
-    if describes(command) {
-        let _settings = settings_given(alloc, false, matches)?;
-        description(alloc, value)
-    } else {
-        let settings = settings_given(alloc, true, matches)?;
-        let request = request(alloc, command, value)?;
-        sending(settings, request)
-    }
+    let request = request(alloc, command, value_given(matches, command))?;
+    let keep = is_given(matches, QmiSetting::ClientNoReleaseCid);
+    sending(link, cid, keep, request)
 }
 
-fn needs_device(command: Result<QmiCommand, UsageKind>) -> bool
-    ensures { result ≡ needs_device command }
-{
-    match command {
-        Ok(command) => !describes(command),
-        Err(_) => true,
-    }
-}
+impl ModemCommand for QmiCommand {
+    ghost asks = { qmi_asks };
 
-#[tactic(auto, unfolding(crate::specs::Qmicli::qmicli_asked))]
-fn asked(alloc: Global, matches: &ArgMatches<'_>) -> Result<ToolCommand, WordFault>
-    ensures { Answers (qmicli_asked (rows_of (found_of matches.now))) result }
-{
-    let command = sole_command(matches, qmi_commands());
-    if needs_device(command) && !is_given(matches, QmiSetting::Device) {
-        return Err(WordFault::Usage(UsageKind::NoDevice));
+    ghost values = { qmicli_values };
+
+    fn asks(self) -> bool {
+        asks(self)
     }
-    match command {
-        Ok(command) => values(alloc, matches, command),
-        Err(why) => Err(WordFault::Usage(why)),
+
+    #[tactic(auto, unfolding(crate::specs::Qmicli::qmicli_values))]
+    fn values(self, alloc: Global, matches: &ArgMatches<'_>) -> Result<ToolCommand, WordFault> {
+        let link = link_given(alloc, Kind::Qmi, asks(self), matches)?;
+        let cid = cid_if_given(value_given(matches, QmiSetting::ClientCid))?;
+        if asks(self) {
+            asking(alloc, link, cid, self, matches)
+        } else {
+            description(alloc, value_given(matches, self))
+        }
     }
 }
 
 /// What the words of `qmicli` ask for.
-pub fn qmicli_command(alloc: Global, words: &[String]) -> Result<ToolCommand, WordFault>
-    ensures { Answers (qmicli_in (map string_bytes words.now)) result }
+#[tactic(auto, unfolding(crate::specs::Qmicli::qmicli_asked))]
+pub fn qmicli_asked(alloc: Global, matches: &ArgMatches<'_>) -> Result<ToolCommand, WordFault>
+    ensures { Answers (qmicli_asked (rows_of (found_of matches.now))) result }
 {
-    let matches = read_words(qmicli_reader(alloc)?, words)?;
-    asked(alloc, &matches)
+    modem_tool_asked(alloc, qmi_commands(), matches)
 }

@@ -27,8 +27,9 @@ pub fn add_options<'a, O: ToolOption>(
 {
     let mut command = command;
     for option in options {
-        let name: &'a str = option.name();
-        let arg = option_arg(alloc, name, option.letter(), option.takes_value());
+        let spelling = option.spelling();
+        let name: &'a str = spelling.name;
+        let arg = option_arg(alloc, name, spelling.letter, spelling.takes_value);
         command = command.arg(arg)?;
     }
     Ok(command)

@@ -1,8 +1,8 @@
-ghost use Rattle.std.specs.Prelude.{◌≡◌, ◌≤◌, IfOk, IfSome, option_map};
+ghost use Rattle.std.specs.Prelude.{◌≡◌, ◌≤◌, IfOk, IfSome, MatchOption, None, Some, option_map};
 ghost use Rattle.std.specs.Char.{is_ascii_digit};
 ghost use Rattle.std.specs.List.{list_all};
 ghost use Rattle.std.specs.Str.{chars, encode_utf8_all};
-ghost use Rattle.tool_words.specs.Values.{Gives, device_in, is_decimal, number_in, number_or, number_within, octets_in, path_in, path_or, short_in, optional};
+ghost use Rattle.tool_words.specs.Values.{Gives, device_in, is_decimal, number_32_in, number_8_in, number_in, number_or, number_within, octets_in, path_in, path_or, short_in, split_at, optional};
 
 use crate::{UsageKind, WordFault};
 use hex::FromHexError;
@@ -64,6 +64,22 @@ pub fn number_within(least: u64, most: u64, text: &str) -> Option<u64>
     }
 }
 
+/// The number of 8 bits that the text spells.
+pub fn number_8(text: &str) -> Option<u8>
+    ensures { result ≡ number_8_in text.now }
+{
+    let number = number_within(0, 0xFF, text)?;
+    Some(number as u8)
+}
+
+/// The number of 32 bits that the text spells.
+pub fn number_32(text: &str) -> Option<u32>
+    ensures { result ≡ number_32_in text.now }
+{
+    let number = number_within(0, 0xFFFF_FFFF, text)?;
+    Some(number as u32)
+}
+
 /// The number that the text spells within these limits, or the default where there is no text.
 #[tactic(auto, unfolding(crate::specs::Values::number_or))]
 pub fn number_or(default: u64, least: u64, most: u64, text: Option<&str>) -> Result<u64, WordFault>
@@ -115,16 +131,30 @@ pub fn path_or(alloc: Global, default: &str, text: Option<&str>) -> Result<PathT
     path(alloc, text.unwrap_or(default))
 }
 
-/// The text of a request, if there is one.
+/// The text of a request.
 #[tactic(auto, unfolding(crate::specs::Values::short_in))]
-pub fn short(alloc: Global, text: Option<&str>) -> Result<Option<ShortText>, WordFault>
+pub fn short(alloc: Global, text: &str) -> Result<ShortText, WordFault>
+    ensures { Gives (short_in text.now) result }
+{
+    or_fault(ShortText::of(text_of(alloc, text)?))
+}
+
+/// The same, if there is one.
+pub fn short_if_given(alloc: Global, text: Option<&str>) -> Result<Option<ShortText>, WordFault>
     ensures { Gives (optional short_in (option_map (λ t. t.now) text.entry)) result }
 {
     let Some(text) = text else {
         return Ok(None);
     };
-    let short = or_fault(ShortText::of(text_of(alloc, text)?))?;
+    let short = short(alloc, text)?;
     Ok(Some(short))
+}
+
+/// The texts before and behind the first comma.
+pub fn at_comma(text: &str) -> Option<(&str, &str)>
+    ensures { MatchOption result (split_at 44 text.now ≡ None) (λ pair. split_at 44 text.now ≡ Some (pair.0.now, pair.1.now)) }
+{
+    text.split_once(',')
 }
 
 /// The bytes that the text spells as pairs of hexadecimal digits.

@@ -1,5 +1,4 @@
 use anyhow::Result;
-use qmi_requests::QmiRequest;
 use std::alloc::Global;
 use tool_words::{ToolCommand, command_of};
 
@@ -11,15 +10,9 @@ pub fn asked(alloc: Global, words: &[String]) -> Result<String> {
 
 /// The request that words ask for, as text, where they ask a modem.
 pub fn requested(alloc: Global, words: &[String]) -> Result<Option<String>> {
-    match command_of(alloc, words).ok().and_then(request_of) {
-        Some(request) => Ok(Some(format!(in alloc; "{request:?}")?)),
-        None => Ok(None),
-    }
-}
-
-fn request_of(command: ToolCommand) -> Option<QmiRequest> {
-    match command {
-        ToolCommand::Qmicli { request, .. } => Some(request),
-        _ => None,
+    match command_of(alloc, words) {
+        Ok(ToolCommand::Qmicli { request, .. }) => Ok(Some(format!(in alloc; "{request:?}")?)),
+        Ok(ToolCommand::Mbimcli { request, .. }) => Ok(Some(format!(in alloc; "{request:?}")?)),
+        _ => Ok(None),
     }
 }

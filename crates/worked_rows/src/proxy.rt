@@ -14,7 +14,7 @@ pub struct Proxy {
     core: QmiCore,
     // the greatest name of a client so far
     greatest: u64,
-    ghost greatest_is: { core.greatest ≡ greatest },
+    ghost greatest_is: { core.state.table.greatest ≡ greatest },
 }
 
 impl Proxy {

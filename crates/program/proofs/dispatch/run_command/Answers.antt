@@ -13,3 +13,10 @@ no_memory kind.Mbim asked = (inr refl, refl)
 -- there was no memory for the settings of a proxy
 pub returns-clause-runs : goal.returns-clause-runs
 returns-clause-runs g c = rw (c.in-Proxy.is) (since-starts (g.H.Hub.calls c.args.hub.now) _ (no_memory c.in-Proxy.kind _))
+
+-- a modem was asked over the link that leads to it
+pub returns-in-Qmicli-clause-runs : goal.returns-in-Qmicli-clause-runs
+returns-in-Qmicli-clause-runs g c = rw (c.in-Qmicli.is, ← c.path_to.ensures) c.ask_modem.ensures.asks
+
+pub returns-in-Mbimcli-clause-runs : goal.returns-in-Mbimcli-clause-runs
+returns-in-Mbimcli-clause-runs g c = rw (c.in-Mbimcli.is, ← c.path_to-in-Mbimcli.ensures) c.ask_modem-in-Mbimcli.ensures.asks

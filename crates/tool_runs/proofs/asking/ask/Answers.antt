@@ -1,5 +1,5 @@
 use Rattle.std.proofs.Common.{◌∙◌, ap, sym, Err}
-use Rattle.device_core.specs.declared.fault.SessionFault.{SessionFault}
+use Rattle.link_session.specs.declared.fault.SessionFault.{SessionFault}
 use Rattle.tool_runs.proofs.Ends.{link_fault_is}
 use Rattle.tool_runs.proofs.asking.ask.Goals as goal
 

@@ -7,7 +7,7 @@ use Rattle.tool_runs.proofs.asking.exchange.Goals as goal
 
 pub returns-clause-exchanges : goal.returns-clause-exchanges
 returns-clause-exchanges g c = record {
-  calls = (Opened (path_of c.args.target.now) true ∷ c.qmi_session-end.ensures.session.calls) ++ Closed ∷ [];
-  exchange = opened c.qmi_session-end.ensures.session.calls c.qmi_session-end.ensures.session.are refl;
-  grows = Grows-append (Grows-append c.in_default.ensures.calls c.qmi_session-end.ensures.session.grows) c.close.ensures.calls;
+  calls = (Opened (path_of c.args.target.now) true ∷ c.hold-end.ensures.holds.calls) ++ Closed ∷ [];
+  exchange = opened c.hold-end.ensures.holds.calls c.hold-end.ensures.holds.are refl;
+  grows = Grows-append (Grows-append c.in_default.ensures.calls c.hold-end.ensures.holds.grows) c.close.ensures.calls;
 }

@@ -11,6 +11,7 @@ returns c =
       ← c.proxy_socket.ensures,
       ← c.value_given-socket.ensures,
       c.in_ok-socket.ensures,
+      ← c.bridge_socket.ensures,
       ← c.value_given-bridge.ensures,
       c.in_ok-bridge.ensures,
       ← c.value_given-seconds.ensures,

@@ -1,9 +1,9 @@
 use Rattle.std.proofs.Common.{refl}
-use Rattle.tool_words.specs.Qmicli.{settings_in}
-use Rattle.tool_words.proofs.qmicli.settings_given.Goals as goal
+use Rattle.tool_words.specs.Link.{link_in}
+use Rattle.tool_words.proofs.link.link_given.Goals as goal
 
 pub returns : goal.returns
-unfolding settings_in
+unfolding link_in
 returns c =
     rw (
       ← c.is_given-proxied.ensures,
@@ -13,9 +13,7 @@ returns c =
       ← c.proxy_socket.ensures,
       ← c.value_given-socket.ensures,
       c.in_ok-socket.ensures,
+      ← c.bridge_socket.ensures,
       ← c.value_given-bridge.ensures,
       c.in_ok-bridge.ensures,
-      ← c.value_given.ensures,
-      c.in_ok-cid.ensures,
-      ← c.is_given.ensures,
     ) refl

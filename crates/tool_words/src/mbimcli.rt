@@ -1,0 +1,89 @@
+ghost use Rattle.std.specs.Prelude.{◌≡◌, IfOk};
+ghost use Rattle.clap.specs.Words.{app_of, found_of, rows_of};
+ghost use Rattle.tool_words.specs.Answers.{Answers};
+ghost use Rattle.tool_words.specs.Mbimcli.{mbim_asks, mbim_sent, mbim_setting_spelling, mbim_settings, mbimcli_app, mbimcli_asked, mbimcli_values};
+ghost use Rattle.tool_words.specs.Values.{Gives};
+
+use crate::given::{is_given, value_given};
+use crate::link::{LinkSettings, link_given};
+use crate::mbim_commands::{MbimCommand, mbim_commands, request};
+use crate::modem_tools::{ModemCommand, modem_tool, modem_tool_asked};
+use crate::options::{OptionSpelling, ToolOption, flag};
+use crate::values::or_fault;
+use crate::{ToolCommand, WordFault};
+use clap::{ArgMatches, Command};
+use kit_bytes::Kind;
+use mbim_requests::MbimRequest;
+use std::alloc::{AllocError, Global};
+
+/// An option of `mbimcli` that says how its command is run, beside those of the link.
+#[derive(Clone, Copy, Debug, PartialEq, Eq)]
+pub enum MbimSetting {
+    NoClose,
+}
+
+static MBIM_SETTINGS: [MbimSetting; 1] = [MbimSetting::NoClose];
+
+impl ToolOption for MbimSetting {
+    ghost spelling = { mbim_setting_spelling };
+
+    fn spelling(self) -> OptionSpelling {
+        match self {
+            MbimSetting::NoClose => flag("no-close"),
+        }
+    }
+}
+
+#[tactic(auto, unfolding(crate::specs::Mbimcli::mbim_settings))]
+fn settings() -> &'static [MbimSetting]
+    ensures { result.now ≡ mbim_settings }
+{
+    MBIM_SETTINGS.as_slice()
+}
+
+/// The options of `mbimcli`.
+pub fn mbimcli_reader<'a>(alloc: Global) -> Result<Command<'a>, AllocError>
+    ensures { IfOk result (λ tool. app_of tool ≡ mbimcli_app) }
+{
+    let tool = modem_tool(alloc, "mbimcli", settings(), mbim_commands())?;
+    Ok(tool)
+}
+
+fn sending(link: LinkSettings, stays: bool, request: MbimRequest) -> Result<ToolCommand, WordFault>
+    ensures { Gives (mbim_sent link stays request) result }
+{
+    let device = or_fault(link.device)?;
+    Ok(ToolCommand::Mbimcli {
+        device,
+        proxied: link.proxied,
+        close: !stays,
+        request,
+        socket: link.socket,
+        bridge: link.bridge,
+    })
+}
+
+impl ModemCommand for MbimCommand {
+    ghost asks = { mbim_asks };
+
+    ghost values = { mbimcli_values };
+
+    fn asks(self) -> bool {
+        true
+    }
+
+    #[tactic(auto, unfolding(crate::specs::Mbimcli::mbimcli_values))]
+    fn values(self, alloc: Global, matches: &ArgMatches<'_>) -> Result<ToolCommand, WordFault> {
+        let link = link_given(alloc, Kind::Mbim, true, matches)?;
+        let request = request(alloc, self, value_given(matches, self))?;
+        sending(link, is_given(matches, MbimSetting::NoClose), request)
+    }
+}
+
+/// What the words of `mbimcli` ask for.
+#[tactic(auto, unfolding(crate::specs::Mbimcli::mbimcli_asked))]
+pub fn mbimcli_asked(alloc: Global, matches: &ArgMatches<'_>) -> Result<ToolCommand, WordFault>
+    ensures { Answers (mbimcli_asked (rows_of (found_of matches.now))) result }
+{
+    modem_tool_asked(alloc, mbim_commands(), matches)
+}
