@@ -1,13 +1,9 @@
 /* A modem for the bench: it gives client ids in turn, and answers what `modem_answers.h` has. Another message is
    refused as an invalid command, and one under a client id that isn't given as an invalid client id.
    answering_modem unix PATH | answering_modem pty LINK */
-#define _GNU_SOURCE
+#include "offering.h"
 #include "qmux.h"
 #include "modem_answers.h"
-#include <fcntl.h>
-#include <sys/socket.h>
-#include <sys/un.h>
-#include <termios.h>
 
 enum { CLIENT_IDS_EXHAUSTED = 5, INVALID_CLIENT_ID = 7, INVALID_COMMAND = 71 };
 
@@ -95,30 +91,6 @@ static void serve(int fd)
 
 int main(int argc, char **argv)
 {
-    if (argc != 3) return 2;
     make_ready();
-    if (strcmp(argv[1], "pty") == 0) {
-        int master = posix_openpt(O_RDWR | O_NOCTTY);
-        if (master < 0 || grantpt(master) || unlockpt(master)) fail("pty");
-        int held = open(ptsname(master), O_RDWR | O_NOCTTY); /* so that the pair stays */
-        struct termios raw;
-        tcgetattr(held, &raw);
-        cfmakeraw(&raw);
-        tcsetattr(held, TCSANOW, &raw);
-        unlink(argv[2]);
-        if (symlink(ptsname(master), argv[2])) fail("symlink");
-        serve(master);
-        return 0;
-    }
-    struct sockaddr_un address = { .sun_family = AF_UNIX };
-    strncpy(address.sun_path, argv[2], sizeof address.sun_path - 1);
-    unlink(argv[2]);
-    int listener = socket(AF_UNIX, SOCK_STREAM, 0);
-    if (bind(listener, (struct sockaddr *)&address, sizeof address) || listen(listener, 4)) fail("listen");
-    for (;;) {
-        int fd = accept(listener, NULL, NULL);
-        if (fd < 0) fail("accept");
-        serve(fd);
-        close(fd);
-    }
+    return offer(argc, argv, serve);
 }

@@ -1,18 +1,7 @@
 /* Messages of QMI over QMUX, as far as the bench needs them. */
-#include <errno.h>
-#include <poll.h>
-#include <stdint.h>
-#include <stdio.h>
-#include <stdlib.h>
-#include <string.h>
-#include <unistd.h>
+#include "streams.h"
 
-enum { CTL = 0, DMS = 2, ALLOCATE = 0x0022, RELEASE = 0x0023, GET_MODEL = 0x0022, PROXY_OPEN = 0xFF00, LONGEST = 65536 };
-
-/* A stream of messages: what was read, and where the next message begins. */
-struct stream { unsigned char bytes[2 * LONGEST]; size_t start, end; };
-
-static void fail(const char *what) { perror(what); exit(1); }
+enum { CTL = 0, DMS = 2, ALLOCATE = 0x0022, RELEASE = 0x0023, GET_MODEL = 0x0022, PROXY_OPEN = 0xFF00 };
 
 /* Writes a message, and gives its length. */
 static size_t put_message(unsigned char *to, int service, int client, int flags, unsigned number, unsigned name, const unsigned char *tlvs, size_t count)
@@ -45,31 +34,4 @@ static unsigned char *next_message(struct stream *s, size_t *length)
     if (s->end - s->start < *length) return NULL;
     s->start += *length;
     return m;
-}
-
-/* Reads what there is. The end of the stream gives 0. */
-static ssize_t fill(int fd, struct stream *s)
-{
-    if (s->start > 0) {
-        memmove(s->bytes, s->bytes + s->start, s->end - s->start);
-        s->end -= s->start;
-        s->start = 0;
-    }
-    ssize_t count = read(fd, s->bytes + s->end, sizeof s->bytes - s->end);
-    if (count > 0) s->end += count;
-    return count;
-}
-
-static void write_all(int fd, const unsigned char *bytes, size_t count)
-{
-    while (count > 0) {
-        ssize_t written = write(fd, bytes, count);
-        if (written < 0) {
-            if (errno == EINTR) continue;
-            if (errno == EAGAIN) { struct pollfd p = { fd, POLLOUT, 0 }; poll(&p, 1, -1); continue; }
-            fail("write");
-        }
-        bytes += written;
-        count -= written;
-    }
 }
