@@ -1,12 +1,12 @@
 -- Each piece but the last is full.
-use Rattle.std.proofs.Common.{◌≡◌, ℕ, ◌+◌, ◌-◌, ◌*◌, ◌/◌, ◌%◌, ◌<◌, ◌≤◌, min, List, [], length, drop, map, get_or, All, sym, ◌∙◌, ap, subst, arith}
+use Rattle.std.proofs.Common.{◌≡◌, ℕ, ◌+◌, ◌-◌, ◌*◌, ◌/◌, ◌%◌, ◌<◌, ◌≤◌, min, List, [], length, map, get_or, All, sym, ◌∙◌, ap, subst, arith}
 use Rattle.std.specs.List.{range_with_len}
 use Rattle.std.proofs.lemmas.Grind.{div_ceil_times}
 use Rattle.std.proofs.lemmas.Nat.{mul-le}
-use Rattle.std.proofs.lemmas.List.{length-take, length-drop}
 use Rattle.std.proofs.lemmas.List.FromFn.{length-map-range_with_len, get_or-map-range_with_len}
-use Rattle.mbim_fragments.specs.Splitting.{part_count, part_at, piece_at, pieces}
+use Rattle.mbim_fragments.specs.Splitting.{part_count, piece_at, pieces}
 use Rattle.mbim_fragments.specs.Laws.{PiecesAreFilled}
+use Rattle.mbim_fragments.proofs.Sizes.{length-piece}
 
 module _ (kind number size : ℕ) (body : List ℕ) (some : 0 < size) where
   abbrev total : ℕ
@@ -14,11 +14,6 @@ module _ (kind number size : ℕ) (body : List ℕ) (some : 0 < size) where
 
   abbrev piece : ℕ → List ℕ
   piece place = piece_at kind number size body place
-
-  length-piece : (place : ℕ) → length (piece place) ≡ 20 + min size (length body - place * size)
-  length-piece place =
-      let part : length (part_at size body place) ≡ min size (length body - place * size) = length-take size (drop (place * size) body) ∙ ap (min size) (length-drop (place * size) body) in
-      omega (arith, part)
 
   -- the parts up to the last but one are in the body
   inside : (place : ℕ) → place + 1 < total → (place + 1) * size ≤ length body
@@ -31,12 +26,12 @@ module _ (kind number size : ℕ) (body : List ℕ) (some : 0 < size) where
   within : All (λ p. length p ≤ 20 + size) (map piece (range_with_len 0 total))
   within place other below =
       let at : place < total = subst (λ (n : ℕ). place < n) (length-map-range_with_len piece 0 total) below in
-      subst (λ (p : List ℕ). length p ≤ 20 + size) (sym (get_or-map-range_with_len piece 0 total place place other at (omega arith))) (omega (arith, length-piece place))
+      subst (λ (p : List ℕ). length p ≤ 20 + size) (sym (get_or-map-range_with_len piece 0 total place place other at (omega arith))) (omega (arith, length-piece kind number size body place))
 
   full : (place : ℕ) → place + 1 < length (map piece (range_with_len 0 total)) → length (get_or (map piece (range_with_len 0 total)) place []) ≡ 20 + size
   full place below =
       let before : place + 1 < total = subst (λ (n : ℕ). place + 1 < n) (length-map-range_with_len piece 0 total) below in
-      ap length (get_or-map-range_with_len piece 0 total place place [] (omega (arith, before)) (omega arith)) ∙ omega (arith, length-piece place, inside place before)
+      ap length (get_or-map-range_with_len piece 0 total place place [] (omega (arith, before)) (omega arith)) ∙ omega (arith, length-piece kind number size body place, inside place before)
 
 pub pieces_are_filled : PiecesAreFilled
 pieces_are_filled kind number max body least =

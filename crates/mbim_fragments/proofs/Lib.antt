@@ -4,3 +4,5 @@ pub mod Runs
 pub mod Pieces
 pub mod Filling
 pub mod Cutting
+pub mod Standing
+pub mod Sizes

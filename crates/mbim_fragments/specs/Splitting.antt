@@ -25,3 +25,7 @@ pieces kind number longest body = map (piece_at kind number (part_size longest) 
 -- their bytes
 abbrev pub split : (kind number longest : ℕ) → (body : List ℕ) → List ℕ
 split kind number longest body = concat (pieces kind number longest body)
+
+-- how many bytes they have
+abbrev pub split_size : (longest length : ℕ) → ℕ
+split_size longest length = length + 20 * part_count (part_size longest) length

@@ -1,9 +1,10 @@
-ghost use Rattle.std.specs.Prelude.{◌≡◌, ◌≤◌, ℕ, List, length, IfOk, IfSome};
+ghost use Rattle.std.specs.Prelude.{◌≡◌, ◌≤◌, length, IfOk, IfSome};
 
-use kit_bytes::append;
+use crate::body::Body;
 use mbim_frame::{FragmentHead, MHead, body_in};
 use std::alloc::{AllocError, Global};
 use std::marker::Model;
+use std::mem;
 
 /// How many bytes the body of a message in fragments has at most.
 pub const LONGEST_BODY: usize = 65_536;
@@ -35,23 +36,24 @@ struct Progress {
 #[derive(Drop)]
 pub struct Assembly {
     progress: Option<Progress>,
-    body: Vec<u8>,
+    // What the fragments that came carry: nothing where no message has begun.
+    body: Body,
 }
 
 impl Model for Assembly {
-    ghost use Rattle.std.specs.Prelude.{◌<◌, ◌≤◌, IfSome, vec_capacity, vec_len};
+    ghost use Rattle.std.specs.Prelude.{◌≡◌, ◌<◌, [], MatchOption};
     ghost use Rattle.mbim_fragments.specs.Assembling.{Assembled};
 
     ghost Value = { Assembled };
 
-    ghost view = { λ a. record { progress = a.progress; body = a.body.items } };
+    ghost view = { λ a. record { progress = a.progress; body = a.body } };
 
-    ghost invariant = { λ a. (IfSome a.progress (λ p. p.count < p.total)) × (65536 ≤ vec_capacity a.body) × (vec_len a.body ≤ 65536) };
+    ghost invariant = { λ a. MatchOption a.progress (a.body ≡ []) (λ p. p.count < p.total) };
 }
 
 impl Assembly {
-    ghost use Rattle.mbim_fragments.specs.Assembling.{HasRun, Takes, fresh, progress_with};
-    ghost use Rattle.mbim_fragments.specs.Runs.{joined};
+    ghost use Rattle.mbim_fragments.specs.Assembling.{assembled_after, body_given, fresh, joining_behind, progress_behind};
+    ghost use Rattle.mbim_fragments.specs.Runs.{told};
 
     /// An assembly before the first fragment, with the room that it will ever need.
     pub fn open(alloc: Global) -> Result<Self, AllocError>
@@ -59,40 +61,36 @@ impl Assembly {
     {
         Ok(Assembly {
             progress: None,
-            body: Vec::with_capacity(alloc, LONGEST_BODY)?,
+            body: Body::open(alloc)?,
         })
     }
 
-    /// Takes the next fragment, which has both heads. What isn't taken is dropped, and the fragments
-    /// before it with it.
-    pub fn take(&mut self, fragment: &[u8]) -> Took
+    /// Takes the next fragment, which has both heads, and gives the body that the last one of a message
+    /// completes. What isn't taken is dropped, and the fragments before it with it.
+    pub fn take(&mut self, fragment: &[u8], whole: &mut Body) -> Took
         requires heads { 20 ≤ length fragment.now }
-        ensures { (run : List (List ℕ)) → HasRun self.old run → Takes self.new run fragment.now result }
+        ensures told { result ≡ told (joining_behind LONGEST_BODY self.old fragment.now) }
+        ensures left { self.new ≡ assembled_after LONGEST_BODY self.old fragment.now }
+        ensures given { whole.new ≡ body_given (joining_behind LONGEST_BODY self.old fragment.now) whole.old }
     {
         let Some(progress) = self.progress_with(fragment) else {
             self.restart();
             return Took::OutOfSequence;
         };
-        self.forget_whole();
         let part = body_in(fragment);
         if LONGEST_BODY - self.body.len() < part.len() {
             self.restart();
             return Took::TooLong;
         }
-        append(&mut self.body, part);
+        self.body.append(part);
         if progress.count < progress.total {
             self.progress = Some(progress);
             return Took::More;
         }
+        mem::swap(&mut self.body, whole);
+        self.body.clear();
         self.progress = None;
         Took::Message
-    }
-
-    /// The body that the last fragment completed.
-    pub fn body(&self) -> &[u8]
-        ensures { result.now ≡ self.now.body }
-    {
-        &self.body
     }
 
     /// Forgets the fragments that came.
@@ -106,7 +104,7 @@ impl Assembly {
     // How far the message has come with this fragment, where it is the one that is due.
     fn progress_with(&self, fragment: &[u8]) -> Option<Progress>
         requires heads { 20 ≤ length fragment.now }
-        ensures due { (run : List (List ℕ)) → HasRun self.now run → result ≡ progress_with run fragment.now }
+        ensures due { result ≡ progress_behind self.now.progress fragment.now }
         ensures within { IfSome result (λ p. p.count ≤ p.total) }
     {
         let number = MHead::read(fragment).number;
@@ -125,16 +123,6 @@ impl Assembly {
             })
         } else {
             None
-        }
-    }
-
-    // Forgets a whole body where the next message begins.
-    fn forget_whole(&mut self)
-        ensures progress { self.new.progress ≡ self.old.progress }
-        ensures body { (run : List (List ℕ)) → HasRun self.old run → self.new.body ≡ joined run }
-    {
-        if self.progress.is_none() {
-            self.body.clear();
         }
     }
 }

@@ -1,4 +1,5 @@
 //! Laws of runs and of pieces.
+ghost use Rattle.mbim_fragments.specs.Assembling.{AssembliesStandForRuns};
 ghost use Rattle.mbim_fragments.specs.Laws.{PiecesAreCut, PiecesAreFilled, PiecesGiveTheBody, RunGoesOn, RunIsAFront};
 
 /// What is kept of any fragments is the last of them: a front of one message, in order, that may go
@@ -25,4 +26,10 @@ pub fn pieces_are_filled()
 /// In a stream, the pieces of a body are the messages that they were written as.
 pub fn pieces_are_cut()
     ensures { PiecesAreCut }
+{}
+
+/// What is left of a run goes on with the next fragment as the run itself: it comes to the same, and leaves
+/// what is left of the run with it.
+pub fn assemblies_stand_for_runs()
+    ensures { AssembliesStandForRuns }
 {}

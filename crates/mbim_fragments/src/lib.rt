@@ -2,9 +2,11 @@
 #![tactic(auto)]
 
 mod assembly;
+mod body;
 pub mod examples;
 pub mod laws;
 mod splitting;
 
 pub use assembly::{Assembly, LONGEST_BODY, Took};
-pub use splitting::split;
+pub use body::Body;
+pub use splitting::{LONGEST_SPLIT, split, split_into, split_length};
