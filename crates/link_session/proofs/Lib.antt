@@ -1,7 +1,11 @@
+pub mod Answering
+pub mod Deciding
 pub mod Hearing
 pub mod Looking
 pub mod Passing
+pub mod Peers
 pub mod Places
 pub mod Sending
 pub mod Steps
+pub mod Streams
 pub mod Takes

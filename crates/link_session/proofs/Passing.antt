@@ -41,11 +41,11 @@ pub record Passed
   pub stands : Stands size cutter now
   pub grows : Grows before takes calls
 
-count_by-push : (p : Mark → Bool) (marks : List Mark) (mark : Mark) → count_by p (marks ++ mark ∷ []) ≡ count_by p marks + cond (p mark) 1 0
+pub count_by-push : (p : Mark → Bool) (marks : List Mark) (mark : Mark) → count_by p (marks ++ mark ∷ []) ≡ count_by p marks + cond (p mark) 1 0
 count_by-push p marks mark = sum_by_push (λ (m : Mark). cond (p m) 1 0) marks mark
 
 module _ (judge : Judge) where
-  ArePassed-push : (before marks : List Mark) (mark : Mark) → ArePassed judge before marks → IsPassed judge (before ++ marks) mark → ArePassed judge before (marks ++ mark ∷ [])
+  pub ArePassed-push : (before marks : List Mark) (mark : Mark) → ArePassed judge before marks → IsPassed judge (before ++ marks) mark → ArePassed judge before (marks ++ mark ∷ [])
   ArePassed-push before [] mark each is = (subst (λ (l : List Mark). IsPassed judge l mark) (append-nil before) is, tt)
   ArePassed-push before (first ∷ marks) mark each is = (
     each.0,
@@ -53,14 +53,14 @@ module _ (judge : Judge) where
   )
 
   -- what the marks decide
-  decision-is : (marks : List Mark) (message : Placed) {is : Meaning} → judge (messages_in marks) message ≡ is → decision judge marks (Message message) ≡ decided marks message is
+  pub decision-is : (marks : List Mark) (message : Placed) {is : Meaning} → judge (messages_in marks) message ≡ is → decision judge marks (Message message) ≡ decided marks message is
   decision-is marks message is = ap (decided marks message) is
 
-  decision-flooded : (marks : List Mark) (message : Placed) → judge (messages_in marks) message ≡ meaning.NoAnswer → count_by is_message marks + 1 ≡ 65536
+  pub decision-flooded : (marks : List Mark) (message : Placed) → judge (messages_in marks) message ≡ meaning.NoAnswer → count_by is_message marks + 1 ≡ 65536
       → decision judge marks (Message message) ≡ Some (Fails fault.Flooded)
   decision-flooded marks message is many = rw (is, many) refl
 
-  decision-timed_out : (marks : List Mark) → count_by is_quiet marks + 1 ≡ 300 → decision judge marks Quiet ≡ Some (Fails fault.TimedOut)
+  pub decision-timed_out : (marks : List Mark) → count_by is_quiet marks + 1 ≡ 300 → decision judge marks Quiet ≡ Some (Fails fault.TimedOut)
   decision-timed_out marks many = rw many refl
 
 module _ (size : List ℕ → Size) (judge : Judge) where

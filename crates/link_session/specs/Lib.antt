@@ -3,3 +3,4 @@ pub mod Waiting
 pub mod Asking
 pub mod Hearing
 pub mod Sending
+pub mod Peer

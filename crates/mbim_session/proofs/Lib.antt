@@ -1,3 +1,4 @@
 pub mod Fragments
+pub mod Peers
 pub mod Sending
 pub mod Steps

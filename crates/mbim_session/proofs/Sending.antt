@@ -19,10 +19,10 @@ use Rattle.mbim_session.specs.Sending.{IsGood, messages_of, modem_messages}
 abbrev pub Sends : List (List ℕ) → List Call → Result MbimEnd SessionFault → Type 0
 Sends messages calls result = sending.Sends IsGood (λ n. messages) calls result
 
-is_then : {A : Type 0} (x y : A) (b : Bool) → b ≡ true → x ≡ (if b then x else y)
+pub is_then : {A : Type 0} (x y : A) (b : Bool) → b ≡ true → x ≡ (if b then x else y)
 is_then x y b is = rw is refl
 
-is_else : {A : Type 0} (x y : A) (b : Bool) → b ≡ false → y ≡ (if b then x else y)
+pub is_else : {A : Type 0} (x y : A) (b : Bool) → b ≡ false → y ≡ (if b then x else y)
 is_else x y b is = rw is refl
 
 -- ---- what ends a session before the command is no success ----

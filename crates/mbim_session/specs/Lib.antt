@@ -3,3 +3,4 @@ pub mod Answers
 pub mod Session
 pub mod Hearing
 pub mod Sending
+pub mod Peer

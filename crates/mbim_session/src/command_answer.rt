@@ -1,4 +1,4 @@
-ghost use Rattle.std.specs.Prelude.{◌≡◌, ◌≢◌, ◌≤◌, List, None, Err, IfOk, length};
+ghost use Rattle.std.specs.Prelude.{◌≡◌, ◌≢◌, ◌≤◌, [], List, None, Err, IfOk, length};
 ghost use Rattle.mbim_fragments.specs.Assembling.{fresh};
 ghost use Rattle.link_session.specs.Marks.{Placed};
 ghost use Rattle.link_session.specs.Hearing.{Hears};
@@ -10,7 +10,7 @@ use crate::plan::MbimEnd;
 use crate::wanted::is_of;
 use kit_bytes::u32_at;
 use link_session::{Awaits, Meaning, SessionFault};
-use mbim_fragments::{Assembly, Took};
+use mbim_fragments::{Assembly, Body, Took};
 use mbim_frame::{DoneHead, Mbim, MessageKind, buffer_in};
 use mbim_requests::MbimRequest;
 use mbim_services::{AnswerFault, done};
@@ -21,6 +21,8 @@ use std::alloc::{AllocError, Global};
 pub(crate) struct CommandAnswer {
     number: u32,
     assembly: Assembly,
+    // What its fragments carry, once all have come.
+    body: Body,
     // Where its first fragment begins, once that has come.
     first: Option<u64>,
 }
@@ -28,11 +30,12 @@ pub(crate) struct CommandAnswer {
 impl CommandAnswer {
     /// The answer to the command with this number, of which nothing has come.
     pub(crate) fn open(alloc: Global, number: u32) -> Result<Self, AllocError>
-        ensures { IfOk result (λ answer. answer ≡ record { number = number; assembly = fresh; first = None }) }
+        ensures { IfOk result (λ answer. answer ≡ record { number = number; assembly = fresh; body = []; first = None }) }
     {
         Ok(CommandAnswer {
             number,
             assembly: Assembly::open(alloc)?,
+            body: Body::open(alloc)?,
             first: None,
         })
     }
@@ -48,7 +51,7 @@ impl CommandAnswer {
         if message.len() < 20 {
             return Meaning::Broken { place: first };
         }
-        match self.assembly.take(message) {
+        match self.assembly.take(message, &mut self.body) {
             Took::More => Meaning::NoAnswer,
             Took::Message => Meaning::Answer,
             Took::OutOfSequence | Took::TooLong => Meaning::Broken { place },
@@ -72,7 +75,7 @@ impl CommandAnswer {
             return read_error(place, message);
         }
         let begin = self.first.unwrap_or(place);
-        read_body(alloc, request, begin, self.assembly.body())
+        read_body(alloc, request, begin, self.body.as_slice())
     }
 }
 

@@ -10,7 +10,9 @@ mod plan;
 mod session;
 mod wanted;
 
-pub use laws::sessions_send_their_messages;
+pub use laws::{
+    sessions_end_as_at_peers, sessions_send_their_messages, verdicts_are_of_what_is_read,
+};
 pub use message::command_message;
 pub use plan::{MbimEnd, MbimPlan};
 pub use session::mbim_session;
