@@ -7,6 +7,7 @@ ghost use Rattle.connections.specs.Hearing.{hearing_of, goes_on, heard, hears_al
 
 use crate::hears::Hears;
 use crate::place::Place;
+use crate::renews::Renews;
 use framing::{Cutter, Framing, LONGEST_PIECE};
 use kit_bytes::Cut;
 use outbox::Outbox;
@@ -16,9 +17,7 @@ use std::marker::Model;
 #[derive(Drop)]
 pub struct Connection<F: Framing, T> {
     name: u64,
-    client: T,
-    stream: Cutter<F>,
-    outbox: Outbox,
+    place: Place<F, T>,
 }
 
 impl<F: Framing, T> Model for Connection<F, T> {
@@ -27,30 +26,14 @@ impl<F: Framing, T> Model for Connection<F, T> {
 
     ghost Value = { table.Connection T };
 
-    ghost view = { λ k. record { name = k.name; client = k.client; rest = k.stream.rest; outbox = k.outbox } };
+    ghost view = { λ k. record { name = k.name; client = k.place.client; rest = k.place.stream.rest; outbox = k.place.outbox } };
 
-    ghost invariant = { λ k. IsPartial F.size k.stream.rest };
+    ghost invariant = { λ k. IsPartial F.size k.place.stream.rest };
 }
 
 impl<F: Framing, T> Connection<F, T> {
     ghost use Rattle.std.specs.Borrow.{sem};
     ghost use Rattle.connections.specs.Lends.{lends_client};
-
-    /// A connection that has said nothing, in this place.
-    pub fn begin(place: Place<F>, name: u64, client: T) -> Self
-        ensures { result ≡ joined name client place.outbox.capacity }
-    {
-        let mut stream = place.stream;
-        let mut outbox = place.outbox;
-        stream.restart();
-        outbox.clear();
-        Connection {
-            name,
-            client,
-            stream,
-            outbox,
-        }
-    }
 
     pub fn name(&self) -> u64
         ensures { result ≡ self.now.name }
@@ -62,7 +45,7 @@ impl<F: Framing, T> Connection<F, T> {
     pub fn client(&self) -> &T
         ensures { result.now ≡ self.now.client }
     {
-        &self.client
+        &self.place.client
     }
 
     /// What the protocol keeps of its client, to be changed.
@@ -70,7 +53,7 @@ impl<F: Framing, T> Connection<F, T> {
         ensures* writes_back { sem 𝓛 (lends_client F.row T.row F.Framing self.entry result) }
         ensures client { result.now ≡ self.old.client }
     {
-        &mut self.client
+        &mut self.place.client
     }
 
     /// Hears the next piece of its stream, and says whether the connection goes on: all that was due
@@ -84,16 +67,16 @@ impl<F: Framing, T> Connection<F, T> {
         ensures beside { beside.new ≡ (hearing_of F.size S.hears piece.now self.old beside.old).beside }
         ensures capacity { self.new.outbox.capacity ≡ self.old.outbox.capacity }
     {
-        self.stream.push(piece);
+        self.place.stream.push(piece);
         let goes_on = hear_all(
-            &mut self.stream,
+            &mut self.place.stream,
             self.name,
-            &mut self.client,
-            &mut self.outbox,
+            &mut self.place.client,
+            &mut self.place.outbox,
             beside,
         );
         if !goes_on {
-            self.stream.restart();
+            self.place.stream.restart();
         }
         goes_on
     }
@@ -104,7 +87,7 @@ impl<F: Framing, T> Connection<F, T> {
         ensures room { result ≡ has_room (head.now ++ rest.now) self.old.outbox }
         ensures put { self.new ≡ puts (head.now ++ rest.now) self.old }
     {
-        self.outbox.queue_both(head, rest)
+        self.place.outbox.queue_both(head, rest)
     }
 
     /// Its socket took the first so many bytes.
@@ -112,33 +95,38 @@ impl<F: Framing, T> Connection<F, T> {
         requires { count ≤ length self.old.outbox.bytes }
         ensures { self.new ≡ took count self.old }
     {
-        self.outbox.taken(count);
+        self.place.outbox.taken(count);
     }
 
     /// The bytes that wait for it.
     pub fn queued(&self) -> &[u8]
         ensures { result.now ≡ self.now.outbox.bytes }
     {
-        self.outbox.front()
+        self.place.outbox.front()
     }
 
     /// Whether bytes wait for it.
     pub fn is_waiting(&self) -> bool
         ensures { result ≡ has_waiting self.now }
     {
-        !self.outbox.is_empty()
+        !self.place.outbox.is_empty()
+    }
+
+    /// Its place, with what waited for it.
+    pub fn into_place(self) -> Place<F, T>
+        ensures { result.outbox ≡ self.outbox }
+    {
+        self.place
     }
 }
 
-impl<F: Framing, T: Drop> Connection<F, T> {
-    /// Its place, with what waited for it.
-    pub fn into_place(self) -> Place<F>
-        ensures { result.outbox ≡ self.outbox }
+impl<F: Framing, T: Renews + Drop> Connection<F, T> {
+    /// A connection that has said nothing, of a client that has just joined, in this place.
+    pub fn begin(mut place: Place<F, T>, name: u64) -> Self
+        ensures { result ≡ joined name T.fresh place.outbox.capacity }
     {
-        Place {
-            stream: self.stream,
-            outbox: self.outbox,
-        }
+        place.renew();
+        Connection { name, place }
     }
 }
 

@@ -1,4 +1,4 @@
-ghost use Rattle.std.specs.Prelude.{◌≡◌, ◌<◌, ◌≤◌, ◌==◌, ◌++◌, [], is_some, length, position, get_or, vec_len, vec_capacity, IfOk, IfSome, IsNone};
+ghost use Rattle.std.specs.Prelude.{◌≡◌, ◌<◌, ◌≤◌, ◌==◌, ◌++◌, [], is_some, nat_lt, length, position, get_or, vec_len, vec_capacity, IfOk, IfSome, IsNone};
 ghost use Rattle.std.specs.List.{AllByRecursion};
 ghost use Rattle.connections.specs.Table.{Connection as TableConnection, IsRegular, AreRising, opened, connection_in, joins, leaves, tells, finds_room, collects, asked, first_dropped, queue_of, has_waiting, first_waiting};
 ghost use Rattle.connections.specs.Places.{drops_at};
@@ -8,19 +8,20 @@ use crate::connection::Connection;
 use crate::dropped::{self, Dropped};
 use crate::hears::Hears;
 use crate::place::Place;
+use crate::renews::Renews;
 use framing::{Framing, LONGEST_PIECE};
 use std::alloc::{AllocError, Global};
 use std::marker::Model;
 
 /// The connections of a proxy's clients, in order of joining, and those that were dropped.
 ///
-/// All memory that they will ever need is taken at the opening, a place for each connection. A
-/// place is free again once its connection left, or was dropped and asked for.
+/// All memory that they and their clients will ever need is taken at the opening, a place for each
+/// connection. A place is free again once its connection left, or was dropped and asked for.
 #[derive(Drop)]
 pub struct Connections<F: Framing, T> {
     present: Vec<Connection<F, T>>,
-    dropped: Vec<Dropped<F>>,
-    free: Vec<Place<F>>,
+    dropped: Vec<Dropped<F, T>>,
+    free: Vec<Place<F, T>>,
     // the greatest name of a connection so far
     greatest: u64,
     // how many may be there
@@ -53,7 +54,7 @@ impl<F: Framing, T> Model for Connections<F, T> {
     } };
 }
 
-impl<F: Framing, T: Drop> Connections<F, T> {
+impl<F: Framing, T: Renews + Drop> Connections<F, T> {
     /// Nobody is there yet. At most so many connections may be there, and so many bytes may wait for
     /// each.
     pub fn open(alloc: Global, limit: u16, room: usize) -> Result<Self, AllocError>
@@ -71,21 +72,24 @@ impl<F: Framing, T: Drop> Connections<F, T> {
     }
 
     /// A client connected: it is let in behind the others, or dropped where as many as may be are
-    /// there.
-    pub fn join(&mut self, name: u64, client: T)
+    /// there. Says whether it was let in.
+    pub fn join(&mut self, name: u64) -> bool
         requires newer { self.old.greatest < name }
         requires hung_up { self.old.dropped ≡ [] }
-        ensures { self.new ≡ joins name client self.old }
+        ensures joined { self.new ≡ joins name T.fresh self.old }
+        ensures let_in { result ≡ nat_lt (length self.old.present) self.old.limit }
     {
         self.greatest = name;
-        match self.free.pop() {
-            Some(place) => self
-                .present
-                .push_reserved(Connection::begin(place, name, client)),
-            None => self.dropped.push_reserved(Dropped::refused(name)),
-        }
+        let Some(place) = self.free.pop() else {
+            self.dropped.push_reserved(Dropped::refused(name));
+            return false;
+        };
+        self.present.push_reserved(Connection::begin(place, name));
+        true
     }
+}
 
+impl<F: Framing, T: Drop> Connections<F, T> {
     /// The connection of this name is gone, and says whether it was there.
     pub fn leave(&mut self, name: u64) -> bool
         ensures left { self.new ≡ leaves name self.old }
@@ -263,11 +267,11 @@ impl<F: Framing, T> Connections<F, T> {
 }
 
 // So many places, each with the room for so many bytes to wait.
-fn open_places<F: Framing>(
+fn open_places<F: Framing, T: Renews + Drop>(
     alloc: Global,
     limit: usize,
     room: usize,
-) -> Result<Vec<Place<F>>, AllocError>
+) -> Result<Vec<Place<F, T>>, AllocError>
     ensures rooms { IfOk result (λ places. AllByRecursion (λ p. p.outbox.capacity ≡ room) places.items) }
     ensures count { IfOk result (λ places. vec_len places ≡ limit) }
     ensures capacity { IfOk result (λ places. limit ≤ vec_capacity places) }

@@ -8,13 +8,13 @@ use std::marker::Model;
 
 /// A connection that was dropped and is to be hung up, with the bytes that still waited for it.
 #[derive(Drop)]
-pub struct Dropped<F: Framing> {
+pub struct Dropped<F: Framing, T> {
     name: u64,
     // none where it was never let in
-    place: Option<Place<F>>,
+    place: Option<Place<F, T>>,
 }
 
-impl<F: Framing> Model for Dropped<F> {
+impl<F: Framing, T> Model for Dropped<F, T> {
     ghost use Rattle.std.specs.Option.{option_map};
     ghost use Rattle.connections.specs.Table as table;
 
@@ -23,7 +23,7 @@ impl<F: Framing> Model for Dropped<F> {
     ghost view = { λ d. record { name = d.name; outbox = option_map (λ p. p.outbox) d.place } };
 }
 
-impl<F: Framing> Dropped<F> {
+impl<F: Framing, T> Dropped<F, T> {
     /// One that wasn't let in.
     pub fn refused(name: u64) -> Self
         ensures { result ≡ record { name = name; outbox = None } }
@@ -31,7 +31,7 @@ impl<F: Framing> Dropped<F> {
         Dropped { name, place: None }
     }
 
-    pub fn new(name: u64, place: Place<F>) -> Self
+    pub fn new(name: u64, place: Place<F, T>) -> Self
         ensures { result ≡ record { name = name; outbox = Some place.outbox } }
     {
         Dropped {
@@ -57,7 +57,7 @@ impl<F: Framing> Dropped<F> {
     }
 
     /// Its place, which is free again.
-    pub fn into_place(self) -> Option<Place<F>>
+    pub fn into_place(self) -> Option<Place<F, T>>
         ensures { option_map (λ p. p.outbox) result ≡ self.outbox }
     {
         self.place
@@ -65,7 +65,7 @@ impl<F: Framing> Dropped<F> {
 }
 
 /// The bytes that waited for the connection of this name, where the list has it.
-pub fn queued<F: Framing>(list: &[Dropped<F>], name: u64) -> &[u8]
+pub fn queued<F: Framing, T>(list: &[Dropped<F, T>], name: u64) -> &[u8]
     ensures { result.now ≡ left_for name list.now }
 {
     for dropped in list {

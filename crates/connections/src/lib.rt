@@ -7,6 +7,8 @@ mod connections;
 mod dropped;
 mod hears;
 mod place;
+mod renews;
 
 pub use connections::Connections;
 pub use hears::Hears;
+pub use renews::Renews;
