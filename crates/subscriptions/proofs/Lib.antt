@@ -6,3 +6,4 @@ pub mod Sorting
 pub mod Clients
 pub mod Calls
 pub mod Shown
+pub mod Covering

@@ -137,7 +137,7 @@ same_first x y xs ys behind_x behind_y at_x at_y =
     (Contains-cons_cases y x xs at_y))
     (Contains-cons_cases x y ys at_x)
 
-same_rest : (x y : Pair) (xs ys : List Pair) → x ≡ y → AllByRecursion (λ z. pair_cmp x z ≡ Less) xs → ((q : Pair) → Contains (x ∷ xs) q → Contains (y ∷ ys) q) → (q : Pair) → Contains xs q → Contains ys q
+pub same_rest : (x y : Pair) (xs ys : List Pair) → x ≡ y → AllByRecursion (λ z. pair_cmp x z ≡ Less) xs → ((q : Pair) → Contains (x ∷ xs) q → Contains (y ∷ ys) q) → (q : Pair) → Contains xs q → Contains ys q
 same_rest x y xs ys same behind to q at =
     ⊎_elim
     (λ (is : y ≡ q). absurd (not_before_itself q (subst (λ z. pair_cmp z q ≡ Less) (same ∙ is) (one_of (λ z. pair_cmp x z ≡ Less) xs q behind at))))

@@ -1,38 +1,26 @@
-ghost use Rattle.std.specs.Prelude.{◌≡◌, ◌≤◌, ◌&&◌, ◌==◌, bytes_eq, not, length};
-ghost use Rattle.kit_bytes.specs.Indications.{is_cid, wants};
-ghost use Rattle.subscriptions.specs.Lists.{IsNormal};
+ghost use Rattle.std.specs.Prelude.{◌≡◌, ◌≤◌, length};
+ghost use Rattle.kit_bytes.specs.Indications.{wants};
 ghost use Rattle.subscriptions.specs.Clients.{is_of, newcomer, with_shown, with_list};
 
-use crate::pair_list::{Pair, PairList};
-use arrayvec::ArrayVec;
-use kit_bytes::services;
+use crate::client_list::{ClientList, LONGEST_CLIENT_LIST};
+use crate::pair_list::PairList;
 use std::marker::Model;
 use uuid::Uuid;
 
-/// How many pairs the list of one client may have.
-pub const LONGEST_CLIENT_LIST: usize = 30;
-
-/// A client that is there, with its list in normal form.
+/// A client that is there.
 #[derive(Drop)]
 pub struct Client {
     conn: u64,
     shown: bool,
-    list: ArrayVec<Pair, LONGEST_CLIENT_LIST>,
+    list: ClientList,
 }
 
 impl Model for Client {
-    ghost use Rattle.std.specs.Prelude.{◌≤◌, length};
-    ghost use Rattle.subscriptions.specs.Lists.{IsNormal};
     ghost use Rattle.subscriptions.specs.Clients.{Client as TableClient};
 
     ghost Value = { TableClient };
 
-    ghost view = { λ client. record { conn = client.conn; shown = client.shown; list = client.list.items } };
-
-    ghost invariant = { λ client. record {
-      normal : IsNormal client.list.items;
-      few : length client.list.items ≤ 30;
-    } };
+    ghost view = { λ client. record { conn = client.conn; shown = client.shown; list = client.list } };
 }
 
 impl Client {
@@ -40,16 +28,10 @@ impl Client {
     pub fn new(conn: u64) -> Self
         ensures { result ≡ newcomer conn }
     {
-        let mut list = ArrayVec::new();
-        list.push((Uuid::from_bytes(services::PHONEBOOK), None));
-        list.push((Uuid::from_bytes(services::SMS), None));
-        list.push((Uuid::from_bytes(services::BASIC_CONNECT), None));
-        list.push((Uuid::from_bytes(services::STK), None));
-        list.push((Uuid::from_bytes(services::USSD), None));
         Client {
             conn,
             shown: false,
-            list,
+            list: ClientList::new(),
         }
     }
 
@@ -72,38 +54,23 @@ impl Client {
         self.shown = shown;
     }
 
-    pub fn list(&self) -> &[Pair]
-        ensures list { result.now ≡ self.now.list }
-        ensures normal { IsNormal result.now }
-        ensures few { length result.now ≤ LONGEST_CLIENT_LIST }
+    pub fn list(&self) -> &ClientList
+        ensures { result.now ≡ self.now.list }
     {
-        self.list.as_slice()
+        &self.list
     }
 
     pub fn set(&mut self, list: &PairList)
         requires { length list.now ≤ LONGEST_CLIENT_LIST }
         ensures { self.new ≡ with_list list.now self.old }
     {
-        self.list.clear();
-        let _ = self.list.try_extend_from_slice(list.pairs());
+        self.list.set(list);
     }
 
     /// Whether it subscribes to the CID of the service of this UUID.
     pub fn wants(&self, uuid: Uuid, cid: u32) -> bool
         ensures { result ≡ wants self.now.list uuid cid }
     {
-        some_asks(self.list.as_slice(), uuid, cid)
+        self.list.wants(uuid, cid)
     }
-}
-
-fn some_asks(pairs: &[Pair], uuid: Uuid, cid: u32) -> bool
-    ensures { result ≡ wants pairs.now uuid cid }
-{
-    pairs.iter().any(|pair| asks(pair, uuid, cid))
-}
-
-fn asks(pair: &Pair, uuid: Uuid, cid: u32) -> bool
-    ensures { result ≡ bytes_eq pair.now.0 uuid && is_cid cid pair.now.1 }
-{
-    pair.0 == uuid && pair.1.is_none_or(|number| number == cid)
 }

@@ -2,11 +2,17 @@
 #![tactic(auto)]
 
 mod client;
+mod client_list;
 mod laws;
+mod merge;
 mod pair_list;
 mod subscriptions;
 
-pub use client::LONGEST_CLIENT_LIST;
-pub use laws::{merges_want_what_lists_want, normal_forms_want_the_same};
+pub use client_list::{ClientList, LONGEST_CLIENT_LIST};
+pub use laws::{
+    clients_are_what_calls_say, hidden_clients_dont_count, merges_are_of_the_shown,
+    merges_are_short, merges_want_what_lists_want, normal_forms_want_the_same,
+};
+pub use merge::Merge;
 pub use pair_list::{LONGEST_LIST, Pair, PairList};
 pub use subscriptions::{CLIENT_LIMIT, Subscriptions, TooMany};

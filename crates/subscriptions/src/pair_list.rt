@@ -1,11 +1,10 @@
-ghost use Rattle.std.specs.Prelude.{◌≡◌, ◌+◌, ◌<◌, ◌≤◌, ◌||◌, false, nat_lt, ◌∷◌, ◌++◌, [], not, filter, length, take, drop, slice_index_or, vec_len, vec_capacity, IfOk};
-ghost use Rattle.std.specs.List.{flat_map, list_any};
+ghost use Rattle.std.specs.Prelude.{◌≡◌, ◌+◌, ◌<◌, ◌≤◌, ◌||◌, ◌&&◌, bytes_eq, false, nat_lt, ◌∷◌, ◌++◌, [], not, filter, is_none, length, take, drop, slice_index_or, vec_len, vec_capacity, IfOk};
+ghost use Rattle.std.specs.List.{list_any};
 ghost use Rattle.std.specs.Ordering.{is_lt};
-ghost use Rattle.kit_bytes.specs.Subscriptions.{normal_form, pair_cmp};
+ghost use Rattle.kit_bytes.specs.Subscriptions.{has_all, normal_form, pair_cmp};
 ghost use Rattle.subscriptions.specs.Lists.{IsNormal, covers, fits, pushed};
-ghost use Rattle.subscriptions.specs.Clients.{merged, shown_lists};
 
-use crate::client::Client;
+use crate::client_list::ClientList;
 use std::alloc::{AllocError, Global};
 use std::marker::Model;
 use uuid::Uuid;
@@ -89,23 +88,37 @@ impl PairList {
         self.pairs[index]
     }
 
-    // The pairs of a list in normal form.
-    pub(crate) fn copy(&mut self, pairs: &[Pair])
-        requires normal { IsNormal pairs.now }
-        requires few { length pairs.now ≤ LONGEST_LIST }
-        ensures { self.new ≡ pairs.now }
+    // The normal form of these pairs.
+    pub(crate) fn merge(&mut self, pairs: &[Pair])
+        requires { length pairs.now ≤ LONGEST_LIST }
+        ensures { self.new ≡ normal_form pairs.now }
     {
         self.pairs.clear();
-        let _ = self.pairs.extend_from_slice(pairs);
+        append(&mut self.pairs, pairs);
+        normalize(&mut self.pairs);
     }
 
-    // All that the shown clients subscribe to.
-    pub(crate) fn merge(&mut self, clients: &[Client])
-        requires { length clients.now ≤ 64 }
-        ensures { self.new ≡ merged clients.now }
+    /// Takes the pairs of a client's list.
+    pub fn copy(&mut self, list: &ClientList)
+        ensures { self.new ≡ list.now }
     {
-        gather(&mut self.pairs, clients);
-        normalize(&mut self.pairs);
+        self.pairs.clear();
+        let _ = self.pairs.extend_from_slice(list.pairs());
+    }
+
+    /// Takes the pairs of another list.
+    pub fn set(&mut self, list: &PairList)
+        ensures { self.new ≡ list.now }
+    {
+        self.pairs.clear();
+        let _ = self.pairs.extend_from_slice(list.pairs());
+    }
+
+    /// Whether it has all CIDs of the service of this UUID.
+    pub fn has_all(&self, uuid: Uuid) -> bool
+        ensures { result ≡ has_all self.now uuid }
+    {
+        self.pairs.iter().any(|pair| is_all_of(pair, uuid))
     }
 
     /// All pairs.
@@ -118,24 +131,8 @@ impl PairList {
     }
 }
 
-// The pairs of all shown clients, one list behind the other.
-fn gather(pairs: &mut Vec<Pair>, clients: &[Client])
-    requires few { length clients.now ≤ 64 }
-    requires room { LONGEST_LIST ≤ vec_capacity pairs.old }
-    ensures items { pairs.new.items ≡ flat_map (λ list. list) (shown_lists clients.now) }
-    ensures few { length pairs.new.items ≤ LONGEST_LIST }
-    ensures capacity { vec_capacity pairs.old ≤ vec_capacity pairs.new }
-{
-    pairs.clear();
-    for client in clients {
-        if client.is_shown() {
-            append(pairs, client.list());
-        }
-    }
-}
-
 // Adds pairs behind those of a list that has the room for them, which takes no memory.
-fn append(pairs: &mut Vec<Pair>, more: &[Pair])
+pub(crate) fn append(pairs: &mut Vec<Pair>, more: &[Pair])
     requires { vec_len pairs.old + length more.now ≤ vec_capacity pairs.old }
     ensures items { pairs.new.items ≡ pairs.old.items ++ more.now }
     ensures capacity { vec_capacity pairs.old ≤ vec_capacity pairs.new }
@@ -150,6 +147,13 @@ fn normalize(pairs: &mut Vec<Pair>)
 {
     pairs.sort_unstable();
     pairs.dedup_by(|pair, last| covers(last, pair));
+}
+
+// Whether the pair stands for all CIDs of the service.
+fn is_all_of(pair: &Pair, uuid: Uuid) -> bool
+    ensures { result ≡ bytes_eq pair.now.0 uuid && is_none pair.now.1 }
+{
+    pair.0 == uuid && pair.1.is_none()
 }
 
 // Whether the pair is the other one, or all CIDs of its service.

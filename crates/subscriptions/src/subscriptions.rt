@@ -1,8 +1,11 @@
 ghost use Rattle.std.specs.Prelude.{◌≡◌, ◌<◌, ◌≤◌, [], position, length, vec_len, vec_capacity, is_err, IfOk};
 ghost use Rattle.kit_bytes.specs.Indications.{wants};
-ghost use Rattle.subscriptions.specs.Clients.{is_of, is_too_long, joins, leaves, list_of, merged, sets, shows};
+ghost use Rattle.std.specs.List.{flat_map};
+ghost use Rattle.subscriptions.specs.Clients.{is_of, is_too_long, joins, leaves, list_of, merged, sets, shown_lists, shows};
 
-use crate::client::{Client, LONGEST_CLIENT_LIST};
+use crate::client::Client;
+use crate::client_list::LONGEST_CLIENT_LIST;
+use crate::merge::Merge;
 use crate::pair_list::PairList;
 use std::alloc::{AllocError, Global};
 use std::marker::Model;
@@ -115,10 +118,24 @@ impl Subscriptions {
     }
 
     /// Writes the normal form of all that the shown clients subscribe to into this list.
-    pub fn merged(&self, into: &mut PairList)
+    pub fn merged(&self, merge: &mut Merge, into: &mut PairList)
         ensures { into.new ≡ merged self.now }
     {
-        into.merge(&self.clients);
+        gather(&self.clients, merge);
+        merge.finish(into);
+    }
+}
+
+// The pairs of all shown clients, one list behind the other.
+fn gather(clients: &[Client], merge: &mut Merge)
+    requires { length clients.now ≤ CLIENT_LIMIT }
+    ensures { merge.new ≡ flat_map (λ list. list) (shown_lists clients.now) }
+{
+    merge.clear();
+    for client in clients {
+        if client.is_shown() {
+            merge.add(client.list());
+        }
     }
 }
 

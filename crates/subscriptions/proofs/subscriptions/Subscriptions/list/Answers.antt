@@ -7,7 +7,7 @@ use Rattle.subscriptions.proofs.subscriptions.Subscriptions.list.Goals as goal
 pub returns-in-Some : goal.returns-in-Some
 returns-in-Some c =
     let place : Some c.in-Some.place ≡ position (is_of c.args.conn) c.self.inside.clients.items = sym c.in-Some.is ∙ c.find.ensures ∙ ap (position (is_of c.args.conn)) c.deref.ensures.value in
-    c.copy.ensures ∙ c.list.ensures.list ∙ list_at c.args.conn c.self.inside.clients.items c.in-Some.place c.index-client.result.now place c.index-client.ensures ∙ ap (list_of c.args.conn) c.self.view_is
+    c.copy.ensures ∙ c.list.ensures ∙ list_at c.args.conn c.self.inside.clients.items c.in-Some.place c.index-client.result.now place c.index-client.ensures ∙ ap (list_of c.args.conn) c.self.view_is
 
 pub returns-in-None : goal.returns-in-None
 returns-in-None c =

@@ -1,0 +1,12 @@
+use Rattle.std.proofs.Common.{◌≤◌, length}
+use Rattle.subscribe_lists.proofs.Adding.{Adds}
+use Rattle.subscribe_lists.proofs.reading.add_all.Given as goal
+
+abbrev pub invariant-events : goal.invariant-events
+invariant-events l = record {
+  adds : Adds l.fn.events l.into l.events;
+  few : length l.into ≤ 30;
+}
+
+abbrev pub decreases-events : goal.decreases-events
+decreases-events l = length l.events

@@ -1,0 +1,6 @@
+//! What a client of an MBIM proxy subscribes to, as it comes in the buffer of its command.
+#![tactic(auto)]
+
+mod reading;
+
+pub use reading::read_list;
