@@ -1,4 +1,4 @@
-ghost use Rattle.std.specs.Prelude.{Any, ◌≡◌, ◌+◌, ◌<◌, ◌≤◌, ◌==◌, ◌^◌, length, map, position};
+ghost use Rattle.std.specs.Prelude.{Any, ◌≡◌, ◌&&◌, ◌+◌, ◌<◌, ◌≤◌, ◌==◌, ◌^◌, length, map, position};
 ghost use Rattle.std.specs.VecDeque.{deque_capacity};
 ghost use Rattle.proxy_history.specs.Requests as history;
 ghost use Rattle.std.specs.List.{list_any, IsDistinct};
@@ -130,6 +130,13 @@ pub fn earliest_deadline<T>(rows: &VecDeque<Row<T>>) -> u64
         }
     }
     earliest
+}
+
+/// Whether some row is one that this connection waits for.
+pub fn some_await<T>(rows: &VecDeque<Row<T>>, conn: u64) -> bool
+    ensures { result ≡ list_any (λ r. r.pending && (r.conn == conn)) rows.now.items }
+{
+    rows.iter().any(|row| row.pending && row.conn == conn)
 }
 
 /// Nobody waits any more for the numbers of this connection.

@@ -1,4 +1,5 @@
-ghost use Rattle.std.specs.Prelude.{◌≡◌, ◌↔◌, ◌≤◌, ℕ, List, ◌∷◌, length, option_map, IfOk, IfSome, IsNone};
+ghost use Rattle.std.specs.Prelude.{◌≡◌, ◌↔◌, ◌≤◌, ◌&&◌, ◌==◌, ℕ, List, ◌∷◌, length, option_map, IfOk, IfSome, IsNone};
+ghost use Rattle.std.specs.List.{list_any};
 ghost use Rattle.proxy_history.specs.Requests.{following};
 ghost use Rattle.proxy_history.specs.Laws.{IsFirstFree};
 ghost use Rattle.number_space.specs.Table.{opened, numbers, row_of, next_number, gives, found, answers, first_due, expires, orphans, resets, IsSound};
@@ -125,6 +126,13 @@ impl<T: Copy> Space<T> {
         let index = rows::index_of(&self.rows, self.top, self.last, number)?;
         let row = &self.rows[index];
         Some((row.conn, row.note, row.pending))
+    }
+
+    /// Whether this connection waits for an answer.
+    pub fn is_awaited(&self, conn: u64) -> bool
+        ensures { result ≡ list_any (λ r. r.pending && (r.conn == conn)) self.now.rows }
+    {
+        rows::some_await(&self.rows, conn)
     }
 
     /// Meets an answer with this number, and frees the number.

@@ -388,7 +388,7 @@ module _ {Known T S : Type 0} (p : Protocol Known) (k : Kept Known T S) (h : Han
         partings = K.partings ∙ ap (map (parting_of p past)) none ∙ sym (ap (map (parting_of p later)) none);
         apart = subst (AllByRecursion (λ d. contains d (present past ++ c ∷ []) ≡ false)) (sym none) tt;
         fits = fitting later absent;
-        fine = F.connections.fine_more (Admitted c) past room absent K.fine;
+        fine = F.connections.fine_more (Admitted c) past room (omega arith, absent) K.fine;
       }
     where
       own : (client_state_of p k (Admitted c ∷ past) c).is_over ≡ false
@@ -435,7 +435,7 @@ module _ {Known T S : Type 0} (p : Protocol Known) (k : Kept Known T S) (h : Han
             ∙ sym (ap (λ (ds : List ℕ). map (parting_of p later) (ds ++ c ∷ [])) none);
         apart = subst (λ (ds : List ℕ). AllByRecursion (λ d. contains d (without c (present past)) ≡ false) (ds ++ c ∷ [])) (sym none) (contains_without c (present past), tt);
         fits = λ d at. (let parts = without_contains c d (present past) at in ap (λ (a : ClientState T). a.is_over) (ended_other p k past c NotAdmitted d parts.0) ∙ K.fits d parts.1);
-        fine = F.connections.fine_more (Ended c NotAdmitted) past full tt K.fine;
+        fine = F.connections.fine_more (Ended c NotAdmitted) past full (omega arith) K.fine;
       }
 
   pub keeps_joined : (streams : Streams) (past : List Fact) (x : State T S) (c : ℕ) → streams.rests c ≡ [] → streams.greatest < c → dropped past ≡ [] → KeptAt streams past x → KeptAt (as_newest c streams) (noting.join p.limits c past) (join h c x)

@@ -1,11 +1,12 @@
 -- The requests in use, each with whether its sender waits, are those of the history.
-use Rattle.std.proofs.Common.{◌≡◌, suc, ◌||◌, subst, ⊎_elim, arith, All, Contains, AllPairs, Bool, true, false, not, cond, ◌&&◌, List, [], ◌∷◌, ◌++◌, map, filter, refl, ap, sym, ◌∙◌, ◌==◌}
+use Rattle.std.proofs.Common.{◌≡◌, ℕ, zero, suc, ◌||◌, subst, ⊎_elim, arith, All, Contains, AllPairs, Bool, true, false, not, cond, ◌&&◌, List, [], ◌∷◌, ◌++◌, map, filter, refl, ap, sym, ◌∙◌, ◌==◌}
 use Rattle.std.proofs.lemmas.List.{map-append}
 use Rattle.std.proofs.lemmas.List.Elements.{filter-append}
 use Rattle.std.proofs.lemmas.Simd.{map-map}
 use Rattle.proxy_history.specs.Facts.{Fact, Request, Ended, Forwarded, Answered, IdHeld, Late, Expired, Aborted, Reset, ModemLost}
-use Rattle.proxy_history.specs.Requests.{in_use, pending}
-use Rattle.proxy_state.specs.Requests.{RequestInUse, requests_in_use, silenced_if}
+use Rattle.proxy_history.specs.Requests.{in_use, pending, numbers_in_use}
+use Rattle.number_space.specs.declared.space.Row.{Row}
+use Rattle.proxy_state.specs.Requests.{RequestInUse, requests_in_use, silenced_if, row_of, rows_of}
 use Rattle.proxy_state.proofs.Lists.{filter_map_is}
 use Rattle.proxy_state.proofs.Filters.{AreDistinct, distinct_none, distinct_more}
 use Rattle.std.specs.List.{AllByRecursion}
@@ -13,7 +14,7 @@ use Rattle.std.proofs.lemmas.Bool.{eqb-true, eq-eqb, ne_eqb, false_from_ne_true}
 use Rattle.std.proofs.lemmas.List.Elements.{recursion_from_All}
 use Rattle.proxy_history.specs.Requests.{has_request}
 use Rattle.proxy_history.specs.Sound.{Differ}
-use Rattle.proxy_history.proofs.Lists.{Contains-cons_cases, Contains-nil}
+use Rattle.proxy_history.proofs.Lists.{Contains-cons, Contains-cons_cases, Contains-nil}
 
 abbrev pub request_in : RequestInUse → Request
 request_in a = a.request
@@ -93,16 +94,34 @@ pending_is (Reset ∷ past) = refl
 pending_is (ModemLost ∷ past) = refl
 pending_is (_ ∷ past) = pending_is past
 
+contains_map : {X Y : Type 0} (f : X → Y) (xs : List X) (x : X) → Contains xs x → Contains (map f xs) (f x)
+contains_map f [] x at = absurd (Contains-nil x at)
+contains_map {Y = Y} f (y ∷ xs) x at =
+    ⊎_elim
+    (λ (is : y ≡ x). let P : Y → Type 0 = λ (z : Y). Contains (z ∷ map f xs) (f x) in subst P (sym (ap f is)) (zero, omega arith, refl))
+    (λ (later : Contains xs x). Contains-cons (f x) (f y) (map f xs) (contains_map f xs x later)) (Contains-cons_cases x y xs at)
+
+pub request_in_use : (past : List Fact) (a : RequestInUse) → Contains (requests_in_use past) a → Contains (in_use past) a.request
+request_in_use past a at = subst (λ (l : List Request). Contains l a.request) (sym (in_use_is past)) (contains_map request_in (requests_in_use past) a at)
+
+-- the numbers of a space's rows are those in use
+pub numbers_used : {N : Type 0} (note : List ℕ → N) (space : ℕ) (past : List Fact) → map (λ row. row.number) (rows_of note space (requests_in_use past)) ≡ numbers_in_use space past
+numbers_used {N} note space past =
+    map-map (λ (row : Row N). row.number) (row_of note) (filter (λ (a : RequestInUse). a.request.space == space) (requests_in_use past))
+    ∙ sym (map-map (λ (r : Request). r.number) request_in (filter (λ (a : RequestInUse). a.request.space == space) (requests_in_use past)))
+    ∙ ap (map (λ (r : Request). r.number)) (sym (filter_map_is (λ (r : Request). r.space == space) request_in (requests_in_use past)))
+    ∙ ap (λ (l : List Request). map (λ (r : Request). r.number) (filter (λ (r : Request). r.space == space) l)) (sym (in_use_is past))
+
 pub all_map : {X Y : Type 0} (P : Y → Type 0) (f : X → Y) (xs : List X) → AllByRecursion P (map f xs) → AllByRecursion (λ x. P (f x)) xs
 all_map P f [] all = tt
 all_map P f (x ∷ xs) all = (all.0, all_map P f xs all.1)
 
 -- ---- no two of the requests in use are alike ----
 
-head_all : {X : Type 0} (R : X → X → Type 0) (x : X) (xs : List X) → AllPairs R (x ∷ xs) → All (R x) xs
+pub head_all : {X : Type 0} (R : X → X → Type 0) (x : X) (xs : List X) → AllPairs R (x ∷ xs) → All (R x) xs
 head_all R x xs all = λ k d within. all 0 (suc k) d (omega arith) (omega arith)
 
-tail_pairs : {X : Type 0} (R : X → X → Type 0) (x : X) (xs : List X) → AllPairs R (x ∷ xs) → AllPairs R xs
+pub tail_pairs : {X : Type 0} (R : X → X → Type 0) (x : X) (xs : List X) → AllPairs R (x ∷ xs) → AllPairs R xs
 tail_pairs R x xs all = λ i j d before within. all (suc i) (suc j) d (omega arith) (omega arith)
 
 unfoldable pub AreDifferent : List RequestInUse → Type 0

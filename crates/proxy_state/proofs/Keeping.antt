@@ -2,7 +2,7 @@
 use Rattle.std.proofs.Common.{◌≡◌, ℕ, Bool, true, false, cond, ◌==◌, List, [], ◌∷◌, ◌++◌, map, refl, ap, sym, ◌∙◌, subst, Some, None}
 use Rattle.std.specs.List.{AllByRecursion}
 use Rattle.std.proofs.lemmas.List.{map-append, map_push}
-use Rattle.std.proofs.lemmas.Bool.{eqb-true}
+use Rattle.std.proofs.lemmas.Bool.{eqb-true, false_from_ne_true}
 use Rattle.outbox.specs.Queue.{Queue}
 use Rattle.connections.specs.Table.{Connection, Dropped, Table, connection_in, changed, gets, left_in, finds_room}
 use Rattle.connections.specs.Table as tables
@@ -10,10 +10,10 @@ use Rattle.proxy_history.specs.Facts.{Fact}
 use Rattle.proxy_history.specs.Connections.{present, dropped, contains, without}
 use Rattle.proxy_history.specs.Adding.{AllFit}
 use Rattle.proxy_history.specs.Protocol.{Protocol}
-use Rattle.proxy_state.specs.State.{State, Parting}
+use Rattle.proxy_state.specs.State.{State, Parting, partings_in}
 use Rattle.proxy_state.specs.Stands.{Kept, ClientState, client_state_of, connection_as, connection_of, parting_of, Streams, AreNames, HoldsOf}
 use Rattle.proxy_state.specs.Faithful.{Keeps}
-use Rattle.proxy_state.proofs.Lists.{map_pointwise, map_apart, apart_more, apart_still, without_contains}
+use Rattle.proxy_state.proofs.Lists.{map_pointwise, map_apart, map_absent, apart_more, apart_still, without_contains}
 use Rattle.proxy_state.proofs.Names.{names_without}
 use Rattle.proxy_state.proofs.Changed.{found_made, changed_made, without_made}
 
@@ -58,9 +58,125 @@ module _ {Known T S : Type 0} (p : Protocol Known) (k : Kept Known T S) (Fine : 
   abbrev AreApart : List Fact → Type 0
   AreApart past = AllByRecursion (λ d. contains d (present past) ≡ false) (dropped past)
 
-  apart_as : (later earlier : List Fact) → present later ≡ present earlier → dropped later ≡ dropped earlier → AreApart earlier → AreApart later
-  apart_as later earlier same_present same_dropped apart =
-      subst (AllByRecursion (λ d. contains d (present later) ≡ false)) (sym same_dropped) (subst (λ (xs : List ℕ). AllByRecursion (λ d. contains d xs ≡ false) (dropped earlier)) (sym same_present) apart)
+  -- ---- client states that are behind the facts, or before them ----
+
+  abbrev pub made_as : (ℕ → ClientState T) → ℕ → Connection T
+  made_as state d = connection_as p.limits.outbox (streams.rests d) d (state d)
+
+  abbrev pub parting_as : (ℕ → ClientState T) → ℕ → Parting
+  parting_as state d = record { name = d; waiting = (state d).waiting }
+
+  -- the connections have these states, and all else is as the facts say
+  pub record KeepsAs (state : ℕ → ClientState T) (past : List Fact) (x : State T S) : Type 0 where
+    pub connections : x.table.present ≡ map (made_as state) (present past)
+    pub beside : x.beside ≡ k.beside streams.messages past
+    pub greatest : x.table.greatest ≡ streams.greatest
+    pub limit : x.table.limit ≡ p.limits.connections
+    pub room_is : x.table.room ≡ p.limits.outbox
+    pub names : AreNames streams.greatest (present past)
+    pub partings : partings_in x.table.dropped ≡ map (parting_as state) (dropped past)
+    pub apart : AreApart past
+    pub fits : (d : ℕ) → contains d (present past) ≡ true → (state d).is_over ≡ false
+    pub fine : Fine past
+
+  pub kept_from : (state : ℕ → ClientState T) (past : List Fact) (x : State T S) → ((d : ℕ) → client_state_of p k past d ≡ state d) → KeepsAs state past x → IsKept past x
+  unfolding connection_of
+  kept_from state past x is A = record {
+    holds = record {
+      connections = A.connections ∙ map_pointwise _ (connection_of p k streams.rests past) (λ d. ap (connection_as p.limits.outbox (streams.rests d) d) (sym (is d))) (present past);
+      beside = A.beside;
+      greatest = A.greatest;
+      limit = A.limit;
+      room = A.room_is;
+      names = A.names;
+    };
+    partings = A.partings ∙ map_pointwise _ _ (λ d. ap (λ (a : ClientState T). parting_as (λ e. a) d) (sym (is d))) (dropped past);
+    apart = A.apart;
+    fits = λ d at. ap (λ (a : ClientState T). a.is_over) (is d) ∙ A.fits d at;
+    fine = A.fine;
+  }
+
+  -- the states are those before some facts by which nobody came or went
+  module _ (later earlier : List Fact) (x : State T S) (beside : S) (same_present : present later ≡ present earlier) (same_dropped : dropped later ≡ dropped earlier) (is : beside ≡ k.beside streams.messages later) (fine : Fine later) (K : IsKept earlier x) where
+    pub kept_before : KeepsAs (client_state_of p k earlier) later (record x { beside = beside })
+    unfolding connection_of
+    kept_before = record {
+      connections = K.holds.connections ∙ ap (map (made_as (client_state_of p k earlier))) (sym same_present);
+      beside = is;
+      greatest = K.holds.greatest;
+      limit = K.holds.limit;
+      room_is = K.holds.room;
+      names = subst (AreNames streams.greatest) (sym same_present) K.holds.names;
+      partings = K.partings ∙ ap (map (parting_as (client_state_of p k earlier))) (sym same_dropped);
+      apart = subst (AllByRecursion (λ d. contains d (present later) ≡ false)) (sym same_dropped) (subst (λ (xs : List ℕ). AllByRecursion (λ d. contains d xs ≡ false) (dropped earlier)) (sym same_present) K.apart);
+      fits = λ d at. K.fits d (ap (contains d) (sym same_present) ∙ at);
+      fine = fine;
+    }
+
+  -- the state of one that is there changes
+  module _ (before after : ℕ → ClientState T) (c : ℕ) (other : (d : ℕ) → (c == d) ≡ false → after d ≡ before d) (past : List Fact) (x : State T S) (there : contains c (present past) ≡ true) (A : KeepsAs before past x) where
+    made_other : (d : ℕ) → (c == d) ≡ false → made_as after d ≡ made_as before d
+    made_other d differs = ap (connection_as p.limits.outbox (streams.rests d) d) (other d differs)
+
+    others_left : map (parting_as before) (dropped past) ≡ map (parting_as after) (dropped past)
+    others_left = map_apart c (present past) _ _ (λ d differs. ap (λ (a : ClientState T). parting_as (λ e. a) d) (sym (other d differs))) there (dropped past) A.apart
+
+    pub changed_as : (f : Connection T → Connection T) → made_as after c ≡ f (made_as before c) → (after c).is_over ≡ false → KeepsAs after past (record x { table = record x.table { present = changed c f x.table.present } })
+    changed_as f own fit = record {
+      connections = ap (changed c f) A.connections ∙ changed_made (made_as before) (λ d. refl) c (made_as after) made_other f own (present past) A.names.distinct;
+      beside = A.beside;
+      greatest = A.greatest;
+      limit = A.limit;
+      room_is = A.room_is;
+      names = A.names;
+      partings = A.partings ∙ others_left;
+      apart = A.apart;
+      fits = fitting;
+      fine = A.fine;
+    }
+      where
+        fitting : (d : ℕ) → contains d (present past) ≡ true → (after d).is_over ≡ false
+        fitting d at =
+            let step : (b : Bool) → (c == d) ≡ b → (after d).is_over ≡ false =
+            λ b. elim b as (λ b. (c == d) ≡ b → (after d).is_over ≡ false) [
+              | true ↦ λ e. subst (λ (n : ℕ). (after n).is_over ≡ false) (eqb-true c d e) fit
+              | false ↦ λ e. ap (λ (a : ClientState T). a.is_over) (other d e) ∙ A.fits d at
+            ]
+            in step (c == d) refl
+
+    -- it ends, by itself or dropped
+    module _ (later : List Fact) (beside : S) (fewer : present later ≡ without c (present past)) (is : beside ≡ k.beside streams.messages later) (fine : Fine later) where
+      ended_as : (now : List Dropped) → partings_in now ≡ map (parting_as after) (dropped later) → AreApart later → KeepsAs after later (record { table = record x.table { present = tables.without c x.table.present; dropped = now }; beside = beside })
+      ended_as now partings apart = record {
+        connections = ap (tables.without c) A.connections ∙ without_made (made_as before) (λ d. refl) c (made_as after) made_other (present past) A.names.distinct ∙ ap (map (made_as after)) (sym fewer);
+        beside = is;
+        greatest = A.greatest;
+        limit = A.limit;
+        room_is = A.room_is;
+        names = subst (AreNames streams.greatest) (sym fewer) (names_without streams.greatest c (present past) A.names);
+        partings = partings;
+        apart = apart;
+        fits = λ d at.
+            let parts = without_contains c d (present past) (ap (contains d) (sym fewer) ∙ at) in
+            ap (λ (a : ClientState T). a.is_over) (other d parts.0) ∙ A.fits d parts.1;
+        fine = fine;
+      }
+
+      apart_from : (names : List ℕ) → dropped later ≡ names → AllByRecursion (λ d. contains d (without c (present past)) ≡ false) names → AreApart later
+      apart_from names is apart = subst (AllByRecursion (λ d. contains d (present later) ≡ false)) (sym is) (subst (λ (xs : List ℕ). AllByRecursion (λ d. contains d xs ≡ false) names) (sym fewer) apart)
+
+      pub left_as : dropped later ≡ dropped past → KeepsAs after later (record { table = tables.leaves c x.table; beside = beside })
+      left_as same = ended_as x.table.dropped (A.partings ∙ others_left ∙ ap (map (parting_as after)) (sym same)) (apart_from (dropped past) same (apart_still c (present past) (dropped past) A.apart))
+
+      pub dropped_as : (outbox : Queue) → outbox.bytes ≡ (after c).waiting → dropped later ≡ dropped past ++ c ∷ [] → KeepsAs after later (record { table = tables.drops c outbox x.table; beside = beside })
+      dropped_as outbox waits more =
+          ended_as (x.table.dropped ++ record { name = c; outbox = Some outbox } ∷ [])
+          (map_push (λ (d : Dropped). let l : Parting = record { name = d.name; waiting = left_in d.outbox } in l) x.table.dropped (record { name = c; outbox = Some outbox })
+          ∙ ap (λ (l : List Parting). l ++ record { name = c; waiting = outbox.bytes } ∷ []) (A.partings ∙ others_left)
+          ∙ ap (λ (l : List ℕ). map (parting_as after) (dropped past) ++ record { name = c; waiting = l } ∷ []) waits
+          ∙ sym (map-append (parting_as after) (dropped past) (c ∷ []))
+          ∙ ap (map (parting_as after)) (sym more))
+          (apart_from (dropped past ++ c ∷ []) more (apart_more c (present past) (dropped past) A.apart))
 
   -- ---- nothing comes for any client ----
 
@@ -73,22 +189,53 @@ module _ {Known T S : Type 0} (p : Protocol Known) (k : Kept Known T S) (Fine : 
     fits_same fits d there = ap (λ (a : ClientState T). a.is_over) (same d) ∙ fits d (ap (contains d) (sym same_present) ∙ there)
 
     pub keeps_quiet : (x : State T S) (beside : S) → dropped later ≡ dropped earlier → beside ≡ k.beside streams.messages later → Fine later → IsKept earlier x → IsKept later (record { table = x.table; beside = beside })
-    keeps_quiet x beside same_dropped is fine K = record {
-      holds = record {
-        connections = K.holds.connections ∙ connections_same streams.rests;
-        beside = is;
-        greatest = K.holds.greatest;
-        limit = K.holds.limit;
-        room = K.holds.room;
-        names = subst (AreNames streams.greatest) (sym same_present) K.holds.names;
-      };
-      partings = K.partings ∙ map_pointwise _ _ (λ d. sym (parting_same p k later earlier d (same d))) (dropped earlier) ∙ ap (map (parting_of p later)) (sym same_dropped);
-      apart = apart_as later earlier same_present same_dropped K.apart;
-      fits = fits_same K.fits;
-      fine = fine;
-    }
+    keeps_quiet x beside same_dropped is fine K = kept_from (client_state_of p k earlier) later _ same (kept_before later earlier x beside same_present same_dropped is fine K)
 
-  -- ---- a connection that is there changes ----
+  -- of other messages of the modem's stream tells only what is kept beside the connections
+  pub with_messages : (messages : List (List ℕ)) (past : List Fact) (x : State T S) (beside : S) → beside ≡ k.beside messages past → IsKept past x → Keeps p k Fine (record streams { messages = messages }) past (record x { beside = beside })
+  with_messages messages past x beside is K = record {
+    holds = record {
+      connections = K.holds.connections;
+      beside = is;
+      greatest = K.holds.greatest;
+      limit = K.holds.limit;
+      room = K.holds.room;
+      names = K.holds.names;
+    };
+    partings = K.partings;
+    apart = K.apart;
+    fits = K.fits;
+    fine = K.fine;
+  }
+
+  -- what comes is for nobody that is there or was dropped
+  pub keeps_unheard : (later earlier : List Fact) (x : State T S) (c : ℕ) (beside : S)
+      → ((d : ℕ) → (c == d) ≡ false → client_state_of p k later d ≡ client_state_of p k earlier d)
+      → contains c (present earlier) ≡ false → contains c (dropped earlier) ≡ false
+      → present later ≡ present earlier → dropped later ≡ dropped earlier → beside ≡ k.beside streams.messages later → Fine later
+      → IsKept earlier x → IsKept later (record { table = x.table; beside = beside })
+  unfolding connection_of
+  keeps_unheard later earlier x c beside other absent gone same_present same_dropped is fine K =
+      let A : KeepsAs (client_state_of p k earlier) later (record x { beside = beside }) = kept_before later earlier x beside same_present same_dropped is fine K in
+      let out : contains c (present later) ≡ false = ap (contains c) same_present ∙ absent in
+      record {
+        holds = record {
+          connections = A.connections ∙ map_absent c _ _ (λ d differs. sym (connection_same p k streams.rests later earlier d (other d differs))) (present later) out;
+          beside = A.beside;
+          greatest = A.greatest;
+          limit = A.limit;
+          room = A.room_is;
+          names = A.names;
+        };
+        partings = A.partings ∙ map_absent c _ _ (λ d differs. sym (parting_same p k later earlier d (other d differs))) (dropped later) (ap (contains c) same_dropped ∙ gone);
+        apart = A.apart;
+        fits = λ d at.
+            let differs : (c == d) ≡ false = false_from_ne_true (c == d) (λ e. let none : contains d (present later) ≡ false = ap (λ (n : ℕ). contains n (present later)) (sym (eqb-true c d e)) ∙ out in absurd (cc)) in
+            ap (λ (a : ClientState T). a.is_over) (other d differs) ∙ A.fits d at;
+        fine = A.fine;
+      }
+
+  -- ---- a connection that is there changes, or ends ----
 
   pub keeps_changed : (later earlier : List Fact) (x : State T S) (c : ℕ) (f : Connection T → Connection T) (beside : S)
       → connection_of p k streams.rests later c ≡ f (connection_of p k streams.rests earlier c)
@@ -97,95 +244,21 @@ module _ {Known T S : Type 0} (p : Protocol Known) (k : Kept Known T S) (Fine : 
       → present later ≡ present earlier → dropped later ≡ dropped earlier → beside ≡ k.beside streams.messages later → Fine later
       → contains c (present earlier) ≡ true → IsKept earlier x
       → IsKept later (record { table = record x.table { present = changed c f x.table.present }; beside = beside })
-  keeps_changed later earlier x c f beside own fit other same_present same_dropped is fine there K = record {
-    holds = record {
-      connections =
-          ap (changed c f) K.holds.connections
-          ∙ changed_made (connection_of p k streams.rests earlier) (connection_name p k streams.rests earlier) c (connection_of p k streams.rests later)
-          (λ d differs. connection_same p k streams.rests later earlier d (other d differs)) f own (present earlier) K.holds.names.distinct
-          ∙ ap (map (connection_of p k streams.rests later)) (sym same_present);
-      beside = is;
-      greatest = K.holds.greatest;
-      limit = K.holds.limit;
-      room = K.holds.room;
-      names = subst (AreNames streams.greatest) (sym same_present) K.holds.names;
-    };
-    partings =
-        K.partings
-        ∙ map_apart c (present earlier) _ _ (λ d differs. sym (parting_same p k later earlier d (other d differs))) there (dropped earlier) K.apart
-        ∙ ap (map (parting_of p later)) (sym same_dropped);
-    apart = apart_as later earlier same_present same_dropped K.apart;
-    fits = fitting;
-    fine = fine;
-  }
-    where
-      fitting : (d : ℕ) → contains d (present later) ≡ true → (client_state_of p k later d).is_over ≡ false
-      fitting d at =
-          let step : (b : Bool) → (c == d) ≡ b → (client_state_of p k later d).is_over ≡ false =
-          λ b. elim b as (λ b. (c == d) ≡ b → (client_state_of p k later d).is_over ≡ false) [
-            | true ↦ λ e. subst (λ (n : ℕ). (client_state_of p k later n).is_over ≡ false) (eqb-true c d e) fit
-            | false ↦ λ e. ap (λ (a : ClientState T). a.is_over) (other d e) ∙ K.fits d (ap (contains d) (sym same_present) ∙ at)
-          ]
-          in step (c == d) refl
-
-  -- ---- a connection ends ----
+  unfolding connection_of
+  keeps_changed later earlier x c f beside own fit other same_present same_dropped is fine there K =
+      kept_from (client_state_of p k later) later _ (λ d. refl)
+      (changed_as (client_state_of p k earlier) (client_state_of p k later) c other later _ (ap (contains c) same_present ∙ there) (kept_before later earlier x beside same_present same_dropped is fine K) f own fit)
 
   module _ (later earlier : List Fact) (x : State T S) (c : ℕ) (beside : S)
       (other : (d : ℕ) → (c == d) ≡ false → client_state_of p k later d ≡ client_state_of p k earlier d)
       (fewer : present later ≡ without c (present earlier)) (is : beside ≡ k.beside streams.messages later) (fine : Fine later)
       (there : contains c (present earlier) ≡ true) (K : IsKept earlier x) where
-    held : HoldsOf p k streams later (record { table = tables.leaves c x.table; beside = beside })
-    held = record {
-      connections =
-          ap (tables.without c) K.holds.connections
-          ∙ without_made (connection_of p k streams.rests earlier) (connection_name p k streams.rests earlier) c (connection_of p k streams.rests later)
-          (λ d differs. connection_same p k streams.rests later earlier d (other d differs)) (present earlier) K.holds.names.distinct
-          ∙ ap (map (connection_of p k streams.rests later)) (sym fewer);
-      beside = is;
-      greatest = K.holds.greatest;
-      limit = K.holds.limit;
-      room = K.holds.room;
-      names = subst (AreNames streams.greatest) (sym fewer) (names_without streams.greatest c (present earlier) K.holds.names);
-    }
+    abbrev before : KeepsAs (client_state_of p k earlier) earlier x
+    before = kept_before earlier earlier x x.beside refl refl K.holds.beside K.fine K
 
-    fitting : Fits later
-    fitting d at =
-        let parts = without_contains c d (present earlier) (ap (contains d) (sym fewer) ∙ at) in
-        ap (λ (a : ClientState T). a.is_over) (other d parts.0) ∙ K.fits d parts.1
-
-    others_left : map (parting_of p earlier) (dropped earlier) ≡ map (parting_of p later) (dropped earlier)
-    others_left = map_apart c (present earlier) _ _ (λ d differs. sym (parting_same p k later earlier d (other d differs))) there (dropped earlier) K.apart
-
-    -- by itself
     pub keeps_left : dropped later ≡ dropped earlier → IsKept later (record { table = tables.leaves c x.table; beside = beside })
-    keeps_left same = record {
-      holds = held;
-      partings = K.partings ∙ others_left ∙ ap (map (parting_of p later)) (sym same);
-      apart = subst (AllByRecursion (λ d. contains d (present later) ≡ false)) (sym same)
-          (subst (λ (xs : List ℕ). AllByRecursion (λ d. contains d xs ≡ false) (dropped earlier)) (sym fewer) (apart_still c (present earlier) (dropped earlier) K.apart));
-      fits = fitting;
-      fine = fine;
-    }
+    keeps_left same = kept_from (client_state_of p k later) later _ (λ d. refl) (left_as (client_state_of p k earlier) (client_state_of p k later) c other earlier x there before later beside fewer is fine same)
 
-    -- or it is dropped
     pub keeps_dropped : (outbox : Queue) → outbox.bytes ≡ (client_state_of p k later c).waiting → dropped later ≡ dropped earlier ++ c ∷ [] → IsKept later (record { table = tables.drops c outbox x.table; beside = beside })
-    keeps_dropped outbox waits more = record {
-      holds = record {
-        connections = held.connections;
-        beside = held.beside;
-        greatest = held.greatest;
-        limit = held.limit;
-        room = held.room;
-        names = held.names;
-      };
-      partings =
-          map_push (λ (d : Dropped). let l : Parting = record { name = d.name; waiting = left_in d.outbox } in l) x.table.dropped (record { name = c; outbox = Some outbox })
-          ∙ ap (λ (l : List Parting). l ++ record { name = c; waiting = outbox.bytes } ∷ []) (K.partings ∙ others_left)
-          ∙ ap (λ (l : List ℕ). map (parting_of p later) (dropped earlier) ++ record { name = c; waiting = l } ∷ []) waits
-          ∙ sym (map-append (parting_of p later) (dropped earlier) (c ∷ []))
-          ∙ ap (map (parting_of p later)) (sym more);
-      apart = subst (AllByRecursion (λ d. contains d (present later) ≡ false)) (sym more)
-          (subst (λ (xs : List ℕ). AllByRecursion (λ d. contains d xs ≡ false) (dropped earlier ++ c ∷ [])) (sym fewer) (apart_more c (present earlier) (dropped earlier) K.apart));
-      fits = fitting;
-      fine = fine;
-    }
+    keeps_dropped outbox waits more =
+        kept_from (client_state_of p k later) later _ (λ d. refl) (dropped_as (client_state_of p k earlier) (client_state_of p k later) c other earlier x there before later beside fewer is fine outbox waits more)

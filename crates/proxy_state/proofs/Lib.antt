@@ -12,6 +12,13 @@ pub mod Hearing
 pub mod Filters
 pub mod InUse
 pub mod Rows
+pub mod Apart
+pub mod Strangers
+pub mod Replying
+pub mod Matching
 pub mod Expiring
+pub mod Refusing
+pub mod Expired
 pub mod Places
 pub mod Chosen
+pub mod Greatest

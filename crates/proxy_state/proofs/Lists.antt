@@ -11,6 +11,14 @@ pub map_pointwise : {X Y : Type 0} (f g : X → Y) → ((x : X) → f x ≡ g x)
 map_pointwise f g h [] = refl
 map_pointwise f g h (x ∷ xs) = rw (h x, map_pointwise f g h xs) refl
 
+pub map_agrees : {X Y : Type 0} (f g : X → Y) (xs : List X) → AllByRecursion (λ x. f x ≡ g x) xs → map f xs ≡ map g xs
+map_agrees f g [] all = refl
+map_agrees f g (x ∷ xs) all = rw (all.0, map_agrees f g xs all.1) refl
+
+pub filter_passes : {X : Type 0} (p : X → Bool) (xs : List X) → AllByRecursion (λ x. p x ≡ true) xs → filter p xs ≡ xs
+filter_passes p [] all = refl
+filter_passes p (x ∷ xs) all = rw (all.0, filter_passes p xs all.1) refl
+
 pub filter_map_is : {X Y : Type 0} (p : Y → Bool) (f : X → Y) (xs : List X) → filter p (map f xs) ≡ map f (filter (λ x. p (f x)) xs)
 filter_map_is p f [] = refl
 filter_map_is p f (x ∷ xs) =

@@ -46,6 +46,13 @@ module _ {T : Type 0} (s : Connection T) where
   length_removed (t ∷ present) (suc i) rising within at =
       let rest = length_removed present i (later t present rising) (omega arith) at in rw (earlier t present i rising (omega arith) at) (omega (arith, rest))
 
+  -- it is changed once more
+  pub changed_again : (f g : Connection T → Connection T) (present : List (Connection T)) (i : ℕ) → AreRising present → i < length present → StandsAt s present i → tables.changed_at i g (changed s.name f present) ≡ changed s.name (λ l. g (f l)) present
+  unfolding changed
+  changed_again f g [] i rising within at = absurd (omega arith)
+  changed_again f g (t ∷ present) zero rising within at = rw (← at) (rw (same_name s) refl)
+  changed_again f g (t ∷ present) (suc i) rising within at = rw (earlier t present i rising (omega arith) at) (ap (λ (l : List (Connection T)). t ∷ l) (changed_again f g present i (later t present rising) (omega arith) at))
+
 pub length_updated : {T : Type 0} (c : ℕ) (f : Connection T → Connection T) (present : List (Connection T)) → length (changed c f present) ≡ length present
 unfolding changed
 length_updated c f [] = refl

@@ -32,7 +32,8 @@ pub record Keeps {Known T S : Type 0} (p : Protocol Known) (k : Kept Known T S) 
 -- a fact of a client's connection, which the protocol has no part in
 abbrev pub IsOfConnections : Fact → List Fact → Type 0
 IsOfConnections EventBegan past = Unit {0}
-IsOfConnections (Admitted c) past = contains c (present past) ≡ false
+IsOfConnections (Admitted c) past = (1 ≤ c) × (contains c (present past) ≡ false)
+IsOfConnections (Ended c NotAdmitted) past = 1 ≤ c
 IsOfConnections (Ended c why) past = Unit {0}
 IsOfConnections (Drained c count) past = Unit {0}
 IsOfConnections _ past = ⊥

@@ -5,3 +5,4 @@ pub mod Faithful
 pub mod Laws
 pub mod Requests
 pub mod Chosen
+pub mod Telling

@@ -3,7 +3,7 @@ use Rattle.std.specs.Prelude.{ℕ, Bool, true, false, List, [], ◌∷◌, ◌++
 use Rattle.framing.specs.Cutting.{Cutting, cut}
 use Rattle.proxy_history.specs.Events.{Event, Joined, Piece, Left, ModemPiece, ModemGone, ModemBack, Now, Took, ModemTook}
 use Rattle.proxy_history.specs.Streams.{Framing, is_invalid}
-use Rattle.connections.specs.Table.{Table, connection_in, finds_room}
+use Rattle.connections.specs.Table.{Table, connection_in}
 use Rattle.connections.specs.Table as tables
 use Rattle.connections.specs.Hearing as hearing
 use Rattle.proxy_state.specs.State.{State, Core, Handlers}
@@ -18,27 +18,12 @@ abbrev pub given_up_unless : {S : Type 0} → (give_up : ℕ → S → S) → Bo
 given_up_unless give_up true c beside = beside
 given_up_unless give_up false c beside = give_up c beside
 
-module _ {T S : Type 0} (give_up : ℕ → S → S) where
-  -- ---- bytes for clients ----
-
-  -- a client gets these bytes, or is dropped where they find no room
-  abbrev pub tell : ℕ → List ℕ → State T S → State T S
-  tell c bytes x = record {
-    table = tables.tells c bytes x.table;
-    beside = given_up_unless give_up (finds_room bytes (connection_in c x.table.present)) c x.beside;
-  }
-
-  -- one after the other
-  unfoldable pub tell_all : List ℕ → List ℕ → State T S → State T S
-  tell_all bytes [] x = x
-  tell_all bytes (c ∷ cs) x = tell_all bytes cs (tell c bytes x)
-
-  -- it goes by itself
-  abbrev pub leave : ℕ → State T S → State T S
-  leave c x = record {
-    table = tables.leaves c x.table;
-    beside = given_up_unless give_up (is_none (connection_in c x.table.present)) c x.beside;
-  }
+-- it goes by itself
+abbrev pub leave : {T S : Type 0} → (give_up : ℕ → S → S) → ℕ → State T S → State T S
+leave give_up c x = record {
+  table = tables.leaves c x.table;
+  beside = given_up_unless give_up (is_none (connection_in c x.table.present)) c x.beside;
+}
 
 -- ---- what a core does ----
 

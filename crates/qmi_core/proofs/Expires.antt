@@ -9,7 +9,8 @@ use Rattle.qmi_state.specs.declared.asked.Asked.{Asked}
 use Rattle.qmi_state.specs.Traffic.{Row, Numbers, Traffic, of_control, with_numbers, silences, gives_up}
 use Rattle.connections.specs.Table.{connection_in, finds_room}
 use Rattle.proxy_state.specs.Step.{given_up_unless}
-use Rattle.qmi_state.specs.Core.{QmiState}
+use Rattle.proxy_state.proofs.Telling.{tell_is}
+use Rattle.qmi_state.specs.Core.{ModemSide, QmiState}
 use Rattle.qmi_state.specs.Transitions.{with_traffic, give_up, tell, refuses, expires_in, expires_space}
 
 -- how many of the rows somebody waits for
@@ -102,7 +103,11 @@ record TellsKeep (control : Bool) (c : ℕ) (bytes : List ℕ) (x : QmiState) : 
 
 tells_keep : (control : Bool) (c : ℕ) (bytes : List ℕ) (x : QmiState) → TellsKeep control c bytes x
 tells_keep control c bytes x =
-    let all = by_room (finds_room bytes (connection_in c x.table.present)) in record { count = all.0; rows = all.1 }
+    let side = ap (λ (y : QmiState). y.beside) (tell_is give_up (λ client. bytes) c bytes x (λ k at. refl)) in
+    let all = by_room (finds_room bytes (connection_in c x.table.present)) in record {
+      count = subst (λ (b : ModemSide). waiting_count (of_control control b.traffic).rows ≤ waiting_count (rows_at control x)) (sym side) all.0;
+      rows = ap (λ (b : ModemSide). length (of_control control b.traffic).rows) side ∙ all.1;
+    }
   where
     by_room : (fits : Bool) → (waiting_count (of_control control (given_up_unless give_up fits c x.beside).traffic).rows ≤ waiting_count (rows_at control x)) × (length (of_control control (given_up_unless give_up fits c x.beside).traffic).rows ≡ length (rows_at control x))
     by_room true = (omega arith, refl)

@@ -3,19 +3,30 @@ use Rattle.std.proofs.Common.{◌≡◌, ℕ, ◌<◌, Bool, true, false, not, c
 use Rattle.std.proofs.lemmas.Bool.Decides.{nat_tests}
 use Rattle.std.proofs.lemmas.Bool.{eqb-true, eq-eqb}
 use Rattle.qmux_frame.specs.Head.{service_of, is_control, client_of}
-use Rattle.connections.specs.Table.{Connection}
+use Rattle.connections.specs.Table.{Connection, Table, connection_in, finds_room}
+use Rattle.connections.specs.Table as tables
 use Rattle.proxy_history.specs.ClientIds.{Grant, holder_in, holds_some}
 use Rattle.proxy_state.proofs.Lists.{filter_map_is}
+use Rattle.proxy_state.specs.Step.{given_up_unless}
 use Rattle.proxy_state.specs.Chosen.{chosen}
+use Rattle.proxy_state.proofs.Telling.{tell_is}
 use Rattle.proxy_state.proofs.Chosen.{tell_from_first}
 use Rattle.holders.specs.Grants.{leaves}
 use Rattle.qmi_state.specs.declared.client.Client.{Client}
 use Rattle.qmi_state.specs.Core.{ModemSide, QmiState}
-use Rattle.qmi_state.specs.Transitions.{give_up, tell_all, opened_ones, holders_of, tells_holder, indicates}
+use Rattle.qmi_state.specs.Transitions.{give_up, tell, tell_all, opened_ones, holders_of, tells_holder, indicates}
 use Rattle.qmi_core.specs.State.{is_chosen, tell_from}
 
+-- the bytes find room
+pub stays_told : (c : ℕ) (bytes : List ℕ) (was now : QmiState) → was ≡ now → (table : Table Client) → table ≡ tables.tells c bytes was.table → finds_room bytes (connection_in c was.table.present) ≡ true
+    → record { table = table; beside = was.beside } ≡ tell c bytes now
+stays_told c bytes was now same table told room =
+    ap (λ (t : Table Client). let y : QmiState = record { table = t; beside = was.beside } in y) told
+    ∙ sym (ap (λ (fits : Bool). let y : QmiState = record { table = tables.tells c bytes was.table; beside = given_up_unless give_up fits c was.beside } in y) room)
+    ∙ sym (tell_is give_up (λ client. bytes) c bytes was (λ k at. refl)) ∙ ap (tell c bytes) same
+
 -- those that hold an id of the service
-holders_chosen : (service : ℕ) (side : ModemSide) (present : List (Connection Client)) → chosen give_up (is_chosen (Some service)) side present ≡ holders_of service side.traffic.held present
+holders_chosen : (service : ℕ) (side : ModemSide) (present : List (Connection Client)) → chosen (is_chosen (Some service)) side present ≡ holders_of service side.traffic.held present
 holders_chosen service side present = sym (filter_map_is (λ (c : ℕ). holds_some c service side.traffic.held) (λ (k : Connection Client). k.name) present)
 
 -- who gives up its ids takes none from others
@@ -50,10 +61,10 @@ indicated m x control all =
     else tells_holder (holder_in (service_of m) (client_of m) x.beside.traffic.held) m x
 
 pub indicated_open : (m : List ℕ) (new old : QmiState) → is_control m ≡ true → new ≡ tell_from None m 0 old → new ≡ indicates m old
-indicated_open m new old control is = is ∙ tell_from_first give_up (is_chosen None) (still_chosen None) m old ∙ sym (ap (λ (b : Bool). indicated m old b (client_of m == 255)) control)
+indicated_open m new old control is = is ∙ tell_from_first give_up (λ client. m) (λ client. client) (is_chosen None) (still_chosen None) old ∙ sym (ap (λ (b : Bool). indicated m old b (client_of m == 255)) control)
 
 pub indicated_holders : (m : List ℕ) (service : ℕ) (new old : QmiState) → is_control m ≡ false → client_of m ≡ 255 → service ≡ service_of m → new ≡ tell_from (Some service) m 0 old → new ≡ indicates m old
 indicated_holders m service new old control client same is =
-    is ∙ tell_from_first give_up (is_chosen (Some service)) (still_chosen (Some service)) m old
+    is ∙ tell_from_first give_up (λ client. m) (λ client. client) (is_chosen (Some service)) (still_chosen (Some service)) old
     ∙ ap (λ (l : List ℕ). tell_all m l old) (holders_chosen service old.beside old.table.present ∙ ap (λ (n : ℕ). holders_of n old.beside.traffic.held old.table.present) same)
     ∙ sym (ap (λ (b : Bool). indicated m old b (client_of m == 255)) control ∙ ap (indicated m old false) (eq-eqb (client_of m) 255 client))

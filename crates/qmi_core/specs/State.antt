@@ -23,7 +23,7 @@ is_chosen (Some service) side k = holds_some k.name service side.traffic.held
 
 -- those from this place on that are chosen are told
 abbrev pub tell_from : Option ℕ → List ℕ → ℕ → QmiState → QmiState
-tell_from audience bytes i x = proxy.tell_from give_up (is_chosen audience) bytes i x
+tell_from audience bytes i x = proxy.tell_from give_up (λ client. bytes) (λ client. client) (is_chosen audience) i x
 
 -- ---- an answer, from the sender and from what is kept of the request ----
 

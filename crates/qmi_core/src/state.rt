@@ -73,7 +73,7 @@ impl State {
         requires hung_up { self.old.table.dropped ≡ [] }
         ensures { self.new ≡ proxy.join qmi_handlers name self.old }
     {
-        self.connections.join(name, Client { opened: false });
+        self.connections.join(name);
     }
 
     /// A client is gone.

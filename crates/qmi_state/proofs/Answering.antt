@@ -1,5 +1,5 @@
 -- What a response of the modem makes of a core.
-use Rattle.std.proofs.Common.{◌≡◌, ℕ, zero, ◌≤◌, Bool, true, false, ◌&&◌, ◌==◌, List, [], ◌∷◌, length, map, refl, ap, sym, ◌∙◌, subst, ⊎_elim, arith, Contains, Option, Some, None, if◌then◌else◌}
+use Rattle.std.proofs.Common.{◌≡◌, ℕ, ◌≤◌, Bool, true, false, ◌&&◌, ◌==◌, List, ◌∷◌, length, map, refl, ap, sym, ◌∙◌, subst, Contains, Option, Some, None, if◌then◌else◌}
 use Rattle.std.proofs.lemmas.Bool.{eqb-true}
 use Rattle.std.proofs.lemmas.List.Elements.{All-contains}
 use Rattle.qmux_frame.specs.Head.{service_of, is_control, number_of}
@@ -11,8 +11,6 @@ use Rattle.proxy_history.specs.ClientIds.{Grant, holder_in}
 use Rattle.proxy_history.specs.Modem.{now, is_away, to_modem, modem_drained}
 use Rattle.proxy_history.specs.Noting.{end_overfull}
 use Rattle.proxy_history.specs.View.{view}
-use Rattle.proxy_history.proofs.Lists.{Contains-cons, Contains-cons_cases, Contains-nil}
-use Rattle.proxy_history.proofs.Sound.{forwarded_from_in_use, waits}
 use Rattle.proxy_history.proofs.SoundLaws.{waiting_are_parties}
 use Rattle.proxy_history.specs.Sound.{IsParty, IsFreeFor}
 use Rattle.qmi_proxy.specs.Setup.{Setup}
@@ -20,7 +18,7 @@ use Rattle.qmi_proxy.specs.Limits.{qmi_limits}
 use Rattle.qmi_proxy.specs.Spaces.{control_space, service_space, space_of}
 use Rattle.qmi_proxy.specs.Errors.{client_ids_exhausted}
 use Rattle.qmi_proxy.specs.Messages.{value_of, byte_of}
-use Rattle.qmi_proxy.specs.FromModem.{IdChange, NoChange, Grants, Collides, Frees, id_change, holder_of_brought, answer, answer_or_late, respond, first_answered_by}
+use Rattle.qmi_proxy.specs.FromModem.{is_answered_by, IdChange, NoChange, Grants, Collides, Frees, id_change, holder_of_brought, answer, answer_or_late, respond, first_answered_by}
 use Rattle.qmi_state.specs.Asked.{asked_of}
 use Rattle.qmi_proxy.specs.Regular.{IsAsked, Regular}
 use Rattle.holders.specs.Grants.{granted, releases}
@@ -29,9 +27,11 @@ use Rattle.qmi_state.specs.Traffic.{Row, Numbers, Traffic, row_of, rows_of, traf
 use Rattle.proxy_state.specs.Stands.{Streams}
 use Rattle.qmi_state.specs.Core.{QmiState}
 use Rattle.qmi_state.specs.Transitions.{with_traffic, tell, change_by, holder_brought, with_held, answers, answers_if, fits, responds_if, responds_to, responds}
-use Rattle.proxy_state.proofs.InUse.{request_in, in_use_is}
+use Rattle.proxy_state.proofs.InUse.{request_in, in_use_is, request_in_use}
+use Rattle.proxy_state.proofs.Apart.{request_waits}
 use Rattle.qmi_state.proofs.Apart.{all_apart}
-use Rattle.qmi_state.proofs.Matching.{Search, IsFound, IsNone, Found, search_for, are_different, all_placed, pending_flag, fits_request, request_if}
+use Rattle.proxy_state.proofs.Matching.{Search, IsFound, IsNone, Found, search_for}
+use Rattle.qmi_state.proofs.Matching.{are_different, pending_flag, fits_request, all_matched, answered_by_number}
 use Rattle.qmi_state.proofs.Ids.{holder_is}
 use Rattle.qmi_state.proofs.Heads.{service_kept, client_kept, number_kept, reply_kept, change_is}
 use Rattle.qmi_state.proofs.ClientStates.{answered_own, answered_other, held_own, held_other}
@@ -41,18 +41,8 @@ use Rattle.qmi_proxy.proofs.Regulars.{regular_more, asked_of_pending}
 use Rattle.qmi_state.proofs.Keeping as keeping
 use Rattle.qmi_state.proofs.Keeping.{traffic_is, keeps_quiet, keeps_told, end_if}
 
-contains_map : {X Y : Type 0} (f : X → Y) (xs : List X) (x : X) → Contains xs x → Contains (map f xs) (f x)
-contains_map f [] x at = absurd (Contains-nil x at)
-contains_map {Y = Y} f (y ∷ xs) x at =
-    ⊎_elim
-    (λ (is : y ≡ x). let P : Y → Type 0 = λ (z : Y). Contains (z ∷ map f xs) (f x) in subst P (sym (ap f is)) (zero, omega arith, refl))
-    (λ (later : Contains xs x). Contains-cons (f x) (f y) (map f xs) (contains_map f xs x later)) (Contains-cons_cases x y xs at)
-
-pub ask_in_use : (past : List Fact) (a : RequestInUse) → Contains (requests_in_use past) a → Contains (in_use past) a.request
-ask_in_use past a at = subst (λ (l : List Request). Contains l a.request) (sym (in_use_is past)) (contains_map request_in (requests_in_use past) a at)
-
 pub ask_waits : (past : List Fact) (a : RequestInUse) → Regular past → Contains (requests_in_use past) a → a.waits ≡ true → Contains (pending past) a.request
-ask_waits past a R at waiting = waits qmi_limits past a.request R.sound (forwarded_from_in_use past a.request (ask_in_use past a at)) (pending_flag past a R at ∙ waiting)
+ask_waits past a R at waiting = request_waits past a (are_different past R) at qmi_limits R.sound waiting
 
 pub numbers_at : (traffic : Traffic) (past : List Fact) (m : List ℕ) → traffic ≡ traffic_of past → (of_control (is_control m) traffic).rows ≡ rows_of (space_of m) (requests_in_use past)
 numbers_at traffic past m is =
@@ -144,22 +134,22 @@ module _ (s : Setup) (streams : Streams) where
     answered_by : (change : IdChange) → ((service client : ℕ) → change ≡ Grants service client → IsFreeFor r.conn service client past) → Kept (answer s.device r m change past) (answers (row_of a) m change x')
     unfolding end_overfull pending in_use
     answered_by NoChange free =
-        subst (λ (n : ℕ). Kept (end_if s streams r.conn (Answered r m ∷ past)) (tell r.conn (with_number n m) x')) (sym numbered) (told_answer past x r is_at (ask_in_use past a at) placed K m long)
+        subst (λ (n : ℕ). Kept (end_if s streams r.conn (Answered r m ∷ past)) (tell r.conn (with_number n m) x')) (sym numbered) (told_answer past x r is_at (request_in_use past a at) placed K m long)
     answered_by (Grants service client) free =
         let before : List Fact = Granted r.conn service client ∷ past in
         let held_now : List Grant = granted r.conn service client x.beside.traffic.held in
         let party : IsParty r.conn past = All-contains (λ (q : Request). IsParty q.conn past) (pending past) r (waiting_are_parties qmi_limits past K.fine.sound) is_at in
         subst (λ (n : ℕ). Kept (end_if s streams r.conn (Answered r m ∷ before)) (tell r.conn (with_number n m) (with_held held_now x'))) (sym numbered)
         (subst (λ (d : Traffic). Kept (end_if s streams r.conn (Answered r m ∷ before)) (tell r.conn (with_number (number_of r.message) m) (with_traffic d x))) (freed-held (is_control r.message) r.number x.beside.traffic held_now)
-        (told_answer before (with_traffic (record x.beside.traffic { held = held_now }) x) r is_at (ask_in_use past a at) placed (kept_granted past x r.conn service client party (free service client refl) K) m long))
+        (told_answer before (with_traffic (record x.beside.traffic { held = held_now }) x) r is_at (request_in_use past a at) placed (kept_granted past x r.conn service client party (free service client refl) K) m long))
     answered_by Collides free =
-        subst (λ (l : List ℕ). Kept (end_if s streams r.conn (IdHeld r ∷ past)) (tell r.conn l x')) (sym replied) (told_held past x r is_at (ask_in_use past a at) placed K)
+        subst (λ (l : List ℕ). Kept (end_if s streams r.conn (IdHeld r ∷ past)) (tell r.conn l x')) (sym replied) (told_held past x r is_at (request_in_use past a at) placed K)
     answered_by (Frees service client) free =
         let before : List Fact = Freed r.conn service client ∷ past in
         let held_now : List Grant = releases r.conn service client x.beside.traffic.held in
         subst (λ (n : ℕ). Kept (end_if s streams r.conn (Answered r m ∷ before)) (tell r.conn (with_number n m) (with_held held_now x'))) (sym numbered)
         (subst (λ (d : Traffic). Kept (end_if s streams r.conn (Answered r m ∷ before)) (tell r.conn (with_number (number_of r.message) m) (with_traffic d x))) (freed-held (is_control r.message) r.number x.beside.traffic held_now)
-        (told_answer before (with_traffic (record x.beside.traffic { held = held_now }) x) r is_at (ask_in_use past a at) placed (kept_given_back past x r.conn service client K) m long))
+        (told_answer before (with_traffic (record x.beside.traffic { held = held_now }) x) r is_at (request_in_use past a at) placed (kept_given_back past x r.conn service client K) m long))
 
     change_here : change_by (row_of a).conn (row_of a).note m (holder_brought m x'.beside.traffic) ≡ id_change r.conn r.message m (holder_of_brought m past)
     change_here =
@@ -189,18 +179,21 @@ module _ (s : Setup) (streams : Streams) where
           in step (a == b) refl e
 
   module _ (past : List Fact) (x : QmiState) (m : List ℕ) (long : 12 ≤ length m) (K : Kept past x) where
+    abbrev Finds : RequestInUse → Type 0
+    Finds a = Found asked_of (space_of m) (number_of m) (is_answered_by m) (requests_in_use past) a
+
     abbrev Responded : Option Request → Option Row → Type 0
     Responded found row = Kept (respond s.device found m past) (responds_to row m x)
 
-    found_if : (a : RequestInUse) → Found m (requests_in_use past) a → (fitting : Bool) → fits_request m a.request ≡ fitting → Kept (respond s.device (request_if fitting a.request) m past) (responds_if fitting (row_of a) m x)
+    found_if : (a : RequestInUse) → Finds a → (fitting : Bool) → fits_request m a.request ≡ fitting → Kept (respond s.device (if fitting then Some a.request else None) m past) (responds_if fitting (row_of a) m x)
     found_if a F true e =
         let r : Request = a.request in
-        let placed : r.space ≡ space_of r.message = F.space ∙ ap (λ (b : Bool). if b then control_space else service_space) (sym (same_control m r e)) in
+        let placed : r.space ≡ space_of r.message = F.space_is ∙ ap (λ (b : Bool). if b then control_space else service_space) (sym (same_control m r e)) in
         let control : is_control r.message ≡ is_control m = same_control m r e in
         let waiting_if : (w : Bool) → a.waits ≡ w → Kept (answer_or_late s.device w r m past) (answers_if w (row_of a) m (with_traffic (freed_traffic (is_control r.message) r.number x.beside.traffic) x)) =
         λ w. elim w as (λ w. a.waits ≡ w → Kept (answer_or_late s.device w r m past) (answers_if w (row_of a) m (with_traffic (freed_traffic (is_control r.message) r.number x.beside.traffic) x))) [
           | true ↦ λ is. answered_now past x a m long F.at is placed K
-          | false ↦ λ is. kept_late past x r (ask_in_use past a F.at) placed K
+          | false ↦ λ is. kept_late past x r (request_in_use past a F.at) placed K
         ]
         in
         subst (λ (b : Bool). Kept (respond s.device (Some r) m past) (answers_if a.waits (row_of a) m (with_traffic (freed_traffic b r.number x.beside.traffic) x))) control
@@ -208,15 +201,20 @@ module _ (s : Setup) (streams : Streams) where
         (waiting_if a.waits refl))
     found_if a F false e = kept_stray past x K
 
-    responded : Search m (requests_in_use past) → Kept (respond s.device (first_answered_by m (map request_in (requests_in_use past))) m past) (responds_to (row_numbered (number_of m) (rows_of (space_of m) (requests_in_use past))) m x)
-    responded (IsNone none) = subst (λ (o : Option Request). Responded o (row_numbered (number_of m) (rows_of (space_of m) (requests_in_use past)))) (sym none.answered) (subst (λ (o : Option Row). Responded None o) (sym none.row) (kept_stray past x K))
+    abbrev found_row : Option Row
+    found_row = row_numbered (number_of m) (rows_of (space_of m) (requests_in_use past))
+
+    responded : Search asked_of (space_of m) (number_of m) (is_answered_by m) (requests_in_use past) → Responded (first_answered_by m (map request_in (requests_in_use past))) found_row
+    responded (IsNone none) = subst (λ (o : Option Request). Responded o found_row) (sym none.answered) (subst (λ (o : Option Row). Responded None o) (sym none.row) (kept_stray past x K))
     responded (IsFound a F) =
-        subst (λ (o : Option Request). Responded o (row_numbered (number_of m) (rows_of (space_of m) (requests_in_use past)))) (sym F.answered)
-        (subst (λ (o : Option Row). Responded (request_if (fits_request m a.request) a.request) o) (sym F.row)
-        (subst (λ (b : Bool). Kept (respond s.device (request_if (fits_request m a.request) a.request) m past) (responds_if b (row_of a) m x)) (sym (fits_is m a)) (found_if a F (fits_request m a.request) refl)))
+        let fitting : Bool = fits_request m a.request in
+        let numbered : (if is_answered_by m a.request then Some a.request else None) ≡ (if fitting then Some a.request else None) = ap (λ (t : Bool). if t then Some a.request else None) (answered_by_number m a.request F.number_is) in
+        subst (λ (o : Option Request). Responded o found_row) (sym (F.answered ∙ numbered))
+        (subst (λ (o : Option Row). Responded (if fitting then Some a.request else None) o) (sym F.row)
+        (subst (λ (b : Bool). Kept (respond s.device (if fitting then Some a.request else None) m past) (responds_if b (row_of a) m x)) (sym (fits_is m a)) (found_if a F fitting refl)))
 
     pub keeps_responds : Kept (respond s.device (first_answered_by m (in_use past)) m past) (responds m x)
     keeps_responds =
         subst (λ (l : List Request). Kept (respond s.device (first_answered_by m l) m past) (responds m x)) (sym (in_use_is past))
         (subst (λ (l : List Row). Kept (respond s.device (first_answered_by m (map request_in (requests_in_use past))) m past) (responds_to (row_numbered (number_of m) l) m x)) (sym (numbers_at x.beside.traffic past m (traffic_is s streams past x K)))
-        (responded (search_for m (requests_in_use past) (are_different past K.fine) (all_placed past K.fine))))
+        (responded (search_for asked_of (space_of m) (number_of m) (is_answered_by m) (requests_in_use past) (are_different past K.fine) (all_matched m past K.fine))))

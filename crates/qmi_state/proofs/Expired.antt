@@ -1,12 +1,12 @@
 -- A core refuses the requests that its history refuses.
-use Rattle.std.proofs.Common.{◌≡◌, ℕ, zero, suc, ◌-◌, ◌^◌, ◌≤◌, nat_le, Bool, true, false, cond, List, [], ◌∷◌, length, map, filter, find, refl, ap, sym, ◌∙◌, subst, ⊎_elim, arith, Contains, Some, None, if◌then◌else◌}
+use Rattle.std.proofs.Common.{◌≡◌, ℕ, zero, suc, ◌-◌, ◌^◌, nat_le, Bool, true, false, cond, List, [], ◌∷◌, map, filter, refl, ap, sym, ◌∙◌, subst, ⊎_elim, arith, Contains, Some, None, if◌then◌else◌}
 use Rattle.std.specs.List.{AllByRecursion}
 use Rattle.std.proofs.lemmas.Bool.Decides.{nat_tests}
 use Rattle.qmux_frame.specs.Head.{is_control}
 use Rattle.qmux_frame.specs.Reply.{result_reply}
 use Rattle.proxy_history.specs.Facts.{Fact, Request, Expired, Aborted}
 use Rattle.proxy_history.specs.Connections.{present, dropped}
-use Rattle.proxy_history.specs.Requests.{pending, is_pending, last_number}
+use Rattle.proxy_history.specs.Requests.{pending, last_number}
 use Rattle.proxy_history.specs.Modem.{now, is_away, to_modem, modem_drained}
 use Rattle.proxy_history.specs.Noting.{end_overfull, each_pending}
 use Rattle.proxy_history.specs.Unanswered.{due}
@@ -15,27 +15,27 @@ use Rattle.qmi_proxy.specs.Setup.{Setup}
 use Rattle.qmi_proxy.specs.Spaces.{control_space, service_space, space_of}
 use Rattle.qmi_proxy.specs.Errors.{aborted}
 use Rattle.qmi_proxy.specs.FromModem.{in_expiry_order}
-use Rattle.number_space.specs.Table.{is_due, first_due}
+use Rattle.number_space.specs.Table.{first_due}
 use Rattle.qmi_state.specs.Asked.{asked_of}
-use Rattle.qmi_proxy.specs.Regular.{IsPlaced, IsAsked, Regular}
+use Rattle.qmi_proxy.specs.Regular.{IsPlaced, IsAsked}
 use Rattle.proxy_state.specs.Requests.{RequestInUse, requests_in_use}
 use Rattle.qmi_state.specs.Traffic.{Row, Traffic, row_of, rows_of, traffic_of, of_control, with_numbers, silences, ids}
 use Rattle.proxy_state.specs.Stands.{Streams}
 use Rattle.qmi_state.specs.Core.{QmiState}
 use Rattle.qmi_state.specs.Transitions.{with_traffic, tell, refuses, expires_in, expires_space, expires}
-use Rattle.proxy_state.proofs.InUse.{request_in, waits_in, pending_is}
+use Rattle.proxy_state.proofs.InUse.{request_in, request_in_use, waits_in, pending_is}
 use Rattle.qmi_state.proofs.Apart.{all_apart}
 use Rattle.proxy_state.proofs.InUse.{waiting}
-use Rattle.qmi_state.proofs.Matching.{all_placed, pending_flag}
+use Rattle.qmi_state.proofs.Matching.{are_different, all_placed}
 use Rattle.qmi_state.proofs.Heads.{reply_kept}
 use Rattle.qmi_state.proofs.ClientStates.{expired_own, expired_other, aborted_own, aborted_other}
 use Rattle.qmi_state.proofs.TrafficSteps.{traffic_silenced}
 use Rattle.qmi_proxy.proofs.Regulars.{regular_more, asked_of_pending}
-use Rattle.proxy_state.proofs.Filters.{filter_shorter}
 use Rattle.qmi_state.proofs.Keeping as keeping
 use Rattle.qmi_state.proofs.Keeping.{traffic_is, keeps_told, end_if}
-use Rattle.qmi_state.proofs.Answering.{ask_in_use, ask_waits}
-use Rattle.proxy_state.proofs.Expiring.{due_in, FirstDue, NoneDue, IsFirst, IsNone, due_of, few_due, due_later, each_shrinks, each_waiting, each_append, each_none, each_first}
+use Rattle.qmi_state.proofs.Answering.{ask_waits}
+use Rattle.proxy_state.proofs.Expiring.{due_in, due_later, each_shrinks, each_waiting, each_append}
+use Rattle.proxy_state.proofs.Expired.{Refuses, kept_expired}
 use Rattle.qmi_state.proofs.Expiring.{pending_distinct, act, shrinks_act, gone}
 
 abbrev pub space_if : Bool → ℕ
@@ -88,7 +88,7 @@ module _ (s : Setup) (streams : Streams) where
     told_expired =
         keeps_told s streams (Expired r ∷ past) past x r.conn (result_reply r.message aborted) (silenced_traffic (is_control r.message) r.number x.beside.traffic)
         (expired_own s.device past r asked) (λ d differs. expired_other s.device past r d differs) refl refl refl refl
-        (ap (silenced_traffic (is_control r.message) r.number) (traffic_is s streams past x K) ∙ sym (traffic_silenced r placed (Expired r ∷ past) past (all_apart past r K.fine.sound (ask_in_use past a at)) (λ space. refl) refl refl refl))
+        (ap (silenced_traffic (is_control r.message) r.number) (traffic_is s streams past x K) ∙ sym (traffic_silenced r placed (Expired r ∷ past) past (all_apart past r K.fine.sound (request_in_use past a at)) (λ space. refl) refl refl refl))
         (regular_more (Expired r) past is_at tt tt K.fine) asked.0 K
 
     told_aborted : Kept (end_if s streams r.conn (Aborted r ∷ past)) (tell r.conn (result_reply r.message aborted) (with_traffic (silenced_traffic (is_control r.message) r.number x.beside.traffic) x))
@@ -96,7 +96,7 @@ module _ (s : Setup) (streams : Streams) where
     told_aborted =
         keeps_told s streams (Aborted r ∷ past) past x r.conn (result_reply r.message aborted) (silenced_traffic (is_control r.message) r.number x.beside.traffic)
         (aborted_own s.device past r asked) (λ d differs. aborted_other s.device past r d differs) refl refl refl refl
-        (ap (silenced_traffic (is_control r.message) r.number) (traffic_is s streams past x K) ∙ sym (traffic_silenced r placed (Aborted r ∷ past) past (all_apart past r K.fine.sound (ask_in_use past a at)) (λ space. refl) refl refl refl))
+        (ap (silenced_traffic (is_control r.message) r.number) (traffic_is s streams past x K) ∙ sym (traffic_silenced r placed (Aborted r ∷ past) past (all_apart past r K.fine.sound (request_in_use past a at)) (λ space. refl) refl refl refl))
         (regular_more (Aborted r) past is_at tt tt K.fine) asked.0 K
 
     told_either : (flag : Bool) → Kept (act s.device flag r past) (tell r.conn (result_reply r.message aborted) (with_traffic (silenced_traffic (is_control r.message) r.number x.beside.traffic) x))
@@ -112,85 +112,27 @@ module _ (s : Setup) (streams : Streams) where
   -- ---- a space ----
 
   module _ (flag control : Bool) (time : ℕ) where
-    abbrev goes : List Request → List Fact → List Fact
-    goes requests past = each_pending (act s.device flag) requests past
-
-    abbrev due_at : List Fact → List Request
-    due_at past = due_in (space_if control) time (pending past)
-
-    expires_none : (x : QmiState) (count : ℕ) → first_due time (of_control control x.beside.traffic).rows ≡ None → expires_in count control time x ≡ x
+    stops : (count : ℕ) (x : QmiState) → first_due time (of_control control x.beside.traffic).rows ≡ None → expires_in count control time x ≡ x
     unfolding expires_in
-    expires_none x zero none = refl
-    expires_none x (suc count) none = ap (λ o. elim o [ None ↦ x | Some row ↦ expires_in count control time (refuses control row x) ]) none
+    stops zero x none = refl
+    stops (suc count) x none = ap (λ o. elim o [ None ↦ x | Some row ↦ expires_in count control time (refuses control row x) ]) none
 
-    expires_some : (x : QmiState) (count : ℕ) (row : Row) → first_due time (of_control control x.beside.traffic).rows ≡ Some row → expires_in (suc count) control time x ≡ expires_in count control time (refuses control row x)
+    goes_on : (count : ℕ) (x : QmiState) (row : Row) → first_due time (of_control control x.beside.traffic).rows ≡ Some row → expires_in (suc count) control time x ≡ expires_in count control time (refuses control row x)
     unfolding expires_in
-    expires_some x count row some = ap (λ o. elim o [ None ↦ x | Some row ↦ expires_in count control time (refuses control row x) ]) some
+    goes_on count x row some = ap (λ o. elim o [ None ↦ x | Some row ↦ expires_in count control time (refuses control row x) ]) some
 
-    due_asks : (past : List Fact) → due_at past ≡ due_in (space_if control) time (waiting (requests_in_use past))
-    due_asks past = ap (due_in (space_if control) time) (pending_is past)
+    refuses_all : Refuses asked_of (space_if control) time (act s.device flag) (shrinks_act s.device flag) (gone s.device flag) Kept (λ x. (of_control control x.beside.traffic).rows) (refuses control) (λ count x. expires_in count control time x)
+    refuses_all = record {
+      rows_are = λ past x K. rows_in x.beside.traffic past control (traffic_is s streams past x K);
+      different = λ past x K. are_different past K.fine;
+      refused = λ past x a at waits placed K. kept_refused past x a at waits K flag control placed;
+      stops = stops;
+      goes_on = goes_on;
+    }
 
-    first_is : (past : List Fact) (x : QmiState) → Kept past x → first_due time (of_control control x.beside.traffic).rows ≡ find (is_due time) (rows_of (space_if control) (requests_in_use past))
-    first_is past x K = ap (find (is_due time)) (rows_in x.beside.traffic past control (traffic_is s streams past x K))
-
-    -- what is left to be refused is what is due then
-    rest_is : (past : List Fact) (r : Request) (rest : List Request) → Regular past → due_at past ≡ r ∷ rest
-        → filter (λ q. is_pending q (act s.device flag r past)) rest ≡ due_at (act s.device flag r past)
-    rest_is past r rest R is =
-        let after : List Fact = act s.device flag r past in
-        let later : due_at after ≡ filter (λ (q : Request). is_pending q after) (r ∷ rest) =
-        due_later (space_if control) time past after (pending_distinct past R) (shrinks_act s.device flag r past) ∙ ap (filter (λ (q : Request). is_pending q after)) is
-        in
-        sym (later ∙ ap (λ (b : Bool). cond b (r ∷ filter (λ (q : Request). is_pending q after) rest) (filter (λ (q : Request). is_pending q after) rest)) (gone s.device flag r past))
-
-    none_left : (count : ℕ) (past : List Fact) (x : QmiState) → Kept past x → NoneDue asked_of (space_if control) time (requests_in_use past) → Kept (goes (due_at past) past) (expires_in count control time x)
-    none_left count past x K none =
-        subst (λ (l : List Fact). Kept l (expires_in count control time x)) (sym (ap (λ (l : List Request). goes l past) (due_asks past ∙ none.due) ∙ each_none (act s.device flag) (shrinks_act s.device flag) past))
-        (subst (Kept past) (sym (expires_none x count (first_is past x K ∙ none.row))) K)
-
-    first_left : (count : ℕ) → ((past : List Fact) (x : QmiState) → length (due_at past) ≤ count → Kept past x → Kept (goes (due_at past) past) (expires_in count control time x))
-        → (past : List Fact) (x : QmiState) → length (due_at past) ≤ suc count → Kept past x → (a : RequestInUse) → FirstDue asked_of (space_if control) time (requests_in_use past) a → Kept (goes (due_at past) past) (expires_in (suc count) control time x)
-    first_left count further past x few K a F =
-        let r : Request = a.request in
-        let after : List Fact = act s.device flag r past in
-        let is : due_at past ≡ r ∷ F.rest = due_asks past ∙ F.due in
-        let fewer : length (r ∷ F.rest) ≤ suc count = subst (λ (l : List Request). length l ≤ suc count) is few in
-        let left = rest_is past r F.rest K.fine is in
-        let less : length (due_at after) ≤ count =
-        (let shorter = filter_shorter (λ (q : Request). is_pending q after) F.rest in
-        let same : length (filter (λ (q : Request). is_pending q after) F.rest) ≡ length (due_at after) = ap length left in
-        omega arith)
-        in
-        subst (λ (l : List Fact). Kept l (expires_in (suc count) control time x))
-        (sym (ap (λ (l : List Request). goes l past) is
-        ∙ each_first (act s.device flag) (shrinks_act s.device flag) r F.rest past (pending_flag past a K.fine F.at ∙ F.waits)
-        ∙ each_waiting (act s.device flag) (shrinks_act s.device flag) F.rest after ∙ ap (λ (l : List Request). goes l after) left))
-        (subst (Kept (goes (due_at after) after)) (sym (expires_some x count (row_of a) (first_is past x K ∙ F.row)))
-        (further after (refuses control (row_of a) x) less (kept_refused past x a F.at F.waits K flag control F.placed)))
-
-    none_first : (past : List Fact) (x : QmiState) → length (due_at past) ≤ 0 → Kept past x → (a : RequestInUse) → FirstDue asked_of (space_if control) time (requests_in_use past) a → Kept (goes (due_at past) past) (expires_in 0 control time x)
-    none_first past x few K a F =
-        let is : due_at past ≡ a.request ∷ F.rest = due_asks past ∙ F.due in
-        let none : length (a.request ∷ F.rest) ≤ 0 = subst (λ (l : List Request). length l ≤ 0) is few in
-        absurd (omega arith)
-
-    kept_space : (count : ℕ) (past : List Fact) (x : QmiState) → length (due_at past) ≤ count → Kept past x → Kept (goes (due_at past) past) (expires_in count control time x)
-    kept_space zero past x few K =
-        elim (due_of asked_of (space_if control) time (requests_in_use past)) as (λ d. Kept (goes (due_at past) past) (expires_in 0 control time x)) [
-          | IsNone none ↦ none_left 0 past x K none
-          | IsFirst a F ↦ none_first past x few K a F
-        ]
-    kept_space (suc count) past x few K =
-        elim (due_of asked_of (space_if control) time (requests_in_use past)) as (λ d. Kept (goes (due_at past) past) (expires_in (suc count) control time x)) [
-          | IsNone none ↦ none_left (suc count) past x K none
-          | IsFirst a F ↦ first_left count (kept_space count) past x few K a F
-        ]
-
-    pub kept_whole_space : (past : List Fact) (x : QmiState) → Kept past x → Kept (goes (due_at past) past) (expires_space control time x)
+    pub kept_whole_space : (past : List Fact) (x : QmiState) → Kept past x → Kept (each_pending (act s.device flag) (due_in (space_if control) time (pending past)) past) (expires_space control time x)
     kept_whole_space past x K =
-        kept_space (length (of_control control x.beside.traffic).rows) past x
-        (subst (λ (l : List Request). length l ≤ length (of_control control x.beside.traffic).rows) (sym (due_asks past))
-        (subst (λ (l : List Row). length (due_in (space_if control) time (waiting (requests_in_use past))) ≤ length l) (sym (rows_in x.beside.traffic past control (traffic_is s streams past x K))) (few_due asked_of (space_if control) time (requests_in_use past)))) K
+        kept_expired asked_of (space_if control) time (act s.device flag) (shrinks_act s.device flag) (gone s.device flag) Kept (λ x. (of_control control x.beside.traffic).rows) (refuses control) (λ count x. expires_in count control time x) refuses_all past x K
 
   -- ---- both spaces ----
 

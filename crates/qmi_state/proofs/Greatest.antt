@@ -1,9 +1,5 @@
 -- What each event makes of the greatest name of a connection.
-use Rattle.std.proofs.Common.{◌≡◌, ℕ, zero, suc, Bool, true, false, not, ◌&&◌, ◌==◌, nat_lt, max, List, [], ◌∷◌, ◌++◌, length, refl, ap, sym, ◌∙◌, Option, Some, None, if◌then◌else◌}
-use Rattle.framing.specs.Cutting.{Cutting, cut}
-use Rattle.connections.specs.Table.{Connection, Table, connection_in}
-use Rattle.connections.specs.Table as tables
-use Rattle.connections.specs.Hearing.{Hearing, brings_if, brings_to, hearing_of, goes_on}
+use Rattle.std.proofs.Common.{◌≡◌, ℕ, zero, suc, Bool, true, false, not, ◌&&◌, ◌==◌, max, List, refl, ◌∙◌, Option, Some, None, if◌then◌else◌}
 use Rattle.number_space.specs.Table.{first_due}
 use Rattle.qmux_frame.specs.Frame.{size_of}
 use Rattle.qmux_frame.specs.declared.kind.MessageKind.{MessageKind}
@@ -11,22 +7,17 @@ use Rattle.qmux_frame.specs.declared.kind.MessageKind.TheVariants as kind
 use Rattle.qmux_frame.specs.Head.{is_control, client_of, service_of, number_of}
 use Rattle.qmux_frame.specs.Control.{is_sync}
 use Rattle.qmux_frame.specs.Kind.{framed_kind}
-use Rattle.proxy_history.specs.Events.{Event, Joined, Piece, ModemPiece, ModemGone, ModemBack, Now, greatest_after}
-use Rattle.proxy_history.specs.Streams.{is_invalid}
+use Rattle.proxy_history.specs.Events.{Event, greatest_after}
 use Rattle.proxy_history.specs.ClientIds.{holder_in}
-use Rattle.proxy_state.specs.Step.{hear_all, hear_cut, lose_if}
-use Rattle.proxy_state.specs.Step as proxy
+use Rattle.proxy_state.proofs.Greatest.{IsAsBefore, KeepsGreatest}
+use Rattle.proxy_state.proofs.Greatest as greatest
 use Rattle.holders.specs.Grants.{granted, releases}
 use Rattle.qmux_frame.specs.Reply.{result_reply}
 use Rattle.qmi_proxy.specs.Errors.{aborted}
 use Rattle.qmi_proxy.specs.FromModem.{IdChange, NoChange, Grants, Collides, Frees}
-use Rattle.qmi_state.specs.declared.client.Client.{Client}
 use Rattle.qmi_state.specs.Traffic.{Row, of_control, with_numbers, row_numbered, frees, silences}
-use Rattle.qmi_state.specs.Core.{ModemSide, QmiState, QmiCore}
-use Rattle.qmi_state.specs.Transitions.{tell, tell_all, refuses, expires_in, expires_space, expires, aborts, with_traffic, with_held, change_by, holder_brought, answers, answers_if, fits, responds_if, responds_to, opened_ones, holders_of, tells_holder, indicates, forgets_all, hears_indication, hears_as, hears_modem, hear_client, lose, qmi_handlers, step}
-
-abbrev IsAsBefore : QmiState → QmiState → Type 0
-IsAsBefore x after = after.table.greatest ≡ x.table.greatest
+use Rattle.qmi_state.specs.Core.{QmiState, QmiCore}
+use Rattle.qmi_state.specs.Transitions.{give_up, tell, tell_all, refuses, expires_in, expires_space, expires, aborts, with_traffic, with_held, change_by, holder_brought, answers, answers_if, fits, responds_if, responds_to, opened_ones, holders_of, tells_holder, indicates, forgets_all, hears_indication, hears_as, hears_modem, qmi_handlers, step}
 
 either : (b : Bool) (x one other : QmiState) → IsAsBefore x one → IsAsBefore x other → IsAsBefore x (if b then one else other)
 either true x one other e f = e
@@ -35,20 +26,10 @@ either false x one other e f = f
 -- ---- bytes for clients ----
 
 told : (c : ℕ) (bytes : List ℕ) (x : QmiState) → IsAsBefore x (tell c bytes x)
-told c bytes x = by (connection_in c x.table.present)
-  where
-    by_room : (k : Connection Client) (b : Bool) → (tables.tells_if b c bytes k x.table).greatest ≡ x.table.greatest
-    by_room k true = refl
-    by_room k false = refl
-
-    by : (o : Option (Connection Client)) → (tables.tells_to o c bytes x.table).greatest ≡ x.table.greatest
-    by None = refl
-    by (Some k) = by_room k (tables.finds_room bytes (Some k))
+told c bytes x = greatest.told give_up (λ client. bytes) (λ client. client) c x
 
 told_all : (bytes : List ℕ) (cs : List ℕ) (x : QmiState) → IsAsBefore x (tell_all bytes cs x)
-unfolding proxy.tell_all
-told_all bytes [] x = refl
-told_all bytes (c ∷ cs) x = told_all bytes cs (tell c bytes x) ∙ told c bytes x
+told_all bytes cs x = greatest.told_each give_up (λ client. bytes) (λ client. client) cs x
 
 -- ---- requests that get no answer ----
 
@@ -107,50 +88,16 @@ heard m x = by (framed_kind m)
     by (Some kind.Request) = refl
     by None = refl
 
-heard_all : (messages : List (List ℕ)) (x : QmiState) → IsAsBefore x (hear_all qmi_handlers size_of messages x)
-unfolding hear_all
-heard_all [] x = refl
-heard_all (m ∷ messages) x = heard_all messages (hears_modem m x) ∙ heard m x
+-- ---- each handler ----
 
-lost : (x : QmiState) → IsAsBefore x (lose x)
-lost x = expired _ x
-
--- ---- each event ----
-
-joined : (b : Bool) (c : ℕ) (client : Client) (t : Table Client) → (tables.joins_if b c client t).greatest ≡ c
-joined true c client t = refl
-joined false c client t = refl
-
-brought : (o : Option (Connection Client)) (c : ℕ) (piece : List ℕ) (t : Table Client) (side : ModemSide) → (brings_to size_of hear_client o c piece t side).table.greatest ≡ t.greatest
-brought None c piece t side = refl
-brought (Some k) c piece t side =
-    let h : Hearing Client ModemSide = hearing_of size_of hear_client piece k side in
-    by h (goes_on size_of h piece k)
-  where
-    by : (h : Hearing Client ModemSide) (b : Bool) → (brings_if size_of b c h piece t).table.greatest ≡ t.greatest
-    by h true = refl
-    by h false = refl
-
-either_core : (b : Bool) (n : ℕ) (one other : QmiCore) → one.state.table.greatest ≡ n → other.state.table.greatest ≡ n → (if b then one else other).state.table.greatest ≡ n
-either_core true n one other e f = e
-either_core false n one other e f = f
-
-cut_heard : (f : Cutting) (x : QmiState) → (hear_cut qmi_handlers size_of f x).state.table.greatest ≡ x.table.greatest
-cut_heard f x = by (is_invalid (size_of f.rest))
-  where
-    by : (b : Bool) → (lose_if qmi_handlers size_of b f.rest (hear_all qmi_handlers size_of f.messages x)).state.table.greatest ≡ x.table.greatest
-    by true = lost (hear_all qmi_handlers size_of f.messages x) ∙ heard_all f.messages x
-    by false = heard_all f.messages x
-
-step_greatest : (event : Event) (core : QmiCore) → (step event core).state.table.greatest ≡ greatest_after event core.state.table.greatest
-step_greatest (Joined c) core = joined (nat_lt (length core.state.table.present) core.state.table.limit) c (record { opened = false }) core.state.table
-step_greatest (Piece c piece) core = brought (connection_in c core.state.table.present) c piece core.state.table core.state.beside
-step_greatest (ModemPiece piece) core = either_core core.state.beside.away core.state.table.greatest core _ refl (cut_heard (cut size_of (core.rest ++ piece)) core.state)
-step_greatest ModemGone core = either_core core.state.beside.away core.state.table.greatest core _ refl (lost core.state)
-step_greatest ModemBack core = either_core core.state.beside.away core.state.table.greatest _ core refl refl
-step_greatest (Now time) core = expired (max time core.state.beside.time) (record core.state { beside = record core.state.beside { time = max time core.state.beside.time } })
-step_greatest _ core = refl
+keeps_greatest : KeepsGreatest qmi_handlers size_of
+keeps_greatest = record {
+  hear_modem = heard;
+  lose = λ x. expired _ x;
+  tick = λ time x. expired (max time x.beside.time) (record x { beside = record x.beside { time = max time x.beside.time } });
+  finish = λ x. refl;
+}
 
 -- an event and a core that are known by equations
 pub greatest_as : (event known : Event) (old new : QmiCore) → event ≡ known → new ≡ step known old → new.state.table.greatest ≡ greatest_after event old.state.table.greatest
-greatest_as event known old new same is = ap (λ (v : QmiCore). v.state.table.greatest) (is ∙ ap (λ (e : Event). step e old) (sym same)) ∙ step_greatest event old
+greatest_as event known old new same is = greatest.greatest_as qmi_handlers size_of keeps_greatest event known old new same is

@@ -1,14 +1,10 @@
 -- What a message of a client makes of a core.
-use Rattle.std.proofs.Common.{◌≡◌, ℕ, ◌+◌, Bool, true, false, not, ◌==◌, List, ◌∷◌, ◌++◌, length, map, filter, refl, ap, sym, ◌∙◌, subst, arith, Option, Some, None, if◌then◌else◌}
+use Rattle.std.proofs.Common.{◌≡◌, ℕ, ◌+◌, Bool, true, false, ◌==◌, List, ◌∷◌, ◌++◌, length, refl, ap, sym, ◌∙◌, subst, arith, Option, Some, None, if◌then◌else◌}
 use Rattle.std.proofs.lemmas.Bool.{eqb-true}
-use Rattle.std.proofs.lemmas.Simd.{map-map}
-use Rattle.outbox.specs.Queue.{Queue, queues_if}
-use Rattle.outbox.specs.Queue as queue
 use Rattle.connections.specs.Table.{Connection, Table}
-use Rattle.connections.specs.Hearing.{Hearing}
 use Rattle.qmux_frame.specs.Head.{is_control}
 use Rattle.qmux_frame.specs.Reply.{with_number}
-use Rattle.proxy_history.specs.Facts.{Fact, Request, Verdict, Own, Forward, Ended, NoRoom, Judged, Forwarded, Granted}
+use Rattle.proxy_history.specs.Facts.{Fact, Request, Verdict, Own, Forward, Judged, Forwarded, Granted}
 use Rattle.proxy_history.specs.Decision.{Decision, Replies, Forwards}
 use Rattle.proxy_history.specs.Connections.{present, dropped, contains, message_count}
 use Rattle.proxy_history.specs.Requests.{in_use, last_number, number_after, numbers_in_use}
@@ -19,19 +15,16 @@ use Rattle.proxy_history.specs.Modem.{now, is_away, to_modem, modem_drained, mod
 use Rattle.proxy_history.specs.View.{Sent, view, sent_count}
 use Rattle.proxy_history.specs.Noting.{end_overfull}
 use Rattle.proxy_history.proofs.Sound.{party_from_present}
-use Rattle.proxy_state.specs.Stands.{Streams, connection_as, connection_of}
+use Rattle.proxy_state.specs.Stands.{Streams, connection_of}
 use Rattle.proxy_state.specs.Faithful.{settled_if, settled}
-use Rattle.proxy_state.proofs.Lists.{filter_map_is}
 use Rattle.proxy_state.proofs.Changed.{changed_found, changed_same}
-use Rattle.proxy_state.proofs.ClientStates.{ended_other, overfull_waiting}
-use Rattle.proxy_state.proofs.Keeping.{found_there, keeps_changed, keeps_dropped}
-use Rattle.proxy_state.proofs.Telling.{lacks_is, still_waits, end_if_is}
+use Rattle.proxy_state.proofs.Keeping.{found_there}
+use Rattle.proxy_state.proofs.Replying as replying
 use Rattle.qmi_proxy.specs.Setup.{Setup}
-use Rattle.qmi_proxy.specs.Limits.{outbox_limit}
 use Rattle.qmi_proxy.specs.Spaces.{control_space, service_space, limit_of, top_of}
 use Rattle.qmi_proxy.specs.Messages.{uses_id, used_service, used_client}
 use Rattle.qmi_proxy.specs.OwnReplies.{step, is_open, view_decides}
-use Rattle.qmi_proxy.specs.Text.{view_of, rendering}
+use Rattle.qmi_proxy.specs.Text.{view_of}
 use Rattle.qmi_proxy.specs.Clients.{wire, number_for, holder_for, has_room, deadline_of, shared_decision_of, decision_on, request_of, grant_if, forward, judge}
 use Rattle.qmi_proxy.specs.Clients as clients
 use Rattle.qmi_proxy.specs.History.{qmi_protocol}
@@ -39,13 +32,14 @@ use Rattle.number_space.specs.Table.{next_number}
 use Rattle.qmi_proxy.specs.Regular.{IsPlaced, Regular}
 use Rattle.holders.specs.Grants.{granted}
 use Rattle.qmi_state.specs.declared.client.Client.{Client}
-use Rattle.proxy_state.specs.Requests.{RequestInUse, requests_in_use}
-use Rattle.qmi_state.specs.Traffic.{Row, Traffic, row_of, rows_of, traffic_of, of_control, with_numbers, gives, number_at, granted_if, row_for, forwards, ids}
+use Rattle.proxy_state.specs.Requests.{requests_in_use}
+use Rattle.qmi_state.specs.Asked.{asked_of}
+use Rattle.qmi_state.specs.Traffic.{Traffic, row_of, traffic_of, of_control, with_numbers, gives, number_at, granted_if, row_for, forwards, ids}
 use Rattle.qmi_state.specs.Core.{ModemSide, QmiState, side_of, kept_of}
-use Rattle.qmi_state.specs.Transitions.{with_traffic, give_up, reply_as, holder_at, decision_of, act_on, hear_client, qmi_handlers}
-use Rattle.proxy_state.proofs.InUse.{request_in, in_use_is}
+use Rattle.qmi_state.specs.Transitions.{with_traffic, reply_as, holder_at, decision_of, replied, act_on, hear_client, qmi_handlers}
+use Rattle.proxy_state.proofs.InUse.{numbers_used}
 use Rattle.qmi_state.proofs.Ids.{holder_is}
-use Rattle.qmi_state.proofs.ClientStates.{ClientState, client_state_of, lacks_room, judged_own, judged_other, forwarded_same}
+use Rattle.qmi_state.proofs.ClientStates.{ClientState, client_state_of, judged_own, judged_other, forwarded_same}
 use Rattle.qmi_state.proofs.TrafficSteps.{traffic_forwarded}
 use Rattle.qmi_proxy.proofs.Walk.{newest}
 use Rattle.qmi_proxy.proofs.Regulars.{regular_more}
@@ -54,18 +48,11 @@ use Rattle.qmi_state.proofs.Keeping.{follows_connections, traffic_is, keeps_quie
 
 -- ---- the number that it would get ----
 
-numbers_used : (space : ℕ) (past : List Fact) → map (λ row. row.number) (rows_of space (requests_in_use past)) ≡ numbers_in_use space past
-numbers_used space past =
-    map-map (λ (row : Row). row.number) row_of (filter (λ (a : RequestInUse). a.request.space == space) (requests_in_use past))
-    ∙ sym (map-map (λ (r : Request). r.number) request_in (filter (λ (a : RequestInUse). a.request.space == space) (requests_in_use past)))
-    ∙ ap (map (λ (r : Request). r.number)) (sym (filter_map_is (λ (r : Request). r.space == space) request_in (requests_in_use past)))
-    ∙ ap (λ (l : List Request). map (λ (r : Request). r.number) (filter (λ (r : Request). r.space == space) l)) (sym (in_use_is past))
-
 pub number_is : (m : List ℕ) (past : List Fact) → number_at m (traffic_of past) ≡ number_for m past
 number_is m past =
     elim (is_control m) as (λ b. next_number (of_control b (traffic_of past)) ≡ (let space = if b then control_space else service_space in number_after (limit_of space) (top_of space) (last_number space past) (numbers_in_use space past))) [
-      | true ↦ ap (number_after 255 255 (last_number control_space past)) (numbers_used control_space past)
-      | false ↦ ap (number_after 1024 65535 (last_number service_space past)) (numbers_used service_space past)
+      | true ↦ ap (number_after 255 255 (last_number control_space past)) (numbers_used asked_of control_space past)
+      | false ↦ ap (number_after 1024 65535 (last_number service_space past)) (numbers_used asked_of service_space past)
     ]
 
 -- ---- what is decided ----
@@ -181,47 +168,13 @@ module _ (s : Setup) (streams : Streams) where
       abbrev reply : List ℕ
       reply = reply_as s.device was.client.opened m verdict
 
-      abbrev outbox : Queue
-      outbox = record { bytes = was.waiting; capacity = outbox_limit }
-
-      abbrev heard_as : Bool → Hearing Client ModemSide
-      heard_as found = record {
-        client = record { opened = if found then step s.device was.client.opened (Sent m verdict) else was.client.opened };
-        outbox = queues_if found reply outbox;
-        beside = x.beside;
-        has_room = found;
-      }
-
-      lacks : lacks_room reply was ≡ not (queue.has_room reply outbox)
-      lacks = lacks_is outbox_limit reply (streams.rests c) c was (K.fits c there)
-
-      replied_if : (found : Bool) → queue.has_room reply outbox ≡ found → Kept (if not found then Ended c NoRoom ∷ facts else facts) (settled_if qmi_handlers found c (heard_as found) x)
+      replied_is : Kept (end_if s streams c facts) (settled qmi_handlers c (replied reply (step s.device was.client.opened (Sent m verdict)) it.client it.outbox x.beside) x)
       unfolding present dropped now is_away requests_in_use last_number ids to_modem modem_drained connection_of
-      replied_if true found =
-          let fits : lacks_room reply was ≡ false = lacks ∙ ap not found in
-          let own = judged_own s.device past c place m verdict in
-          keeps_changed (qmi_protocol s) (kept_of s) Regular streams facts past x c (λ l. record l { client = (heard_as true).client; outbox = (heard_as true).outbox }) x.beside
-          (ap (connection_as outbox_limit (streams.rests c) c) own
-          ∙ ap (λ (b : Bool). connection_as outbox_limit (streams.rests c) c (let a : ClientState = record { client = (heard_as true).client; waiting = if b then was.waiting else was.waiting ++ reply; is_over = b } in a)) fits)
-          (ap (λ (a : ClientState). a.is_over) own ∙ fits)
-          (λ d differs. judged_other s.device past c place d m verdict differs) refl refl K.holds.beside (regular_more (Judged c place m verdict) past there tt tt K.fine) there K
-      replied_if false full =
-          let over : lacks_room reply was ≡ true = lacks ∙ ap not full in
-          let own = judged_own s.device past c place m verdict in
-          let judged_regular : Regular facts = regular_more (Judged c place m verdict) past there tt tt K.fine in
-          keeps_dropped (qmi_protocol s) (kept_of s) Regular streams (Ended c NoRoom ∷ facts) past x c (give_up c x.beside)
-          (λ d differs. ended_other (qmi_protocol s) (kept_of s) facts c NoRoom d differs ∙ judged_other s.device past c place d m verdict differs)
-          refl (ap (give_up c) K.holds.beside ∙ (follows_connections s).ended c NoRoom streams.messages facts) (regular_more (Ended c NoRoom) facts there tt tt judged_regular) there K
-          outbox
-          (sym (overfull_waiting (qmi_protocol s) (kept_of s) facts c ∙ ap (λ (a : ClientState). a.waiting) own ∙ still_waits outbox_limit reply (streams.rests c) c was (K.fits c there) over))
-          refl
-
-      replied_is : Kept (end_if s streams c facts) (settled_if qmi_handlers (queue.has_room reply outbox) c (heard_as (queue.has_room reply outbox)) x)
-      unfolding present
       replied_is =
-          let found : Bool = queue.has_room reply outbox in
-          let over : (rendering s.device c facts).is_over ≡ not found = ap (λ (a : ClientState). a.is_over) (judged_own s.device past c place m verdict) ∙ lacks in
-          subst (λ (l : List Fact). Kept l (settled_if qmi_handlers found c (heard_as found) x)) (sym (end_if_is (qmi_protocol s) (kept_of s) qmi_handlers Regular (follows_connections s) streams c facts (not found) there over)) (replied_if found refl)
+          replying.keeps_replied (qmi_protocol s) (kept_of s) qmi_handlers Regular (follows_connections s) streams facts past x c reply
+          (λ found. record { opened = if found then step s.device was.client.opened (Sent m verdict) else was.client.opened }) x.beside
+          (judged_own s.device past c place m verdict) (λ d differs. judged_other s.device past c place d m verdict differs) refl refl K.holds.beside
+          (regular_more (Judged c place m verdict) past there tt tt K.fine) there K
 
   -- ---- whatever is decided ----
 

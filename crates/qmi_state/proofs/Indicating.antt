@@ -5,8 +5,7 @@ use Rattle.std.proofs.lemmas.Bool.{eqb-true}
 use Rattle.std.proofs.lemmas.List.{map-id}
 use Rattle.std.proofs.lemmas.List.Elements.{All-from_recursion, filter_agree}
 use Rattle.std.proofs.lemmas.Simd.{map-map}
-use Rattle.connections.specs.Table.{Connection, finds_room}
-use Rattle.connections.specs.Table as tables
+use Rattle.connections.specs.Table.{Connection}
 use Rattle.qmux_frame.specs.Head.{service_of, is_control, client_of}
 use Rattle.proxy_history.specs.Facts.{Fact, Indicated}
 use Rattle.proxy_history.specs.Connections.{present, dropped, contains}
@@ -16,12 +15,11 @@ use Rattle.proxy_history.specs.Modem.{now, is_away, to_modem, modem_drained}
 use Rattle.proxy_history.specs.Noting.{end_overfull}
 use Rattle.proxy_history.proofs.Lists.{filter-none}
 use Rattle.proxy_state.specs.Stands.{Streams, connection_of}
-use Rattle.proxy_state.specs.Step as proxy
-use Rattle.proxy_state.specs.Step.{given_up_unless}
+use Rattle.proxy_state.specs.Telling.{tell_to, tell_each}
 use Rattle.proxy_state.proofs.Lists.{filter_map_is}
 use Rattle.proxy_state.proofs.Names.{distinct_filter}
 use Rattle.proxy_state.proofs.Keeping.{found_absent}
-use Rattle.proxy_state.proofs.Telling.{AreThere, chosen_there, once_from, ahead, told_all}
+use Rattle.proxy_state.proofs.Telling.{AreThere, chosen_there, told_each}
 use Rattle.qmi_proxy.specs.Limits.{qmi_limits}
 use Rattle.qmi_proxy.specs.Setup.{Setup}
 use Rattle.qmi_proxy.specs.OwnReplies.{is_open}
@@ -53,10 +51,9 @@ module _ (s : Setup) (streams : Streams) where
     kept_all p past x K =
         let cs : List ℕ = filter p (present past) in
         let there : AreThere (present past) cs = chosen_there p (present past) in
-        told_all (qmi_protocol s) (kept_of s) qmi_handlers Regular (follows_connections s) streams m cs (Indicated m cs ∷ past) x there (once_from cs (distinct_filter p (present past) K.holds.names.distinct))
-        (ahead (qmi_protocol s) (kept_of s) qmi_handlers Regular (follows_connections s) streams m (Indicated m cs) cs past x there
-        (λ d. indicated_is s.device past m cs d (contains d cs) refl) refl refl K.holds.beside
-        (regular_more (Indicated m cs) past (All-from_recursion (λ c. contains c (present past) ≡ true) cs there) tt tt K.fine) K)
+        told_each (qmi_protocol s) (kept_of s) qmi_handlers Regular (follows_connections s) streams (λ client. m) (λ client. client) (Indicated m cs ∷ past) past x x.beside refl refl K.holds.beside
+        (regular_more (Indicated m cs) past (All-from_recursion (λ c. contains c (present past) ≡ true) cs there) tt tt K.fine) K
+        cs there (distinct_filter p (present past) K.holds.names.distinct) (λ d. indicated_is s.device past m cs d (contains d cs) refl)
 
     -- ---- those that are open ----
 
@@ -97,11 +94,11 @@ module _ (s : Setup) (streams : Streams) where
         no_more (y ∷ ys) all = ap (λ (b : Bool). cond b (y ∷ filter (λ c. d == c) ys) (filter (λ c. d == c) ys)) all.0 ∙ no_more ys all.1
 
     nobody_told : (x : QmiState) → tell_all m [] x ≡ x
-    unfolding proxy.tell_all
+    unfolding tell_each
     nobody_told x = refl
 
     one_told : (d : ℕ) (x : QmiState) → tell_all m (d ∷ []) x ≡ tell d m x
-    unfolding proxy.tell_all
+    unfolding tell_each
     one_told d x = refl
 
     told_one : (d : ℕ) (past : List Fact) (x : QmiState) → Kept past x → tell_all m (if contains d (present past) then d ∷ [] else []) x ≡ tell d m x
@@ -109,7 +106,7 @@ module _ (s : Setup) (streams : Streams) where
         let step : (b : Bool) → contains d (present past) ≡ b → tell_all m (if b then d ∷ [] else []) x ≡ tell d m x =
         λ b. elim b as (λ b. contains d (present past) ≡ b → tell_all m (if b then d ∷ [] else []) x ≡ tell d m x) [
           | true ↦ λ there. one_told d x
-          | false ↦ λ absent. nobody_told x ∙ sym (ap (λ (o : Option (Connection Client)). let y : QmiState = record { table = tables.tells_to o d m x.table; beside = given_up_unless give_up (finds_room m o) d x.beside } in y) (found_absent (qmi_protocol s) (kept_of s) streams past x d K.holds absent))
+          | false ↦ λ absent. nobody_told x ∙ sym (ap (λ (o : Option (Connection Client)). tell_to give_up (λ client. m) (λ client. client) o d x) (found_absent (qmi_protocol s) (kept_of s) streams past x d K.holds absent))
         ]
         in step (contains d (present past)) refl
 

@@ -28,7 +28,7 @@ use Rattle.qmi_state.proofs.Strangers.{traffic_of_stranger}
 
 regular_behind : (fact : Fact) (past : List Fact) → MayFollow qmi_limits fact past → IsOfConnections fact past → Regular past → Regular (fact ∷ past)
 regular_behind EventBegan past follows of R = regular_more EventBegan past tt tt tt R
-regular_behind (Admitted c) past follows of R = regular_more (Admitted c) past follows tt of R
+regular_behind (Admitted c) past follows of R = regular_more (Admitted c) past follows tt of.1 R
 regular_behind (Ended c why) past follows of R = regular_more (Ended c why) past follows tt tt R
 regular_behind (Drained c count) past follows of R = regular_more (Drained c count) past follows tt tt R
 regular_behind _ past follows of R = absurd of
@@ -94,5 +94,5 @@ module _ (s : Setup) (streams : Streams) where
       → present later ≡ present past → dropped later ≡ dropped past → now later ≡ now past → is_away s.starts_away later ≡ is_away s.starts_away past → traffic ≡ traffic_of later → Regular later
       → contains c (present past) ≡ true → Kept past x → Kept (end_if c later) (tell c bytes (with_traffic traffic x))
   keeps_told later past x c bytes traffic own other same_present same_dropped same_time same_away is regular there K =
-      telling.keeps_told (qmi_protocol s) (kept_of s) qmi_handlers Regular (follows_connections s) streams later past x c bytes (record x.beside { traffic = traffic })
-      own other same_present same_dropped (beside_is later past x traffic same_time same_away is K) regular there K
+      telling.told_one (qmi_protocol s) (kept_of s) qmi_handlers Regular (follows_connections s) streams (λ client. bytes) (λ client. client) later past x (record x.beside { traffic = traffic })
+      same_present same_dropped (beside_is later past x traffic same_time same_away is K) regular K c there own other

@@ -8,6 +8,7 @@ use Rattle.proxy_history.specs.Modem.{now, is_away}
 use Rattle.proxy_history.specs.Items.{ModemSays}
 use Rattle.proxy_state.specs.Stands.{Streams, CanStep}
 use Rattle.proxy_state.specs.Faithful.{Keeps, IsFaithful}
+use Rattle.proxy_state.proofs.Keeping as keeping
 use Rattle.proxy_state.proofs.Steps as proxy
 use Rattle.qmi_proxy.specs.Setup.{Setup}
 use Rattle.qmi_proxy.specs.History.{qmi_protocol}
@@ -28,20 +29,7 @@ module _ (s : Setup) where
 
   -- of the modem's messages nothing is kept
   with_messages : (messages : List (List ℕ)) (streams : Streams) (past : List Fact) (x : QmiState) → KeptAt streams past x → KeptAt (record streams { messages = messages }) past x
-  with_messages messages streams past x K = record {
-    holds = record {
-      connections = K.holds.connections;
-      beside = K.holds.beside;
-      greatest = K.holds.greatest;
-      limit = K.holds.limit;
-      room = K.holds.room;
-      names = K.holds.names;
-    };
-    partings = K.partings;
-    apart = K.apart;
-    fits = K.fits;
-    fine = K.fine;
-  }
+  with_messages messages streams past x K = keeping.with_messages (qmi_protocol s) (kept_of s) Regular streams messages past x x.beside K.holds.beside K
 
   heard_one : (m : List ℕ) (past : List Fact) → add_all (qmi_protocol s) (ModemSays m ∷ []) past ≡ hear_modem s.device m past
   unfolding add_all

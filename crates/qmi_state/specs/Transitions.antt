@@ -17,6 +17,7 @@ use Rattle.proxy_history.specs.View.{Sent}
 use Rattle.proxy_history.specs.ClientIds.{Grant, holder_in, is_other, holds_some}
 use Rattle.proxy_state.specs.State.{Handlers}
 use Rattle.proxy_state.specs.Step as proxy
+use Rattle.proxy_state.specs.Telling as telling
 pub use Rattle.proxy_state.specs.Chosen.{names_in}
 use Rattle.qmi_proxy.specs.Errors.{internal, aborted, client_ids_exhausted, invalid_client_id, device_in_use}
 use Rattle.qmi_proxy.specs.Messages.{uses_id, used_service, used_client, value_of, byte_of, is_success}
@@ -43,10 +44,10 @@ give_up c side = record side { traffic = gives_up c side.traffic }
 
 -- c gets these bytes, or is dropped where they find no room
 abbrev pub tell : ℕ → List ℕ → QmiState → QmiState
-tell c bytes x = proxy.tell give_up c bytes x
+tell c bytes x = telling.tell give_up (λ client. bytes) (λ client. client) c x
 
 abbrev pub tell_all : List ℕ → List ℕ → QmiState → QmiState
-tell_all bytes cs x = proxy.tell_all give_up bytes cs x
+tell_all bytes cs x = telling.tell_each give_up (λ client. bytes) (λ client. client) cs x
 
 -- ---- a message of a client ----
 

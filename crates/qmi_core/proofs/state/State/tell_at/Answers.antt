@@ -23,7 +23,7 @@ returns c =
     let stays : false ≡ finds_room bytes (connection_in s.name present) =
     sym c.if-tell.false ∙ c.tell.ensures.stays ∙ ap (λ (l : List ℕ). finds_room l (connection_in c.name_at-name.result present)) (append-nil bytes) ∙ ap (λ (n : ℕ). finds_room bytes (connection_in n present)) named
     in
-    let all = turn_off give_up (is_chosen c.args.audience) (still_chosen c.args.audience) bytes c.args.index c.args.self.now s c.requires at c.name_at-name.ensures.rising is c.tell.new.self made stays in
+    let all = turn_off give_up (λ client. bytes) (λ client. client) (is_chosen c.args.audience) (still_chosen c.args.audience) c.args.index c.args.self.now s c.requires at c.name_at-name.ensures.rising is c.tell.new.self made stays in
     record { told = all.0; fewer = all.1 }
 
 pub returns-then-not-is_chosen : goal.returns-then-not-is_chosen
@@ -32,7 +32,7 @@ returns-then-not-is_chosen c =
     let bytes : List ℕ = c.args.bytes.now in
     let s : Connection Client = connection_at (record { opened = false }) present c.args.index in
     let at : StandsAt s present c.args.index = stands_at (record { opened = false }) present c.args.index c.requires in
-    record { told = turn_by give_up (is_chosen c.args.audience) (still_chosen c.args.audience) bytes c.args.index c.args.self.now s c.requires at (sym (c.is_chosen.ensures s at) ∙ c.if-not-is_chosen.true); fewer = omega arith }
+    record { told = turn_by give_up (λ client. bytes) (λ client. client) (is_chosen c.args.audience) (still_chosen c.args.audience) c.args.index c.args.self.now s c.requires at (sym (c.is_chosen.ensures s at) ∙ c.if-not-is_chosen.true); fewer = omega arith }
 
 pub returns-then-tell : goal.returns-then-tell
 returns-then-tell c =
@@ -48,7 +48,7 @@ returns-then-tell c =
     let stays : true ≡ finds_room bytes (connection_in s.name present) =
     sym c.if-tell.true ∙ c.tell.ensures.stays ∙ ap (λ (l : List ℕ). finds_room l (connection_in c.name_at-name.result present)) (append-nil bytes) ∙ ap (λ (n : ℕ). finds_room bytes (connection_in n present)) named
     in
-    let all = turn_on give_up (is_chosen c.args.audience) (still_chosen c.args.audience) bytes c.args.index c.args.self.now s c.requires at c.name_at-name.ensures.rising is c.tell.new.self made stays in
+    let all = turn_on give_up (λ client. bytes) (λ client. client) (is_chosen c.args.audience) (still_chosen c.args.audience) c.args.index c.args.self.now s c.requires at c.name_at-name.ensures.rising is c.tell.new.self made stays in
     record { told = all.0; fewer = all.1 }
 
 pub overflow_add-result : goal.overflow_add-result

@@ -7,5 +7,5 @@ use Rattle.qmi_core.proofs.state.State.tell_each.Goals as goal
 
 pub returns : goal.returns
 returns c =
-    sym (tell_from_end give_up (is_chosen c.args.audience) (still_chosen c.args.audience) c.args.bytes.now c.loop-index.index c.loop-index.self (omega (arith, c.loop-index-test.false, c.present.ensures)))
+    sym (tell_from_end give_up (λ client. c.args.bytes.now) (λ client. client) (is_chosen c.args.audience) (still_chosen c.args.audience) c.loop-index.index c.loop-index.self (omega (arith, c.loop-index-test.false, c.present.ensures)))
     ∙ c.loop-index.invariant
