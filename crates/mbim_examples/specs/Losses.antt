@@ -3,8 +3,8 @@ use Rattle.std.specs.Prelude.{◌≡◌, List, [], ◌∷◌, ◌++◌, take, dr
 use Rattle.kit_bytes.specs.Hex.{hex}
 use Rattle.proxy_history.specs.Events.{Event, Piece, ModemPiece, ModemGone, ModemBack}
 use Rattle.proxy_history.specs.Requests.{in_use}
-use Rattle.mbim_proxy.specs.ModemStates.{waiting}
-use Rattle.mbim_examples.specs.Story.{configured, open_6, opened_6, failed_6, open_1, opened_1, open_2, query_7, query_2, answer_2, answer_7, failed_7, not_opened_7, both_configured, one_open, bytes_for, to_modem, history}
+use Rattle.mbim_proxy.specs.Lists.{waiting}
+use Rattle.mbim_examples.specs.Story.{setup, configured, open_6, opened_6, failed_6, open_1, opened_1, open_2, query_7, query_2, answer_2, answer_7, failed_7, not_opened_7, both_configured, one_open, bytes_for, to_modem, history}
 use Rattle.mbim_examples.specs.Fragments.{answer_part_0, answer_part_1, answer_part_2}
 
 -- a command waits while the modem is lost: status 2, and the client isn't open any more
@@ -22,7 +22,7 @@ pub record LossRefusesWhatWaits : Type 0 where
   pub first : bytes_for 1 loses_an_opening ≡ configured ++ failed_6
   pub second : bytes_for 2 loses_an_opening ≡ configured ++ failed_6
   pub again : to_modem loses_an_opening ≡ open_2
-  pub waits : waiting (history loses_an_opening) ≡ 1 ∷ []
+  pub waits : waiting setup (history loses_an_opening) ≡ 1 ∷ []
 
 -- the modem's stream goes bad: a loss; what it sends then counts once it is back
 abbrev pub goes_bad : List Event

@@ -3,7 +3,7 @@ use Rattle.std.specs.Prelude.{◌≡◌, true, List, [], ◌∷◌, ◌++◌, re
 use Rattle.kit_bytes.specs.Hex.{hex}
 use Rattle.proxy_history.specs.Events.{Event, Joined, Piece, Left, ModemPiece, ModemGone, ModemBack, Now}
 use Rattle.mbim_proxy.specs.Setup.{Setup}
-use Rattle.mbim_proxy.specs.ModemStates.{waiting}
+use Rattle.mbim_proxy.specs.Lists.{waiting}
 use Rattle.mbim_proxy.specs.History as proxy
 use Rattle.mbim_examples.specs.Story.{setup, configured, open_6, opened_6, failed_6, open_1, opened_1, open_2, opened_2, query_7, query_2, query_3, answer_7, answer_2, answer_3, not_opened_7, one_configured, both_configured, one_open, both_open, bytes_for, to_modem, history}
 
@@ -38,7 +38,7 @@ both_are_told = both_configured (Piece 1 open_6 ∷ Piece 2 (hex (codes "01 00 0
 pub record ClientsShareTheOpening : Type 0 where
   pub late : bytes_for 2 opens_late ≡ configured ++ opened_6
   pub late_modem : to_modem opens_late ≡ open_1 ++ query_2
-  pub waits : waiting (history both_wait) ≡ 2 ∷ 1 ∷ []
+  pub waits : waiting setup (history both_wait) ≡ 1 ∷ 2 ∷ []
   pub first : bytes_for 1 both_wait ≡ configured
   pub modem : to_modem both_wait ≡ open_1
   pub first_told : bytes_for 1 both_are_told ≡ configured ++ opened_6
@@ -65,9 +65,9 @@ abbrev pub opened_without_it : List Event
 opened_without_it = both_configured (Piece 1 open_6 ∷ Piece 2 open_6 ∷ Left 1 ∷ ModemPiece opened_1 ∷ [])
 
 pub record WhoLeavesWaitsNoMore : Type 0 where
-  pub waits : waiting (history leaves_waiting) ≡ 2 ∷ []
+  pub waits : waiting setup (history leaves_waiting) ≡ 2 ∷ []
   pub second : bytes_for 2 opened_without_it ≡ configured ++ opened_6
-  pub nobody : waiting (history opened_without_it) ≡ []
+  pub nobody : waiting setup (history opened_without_it) ≡ []
 
 -- the modem refuses with status 9: so is the client refused, and its next OPEN has the proxy ask again
 abbrev pub modem_refuses : List Event
@@ -86,7 +86,7 @@ pub record RefusedOpenings : Type 0 where
   pub again : to_modem modem_refuses ≡ open_1 ++ open_2
   pub erred : bytes_for 1 modem_errs ≡ configured ++ failed_6
   pub blundered : bytes_for 1 modem_blunders ≡ configured
-  pub waits_still : waiting (history modem_blunders) ≡ 1 ∷ []
+  pub waits_still : waiting setup (history modem_blunders) ≡ 1 ∷ []
 
 -- an OPEN_DONE to a command is for nobody, and the answer still comes
 abbrev pub opened_for_a_command : List Event

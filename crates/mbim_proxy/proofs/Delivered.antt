@@ -1,5 +1,5 @@
 -- What is heard of messages, one after another.
-use Rattle.std.proofs.Common.{◌≡◌, ℕ, zero, suc, ◌+◌, ◌-◌, ◌^◌, ◌<◌, ◌≤◌, nat_le, ◌==◌, ◌&&◌, Bool, true, false, if◌then◌else◌, List, [], ◌∷◌, ◌++◌, length, replicate, refl, ap, ap₂, sym, ◌∙◌, subst, arith, append_assoc}
+use Rattle.std.proofs.Common.{◌≡◌, ℕ, zero, suc, ◌-◌, ◌^◌, ◌<◌, ◌≤◌, nat_le, ◌==◌, ◌&&◌, Bool, true, false, if◌then◌else◌, List, [], ◌∷◌, ◌++◌, length, replicate, refl, ap, ap₂, sym, ◌∙◌, subst, arith, append_assoc}
 use Rattle.std.specs.List.{AllByRecursion}
 use Rattle.std.proofs.lemmas.Bool.{eq-eqb, and_from}
 use Rattle.std.proofs.lemmas.Bool.Decides.{nat_tests}
@@ -17,16 +17,18 @@ use Rattle.mbim_fragments.specs.Runs.{More, Whole, joining, run_after, run_from,
 use Rattle.mbim_fragments.specs.Splitting.{part_count, part_at, piece_at, pieces, split}
 use Rattle.mbim_fragments.proofs.Pieces.{piece_reads, pieces_give_the_body}
 use Rattle.mbim_fragments.proofs.Cutting.{pieces_are_cut}
-use Rattle.mbim_proxy.specs.Delivering.{Runs, no_runs, is_fragment, heard_whole, heard_with, runs_after, heard_from, runs_from, deliver}
+use Rattle.mbim_fragments.specs.Assembling.{Assembled, GoesOnAsRun, fresh, assembled_of, joining_behind, assembled_after}
+use Rattle.mbim_fragments.proofs.Standing.{assemblies_stand_for_runs}
+use Rattle.mbim_proxy.specs.Delivering.{Begun, none_begun, is_fragment, heard_whole, heard_with, begun_after, heard_from, begun_from, deliver}
 use Rattle.mbim_proxy.specs.Delivered.{AreHeardAs, FragmentsAreHeardWhole}
 
-pub heard_goes_on : (longest : ℕ) (runs : Runs) (messages more : List (List ℕ)) → heard_from longest runs (messages ++ more) ≡ heard_from longest runs messages ++ heard_from longest (runs_from longest runs messages) more
-unfolding heard_from runs_from
-heard_goes_on longest runs [] more = refl
-heard_goes_on longest runs (m ∷ messages) more =
-    let after : Runs = runs_after longest runs m in
-    ap (λ (l : List (List ℕ)). heard_with longest runs m ++ l) (heard_goes_on longest after messages more)
-    ∙ sym (append_assoc (heard_with longest runs m) (heard_from longest after messages) (heard_from longest (runs_from longest after messages) more))
+pub heard_goes_on : (longest : ℕ) (begun : Begun) (messages more : List (List ℕ)) → heard_from longest begun (messages ++ more) ≡ heard_from longest begun messages ++ heard_from longest (begun_from longest begun messages) more
+unfolding heard_from begun_from
+heard_goes_on longest begun [] more = refl
+heard_goes_on longest begun (m ∷ messages) more =
+    let after : Begun = begun_after longest begun m in
+    ap (λ (l : List (List ℕ)). heard_with longest begun m ++ l) (heard_goes_on longest after messages more)
+    ∙ sym (append_assoc (heard_with longest begun m) (heard_from longest after messages) (heard_from longest (begun_from longest after messages) more))
 
 -- ---- the fragments of one message ----
 
@@ -45,12 +47,12 @@ rest_is x y xs ys same = cc
 long_enough : (f : NewFragment) (part : List ℕ) → nat_le 20 (length (fragment_text f part)) ≡ true
 long_enough f part = let long : 20 ≤ length (fragment_text f part) = omega arith in grind (arith, nat_tests, long)
 
--- `runs_with` has the fragments of this kind, and those of the other kind none
-module _ (longest kind number : ℕ) (runs_with : List (List ℕ) → Runs)
-    (hears : (run : List (List ℕ)) (m : List ℕ) → IsFragment kind number m → heard_with longest (runs_with run) m ≡ heard_whole m (joining longest run m))
-    (leaves : (run : List (List ℕ)) (m : List ℕ) → IsFragment kind number m → runs_after longest (runs_with run) m ≡ runs_with (run_after longest run m)) where
+-- `begun_with` has the fragments of this kind, and those of the other kind none
+module _ (longest kind number : ℕ) (begun_with : List (List ℕ) → Begun)
+    (hears : (run : List (List ℕ)) (m : List ℕ) → IsFragment kind number m → heard_with longest (begun_with run) m ≡ heard_whole m (joining longest run m))
+    (leaves : (run : List (List ℕ)) (m : List ℕ) → IsFragment kind number m → begun_after longest (begun_with run) m ≡ begun_with (run_after longest run m)) where
   all_heard : (body : List ℕ) (count : ℕ) (run messages : List (List ℕ)) → AllByRecursion (IsFragment kind number) messages
-      → joinings_from longest run messages ≡ replicate count More ++ Whole body ∷ [] → heard_from longest (runs_with run) messages ≡ unsplit kind number body ∷ []
+      → joinings_from longest run messages ≡ replicate count More ++ Whole body ∷ [] → heard_from longest (begun_with run) messages ≡ unsplit kind number body ∷ []
   unfolding heard_from joinings_from
   all_heard body zero run [] are joined = absurd (cc)
   all_heard body (suc count) run [] are joined = absurd (cc)
@@ -64,15 +66,15 @@ module _ (longest kind number : ℕ) (runs_with : List (List ℕ) → Runs)
   all_heard body (suc count) run (m ∷ messages) are joined =
       let more : joining longest run m ≡ More = first_is (joining longest run m) More _ _ joined in
       let rest = rest_is (joining longest run m) More _ _ joined in
-      ap₂ (λ (heard : List (List ℕ)) (runs : Runs). heard ++ heard_from longest runs messages) (hears run m are.0 ∙ ap (heard_whole m) more) (leaves run m are.0)
+      ap₂ (λ (heard : List (List ℕ)) (begun : Begun). heard ++ heard_from longest begun messages) (hears run m are.0 ∙ ap (heard_whole m) more) (leaves run m are.0)
       ∙ all_heard body count (run_after longest run m) messages are.1 rest
 
-  all_left : (run messages : List (List ℕ)) → AllByRecursion (IsFragment kind number) messages → runs_from longest (runs_with run) messages ≡ runs_with (run_from longest run messages)
-  unfolding runs_from run_from
+  all_left : (run messages : List (List ℕ)) → AllByRecursion (IsFragment kind number) messages → begun_from longest (begun_with run) messages ≡ begun_with (run_from longest run messages)
+  unfolding begun_from run_from
   all_left run [] are = refl
-  all_left run (m ∷ messages) are = ap (λ (runs : Runs). runs_from longest runs messages) (leaves run m are.0) ∙ all_left (run_after longest run m) messages are.1
+  all_left run (m ∷ messages) are = ap (λ (begun : Begun). begun_from longest begun messages) (leaves run m are.0) ∙ all_left (run_after longest run m) messages are.1
 
-  all_heard_as : (max : ℕ) (body : List ℕ) → runs_with [] ≡ no_runs → kind < 2 ^ 32 → number < 2 ^ 32 → 64 ≤ max → max ≤ 4096 → length body ≤ longest → length body < 2 ^ 32
+  all_heard_as : (max : ℕ) (body : List ℕ) → begun_with [] ≡ none_begun → kind < 2 ^ 32 → number < 2 ^ 32 → 64 ≤ max → max ≤ 4096 → length body ≤ longest → length body < 2 ^ 32
       → AreHeardAs longest (mbim_cut (split kind number max body)).messages (unsplit kind number body)
   all_heard_as max body empty kind_fits number_fits least most fits short =
       let size = max - 20 in
@@ -99,13 +101,13 @@ module _ (longest kind number : ℕ) (runs_with : List (List ℕ) → Runs)
       record {
         heard =
             ap (λ (messages : List (List ℕ)). deliver longest messages) cut
-            ∙ ap (λ (runs : Runs). heard_from longest runs fragments) (sym empty)
+            ∙ ap (λ (begun : Begun). heard_from longest begun fragments) (sym empty)
             ∙ all_heard body (length fragments - 1) [] fragments are given.each;
         closed =
-            ap (λ (messages : List (List ℕ)). runs_from longest no_runs messages) cut
-            ∙ ap (λ (runs : Runs). runs_from longest runs fragments) (sym empty)
+            ap (λ (messages : List (List ℕ)). begun_from longest none_begun messages) cut
+            ∙ ap (λ (begun : Begun). begun_from longest begun fragments) (sym empty)
             ∙ all_left [] fragments are
-            ∙ ap runs_with given.closed
+            ∙ ap begun_with given.closed
             ∙ empty;
       }
 
@@ -119,32 +121,39 @@ of_no_other : (kind other : MessageKind) (number : ℕ) (m : List ℕ) → (kind
 of_no_other kind other number m differ is =
     ap (λ (k : ℕ). k == kind_number other && nat_le 20 (length m)) is.kind_is ∙ ap (λ (b : Bool). b && nat_le 20 (length m)) differ
 
-abbrev answers_alone : List (List ℕ) → Runs
-answers_alone run = record { answers = run; indications = [] }
+abbrev answers_alone : List (List ℕ) → Begun
+answers_alone run = record { answer = assembled_of run; indication = fresh }
 
-abbrev indications_alone : List (List ℕ) → Runs
-indications_alone run = record { answers = []; indications = run }
+abbrev indications_alone : List (List ℕ) → Begun
+indications_alone run = record { answer = fresh; indication = assembled_of run }
 
 module _ (longest number : ℕ) (run : List (List ℕ)) (m : List ℕ) where
+  abbrev goes_on : GoesOnAsRun longest run m
+  goes_on = assemblies_stand_for_runs longest run m
+
   hears_answer : IsFragment (kind_number CommandDone) number m → heard_with longest (answers_alone run) m ≡ heard_whole m (joining longest run m)
   hears_answer is =
-      ap (λ (b : Bool). if b then heard_whole m (joining longest run m) else if is_fragment IndicateStatus m then heard_whole m (joining longest [] m) else m ∷ [])
+      ap (λ (b : Bool). if b then heard_whole m (joining_behind longest (assembled_of run) m) else if is_fragment IndicateStatus m then heard_whole m (joining_behind longest fresh m) else m ∷ [])
       (of_kind CommandDone number m is)
+      ∙ ap (heard_whole m) goes_on.joining_is
 
-  leaves_answers : IsFragment (kind_number CommandDone) number m → runs_after longest (answers_alone run) m ≡ answers_alone (run_after longest run m)
+  leaves_answers : IsFragment (kind_number CommandDone) number m → begun_after longest (answers_alone run) m ≡ answers_alone (run_after longest run m)
   leaves_answers is =
-      ap₂ (λ (answer indication : Bool). let runs : Runs = record { answers = if answer then run_after longest run m else run; indications = if indication then run_after longest [] m else [] } in runs)
+      ap₂ (λ (answer indication : Bool). let begun : Begun = record { answer = if answer then assembled_after longest (assembled_of run) m else assembled_of run; indication = if indication then assembled_after longest fresh m else fresh } in begun)
       (of_kind CommandDone number m is) (of_no_other CommandDone IndicateStatus number m refl is)
+      ∙ ap (λ (a : Assembled). let begun : Begun = record { answer = a; indication = fresh } in begun) goes_on.left
 
   hears_indication : IsFragment (kind_number IndicateStatus) number m → heard_with longest (indications_alone run) m ≡ heard_whole m (joining longest run m)
   hears_indication is =
-      ap₂ (λ (answer indication : Bool). if answer then heard_whole m (joining longest [] m) else if indication then heard_whole m (joining longest run m) else m ∷ [])
+      ap₂ (λ (answer indication : Bool). if answer then heard_whole m (joining_behind longest fresh m) else if indication then heard_whole m (joining_behind longest (assembled_of run) m) else m ∷ [])
       (of_no_other IndicateStatus CommandDone number m refl is) (of_kind IndicateStatus number m is)
+      ∙ ap (heard_whole m) goes_on.joining_is
 
-  leaves_indications : IsFragment (kind_number IndicateStatus) number m → runs_after longest (indications_alone run) m ≡ indications_alone (run_after longest run m)
+  leaves_indications : IsFragment (kind_number IndicateStatus) number m → begun_after longest (indications_alone run) m ≡ indications_alone (run_after longest run m)
   leaves_indications is =
-      ap₂ (λ (answer indication : Bool). let runs : Runs = record { answers = if answer then run_after longest [] m else []; indications = if indication then run_after longest run m else run } in runs)
+      ap₂ (λ (answer indication : Bool). let begun : Begun = record { answer = if answer then assembled_after longest fresh m else fresh; indication = if indication then assembled_after longest (assembled_of run) m else assembled_of run } in begun)
       (of_no_other IndicateStatus CommandDone number m refl is) (of_kind IndicateStatus number m is)
+      ∙ ap (λ (a : Assembled). let begun : Begun = record { answer = fresh; indication = a } in begun) goes_on.left
 
 pub answers_are_heard_whole : FragmentsAreHeardWhole CommandDone
 answers_are_heard_whole longest number max body number_fits least most fits short =

@@ -1,5 +1,4 @@
 pub mod Lengths
-pub mod Waiting
 pub mod Verdicts
 pub mod Walk
 pub mod Sound

@@ -1,5 +1,5 @@
 -- What each part of an MBIM proxy adds to its history: one lemma for each, on which all laws of the history rest.
-use Rattle.std.proofs.Common.{◌≡◌, ℕ, ◌+◌, Bool, true, false, not, List, [], ◌∷◌, refl, ap, ◌∙◌, inl, inr, All, Contains, Option, Some, None}
+use Rattle.std.proofs.Common.{◌≡◌, ℕ, ◌+◌, Bool, true, false, not, is_some, if◌then◌else◌, List, [], ◌∷◌, refl, ap, sym, inl, inr, All, Contains, Option, Some, None}
 use Rattle.std.proofs.lemmas.Bool.{eq-eqb, and_parts}
 use Rattle.std.proofs.lemmas.List.Elements.{All-filter}
 use Rattle.kit_bytes.specs.Subscriptions.{Pair}
@@ -17,7 +17,6 @@ use Rattle.proxy_history.specs.Requests.{in_use, is_pending, last_number}
 use Rattle.proxy_history.specs.Modem.{to_modem, modem_drained}
 use Rattle.proxy_history.specs.Wording.{Wording}
 use Rattle.proxy_history.specs.Noting.{receivers_of}
-use Rattle.proxy_history.specs.View.{Sent, entry_if, view, sent_count}
 use Rattle.proxy_history.specs.Sound.{IsPresent, IsParty, IsSound}
 use Rattle.proxy_history.specs.Adding.{MayAdd, MayRefuse, MayFinish, Soundly, AddsSoundly, IsOrderly}
 use Rattle.proxy_history.specs.Orderly.{Anything}
@@ -29,9 +28,9 @@ use Rattle.mbim_proxy.specs.Setup.{Setup}
 use Rattle.mbim_proxy.specs.Known.{Known}
 use Rattle.mbim_proxy.specs.Step.{blank, known_now}
 use Rattle.mbim_proxy.specs.Text.{mbim_wording, note}
-use Rattle.mbim_proxy.specs.ModemStates.{is_own_open, state, is_shut, waiting}
+use Rattle.mbim_proxy.specs.ModemStates.{is_own_open, state, is_shut}
 use Rattle.mbim_services.specs.SubscribeLists.{is_same_list}
-use Rattle.mbim_proxy.specs.Lists.{open_ones, list_of, receivers, merged, last_list}
+use Rattle.mbim_proxy.specs.Lists.{open_ones, list_of, receivers, waiting, merged, last_list}
 use Rattle.mbim_proxy.specs.Forwarding.{own_open, own_subscribe, number_for, request_of, forward}
 use Rattle.mbim_proxy.specs.Clients.{command_message, forward_for, judge, decision_on}
 use Rattle.mbim_proxy.specs.FromModem.{Heard, IsDone, IsOpenDone, IsError, IsIndication, IsNeither, heard_as, opening_status, end_opening_by, is_answered_by, first_answered_by, answer_or_late, respond, indicate, hear_as}
@@ -39,10 +38,13 @@ use Rattle.mbim_proxy.specs.OwnList.{is_free, is_wanted, number_of_list, send_un
 use Rattle.mbim_proxy.specs.Asked.{IsAsked}
 use Rattle.mbim_proxy.specs.History.{mbim_protocol}
 use Rattle.mbim_proxy.proofs.Lengths.{finds_room}
-use Rattle.mbim_proxy.proofs.Waiting.{waiting_are_present}
 use Rattle.mbim_proxy.proofs.Verdicts.{CanGo, can_go, given_if, WhatGoes, what_goes}
 
 -- `Asks` is what each request has, of all that it has
+-- who waits for the modem to open is there
+pub waiting_are_present : (s : Setup) (past : List Fact) → All (λ c. IsPresent c past) (waiting s past)
+waiting_are_present s past = All-filter (λ c. is_some (known_now s c past).waits) (λ (c : ℕ). IsPresent c past) (present past) (each_contained (present past))
+
 module _ (s : Setup) (Asks : Request → List Fact → Type 0) (asked : (r : Request) (past : List Fact) → IsAsked s r past → Asks r past) where
   abbrev Sound : List Fact → Type 0
   Sound past = IsSound s.limits past
@@ -70,7 +72,7 @@ module _ (s : Setup) (Asks : Request → List Fact → Type 0) (asked : (r : Req
     ends_opening : (r : Request) (status : ℕ) (past : List Fact) → Sound past → AddsOf M past (end_opening_by s r status past)
     ends_opening r status past sound =
         either s.limits wording (May M) (is_own_open r) past _ past
-        (λ own. noted s.limits wording (May M) ends (OpeningEnded status (waiting past)) past (waiting_are_present s.limits past sound, may_end status (waiting past) past, tt))
+        (λ own. noted s.limits wording (May M) ends (OpeningEnded status (waiting s past)) past (waiting_are_present s past, may_end status (waiting s past) past, tt))
         (λ other. none s.limits wording (May M) past)
 
     noted_then_ends : (fact : Fact) (r : Request) (status : ℕ) (past : List Fact) → Sound past → May M fact past → AddsOf M past (end_opening_by s r status (note s fact past))
@@ -95,18 +97,17 @@ module _ (s : Setup) (Asks : Request → List Fact → Type 0) (asked : (r : Req
     replied verdict past there = noted_by s.limits wording By (Judged c (message_count c past + 1) m verdict) past ((λ before there. (there, refl, tt)), tt) (there, (refl, refl), tt)
 
     carries : (past : List Fact) → IsPresent c past → (n : ℕ) → Asks (request_of s c (command_message s (known_now s c past) m) n (judged_as Forward past)) (judged_as Forward past)
-    unfolding present view
+    unfolding present message_count
     carries past there n =
-        let newest : view blank c (judged_as Forward past) ≡ Sent m Forward ∷ view blank c past = ap (λ (b : Bool). entry_if b (Sent m Forward) (view blank c past)) (eq-eqb c c refl) in
         asked _ _ (record {
           space = refl;
           deadline = refl;
           carries = inl (record {
             sender = there;
             message = m;
-            before = view blank c past;
-            newest = newest;
-            place = counted blank c (judged_as Forward past) there ∙ ap sent_count newest;
+            before = past;
+            judged = ap (λ (place : ℕ). Judged c place m Forward ∷ past) (sym (ap (λ (b : Bool). if b then message_count c past + 1 else message_count c past) (eq-eqb c c refl)));
+            place = counted blank c (judged_as Forward past) there;
             command = refl;
           });
         })

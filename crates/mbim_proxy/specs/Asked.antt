@@ -1,14 +1,14 @@
 -- What each request of an MBIM proxy is when it is forwarded. Lists of facts and views have the newest first.
 use Rattle.std.specs.Prelude.{◌≡◌, ◌⊎◌, ℕ, true, List, ◌∷◌}
 use Rattle.proxy_history.specs.Events.{Event}
-use Rattle.proxy_history.specs.Facts.{Fact, Request, Forward}
+use Rattle.proxy_history.specs.Facts.{Fact, Request, Judged, Forward}
 use Rattle.proxy_history.specs.Connections.{is_present}
 use Rattle.proxy_history.specs.Requests.{deadline_of}
 use Rattle.proxy_history.specs.Modem.{now}
-use Rattle.proxy_history.specs.View.{Entry, Sent, sent_count}
+use Rattle.proxy_history.specs.View.{sent_count}
 use Rattle.proxy_history.specs.Adding.{AreAsked}
 use Rattle.mbim_proxy.specs.Setup.{Setup, the_space}
-use Rattle.mbim_proxy.specs.Step.{view_of, known_from}
+use Rattle.mbim_proxy.specs.Step.{view_of, known_now}
 use Rattle.mbim_proxy.specs.ModemStates.{state, is_shut}
 use Rattle.mbim_proxy.specs.Lists.{merged}
 use Rattle.mbim_proxy.specs.Forwarding.{own_open, own_subscribe}
@@ -16,14 +16,14 @@ use Rattle.mbim_proxy.specs.Clients.{command_message}
 use Rattle.mbim_proxy.specs.OwnList.{is_free}
 use Rattle.mbim_proxy.specs.History.{mbim_protocol, history}
 
--- it carries the command that its sender's newest message completes
+-- it carries the command that its sender's newest message completes, which was judged just before; so no message is forwarded twice
 pub record CarriesItsCommand (s : Setup) (r : Request) (past : List Fact) : Type 0 where
   pub sender : is_present r.conn past ≡ true
   pub message : List ℕ
-  pub before : List Entry
-  pub newest : view_of r.conn past ≡ Sent message Forward ∷ before
-  pub place : r.place ≡ sent_count (Sent message Forward ∷ before)
-  pub command : r.message ≡ command_message s (known_from s before) message
+  pub before : List Fact
+  pub judged : past ≡ Judged r.conn r.place message Forward ∷ before
+  pub place : r.place ≡ sent_count (view_of r.conn past)
+  pub command : r.message ≡ command_message s (known_now s r.conn before) message
 
 -- the proxy itself opens a modem that is shut
 pub record OpensTheModem (s : Setup) (r : Request) (past : List Fact) : Type 0 where

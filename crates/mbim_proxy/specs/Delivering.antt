@@ -6,15 +6,16 @@ use Rattle.mbim_frame.specs.declared.kind.MessageKind.{MessageKind}
 use Rattle.mbim_frame.specs.declared.kind.MessageKind.TheVariants.{CommandDone, IndicateStatus}
 use Rattle.mbim_frame.specs.Head.{kind_of, is_kind, number_of}
 use Rattle.mbim_frame.specs.Writing.{unsplit}
-use Rattle.mbim_fragments.specs.Runs.{Joining, Whole, joining, run_after}
+use Rattle.mbim_fragments.specs.Runs.{Joining, Whole}
+use Rattle.mbim_fragments.specs.Assembling.{Assembled, fresh, joining_behind, assembled_after}
 
--- the fragments of an answer, and those of an indication, of which more are due
-pub record Runs : Type 0 where
-  pub answers : List (List ℕ)
-  pub indications : List (List ℕ)
+-- what has come of an answer, and of an indication, of which more fragments are due
+pub record Begun : Type 0 where
+  pub answer : Assembled
+  pub indication : Assembled
 
-abbrev pub no_runs : Runs
-no_runs = record { answers = []; indications = [] }
+abbrev pub none_begun : Begun
+none_begun = record { answer = fresh; indication = fresh }
 
 -- a message of this kind with both heads
 abbrev pub is_fragment : MessageKind → (message : List ℕ) → Bool
@@ -26,28 +27,28 @@ heard_whole m (Whole body) = unsplit (kind_of m) (number_of m) body ∷ []
 heard_whole m _ = []
 
 -- what is heard with a message
-abbrev pub heard_with : (longest : ℕ) → Runs → (message : List ℕ) → List (List ℕ)
-heard_with longest runs m =
-    if is_fragment CommandDone m then heard_whole m (joining longest runs.answers m)
-    else if is_fragment IndicateStatus m then heard_whole m (joining longest runs.indications m)
+abbrev pub heard_with : (longest : ℕ) → Begun → (message : List ℕ) → List (List ℕ)
+heard_with longest begun m =
+    if is_fragment CommandDone m then heard_whole m (joining_behind longest begun.answer m)
+    else if is_fragment IndicateStatus m then heard_whole m (joining_behind longest begun.indication m)
     else m ∷ []
 
-abbrev pub runs_after : (longest : ℕ) → Runs → (message : List ℕ) → Runs
-runs_after longest runs m = record {
-  answers = if is_fragment CommandDone m then run_after longest runs.answers m else runs.answers;
-  indications = if is_fragment IndicateStatus m then run_after longest runs.indications m else runs.indications;
+abbrev pub begun_after : (longest : ℕ) → Begun → (message : List ℕ) → Begun
+begun_after longest begun m = record {
+  answer = if is_fragment CommandDone m then assembled_after longest begun.answer m else begun.answer;
+  indication = if is_fragment IndicateStatus m then assembled_after longest begun.indication m else begun.indication;
 }
 
 -- what is heard of messages, one after another
-unfoldable pub heard_from : (longest : ℕ) → Runs → (messages : List (List ℕ)) → List (List ℕ)
-heard_from longest runs [] = []
-heard_from longest runs (m ∷ messages) = heard_with longest runs m ++ heard_from longest (runs_after longest runs m) messages
+unfoldable pub heard_from : (longest : ℕ) → Begun → (messages : List (List ℕ)) → List (List ℕ)
+heard_from longest begun [] = []
+heard_from longest begun (m ∷ messages) = heard_with longest begun m ++ heard_from longest (begun_after longest begun m) messages
 
 -- what they leave open
-unfoldable pub runs_from : (longest : ℕ) → Runs → (messages : List (List ℕ)) → Runs
-runs_from longest runs [] = runs
-runs_from longest runs (m ∷ messages) = runs_from longest (runs_after longest runs m) messages
+unfoldable pub begun_from : (longest : ℕ) → Begun → (messages : List (List ℕ)) → Begun
+begun_from longest begun [] = begun
+begun_from longest begun (m ∷ messages) = begun_from longest (begun_after longest begun m) messages
 
 -- all that is heard of a stream's messages
 abbrev pub deliver : (longest : ℕ) → (messages : List (List ℕ)) → List (List ℕ)
-deliver longest messages = heard_from longest no_runs messages
+deliver longest messages = heard_from longest none_begun messages

@@ -13,8 +13,8 @@ use Rattle.proxy_history.specs.Requests.{first_where, in_use, is_pending}
 use Rattle.mbim_proxy.specs.Setup.{Setup}
 use Rattle.mbim_proxy.specs.Step.{blank}
 use Rattle.mbim_proxy.specs.Text.{note}
-use Rattle.mbim_proxy.specs.ModemStates.{is_own_open, waiting}
-use Rattle.mbim_proxy.specs.Lists.{receivers}
+use Rattle.mbim_proxy.specs.ModemStates.{is_own_open}
+use Rattle.mbim_proxy.specs.Lists.{receivers, waiting}
 
 -- ---- what a message is ----
 
@@ -42,7 +42,7 @@ heard_as m =
 -- ---- the opening ends ----
 
 abbrev pub end_opening : Setup → (status : ℕ) → List Fact → List Fact
-end_opening s status past = note s (OpeningEnded status (waiting past)) past
+end_opening s status past = note s (OpeningEnded status (waiting s past)) past
 
 -- where the request was the proxy's own to open
 abbrev pub end_opening_by : Setup → Request → (status : ℕ) → List Fact → List Fact

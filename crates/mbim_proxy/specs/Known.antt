@@ -2,6 +2,8 @@
 use Rattle.std.specs.Prelude.{ℕ, Bool, false, not, ◌==◌, List, [], ◌∷◌, filter, Option, Some, None, if◌then◌else◌}
 use Rattle.kit_bytes.specs.Subscriptions.{Pair}
 use Rattle.kit_bytes.specs.Services.{starting_list}
+use Rattle.mbim_fragments.specs.Assembling.{Assembled}
+use Rattle.mbim_fragments.specs.Assembling as assembling
 use Rattle.mbim_proxy.specs.Setup.{Setup}
 
 -- a command of the client that the modem may still answer
@@ -16,8 +18,8 @@ pub record Ask : Type 0 where
 pub record Known : Type 0 where
   -- how many messages it sent
   pub sent : ℕ
-  -- the fragments of its command of which more are due
-  pub run : List (List ℕ)
+  -- what has come of its command of which more fragments are due
+  pub begun : Assembled
   -- it named the device
   pub configured : Bool
   pub opened : Bool
@@ -33,7 +35,7 @@ pub record Known : Type 0 where
 abbrev pub fresh : Setup → Known
 fresh s = record {
   sent = 0;
-  run = [];
+  begun = assembling.fresh;
   configured = false;
   opened = false;
   waits = None;

@@ -14,7 +14,7 @@ use Rattle.proxy_history.specs.Adding.{IsOrderly}
 use Rattle.proxy_history.specs.Orderly.{Anything, time_then}
 use Rattle.mbim_proxy.specs.Setup.{Setup}
 use Rattle.mbim_proxy.specs.Step.{view_of}
-use Rattle.mbim_proxy.specs.ModemStates.{waiting}
+use Rattle.mbim_proxy.specs.Lists.{waiting}
 use Rattle.mbim_proxy.specs.OwnList.{is_free}
 use Rattle.mbim_proxy.specs.History.{mbim_protocol, history, text_for, to_modem, modem_queue}
 
@@ -38,7 +38,7 @@ AskersArePresent = (s : Setup) (events : List Event) → All (λ r. IsParty r.co
 
 -- who waits for the modem to open is there
 abbrev pub WaitingArePresent : Type 0
-WaitingArePresent = (s : Setup) (events : List Event) → All (λ c. IsPresent c (history s events)) (waiting (history s events))
+WaitingArePresent = (s : Setup) (events : List Event) → All (λ c. IsPresent c (history s events)) (waiting s (history s events))
 
 -- no more connections are there, and no more numbers in use, than may be
 abbrev pub FewArePresent : Type 0

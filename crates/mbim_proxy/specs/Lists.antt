@@ -1,6 +1,6 @@
--- Who is open, what all of them subscribe to, and what the modem was last asked for. A list of facts has the newest first.
+-- Who is open, who waits for that, what all of them subscribe to, and what the modem was last asked for. A list of facts has the newest first.
 -- Source: libmbim's src/libmbim-glib/mbim-proxy.c, whose proxy merges its clients' lists too.
-use Rattle.std.specs.Prelude.{ℕ, ◌==◌, List, [], ◌∷◌, map, filter, if◌then◌else◌}
+use Rattle.std.specs.Prelude.{ℕ, ◌==◌, List, [], ◌∷◌, map, filter, is_some, if◌then◌else◌}
 use Rattle.kit_bytes.specs.Subscriptions.{Pair, merge}
 use Rattle.kit_bytes.specs.Services.{starting_list}
 use Rattle.kit_bytes.specs.Indications.{wants}
@@ -13,6 +13,10 @@ use Rattle.mbim_proxy.specs.Step.{known_now}
 -- the connections that are open, in order of joining
 abbrev pub open_ones : Setup → List Fact → List ℕ
 open_ones s past = filter (λ c. (known_now s c past).opened) (present past)
+
+-- the connections whose requests to open wait for the modem, in order of joining
+abbrev pub waiting : Setup → List Fact → List ℕ
+waiting s past = filter (λ c. is_some (known_now s c past).waits) (present past)
 
 abbrev pub list_of : Setup → (conn : ℕ) → List Fact → List Pair
 list_of s c past = (known_now s c past).list

@@ -1,11 +1,10 @@
--- Whether the modem is open for the proxy, and who waits for that. A list of facts has the newest first; the connections have the oldest first.
+-- Whether the modem is open for the proxy. A list of facts has the newest first.
 -- Source: the USB-IF MBIM specification 1.0, MBIM_OPEN_MSG and MBIM_OPEN_DONE: a function takes commands once it was opened.
-use Rattle.std.specs.Prelude.{ℕ, Bool, true, false, ◌==◌, List, [], ◌∷◌, ◌++◌, if◌then◌else◌}
+use Rattle.std.specs.Prelude.{Bool, true, false, ◌==◌, List, [], ◌∷◌, if◌then◌else◌}
 use Rattle.mbim_frame.specs.declared.kind.MessageKind.TheVariants.{Open}
 use Rattle.mbim_frame.specs.declared.status.TheConstants.{SUCCESS}
 use Rattle.mbim_frame.specs.Head.{is_kind}
-use Rattle.proxy_history.specs.Facts.{Fact, Request, Ended, Judged, Waits, Forwarded, OpeningEnded, ModemLost, ModemReturned}
-use Rattle.proxy_history.specs.Connections.{without}
+use Rattle.proxy_history.specs.Facts.{Fact, Request, Forwarded, OpeningEnded, ModemLost, ModemReturned}
 
 -- the proxy's own request to open: a client's goes to the proxy alone
 abbrev pub is_own_open : Request → Bool
@@ -39,11 +38,3 @@ is_shut _ = false
 abbrev pub is_ready : ModemState → Bool
 is_ready IsReady = true
 is_ready _ = false
-
--- the connections whose requests to open wait, in order of arrival
-unfoldable pub waiting : List Fact → List ℕ
-waiting [] = []
-waiting (Judged c place m Waits ∷ past) = waiting past ++ c ∷ []
-waiting (OpeningEnded status receivers ∷ past) = []
-waiting (Ended c why ∷ past) = without c (waiting past)
-waiting (_ ∷ past) = waiting past

@@ -9,7 +9,8 @@ use Rattle.mbim_frame.specs.declared.error.TheConstants.{OUT_OF_SEQUENCE, LENGTH
 use Rattle.mbim_frame.specs.declared.status.TheConstants.{BUSY, NOT_INITIALIZED, INVALID_PARAMETERS}
 use Rattle.mbim_frame.specs.Head.{is_kind}
 use Rattle.mbim_frame.specs.Bodies.{uuid_of, cid_of, is_set, buffer_of, is_command}
-use Rattle.mbim_fragments.specs.Runs.{Joining, More, Whole, OutOfSequence, TooLong, joining}
+use Rattle.mbim_fragments.specs.Runs.{Joining, More, Whole, OutOfSequence, TooLong}
+use Rattle.mbim_fragments.specs.Assembling.{joining_behind}
 use Rattle.mbim_proxy.specs.Services.{proxy_control, configuration_cid, subscribe_list_cid}
 use Rattle.mbim_services.specs.SubscribeLists.{list_of_buffer}
 use Rattle.mbim_proxy.specs.Configuration.{names_device}
@@ -100,7 +101,7 @@ own_reply s known m =
     else if is_kind Close m then (if length m == 12 then reply_to_close known else Wrong LENGTH_MISMATCH)
     else if not (is_kind Command m) then Wrong UNKNOWN_KIND
     else if nat_lt (length m) 20 then Wrong LENGTH_MISMATCH
-    else reply_to_joining s known (joining s.longest_body known.run m)
+    else reply_to_joining s known (joining_behind s.longest_body known.begun m)
 
 -- ---- what all clients share decides ----
 
@@ -116,4 +117,4 @@ is_for_modem known _ = false
 -- the client's own view decides on everything else
 abbrev pub view_decides : Setup → Known → (message : List ℕ) → Bool
 view_decides s known m =
-    not (is_open_request m && may_open known) && not (is_command_fragment m && is_for_modem known (joining s.longest_body known.run m))
+    not (is_open_request m && may_open known) && not (is_command_fragment m && is_for_modem known (joining_behind s.longest_body known.begun m))

@@ -4,7 +4,8 @@ use Rattle.mbim_frame.specs.declared.status.TheConstants.{SUCCESS}
 use Rattle.mbim_frame.specs.Numbers.{u32_at}
 use Rattle.mbim_frame.specs.Head.{number_of, with_number}
 use Rattle.mbim_frame.specs.Bodies.{uuid_of, cid_of}
-use Rattle.mbim_fragments.specs.Runs.{Joining, Whole, joining, run_after}
+use Rattle.mbim_fragments.specs.Runs.{Joining, Whole}
+use Rattle.mbim_fragments.specs.Assembling.{joining_behind, assembled_after}
 use Rattle.proxy_history.specs.Facts.{Fact, Verdict, Own, Forward, Ready, Waits}
 use Rattle.proxy_history.specs.View.{Entry, Sent, Response, Refused, OpenedWith, Shut, view}
 use Rattle.proxy_history.specs.Wording.{told_by}
@@ -18,7 +19,7 @@ whole_body _ = []
 
 -- the body of the command that the message completes
 abbrev pub command_with : Setup → Known → (message : List ℕ) → List ℕ
-command_with s known m = whole_body (joining s.longest_body known.run m)
+command_with s known m = whole_body (joining_behind s.longest_body known.begun m)
 
 abbrev pub ask_of : Setup → Known → (message : List ℕ) → Ask
 ask_of s known m = record {
@@ -32,7 +33,7 @@ ask_of s known m = record {
 abbrev pub with_message : Setup → (message : List ℕ) → Known → Known
 with_message s m known = record known {
   sent = known.sent + 1;
-  run = if is_command_fragment m then run_after s.longest_body known.run m else known.run;
+  begun = if is_command_fragment m then assembled_after s.longest_body known.begun m else known.begun;
   fragment = if is_open_request m then fragment_for s (u32_at m 12) else known.fragment;
 }
 

@@ -1,0 +1,16 @@
+pub mod Regular
+pub mod Numbers
+pub mod Keeping
+pub mod ClientStates
+pub mod Hearing
+pub mod Finishing
+pub mod Texts
+pub mod Commands
+pub mod Receivers
+pub mod Noted
+pub mod Answering
+pub mod Expiring
+pub mod Modem
+pub mod Faithful
+pub mod Steps
+pub mod Greatest
