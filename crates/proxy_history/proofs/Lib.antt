@@ -19,3 +19,9 @@ pub mod Counting
 pub mod Coming
 pub mod Absent
 pub mod Lawful
+pub mod Splits
+pub mod ModemFacts
+pub mod Standing
+pub mod Waiting
+pub mod Given
+pub mod Noted

@@ -1,5 +1,5 @@
 -- Lists and filters of them.
-use Rattle.std.proofs.Common.{◌≡◌, ◌⊎◌, ℕ, zero, suc, ◌<◌, ◌≤◌, Bool, true, false, cond, ◌||◌, ◌==◌, List, [], ◌∷◌, length, get_or, refl, ap, sym, ◌∙◌, inl, inr, ⊎_elim, arith, Contains, filter}
+use Rattle.std.proofs.Common.{◌≡◌, ◌⊎◌, ℕ, zero, suc, ◌<◌, ◌≤◌, Bool, true, false, cond, ◌&&◌, ◌||◌, ◌==◌, List, [], ◌∷◌, length, get_or, refl, ap, sym, ◌∙◌, inl, inr, ⊎_elim, arith, Contains, filter}
 use Rattle.std.specs.List.{AllByRecursion}
 use Rattle.std.proofs.lemmas.Bool.{eqb-true, true≢false}
 use Rattle.std.proofs.lemmas.Bool.Decides.{nat_tests}
@@ -45,3 +45,27 @@ above_absent greatest c above [] h = refl
 above_absent greatest c above (x ∷ xs) h =
     let differs : (c == x) ≡ false = grind (arith, nat_tests, h.0) in
     rw (differs, above_absent greatest c above xs h.1) refl
+
+pub contains_kept : (c : ℕ) (p : ℕ → Bool) (xs : List ℕ) → contains c (filter p xs) ≡ (contains c xs && p c)
+contains_kept c p [] = refl
+contains_kept c p (x ∷ xs) =
+    let Is : Bool → Bool → Type 0 = λ (same : Bool) (kept : Bool). contains c (cond kept (x ∷ filter p xs) (filter p xs)) ≡ ((same || contains c xs) && p c) in
+    let step : (same kept : Bool) → (c == x) ≡ same → p x ≡ kept → Is same kept =
+    λ same kept. elim same as (λ same. (c == x) ≡ same → p x ≡ kept → Is same kept) [
+      | true ↦ λ here is.
+          let passes : p c ≡ kept = ap p (eqb-true c x here) ∙ is in
+          elim kept as (λ kept. p c ≡ kept → contains c (cond kept (x ∷ filter p xs) (filter p xs)) ≡ p c) [
+            | true ↦ λ yes. ap (λ (b : Bool). b || contains c (filter p xs)) here ∙ sym yes
+            | false ↦ λ no. contains_kept c p xs ∙ ap (λ (b : Bool). contains c xs && b) no ∙ and_none (contains c xs) ∙ sym no
+          ] passes
+      | false ↦ λ other is.
+          elim kept as (λ kept. contains c (cond kept (x ∷ filter p xs) (filter p xs)) ≡ (contains c xs && p c)) [
+            | true ↦ ap (λ (b : Bool). b || contains c (filter p xs)) other ∙ contains_kept c p xs
+            | false ↦ contains_kept c p xs
+          ]
+    ]
+    in step (c == x) (p x) refl refl
+  where
+    and_none : (b : Bool) → (b && false) ≡ false
+    and_none true = refl
+    and_none false = refl

@@ -23,5 +23,6 @@ pub mod Adding
 pub mod Orderly
 pub mod Holding
 pub mod HungUp
+pub mod Standing
 pub mod Proxy
 pub mod Lawful

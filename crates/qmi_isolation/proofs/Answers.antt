@@ -1,6 +1,6 @@
 -- Who gets the answers and the indications of the modem.
-use Rattle.std.proofs.Common.{◌≡◌, ◌≢◌, ℕ, ◌≤◌, Bool, true, false, not, ◌&&◌, ◌||◌, ◌==◌, if◌then◌else◌, List, [], ◌∷◌, length, map, filter, refl, ap, sym, ◌∙◌, subst, ⊎_elim, All, Contains, Option, Some, None}
-use Rattle.std.proofs.lemmas.Bool.{eqb-true, eq-eqb, or_right, false_from_ne_true}
+use Rattle.std.proofs.Common.{◌≡◌, ◌≢◌, ℕ, ◌≤◌, Bool, true, false, ◌&&◌, ◌==◌, if◌then◌else◌, List, ◌∷◌, length, map, filter, refl, ap, sym, ◌∙◌, subst, All, Contains, Option, Some, None}
+use Rattle.std.proofs.lemmas.Bool.{eqb-true, eq-eqb, and_parts, false_from_ne_true}
 use Rattle.std.proofs.lemmas.List.Elements.{All-contains}
 use Rattle.qmux_frame.specs.Head.{service_of, is_control, client_of, number_of}
 use Rattle.qmux_frame.specs.declared.kind.MessageKind.TheVariants as kind
@@ -11,7 +11,7 @@ use Rattle.proxy_history.specs.Events.{Event}
 use Rattle.proxy_history.specs.Items.{ModemSays}
 use Rattle.proxy_history.specs.Facts.{Fact, Request, Answered, IdHeld, Late, Indicated, Stray, Granted, Freed, EventBegan}
 use Rattle.proxy_history.specs.Connections.{contains, present}
-use Rattle.proxy_history.specs.Requests.{in_use, pending, has_request, without_request, is_pending}
+use Rattle.proxy_history.specs.Requests.{in_use, pending, has_request, is_pending}
 use Rattle.proxy_history.specs.ClientIds.{held, holder, is_holder, is_other, holds_some}
 use Rattle.proxy_history.specs.View.{Entry, Response, Refused, Indication, HeldId, entry_if, view}
 use Rattle.proxy_history.specs.Rendering.{render, put}
@@ -19,8 +19,10 @@ use Rattle.proxy_history.specs.Sound.{IsSound}
 use Rattle.proxy_history.specs.Coming.{AreSound}
 use Rattle.proxy_history.proofs.Walk.{was_asked, each_message}
 use Rattle.proxy_history.proofs.Coming.{joins_or_modem_takes}
-use Rattle.proxy_history.proofs.Lists.{Contains-cons_cases, Contains-nil}
-use Rattle.proxy_history.proofs.Sound.{kept_by_note, in_use_from_pending, forwarded_from_in_use, waits}
+use Rattle.proxy_history.proofs.Lists.{contains_kept}
+use Rattle.proxy_history.proofs.Given.{contained_has, none_left}
+use Rattle.proxy_history.proofs.Noted.{noted_view, noted_in_use}
+use Rattle.proxy_history.proofs.Sound.{in_use_from_pending, forwarded_from_in_use, waits}
 use Rattle.qmi_proxy.specs.Limits.{qmi_limits, outbox_limit}
 use Rattle.qmi_proxy.specs.Setup.{Setup}
 use Rattle.qmi_proxy.specs.Errors.{client_ids_exhausted}
@@ -36,7 +38,6 @@ use Rattle.qmi_proxy.proofs.Sound.{sound_items, begun_is_sound, items_are_asked}
 use Rattle.qmi_proxy.proofs.Regulars.{asked_of_pending, regular_begun, regular_items, histories_are_regular}
 use Rattle.qmi_proxy.proofs.Answered.{one_is_answered, first_is, found_is}
 use Rattle.qmi_isolation.specs.Laws.{facts_before, IsDelivered}
-use Rattle.qmi_isolation.proofs.Views.{noted_same}
 
 -- ---- the facts before a message of the modem ----
 
@@ -55,31 +56,9 @@ space_in_use s events earlier r at =
     let past : List Fact = facts_before s events earlier in
     (was_asked (qmi_protocol s) (Asks s) past r (items_are_asked s (map (λ m. ModemSays m) earlier) events) (forwarded_from_in_use past r at)).1.space
 
-contained_has : (list : List Request) (r : Request) → Contains list r → has_request r list ≡ true
-contained_has [] r at = absurd (Contains-nil r at)
-contained_has (q ∷ list) r at =
-    ⊎_elim
-    (λ (same : q ≡ r). ap (λ (b : Bool). b || has_request r list) (eq-eqb r.serial q.serial (ap (λ (x : Request). x.serial) (sym same))))
-    (λ (later : Contains list r). ap (λ (b : Bool). (r.serial == q.serial) || b) (contained_has list r later) ∙ or_right (r.serial == q.serial) true refl)
-    (Contains-cons_cases r q list at)
-
 -- ---- what comes of an answer ----
 
-none_left : (r : Request) (list : List Request) → has_request r (without_request r list) ≡ false
-none_left r [] = refl
-none_left r (q ∷ list) =
-    let step : (b : Bool) → (r.serial == q.serial) ≡ b → has_request r (if not b then q ∷ without_request r list else without_request r list) ≡ false =
-    λ b. elim b as (λ b. (r.serial == q.serial) ≡ b → has_request r (if not b then q ∷ without_request r list else without_request r list) ≡ false) [
-      | true ↦ λ e. none_left r list
-      | false ↦ λ e. ap (λ (t : Bool). t || has_request r (without_request r list)) e ∙ none_left r list
-    ]
-    in step (r.serial == q.serial) refl
-
 module _ (device : List ℕ) where
-  noted_in_use : (fact : Fact) (past : List Fact) → in_use (note device fact past) ≡ in_use (fact ∷ past)
-  unfolding in_use
-  noted_in_use fact past = kept_by_note qmi_limits (qmi_wording device) (λ after. in_use after ≡ in_use (fact ∷ past)) (λ c before there same. same) fact past refl
-
   module _ (r : Request) (m : List ℕ) (past : List Fact) (long : 12 ≤ length m) (asked : IsAsked past r) where
     -- the bytes that the sender gets behind these facts, which have its view as it was
     abbrev Delivers : List ℕ → List Fact → Type 0
@@ -93,28 +72,28 @@ module _ (device : List ℕ) where
     answered : (before : List Fact) → ((c : ℕ) → view_of c before ≡ view_of c past) → Delivers (with_number (number_of r.message) m) (note device (Answered r m) before)
     unfolding view in_use render
     answered before same = (
-      ap (render outbox_limit (text device)) (noted_same device r.conn (Answered r m) before)
+      ap (render outbox_limit (text device)) (noted_view qmi_limits (qmi_wording device) r.conn (Answered r m) before)
           ∙ ap (λ (b : Bool). render outbox_limit (text device) (entry_if b (Response r.place (blank m)) (view_of r.conn before))) (eq-eqb r.conn r.conn refl)
           ∙ ap (λ (v : List Entry). render outbox_limit (text device) (Response r.place (blank m) ∷ v)) (same r.conn)
           ∙ ap (λ (l : List ℕ). put outbox_limit (with_number (number_of l) (blank m)) (rendering device r.conn past)) asked.2
           ∙ ap (λ (l : List ℕ). put outbox_limit l (rendering device r.conn past)) (number_last (number_of r.message) m long),
       λ c differs.
-          ap (render outbox_limit (text device)) (noted_same device c (Answered r m) before)
+          ap (render outbox_limit (text device)) (noted_view qmi_limits (qmi_wording device) c (Answered r m) before)
           ∙ ap (λ (b : Bool). render outbox_limit (text device) (entry_if b (Response r.place (blank m)) (view_of c before))) (other_is c differs)
           ∙ ap (render outbox_limit (text device)) (same c),
-      ap (has_request r) (noted_in_use (Answered r m) before) ∙ none_left r (in_use before),
+      ap (has_request r) (noted_in_use qmi_limits (qmi_wording device) (Answered r m) before) ∙ none_left r (in_use before),
     )
 
     refused : Delivers (result_reply r.message client_ids_exhausted) (note device (IdHeld r) past)
     unfolding view in_use render
     refused = (
-      ap (render outbox_limit (text device)) (noted_same device r.conn (IdHeld r) past)
+      ap (render outbox_limit (text device)) (noted_view qmi_limits (qmi_wording device) r.conn (IdHeld r) past)
           ∙ ap (λ (b : Bool). render outbox_limit (text device) (entry_if b (Refused r.place HeldId) (view_of r.conn past))) (eq-eqb r.conn r.conn refl)
           ∙ ap (λ (l : List ℕ). put outbox_limit (result_reply l client_ids_exhausted) (rendering device r.conn past)) asked.2,
       λ c differs.
-          ap (render outbox_limit (text device)) (noted_same device c (IdHeld r) past)
+          ap (render outbox_limit (text device)) (noted_view qmi_limits (qmi_wording device) c (IdHeld r) past)
           ∙ ap (λ (b : Bool). render outbox_limit (text device) (entry_if b (Refused r.place HeldId) (view_of c past))) (other_is c differs),
-      ap (has_request r) (noted_in_use (IdHeld r) past) ∙ none_left r (in_use past),
+      ap (has_request r) (noted_in_use qmi_limits (qmi_wording device) (IdHeld r) past) ∙ none_left r (in_use past),
     )
 
     -- the change of the client ids decides
@@ -194,31 +173,15 @@ pub indications_reach_their_receivers : (device m : List ℕ) (past : List Fact)
     → rendering device c (tell device m past) ≡ (if contains c (receivers device m past) then put outbox_limit m (rendering device c past) else rendering device c past)
 unfolding view render
 indications_reach_their_receivers device m past c =
-    ap (render outbox_limit (text device)) (noted_same device c (Indicated m (receivers device m past)) past)
+    ap (render outbox_limit (text device)) (noted_view qmi_limits (qmi_wording device) c (Indicated m (receivers device m past)) past)
     ∙ elim (contains c (receivers device m past)) as (λ b. render outbox_limit (text device) (entry_if b (Indication m) (view_of c past)) ≡ (if b then put outbox_limit m (rendering device c past) else rendering device c past)) [ true ↦ refl | false ↦ refl ]
-
-contained_passes : (test : ℕ → Bool) (cs : List ℕ) (c : ℕ) → contains c (filter test cs) ≡ true → test c ≡ true
-contained_passes test [] c e = absurd (cc)
-contained_passes test (d ∷ cs) c e =
-    let step : (b : Bool) → test d ≡ b → contains c (if b then d ∷ filter test cs else filter test cs) ≡ true → test c ≡ true =
-    λ b. elim b as (λ b. test d ≡ b → contains c (if b then d ∷ filter test cs else filter test cs) ≡ true → test c ≡ true) [
-      | true ↦ λ is at.
-          let here : (same : Bool) → (c == d) ≡ same → (same || contains c (filter test cs)) ≡ true → test c ≡ true =
-          λ same. elim same as (λ same. (c == d) ≡ same → (same || contains c (filter test cs)) ≡ true → test c ≡ true) [
-            | true ↦ λ it all. ap test (eqb-true c d it) ∙ is
-            | false ↦ λ it all. contained_passes test cs c all
-          ]
-          in here (c == d) refl at
-      | false ↦ λ isnt at. contained_passes test cs c at
-    ]
-    in step (test d) refl e
 
 pub holders_alone_are_told : (device m : List ℕ) (past : List Fact) (c : ℕ) → is_control m ≡ false → (client_of m == 255) ≡ false → contains c (receivers device m past) ≡ true
     → holder (service_of m) (client_of m) past ≡ Some c
 holders_alone_are_told device m past c service id at =
     held_by (holder (service_of m) (client_of m) past)
-    (contained_passes (λ (d : ℕ). is_holder d (holder (service_of m) (client_of m) past)) (present past) c
-    (sym (ap (λ (l : List ℕ). contains c l) (receivers_are service id)) ∙ at))
+    (and_parts (contains c (present past)) _
+    (sym (contains_kept c (λ (d : ℕ). is_holder d (holder (service_of m) (client_of m) past)) (present past)) ∙ sym (ap (λ (l : List ℕ). contains c l) (receivers_are service id)) ∙ at)).1
   where
     receivers_are : is_control m ≡ false → (client_of m == 255) ≡ false → receivers device m past ≡ filter (λ (d : ℕ). is_holder d (holder (service_of m) (client_of m) past)) (present past)
     receivers_are service id =

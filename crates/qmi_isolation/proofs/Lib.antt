@@ -1,10 +1,7 @@
-pub mod Views
 pub mod Others
 pub mod Answers
 pub mod Numbers
 pub mod Refusals
 pub mod ClientIds
 pub mod Forwarded
-pub mod Splits
-pub mod ModemFacts
 pub mod Standing

@@ -1,22 +1,22 @@
 -- Who waits for nothing is refused nothing.
-use Rattle.std.proofs.Common.{◌≡◌, ◌≢◌, ℕ, max, Bool, true, false, ◌==◌, nat_le, if◌then◌else◌, List, [], ◌∷◌, ◌++◌, refl, ap, ◌∙◌}
+use Rattle.std.proofs.Common.{◌≡◌, ◌≢◌, ℕ, max, Bool, false, ◌==◌, nat_le, List, [], ◌∷◌, ◌++◌, refl, ap, ◌∙◌}
 use Rattle.std.specs.List.{AllByRecursion}
 use Rattle.std.proofs.lemmas.Bool.{eqb-true, false_from_ne_true}
 use Rattle.std.proofs.lemmas.List.Elements.{recursion_from_All}
 use Rattle.kit_bytes.proofs.Lists.{all_filter}
 use Rattle.proxy_history.specs.Facts.{Fact, Request, Expired, Aborted, TimeIs}
-use Rattle.proxy_history.specs.Requests.{pending, is_pending, of_space}
+use Rattle.proxy_history.specs.Requests.{pending, of_space}
 use Rattle.proxy_history.specs.Modem.{now}
 use Rattle.proxy_history.specs.Noting.{each_pending}
 use Rattle.proxy_history.specs.Unanswered.{due}
 use Rattle.proxy_history.specs.View.{Refused, NoAnswer, entry_if, view}
 use Rattle.proxy_history.specs.Rendering.{render}
-use Rattle.qmi_proxy.specs.Limits.{outbox_limit}
+use Rattle.proxy_history.proofs.Noted.{noted_view, kept_by_each}
+use Rattle.qmi_proxy.specs.Limits.{outbox_limit, qmi_limits}
 use Rattle.qmi_proxy.specs.Spaces.{control_space, service_space}
-use Rattle.qmi_proxy.specs.Text.{note, text, view_of, rendering}
+use Rattle.qmi_proxy.specs.Text.{note, text, view_of, rendering, qmi_wording}
 use Rattle.qmi_proxy.specs.FromModem.{in_expiry_order, tick, abort_all, lose}
 use Rattle.qmi_isolation.specs.Laws.{IsIdle}
-use Rattle.qmi_isolation.proofs.Views.{noted_same}
 
 module _ (device : List ℕ) (client : ℕ) where
   abbrev AreOthers : List Request → Type 0
@@ -27,19 +27,15 @@ module _ (device : List ℕ) (client : ℕ) where
 
   expired_same : (r : Request) (past : List Fact) → r.conn ≢ client → view_of client (note device (Expired r) past) ≡ view_of client past
   unfolding view
-  expired_same r past differs = noted_same device client (Expired r) past ∙ ap (λ (b : Bool). entry_if b (Refused r.place NoAnswer) (view_of client past)) (other r differs)
+  expired_same r past differs = noted_view qmi_limits (qmi_wording device) client (Expired r) past ∙ ap (λ (b : Bool). entry_if b (Refused r.place NoAnswer) (view_of client past)) (other r differs)
 
   aborted_same : (r : Request) (past : List Fact) → r.conn ≢ client → view_of client (note device (Aborted r) past) ≡ view_of client past
   unfolding view
-  aborted_same r past differs = noted_same device client (Aborted r) past ∙ ap (λ (b : Bool). entry_if b (Refused r.place NoAnswer) (view_of client past)) (other r differs)
+  aborted_same r past differs = noted_view qmi_limits (qmi_wording device) client (Aborted r) past ∙ ap (λ (b : Bool). entry_if b (Refused r.place NoAnswer) (view_of client past)) (other r differs)
 
   each_same : (action : Request → List Fact → List Fact) → ((r : Request) (past : List Fact) → r.conn ≢ client → view_of client (action r past) ≡ view_of client past)
       → (requests : List Request) (past : List Fact) → AreOthers requests → view_of client (each_pending action requests past) ≡ view_of client past
-  unfolding each_pending
-  each_same action same [] past others = refl
-  each_same action same (r ∷ requests) past others =
-      each_same action same requests _ others.1
-      ∙ elim (is_pending r past) as (λ b. view_of client (if b then action r past else past) ≡ view_of client past) [ true ↦ same r past others.0 | false ↦ refl ]
+  each_same action same requests past others = kept_by_each (λ after. view_of client after ≡ view_of client past) (λ r. r.conn ≢ client) action (λ r before differs kept. same r before differs ∙ kept) requests past others refl
 
   both : (front back : List Request) → AreOthers front → AreOthers back → AreOthers (front ++ back)
   both [] back ours theirs = theirs

@@ -1,27 +1,28 @@
--- The facts that the messages of the modem and its loss add, and what they leave of a client.
+-- The facts that the messages of the modem, its loss and the end of an event add, and what they leave of a client.
 use Rattle.std.proofs.Common.{◌≡◌, ℕ, ◌+◌, Bool, true, false, not, ◌||◌, ◌==◌, nat_lt, List, [], ◌∷◌, ◌++◌, length, refl, ap, sym, ◌∙◌}
 use Rattle.std.proofs.lemmas.Bool.{eqb-true, eq-eqb, or_left, or_right}
 use Rattle.std.proofs.lemmas.List.Elements.{All-nil, All-cons}
 use Rattle.std.specs.List.{AllByRecursion}
 use Rattle.proxy_history.specs.Items.{Item, Joins, Says, Garbles, Leaves, ModemSays, ModemFails, ModemReturns, ClockShows, Takes, ModemTakes}
-use Rattle.proxy_history.specs.Facts.{Fact, EventBegan, Admitted, Ended, NotAdmitted, BadStream, NoRoom, Closed, Judged, Drained, Forwarded, Answered, IdHeld, Expired, Aborted, Indicated, OpeningEnded, SessionsClosed}
+use Rattle.proxy_history.specs.Facts.{Fact, EventBegan, Admitted, Ended, NotAdmitted, BadStream, NoRoom, Closed, Judged, Drained, Request, Answered, IdHeld, Expired, Aborted, Indicated, OpeningEnded, SessionsClosed}
 use Rattle.proxy_history.specs.Connections.{contains, present, is_present, dropped}
 use Rattle.proxy_history.specs.View.{Entry, Response, Refused, Indication, OpenedWith, Shut, HeldId, NoAnswer, entry_if, view}
 use Rattle.proxy_history.specs.Rendering.{Rendering, render, put, put_unless, Grows}
+use Rattle.proxy_history.specs.Limits.{Limits}
+use Rattle.proxy_history.specs.Wording.{Wording, text_behind}
+use Rattle.proxy_history.specs.Noting.{rendering}
+use Rattle.proxy_history.specs.Protocol.{Protocol}
+use Rattle.proxy_history.specs.History.{add_all}
+use Rattle.proxy_history.specs.Standing.{IsEndedForRoom}
 use Rattle.proxy_history.specs.HungUp.{is_beginning}
 use Rattle.proxy_history.specs.Sound.{IsSound}
-use Rattle.proxy_history.specs.Adding.{Extends, MayAdd}
+use Rattle.proxy_history.specs.Adding.{Extends, MayAdd, IsOrderly}
 use Rattle.proxy_history.proofs.Lists.{contains_filter}
 use Rattle.proxy_history.proofs.Adding.{extends_none, extends_one, extends_further, extends_keeps}
-use Rattle.proxy_history.proofs.Walk.{kept_by_items}
+use Rattle.proxy_history.proofs.Walk.{kept_by_items, kept_at_end}
+use Rattle.proxy_history.proofs.Folds.{at_end}
 use Rattle.proxy_history.proofs.Growing as growing
 use Rattle.proxy_history.proofs.Numbers.{contains_other}
-use Rattle.qmi_proxy.specs.Limits.{outbox_limit, qmi_limits}
-use Rattle.qmi_proxy.specs.Setup.{Setup}
-use Rattle.qmi_proxy.specs.Text.{text, blank, view_of, rendering, qmi_wording}
-use Rattle.qmi_proxy.specs.History.{qmi_protocol, add_all}
-use Rattle.qmi_proxy.proofs.Walk.{Asks, orderly}
-use Rattle.qmi_isolation.specs.Queues.{IsEndedForRoom}
 
 -- ---- which facts they are ----
 
@@ -32,7 +33,6 @@ is_of_modem (Ended c NoRoom) = true
 is_of_modem (Ended c why) = false
 is_of_modem (Judged c place message verdict) = false
 is_of_modem (Drained c count) = false
-is_of_modem (Forwarded r) = false
 is_of_modem _ = true
 
 abbrev pub OfModem : Fact → List Fact → Type 0
@@ -59,19 +59,26 @@ of_modem _ (Ended c BadStream) past modems may = absurd may
 of_modem _ (Ended c Closed) past modems may = absurd may
 of_modem _ (Judged c place message verdict) past modems may = absurd may
 of_modem _ (Drained c count) past modems may = absurd may
-of_modem _ (Forwarded r) past modems may = absurd may
 of_modem _ _ past modems may = refl
 
 -- the messages of a piece, and the loss behind a stream that went bad
-pub modem_adds : (s : Setup) (items : List Item) (past : List Fact) → AllByRecursion (λ item. is_modems item ≡ true) items → IsSound qmi_limits past → Extends OfModem past (add_all s items past)
-modem_adds s items past modems sound =
-    kept_by_items (qmi_protocol s) (Asks s) (orderly s) (Extends OfModem past) (λ item. is_modems item ≡ true)
-    (λ item is fact before follows may asked more. extends_further OfModem past before (fact ∷ before) more (extends_one OfModem fact before (of_modem item fact before is may)))
-    items past modems sound (extends_none OfModem past)
+module _ {Known : Type 0} (p : Protocol Known) (Asks : Request → List Fact → Type 0) (O : IsOrderly p Asks) where
+  pub modem_adds : (items : List Item) (past : List Fact) → AllByRecursion (λ item. is_modems item ≡ true) items → IsSound p.limits past → Extends OfModem past (add_all p items past)
+  modem_adds items past modems sound =
+      kept_by_items p Asks O (Extends OfModem past) (λ item. is_modems item ≡ true)
+      (λ item is fact before follows may asked more. extends_further OfModem past before (fact ∷ before) more (extends_one OfModem fact before (of_modem item fact before is may)))
+      items past modems sound (extends_none OfModem past)
+
+  -- and what the proxy itself asks behind them
+  pub end_adds : (before past : List Fact) → IsSound p.limits past → Extends OfModem before past → Extends OfModem before (p.finish past)
+  end_adds before past sound adds =
+      kept_at_end p Asks O (Extends OfModem before)
+      (λ fact last follows may asked more. extends_further OfModem before last (fact ∷ last) more (extends_one OfModem fact last (at_end (λ f. is_of_modem f ≡ true) (λ r. refl) (λ list. refl) fact last may)))
+      past sound adds
 
 -- ---- what they leave of a client ----
 
-module _ (device : List ℕ) (client : ℕ) where
+module _ {Known : Type 0} (limits : Limits) (wording : Wording Known) (client : ℕ) where
   begins_none : (fact : Fact) → is_of_modem fact ≡ true → growing.begins_or_takes client fact ≡ false
   begins_none (Admitted c) is = absurd (cc)
   begins_none (Ended c NotAdmitted) is = absurd (cc)
@@ -79,25 +86,25 @@ module _ (device : List ℕ) (client : ℕ) where
   begins_none _ is = refl
 
   -- its bytes stay, and more may come behind them
-  pub all_grow : (past after : List Fact) → Extends OfModem past after → Grows (rendering device client past) (rendering device client after)
+  pub all_grow : (past after : List Fact) → Extends OfModem past after → Grows (rendering limits wording client past) (rendering limits wording client after)
   all_grow past after adds =
-      extends_keeps OfModem (λ now. Grows (rendering device client past) (rendering device client now))
-      (λ fact before is grown. growing.grows_further qmi_limits (qmi_wording device) client past before (fact ∷ before) grown (growing.fact_grows qmi_limits (qmi_wording device) client fact before (begins_none fact is)))
-      past after adds (growing.grows_same (rendering device client past))
+      extends_keeps OfModem (λ now. Grows (rendering limits wording client past) (rendering limits wording client now))
+      (λ fact before is grown. growing.grows_further limits wording client past before (fact ∷ before) grown (growing.fact_grows limits wording client fact before (begins_none fact is)))
+      past after adds (growing.grows_same (rendering limits wording client past))
 
   -- what came when its queue was full wasn't written, and nothing is written behind it
-  full : (bytes : List ℕ) (r : Rendering) → r.is_over ≡ true → put outbox_limit bytes r ≡ r
-  full bytes r over = by_test (nat_lt outbox_limit (length r.waiting + length bytes))
+  full : (bytes : List ℕ) (r : Rendering) → r.is_over ≡ true → put limits.outbox bytes r ≡ r
+  full bytes r over = by_test (nat_lt limits.outbox (length r.waiting + length bytes))
     where
       by_test : (lacks : Bool) → put_unless (r.is_over || lacks) bytes r ≡ r
       by_test lacks = ap (λ (b : Bool). put_unless (b || lacks) bytes r) over ∙ ap (λ (b : Bool). let x : Rendering = record { bytes = r.bytes; waiting = r.waiting; is_over = b } in x) (sym over)
 
-  full_entry : (b : Bool) (entry : Entry) (bytes : List ℕ) (entries : List Entry) → (render outbox_limit (text device) entries).is_over ≡ true
-      → render outbox_limit (text device) (entry ∷ entries) ≡ put outbox_limit bytes (render outbox_limit (text device) entries) → render outbox_limit (text device) (entry_if b entry entries) ≡ render outbox_limit (text device) entries
-  full_entry true entry bytes entries over is = is ∙ full bytes (render outbox_limit (text device) entries) over
+  full_entry : (b : Bool) (entry : Entry) (bytes : List ℕ) (entries : List Entry) → (render limits.outbox (text_behind wording) entries).is_over ≡ true
+      → render limits.outbox (text_behind wording) (entry ∷ entries) ≡ put limits.outbox bytes (render limits.outbox (text_behind wording) entries) → render limits.outbox (text_behind wording) (entry_if b entry entries) ≡ render limits.outbox (text_behind wording) entries
+  full_entry true entry bytes entries over is = is ∙ full bytes (render limits.outbox (text_behind wording) entries) over
   full_entry false entry bytes entries over is = refl
 
-  full_fact : (fact : Fact) (past : List Fact) → is_of_modem fact ≡ true → (rendering device client past).is_over ≡ true → rendering device client (fact ∷ past) ≡ rendering device client past
+  full_fact : (fact : Fact) (past : List Fact) → is_of_modem fact ≡ true → (rendering limits wording client past).is_over ≡ true → rendering limits wording client (fact ∷ past) ≡ rendering limits wording client past
   unfolding view render
   full_fact EventBegan past is over = refl
   full_fact (Admitted c) past is over = absurd (cc)
@@ -106,19 +113,19 @@ module _ (device : List ℕ) (client : ℕ) where
   full_fact (Ended c Closed) past is over = absurd (cc)
   full_fact (Judged c place message verdict) past is over = absurd (cc)
   full_fact (Drained c count) past is over = absurd (cc)
-  full_fact (Answered r m) past is over = full_entry (r.conn == client) (Response r.place (blank m)) _ (view_of client past) over refl
-  full_fact (IdHeld r) past is over = full_entry (r.conn == client) (Refused r.place HeldId) _ (view_of client past) over refl
-  full_fact (Expired r) past is over = full_entry (r.conn == client) (Refused r.place NoAnswer) _ (view_of client past) over refl
-  full_fact (Aborted r) past is over = full_entry (r.conn == client) (Refused r.place NoAnswer) _ (view_of client past) over refl
-  full_fact (Indicated m receivers) past is over = full_entry (contains client receivers) (Indication m) _ (view_of client past) over refl
-  full_fact (OpeningEnded status receivers) past is over = full_entry (contains client receivers) (OpenedWith status) [] (view_of client past) over refl
+  full_fact (Answered r m) past is over = full_entry (r.conn == client) (Response r.place (wording.blank m)) _ (view wording.blank client past) over refl
+  full_fact (IdHeld r) past is over = full_entry (r.conn == client) (Refused r.place HeldId) _ (view wording.blank client past) over refl
+  full_fact (Expired r) past is over = full_entry (r.conn == client) (Refused r.place NoAnswer) _ (view wording.blank client past) over refl
+  full_fact (Aborted r) past is over = full_entry (r.conn == client) (Refused r.place NoAnswer) _ (view wording.blank client past) over refl
+  full_fact (Indicated m receivers) past is over = full_entry (contains client receivers) (Indication m) _ (view wording.blank client past) over refl
+  full_fact (OpeningEnded status receivers) past is over = full_entry (contains client receivers) (OpenedWith status) _ (view wording.blank client past) over refl
   full_fact (SessionsClosed receivers) past is over =
-      elim (contains client receivers) as (λ b. render outbox_limit (text device) (entry_if b Shut (view_of client past)) ≡ render outbox_limit (text device) (view_of client past)) [ true ↦ refl | false ↦ refl ]
+      elim (contains client receivers) as (λ b. render limits.outbox (text_behind wording) (entry_if b Shut (view wording.blank client past)) ≡ render limits.outbox (text_behind wording) (view wording.blank client past)) [ true ↦ refl | false ↦ refl ]
   full_fact _ past is over = refl
 
-  pub all_full : (past after : List Fact) → Extends OfModem past after → (rendering device client past).is_over ≡ true → rendering device client after ≡ rendering device client past
+  pub all_full : (past after : List Fact) → Extends OfModem past after → (rendering limits wording client past).is_over ≡ true → rendering limits wording client after ≡ rendering limits wording client past
   all_full past after adds over =
-      extends_keeps OfModem (λ now. rendering device client now ≡ rendering device client past)
+      extends_keeps OfModem (λ now. rendering limits wording client now ≡ rendering limits wording client past)
       (λ fact before is same. full_fact fact before is (ap (λ (r : Rendering). r.is_over) same ∙ over) ∙ same) past after adds refl
 
 -- who is gone stays gone

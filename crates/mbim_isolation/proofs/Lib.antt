@@ -1,0 +1,5 @@
+pub mod Answers
+pub mod Openings
+pub mod Indications
+pub mod Refusals
+pub mod Queues

@@ -1,0 +1,13 @@
+//! What the clients of the MBIM proxy have of each other, and what stands in the queues when an event is
+//! over: laws of its history.
+//!
+//! `mbim_state` keeps what the history says, so they hold of each client's bytes in a running proxy.
+#![tactic(auto)]
+
+mod laws;
+
+pub use laws::{
+    answers_have_one_receiver, answers_stand, forwarded_commands_are_queued,
+    indications_reach_their_receivers, numbers_are_free_when_given, openings_answer_the_waiting,
+    the_idle_are_not_refused,
+};
