@@ -3,19 +3,14 @@
 # prints nothing, built in a copy of the crates that reading needs.
 top=$(CDPATH= cd -- "$(dirname -- "$0")/.." && pwd) || exit 70
 . "$top/bench/needs.sh"
+. "$top/bench/copied.sh"
 needs "the Rattle kit, and Debian: python3" rt python3
 folder=$(mktemp -d) || exit 70
 trap 'rm -rf "$folder"' EXIT
 trap 'exit 130' INT TERM
 program=$folder/crates/read_descriptions
 mkdir -p "$program/src"
-for crate in kit_bytes qmi_shapes message_tables; do
-    mkdir "$folder/crates/$crate" || exit 70
-    for part in src specs proofs; do
-        [ ! -d "$top/crates/$crate/$part" ] || cp -r "$top/crates/$crate/$part" "$folder/crates/$crate/"
-    done
-    grep "^$crate:" "$top/crates.txt" >>"$folder/crates.txt"
-done
+copied "$folder" kit_bytes qmi_shapes message_tables
 echo 'read_descriptions: message_tables' >>"$folder/crates.txt"
 cat >"$program/src/main.rt" <<'P'
 #![tactic(auto)]

@@ -8,6 +8,8 @@ mod cutting;
 #[cfg(test)]
 mod heads;
 #[cfg(test)]
+mod mbim;
+#[cfg(test)]
 mod printing;
 #[cfg(test)]
 mod texts;

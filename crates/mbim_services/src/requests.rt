@@ -6,7 +6,7 @@ ghost use Rattle.mbim_fields.specs.Value.{list_of};
 ghost use Rattle.mbim_fields.specs.Canon.{canon};
 ghost use Rattle.mbim_fields.specs.View.{shape_view, value_view, val_view};
 ghost use Rattle.mbim_services.specs.Requests as spec;
-ghost use Rattle.mbim_services.specs.Requests.{IsInRange, IsText, sent_by, buffer_sent};
+ghost use Rattle.mbim_services.specs.Requests.{IsInRange, IsIndex, IsText, sent_by, buffer_sent};
 ghost use Rattle.mbim_services.specs.View.{row_view};
 
 use crate::commands;
@@ -134,8 +134,9 @@ fn values_of(alloc: Global, body: &MbimRequest) -> Result<Vec<FieldValue>, Alloc
 {
     match body {
         MbimRequest::SetRadioState(on) => Ok(vec![in alloc; number(u32::from(*on))]?),
-        MbimRequest::QueryVisibleProviders => Ok(vec![in alloc; number(0)]?),
-        MbimRequest::AttachPacketService => Ok(vec![in alloc; number(0)]?),
+        MbimRequest::QueryVisibleProviders | MbimRequest::AttachPacketService => {
+            Ok(vec![in alloc; number(0)]?)
+        }
         MbimRequest::DetachPacketService => Ok(vec![in alloc; number(1)]?),
         MbimRequest::Connect {
             session_id,
@@ -146,102 +147,46 @@ fn values_of(alloc: Global, body: &MbimRequest) -> Result<Vec<FieldValue>, Alloc
         } => {
             let access_string = text_given(alloc, access_string)?;
             let username = text_given(alloc, username)?;
-            let password = text_given(alloc, password)?;
-            connection(
-                alloc,
-                *session_id,
-                1,
-                access_string,
-                username,
-                password,
-                *ip_type,
-            )
+            let texts = (access_string, username, text_given(alloc, password)?);
+            connection(alloc, *session_id, 1, texts, *ip_type)
         }
-        MbimRequest::Disconnect(session_id) => {
-            let (access_string, username, password) = (
-                no_text(alloc),
-                no_text(alloc),
-                no_text(alloc),
-            );
-            connection(
-                alloc,
-                *session_id,
-                0,
-                access_string,
-                username,
-                password,
-                ContextIpType::Default,
-            )
-        }
-        MbimRequest::QueryConnectionState(session_id) => Ok(vec![in alloc;
-            number(*session_id),
-            number(0),
-            number(0),
-            number(0),
-            internet(),
-            number(0),
-        ]?),
+        MbimRequest::Disconnect(session_id) => disconnection(alloc, *session_id),
+        MbimRequest::QueryConnectionState(session_id) => connection_of(alloc, *session_id),
         MbimRequest::QueryIpConfiguration(session_id) => ip_configuration_of(alloc, *session_id),
         MbimRequest::SmsReadAll => Ok(vec![in alloc; number(0), number(0), number(0)]?),
         MbimRequest::SmsRead(index) => Ok(vec![in alloc; number(0), number(1), number(*index)]?),
-        MbimRequest::SmsDelete(index) => Ok(vec![in alloc; number(1), number(*index)]?),
-        MbimRequest::UssdInitiate(scheme, payload) => {
-            let payload = short_octets(alloc, payload)?;
-            Ok(vec![in alloc; number(0), number(u32::from(*scheme)), payload]?)
-        }
-        MbimRequest::UssdContinue(scheme, payload) => {
-            let payload = short_octets(alloc, payload)?;
-            Ok(vec![in alloc; number(1), number(u32::from(*scheme)), payload]?)
-        }
-        MbimRequest::UssdCancel => {
-            let nothing = FieldValue::Octets(Octets::new(alloc));
-            Ok(vec![in alloc; number(2), number(0), nothing]?)
-        }
+        MbimRequest::SmsDelete(index)
+        | MbimRequest::PhonebookRead(index)
+        | MbimRequest::PhonebookDelete(index) => Ok(vec![in alloc; number(1), number(*index)]?),
+        MbimRequest::UssdInitiate(scheme, payload) => exchange(alloc, 0, *scheme, payload),
+        MbimRequest::UssdContinue(scheme, payload) => exchange(alloc, 1, *scheme, payload),
+        MbimRequest::UssdCancel => Ok(vec![in alloc; number(2), number(0), no_octets(alloc)]?),
         MbimRequest::PhonebookReadAll => Ok(vec![in alloc; number(0), number(0)]?),
-        MbimRequest::PhonebookRead(index) => Ok(vec![in alloc; number(1), number(*index)]?),
-        MbimRequest::PhonebookDelete(index) => Ok(vec![in alloc; number(1), number(*index)]?),
         MbimRequest::PhonebookWrite {
             name,
-            number: phone,
+            number,
             index,
-        } => {
-            let phone = short_text(alloc, phone)?;
-            let name = short_text(alloc, name)?;
-            let (flag, index) = save_place(*index);
-            Ok(vec![in alloc; number(flag), number(index), phone, name]?)
-        }
+        } => entry(alloc, name, number, *index),
         MbimRequest::ProxyConfiguration(path) => {
             let path = path_text(alloc, path)?;
             Ok(vec![in alloc; path, number(TIMEOUT)]?)
         }
-        MbimRequest::QueryDeviceCaps
-        | MbimRequest::QuerySubscriberReadyStatus
-        | MbimRequest::QueryRadioState
-        | MbimRequest::QueryPinState
-        | MbimRequest::QueryHomeProvider
-        | MbimRequest::QueryRegistrationState
-        | MbimRequest::QueryPacketServiceState
-        | MbimRequest::QuerySignalState
-        | MbimRequest::QueryDeviceServices
-        | MbimRequest::QueryPacketStatistics
-        | MbimRequest::SmsQueryConfiguration
-        | MbimRequest::SmsQueryStoreStatus
-        | MbimRequest::PhonebookQueryConfiguration => Ok(Vec::new(alloc)),
+        // The others have no fields.
+        _ => Ok(Vec::new(alloc)),
     }
 }
 
-// What is to become of a session.
+// What is to become of a session: its access string, user name and password are these texts.
 fn connection(
     alloc: Global,
     session_id: u32,
     activation: u32,
-    access_string: FieldValue,
-    username: FieldValue,
-    password: FieldValue,
+    texts: (FieldValue, FieldValue, FieldValue),
     ip_type: ContextIpType,
 ) -> Result<Vec<FieldValue>, AllocError>
-    ensures { IfOk result (λ values. map value_view values.items ≡ spec.connection session_id (field.number activation) (value_view access_string) (value_view username) (value_view password) ip_type) }
+    ensures { IfOk result (λ values. map value_view values.items ≡ spec.connection session_id (field.number activation) (value_view texts.0) (value_view texts.1) (value_view texts.2) ip_type) }
 {
+    let (access_string, username, password) = texts;
     Ok(vec![in alloc;
         number(session_id),
         number(activation),
@@ -253,6 +198,59 @@ fn connection(
         context_ip_type(ip_type),
         internet(),
     ]?)
+}
+
+fn disconnection(alloc: Global, session_id: u32) -> Result<Vec<FieldValue>, AllocError>
+    ensures { IfOk result (λ values. map value_view values.items ≡ spec.connection session_id spec.deactivate spec.no_text spec.no_text spec.no_text ContextIpType.Default) }
+{
+    let texts = (no_text(alloc), no_text(alloc), no_text(alloc));
+    connection(alloc, session_id, 0, texts, ContextIpType::Default)
+}
+
+// The query for what has become of a session: all but its id and the context's type is empty.
+fn connection_of(alloc: Global, session_id: u32) -> Result<Vec<FieldValue>, AllocError>
+    ensures { IfOk result (λ values. map value_view values.items ≡ field.number session_id ∷ spec.zero ∷ spec.zero ∷ spec.zero ∷ spec.internet ∷ spec.zero ∷ []) }
+{
+    Ok(vec![in alloc;
+        number(session_id),
+        number(0),
+        number(0),
+        number(0),
+        internet(),
+        number(0),
+    ]?)
+}
+
+// A part of a dialogue with the network.
+fn exchange(
+    alloc: Global,
+    action: u32,
+    scheme: u8,
+    payload: &ShortOctets,
+) -> Result<Vec<FieldValue>, AllocError>
+    ensures values { IfOk result (λ values. map value_view values.items ≡ field.number action ∷ field.number scheme ∷ field.octets payload.now ∷ []) }
+    ensures range { IfOk result (λ _. length payload.now ≤ LONGEST_SHORT_OCTETS) }
+{
+    let payload = short_octets(alloc, payload)?;
+    Ok(vec![in alloc; number(action), number(u32::from(scheme)), payload]?)
+}
+
+// What is to stand in the phone book.
+fn entry(
+    alloc: Global,
+    name: &ShortText,
+    phone: &ShortText,
+    index: Option<u32>,
+) -> Result<Vec<FieldValue>, AllocError>
+    ensures values { IfOk result (λ values. map value_view values.items ≡ spec.save_flag index ∷ spec.save_index index ∷ field.text_of phone.now ∷ field.text_of name.now ∷ []) }
+    ensures name { IfOk result (λ _. IsText LONGEST_SHORT_TEXT name.now) }
+    ensures phone { IfOk result (λ _. IsText LONGEST_SHORT_TEXT phone.now) }
+    ensures index { IfOk result (λ _. IfSome index IsIndex) }
+{
+    let phone = short_text(alloc, phone)?;
+    let name = short_text(alloc, name)?;
+    let (flag, index) = save_place(index);
+    Ok(vec![in alloc; number(flag), number(index), phone, name]?)
 }
 
 // The query for the addresses of a session: all but its id is empty.
@@ -300,6 +298,12 @@ fn no_text(alloc: Global) -> FieldValue
     ensures { value_view result ≡ spec.no_text }
 {
     FieldValue::Text(Text::from(String::new(alloc)))
+}
+
+fn no_octets(alloc: Global) -> FieldValue
+    ensures { value_view result ≡ field.octets [] }
+{
+    FieldValue::Octets(Octets::new(alloc))
 }
 
 fn no_elements(alloc: Global) -> FieldValue
