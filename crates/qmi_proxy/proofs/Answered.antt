@@ -1,11 +1,11 @@
 -- Which request in use a message of the modem answers.
-use Rattle.std.proofs.Common.{◌≡◌, ℕ, zero, Bool, true, false, ◌&&◌, ◌==◌, if◌then◌else◌, List, [], ◌∷◌, refl, ap, sym, ◌∙◌, ⊎_elim, arith, Contains, Some}
+use Rattle.std.proofs.Common.{◌≡◌, ℕ, Bool, true, false, ◌&&◌, ◌==◌, if◌then◌else◌, List, refl, ap, sym, ◌∙◌, Contains, Some}
 use Rattle.std.proofs.lemmas.Bool.{eqb-true, eq-eqb, and_parts}
 use Rattle.qmux_frame.specs.Head.{service_of, client_of, number_of}
 use Rattle.proxy_history.specs.Facts.{Fact, Request}
 use Rattle.proxy_history.specs.Requests.{in_use}
 use Rattle.proxy_history.proofs.Found as found
-use Rattle.proxy_history.proofs.Lists.{Contains-cons, Contains-cons_cases, Contains-nil}
+use Rattle.proxy_history.proofs.Given as given
 use Rattle.qmi_proxy.specs.Spaces.{control_space, service_space, space_of}
 use Rattle.qmi_proxy.specs.FromModem.{is_answered_by, first_answered_by, IdChange, NoChange, Grants, Frees, brings_id, granted_unless, id_change, holder_of_brought}
 use Rattle.proxy_history.specs.ClientIds.{holder, is_other}
@@ -29,17 +29,7 @@ one_is_answered past m q r sound placed at_q at_r answers_q answers_r =
 
 -- the first request that is answered is the one that is
 pub first_is : (m : List ℕ) (list : List Request) (r : Request) → ((q : Request) → Contains list q → is_answered_by m q ≡ true → q ≡ r) → Contains list r → is_answered_by m r ≡ true → first_answered_by m list ≡ Some r
-first_is m [] r one at answers = absurd (Contains-nil r at)
-first_is m (q ∷ list) r one at answers =
-    let step : (b : Bool) → is_answered_by m q ≡ b → (if b then Some q else first_answered_by m list) ≡ Some r =
-    λ b. elim b as (λ b. is_answered_by m q ≡ b → (if b then Some q else first_answered_by m list) ≡ Some r) [
-      | true ↦ λ is. ap (λ (x : Request). Some x) (one q (zero, omega arith, refl) is)
-      | false ↦ λ isnt. first_is m list r (λ p at_p is. one p (Contains-cons p q list at_p) is) (⊎_elim (λ (same : q ≡ r). absurd (not_both isnt (ap (is_answered_by m) same ∙ answers))) (λ (later : Contains list r). later) (Contains-cons_cases r q list at)) answers
-    ]
-    in step (is_answered_by m q) refl
-  where
-    not_both : {b : Bool} → b ≡ false → b ≡ true → ⊥
-    not_both e f = cc
+first_is m list r one at answers = given.first_is (is_answered_by m) list r one at answers
 
 -- a request that is found is one of them, and is answered
 pub found_is : (m : List ℕ) (list : List Request) (r : Request) → first_answered_by m list ≡ Some r → Contains list r × (is_answered_by m r ≡ true)
