@@ -1,4 +1,4 @@
-ghost use Rattle.std.specs.Prelude.{◌≡◌, map, option_map};
+ghost use Rattle.std.specs.Prelude.{◌≡◌, map, option_and_then, option_map};
 ghost use Rattle.tool_words.specs.Keys.{keyed_or};
 ghost use Rattle.tool_words.specs.MbimCommands.{connect_in, context_of, entry_in, ip_type_in, mbim_commands, mbim_line, mbim_spelling, number_and_index, radio_in, ussd_in};
 ghost use Rattle.tool_words.specs.Values.{Gives, number_32_in, optional};
@@ -154,30 +154,19 @@ pub fn request(
         MbimCommand::DetachPacketService => Ok(MbimRequest::DetachPacketService),
         MbimCommand::QuerySignalState => Ok(MbimRequest::QuerySignalState),
         MbimCommand::Connect => connect(alloc, or_fault(value)?),
-        MbimCommand::Disconnect => {
-            let session_id = or_fault(number_32(or_fault(value)?))?;
-            Ok(MbimRequest::Disconnect(session_id))
-        }
+        MbimCommand::Disconnect => Ok(MbimRequest::Disconnect(number_of(value)?)),
         MbimCommand::QueryConnectionState => {
-            let session_id = or_fault(number_32(or_fault(value)?))?;
-            Ok(MbimRequest::QueryConnectionState(session_id))
+            Ok(MbimRequest::QueryConnectionState(number_of(value)?))
         }
         MbimCommand::QueryIpConfiguration => {
-            let session_id = or_fault(number_32(or_fault(value)?))?;
-            Ok(MbimRequest::QueryIpConfiguration(session_id))
+            Ok(MbimRequest::QueryIpConfiguration(number_of(value)?))
         }
         MbimCommand::QueryDeviceServices => Ok(MbimRequest::QueryDeviceServices),
         MbimCommand::QueryPacketStatistics => Ok(MbimRequest::QueryPacketStatistics),
         MbimCommand::SmsQueryConfiguration => Ok(MbimRequest::SmsQueryConfiguration),
         MbimCommand::SmsReadAll => Ok(MbimRequest::SmsReadAll),
-        MbimCommand::SmsRead => {
-            let index = or_fault(number_32(or_fault(value)?))?;
-            Ok(MbimRequest::SmsRead(index))
-        }
-        MbimCommand::SmsDelete => {
-            let index = or_fault(number_32(or_fault(value)?))?;
-            Ok(MbimRequest::SmsDelete(index))
-        }
+        MbimCommand::SmsRead => Ok(MbimRequest::SmsRead(number_of(value)?)),
+        MbimCommand::SmsDelete => Ok(MbimRequest::SmsDelete(number_of(value)?)),
         MbimCommand::SmsQueryStoreStatus => Ok(MbimRequest::SmsQueryStoreStatus),
         MbimCommand::UssdInitiate => {
             let (scheme, payload) = ussd(alloc, or_fault(value)?)?;
@@ -190,16 +179,17 @@ pub fn request(
         MbimCommand::UssdCancel => Ok(MbimRequest::UssdCancel),
         MbimCommand::PhonebookQueryConfiguration => Ok(MbimRequest::PhonebookQueryConfiguration),
         MbimCommand::PhonebookReadAll => Ok(MbimRequest::PhonebookReadAll),
-        MbimCommand::PhonebookRead => {
-            let index = or_fault(number_32(or_fault(value)?))?;
-            Ok(MbimRequest::PhonebookRead(index))
-        }
-        MbimCommand::PhonebookDelete => {
-            let index = or_fault(number_32(or_fault(value)?))?;
-            Ok(MbimRequest::PhonebookDelete(index))
-        }
+        MbimCommand::PhonebookRead => Ok(MbimRequest::PhonebookRead(number_of(value)?)),
+        MbimCommand::PhonebookDelete => Ok(MbimRequest::PhonebookDelete(number_of(value)?)),
         MbimCommand::PhonebookWrite => entry(alloc, or_fault(value)?),
     }
+}
+
+// The number that an option is given.
+fn number_of(value: Option<&str>) -> Result<u32, WordFault>
+    ensures { Gives (option_and_then number_32_in (option_map (λ t. t.now) value.entry)) result }
+{
+    or_fault(number_32(or_fault(value)?))
 }
 
 #[tactic(auto, unfolding(crate::specs::MbimCommands::radio_in))]
