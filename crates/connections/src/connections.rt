@@ -211,7 +211,8 @@ impl<F: Framing, T> Connections<F, T> {
 
     /// How many connections are there.
     pub fn present(&self) -> usize
-        ensures { result ≡ length self.now.present }
+        ensures count { result ≡ length self.now.present }
+        ensures few { result ≤ self.now.limit }
     {
         self.present.len()
     }
