@@ -1,3 +1,5 @@
 pub mod Allocation
 pub mod Steps
 pub mod Sending
+pub mod Verdicts
+pub mod Peers

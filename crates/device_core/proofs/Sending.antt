@@ -36,13 +36,13 @@ Sends-success requests (Failure error) follows next = nothing_more requests foll
 
 -- ---- the requests of a plan ----
 
-not_zero : (n : ℕ) → n ≢ 0 → (n == 0) ≡ false
+pub not_zero : (n : ℕ) → n ≢ 0 → (n == 0) ≡ false
 not_zero n other = false_from_ne_true (n == 0) (λ is. other (eqb-true n 0 is))
 
-is_then : {A : Type 0} (x y : A) (b : Bool) → b ≡ true → x ≡ (if b then x else y)
+pub is_then : {A : Type 0} (x y : A) (b : Bool) → b ≡ true → x ≡ (if b then x else y)
 is_then x y b is = rw is refl
 
-is_else : {A : Type 0} (x y : A) (b : Bool) → b ≡ false → y ≡ (if b then x else y)
+pub is_else : {A : Type 0} (x y : A) (b : Bool) → b ≡ false → y ≡ (if b then x else y)
 is_else x y b is = rw is refl
 
 -- behind a command to another service than 0 its client id is given back

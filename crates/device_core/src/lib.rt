@@ -10,7 +10,9 @@ mod plan;
 mod session;
 mod wanted;
 
-pub use laws::sessions_send_their_requests;
+pub use laws::{
+    sessions_end_as_at_peers, sessions_send_their_requests, verdicts_are_of_what_is_read,
+};
 pub use link_session::SessionFault;
 pub use message::request_message;
 pub use plan::QmiPlan;
