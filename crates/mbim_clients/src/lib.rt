@@ -1,0 +1,19 @@
+//! What a core of the MBIM proxy keeps of each client and of the modem, and how it hears a client's
+//! message.
+#![tactic(auto)]
+
+mod client;
+mod command;
+mod device;
+mod hearing;
+mod modem;
+mod reply;
+mod request;
+mod sending;
+mod side;
+mod traffic;
+mod writer;
+
+pub use client::Client;
+pub use side::ModemSide;
+pub use writer::Writer;
