@@ -1,0 +1,13 @@
+pub mod Told
+pub mod Expires
+pub mod Kept
+pub mod Responses
+pub mod Hearing
+pub mod Shut
+pub mod Tells
+pub mod Turns
+pub mod Texts
+pub mod Gathering
+pub mod Meets
+pub mod Brought
+pub mod Merged

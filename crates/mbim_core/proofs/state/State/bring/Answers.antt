@@ -1,0 +1,33 @@
+use Rattle.std.proofs.Common.{false, true, ap, sym, ◌∙◌}
+use Rattle.std.proofs.lemmas.Bool.{and_parts}
+use Rattle.connections.specs.Table.{Table}
+use Rattle.mbim_state.specs.Core.{Client, MbimState}
+use Rattle.mbim_state.specs.Transitions.{merged_in}
+use Rattle.mbim_core.specs.State.{state_of, wish_of}
+use Rattle.mbim_core.proofs.Brought.{brought_is, hears}
+use Rattle.mbim_core.proofs.Merged.{brought_merged, brought_limit}
+use Rattle.mbim_core.proofs.state.State.bring.Goals as goal
+
+pub returns-then-not-bring : goal.returns-then-not-bring
+returns-then-not-bring c =
+    let was : MbimState = state_of c.self.inside.connections c.self.inside.side in
+    rw (← c.self.view_is)
+    (ap (state_of c.bring.new.self) c.give_up.ensures
+    ∙ brought_is c.args.name c.args.piece.now was c.bring.new.self c.bring.new.beside false c.bring.ensures.table c.bring.ensures.beside (sym c.if-not-bring.true ∙ c.bring.ensures.stays))
+
+pub returns : goal.returns
+returns c =
+    let was : MbimState = state_of c.self.inside.connections c.self.inside.side in
+    rw (← c.self.view_is) (brought_is c.args.name c.args.piece.now was c.bring.new.self c.bring.new.beside true c.bring.ensures.table c.bring.ensures.beside (sym c.if-not-bring.false ∙ c.bring.ensures.stays))
+
+pub invariant_of-self-2 : goal.invariant_of-self-2
+invariant_of-self-2 c = record {
+  limit = ap (λ (t : Table Client). t.limit) c.bring.ensures.table ∙ brought_limit hears c.args.name c.args.piece.now c.self.inside.connections c.self.inside.side ∙ c.self.invariant.limit;
+  current = λ is.
+      let parts = and_parts c.self.inside.current c.is_as_noted-same.result is in
+      c.self.invariant.current parts.0
+      ∙ sym
+      (ap (λ (t : Table Client). merged_in t.present) c.bring.ensures.table
+      ∙ brought_merged hears c.args.name c.args.piece.now c.self.inside.connections c.self.inside.side (sym c.bring.ensures.stays ∙ c.if-not-bring.false)
+      (ap (λ (t : Table Client). wish_of c.args.name t.present) (sym c.bring.ensures.table) ∙ sym (c.is_as_noted-same.ensures parts.1) ∙ c.note-was_open.ensures));
+}

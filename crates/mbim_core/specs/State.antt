@@ -1,0 +1,80 @@
+-- Words of the state beside those of `mbim_state`.
+use Rattle.std.specs.Prelude.{◌≡◌, ℕ, Bool, true, ◌&&◌, List, map, is_some, Option, Some, None, if◌then◌else◌}
+use Rattle.std.specs.List.{flat_map}
+use Rattle.kit_bytes.specs.Indications.{wants}
+use Rattle.kit_bytes.specs.Subscriptions.{Pair}
+use Rattle.connections.specs.Table.{Connection, Table, connection_in}
+use Rattle.mbim_frame.specs.declared.bodies.IndicationHead.{IndicationHead}
+use Rattle.mbim_frame.specs.declared.kind.MessageKind.TheVariants.{CommandDone, IndicateStatus}
+use Rattle.mbim_frame.specs.Fragment.{body_of}
+use Rattle.mbim_frame.specs.Head.{kind_of, number_of}
+use Rattle.mbim_frame.specs.Kinds.{kind_number}
+use Rattle.mbim_fragments.specs.Splitting.{split}
+use Rattle.proxy_history.specs.View.{OpenedWith}
+use Rattle.proxy_state.specs.Chosen.{tell_from}
+use Rattle.mbim_proxy.specs.FromModem.{Heard}
+use Rattle.mbim_proxy.specs.Setup.{Setup}
+use Rattle.mbim_proxy.specs.Step.{blank}
+use Rattle.mbim_state.specs.declared.asked.Asked.{Asked}
+use Rattle.mbim_state.specs.Core.{Client, ModemSide, MbimState}
+use Rattle.mbim_state.specs.Transitions.{give_up, after, text, is_for, answer, respond, open_ones}
+
+abbrev pub state_of : Table Client → ModemSide → MbimState
+state_of table side = record { table = table; beside = side }
+
+-- ---- an answer ----
+
+-- somebody waits for it
+pub record IsSettled (heard : Heard) (number : ℕ) (old new : MbimState) (name : ℕ) (asked : Asked) : Type 0 where
+  pub fits : is_for heard asked ≡ true
+  pub answered : (s : Setup) (m : List ℕ) → number_of m ≡ number → respond s heard m old ≡ answer s asked name m new
+
+abbrev pub Settles : Heard → ℕ → MbimState → MbimState → Option (ℕ × Asked) → Type 0
+Settles heard number old new None = (s : Setup) (m : List ℕ) → number_of m ≡ number → new ≡ respond s heard m old
+Settles heard number old new (Some (name, asked)) = IsSettled heard number old new name asked
+
+-- a message of the kind that has this body
+pub record IsDoneWith (body m : List ℕ) : Type 0 where
+  pub kind : kind_of m ≡ kind_number CommandDone
+  pub carries : body_of m ≡ body
+
+pub record IsIndicationWith (body m : List ℕ) : Type 0 where
+  pub carries : body_of m ≡ body
+  pub blank_body : body_of (blank m) ≡ body
+
+-- ---- from place to place ----
+
+abbrev pub waits_in : ModemSide → Connection Client → Bool
+waits_in side k = is_some k.client.waits
+
+-- those from this place on that wait for the opening are told how it ended
+abbrev pub opened_from : Setup → (status : ℕ) → ℕ → MbimState → MbimState
+opened_from s status i x = tell_from give_up (text s (OpenedWith status)) (after s (OpenedWith status)) waits_in i x
+
+abbrev pub wants_in : IndicationHead → ModemSide → Connection Client → Bool
+wants_in head side k = k.client.opened && wants k.client.list head.uuid head.cid
+
+-- those from this place on that are open and want the indication get it
+abbrev pub indicated_from : IndicationHead → (body : List ℕ) → ℕ → MbimState → MbimState
+indicated_from head body i x = tell_from give_up (λ client. split (kind_number IndicateStatus) 0 client.fragment body) (λ client. client) (wants_in head) i x
+
+-- ---- the end of each event ----
+
+-- the lists of the open clients, one behind the other
+abbrev pub gathered : List (Connection Client) → List Pair
+gathered present = flat_map (λ list. list) (map (λ (k : Connection Client). k.client.list) (open_ones present))
+
+-- what a client has in it: its list where it is open
+abbrev pub wish : Connection Client → Option (List Pair)
+wish k = if k.client.opened then Some k.client.list else None
+
+abbrev pub wish_in : Option (Connection Client) → Option (List Pair)
+wish_in None = None
+wish_in (Some k) = wish k
+
+abbrev pub wish_of : (name : ℕ) → List (Connection Client) → Option (List Pair)
+wish_of name present = wish_in (connection_in name present)
+
+-- as it was noted
+abbrev pub noted : (opened : Bool) → (list : List Pair) → Option (List Pair)
+noted opened list = if opened then Some list else None

@@ -1,0 +1,222 @@
+ghost use Rattle.std.specs.Prelude.{◌≡◌, ◌<◌, ◌≤◌, length, not, true, slice_get, Some, List, [], ◌∷◌, IfOk, IfSome, IsNone, IsTrue};
+ghost use Rattle.framing.specs.Cutting.{cut};
+ghost use Rattle.framing.specs.Framing.{IsPartial};
+ghost use Rattle.hub_io.specs.Events.{event_of};
+ghost use Rattle.mbim_frame.specs.Frame.{size_of};
+ghost use Rattle.proxy_history.specs.Events as history_events;
+ghost use Rattle.proxy_history.specs.Modem.{modem_queue};
+ghost use Rattle.proxy_history.specs.Streams.{is_invalid};
+ghost use Rattle.proxy_state.specs.Step as proxy;
+ghost use Rattle.mbim_proxy.specs.Forwarding.{wire};
+ghost use Rattle.mbim_proxy.specs.History.{history, text_for};
+ghost use Rattle.mbim_proxy.specs.Setup.{Setup};
+ghost use Rattle.mbim_state.specs.Core.{setup_of};
+ghost use Rattle.mbim_state.specs.Transitions.{mbim_handlers};
+ghost use Rattle.mbim_core.specs.Core.{MbimState, Stands, StandsAfter, CanStep, greatest_after, setup_in, step, meet, waiting_for, first_waiting, is_owed, names_of, opening_setup, opened_core, NextDropped};
+
+use crate::state::State;
+use framing::LONGEST_PIECE;
+use hub_io::{Event, Limits};
+use kit_bytes::{Cut, Text};
+use mbim_fragments::Body;
+use mbim_frame::MCutter;
+use std::alloc::{AllocError, Global};
+use std::marker::Model;
+
+/// A proxy between several clients and one modem.
+#[derive(Drop)]
+pub struct MbimCore {
+    state: State,
+    // of the modem's stream
+    cutter: MCutter,
+    // the body of a message of the modem that came in fragments
+    whole: Body,
+}
+
+impl Model for MbimCore {
+    ghost use Rattle.framing.specs.Framing.{IsPartial};
+    ghost use Rattle.mbim_frame.specs.Frame.{size_of};
+    ghost use Rattle.mbim_core.specs.Core as core;
+
+    ghost Value = { core.MbimCore };
+
+    ghost view = { λ c. record { state = c.state; rest = c.cutter.rest } };
+
+    ghost invariant = { λ c. IsPartial size_of c.cutter.rest };
+}
+
+impl MbimCore {
+    ghost use Rattle.mbim_core.specs.Lending.{LeavesAsIs};
+    ghost use Rattle.std.specs.Borrow.{sem};
+
+    /// A proxy that nothing has happened to yet, for the device of this path. The modem is there. This
+    /// takes all the memory that it will ever need.
+    pub fn open(alloc: Global, limits: &Limits, device: Text) -> Result<Self, AllocError>
+        ensures opened { IfOk result (λ core. core ≡ opened_core (opening_setup limits.now device)) }
+        ensures stands { IfOk result (λ core. Stands (opening_setup limits.now device) [] core) }
+    {
+        let cutter = MCutter::open(alloc)?;
+        let whole = Body::open(alloc)?;
+        Ok(MbimCore {
+            state: State::open(alloc, device, limits.time)?,
+            cutter,
+            whole,
+        })
+    }
+
+    /// Meets an event.
+    pub fn step(&mut self, event: Event<'_>)
+        requires { CanStep (event_of event) self.old }
+        ensures stands { (events : List history_events.Event) → Stands (setup_in self.old) events self.old → StandsAfter (setup_in self.old) (event_of event.entry ∷ events) self.new }
+        ensures setup { setup_in self.new ≡ setup_in self.old }
+        ensures step { self.new ≡ step (event_of event.entry) self.old }
+        ensures greatest { self.new.state.table.greatest ≡ greatest_after (event_of event.entry) self.old.state.table.greatest }
+    {
+        self.meet(event);
+        self.state.finish();
+    }
+
+    // What an event changes before its end.
+    fn meet(&mut self, event: Event<'_>)
+        requires { CanStep (event_of event) self.old }
+        ensures { self.new ≡ meet (event_of event.entry) self.old }
+    {
+        match event {
+            Event::Joined(name) => self.state.join(name),
+            Event::Piece(name, piece) => self.state.bring(name, piece),
+            Event::Left(name) => self.state.leave(name),
+            Event::Now(time) => self.state.tick(time),
+            Event::Took(name, count) => self.state.take(name, count),
+            Event::ModemPiece(piece) => self.bring_modem(piece),
+            Event::ModemGone => self.lose_modem(),
+            Event::ModemBack => self.regain_modem(),
+            Event::ModemTook(count) => self.state.take_modem(count),
+        }
+    }
+
+    // What a modem sends that is away doesn't count.
+    fn bring_modem(&mut self, piece: &[u8])
+        requires { length piece.now ≤ LONGEST_PIECE }
+        ensures { self.new ≡ proxy.bring_modem (mbim_handlers (setup_in self.old)) size_of piece.now self.old }
+    {
+        if self.state.away() {
+            return;
+        }
+        self.cutter.push(piece);
+        if !hear_all(&mut self.cutter, &mut self.state, &mut self.whole) {
+            self.cutter.restart();
+            self.lose();
+        }
+    }
+
+    fn lose_modem(&mut self)
+        ensures { self.new ≡ proxy.lose_modem (mbim_handlers (setup_in self.old)) size_of self.old }
+    {
+        if !self.state.away() {
+            self.lose();
+        }
+    }
+
+    // A modem that comes back while it is there changes nothing.
+    fn regain_modem(&mut self)
+        ensures { self.new ≡ proxy.regain_modem (mbim_handlers (setup_in self.old)) size_of self.old }
+    {
+        if self.state.away() {
+            self.state.regain();
+        }
+    }
+
+    // The modem is away from here on.
+    fn lose(&mut self)
+        ensures { self.new ≡ proxy.lose (mbim_handlers (setup_in self.old)) size_of self.old.state }
+    {
+        self.state.lose();
+        self.cutter.restart();
+    }
+
+    /// The bytes that wait for a connection that is there, or that was dropped and wasn't asked
+    /// for yet; none for any other name.
+    pub fn queued(&mut self, conn: u64) -> &[u8]
+        ensures* after { sem 𝓛 (LeavesAsIs self.entry) }
+        ensures queue { result.now ≡ waiting_for conn self.old }
+        ensures text { (setup : Setup) (events : List history_events.Event) →
+            Stands setup events self.old → IsTrue (is_owed conn self.old) → result.now ≡ (text_for setup conn events).waiting }
+    {
+        self.state.queued(conn)
+    }
+
+    /// The bytes that wait for the modem.
+    pub fn queued_modem(&mut self) -> &[u8]
+        ensures* after { sem 𝓛 (LeavesAsIs self.entry) }
+        ensures queue { result.now ≡ self.old.state.beside.outbox.bytes }
+        ensures text { (setup : Setup) (events : List history_events.Event) →
+            Stands setup events self.old → result.now ≡ modem_queue (wire setup) (history setup events) }
+    {
+        self.state.queued_modem()
+    }
+
+    /// The place of the first connection, from this place on in the order of joining, for which bytes
+    /// wait.
+    pub fn waiting_from(&self, from: usize) -> Option<usize>
+        requires { from ≤ length self.now.state.table.present }
+        ensures place { result ≡ first_waiting from self.now.state.table.present }
+        ensures within { IfSome result (λ place. (from ≤ place) × (place < length self.now.state.table.present)) }
+        ensures fits { IfSome result (λ place. place < usize.MAX) }
+    {
+        self.state.waiting_from(from)
+    }
+
+    /// The next connection to hang up, each once.
+    pub fn next_dropped(&mut self) -> Option<u64>
+        ensures next { NextDropped self.old self.new result }
+        ensures hung_up { IsNone result → self.new.state.table.dropped ≡ [] }
+        ensures stands { (setup : Setup) (events : List history_events.Event) → Stands setup events self.old → Stands setup events self.new }
+        ensures setup { setup_in self.new ≡ setup_in self.old }
+    {
+        self.state.next_dropped()
+    }
+
+    /// Whether the modem is away.
+    pub fn away(&self) -> bool
+        ensures { result ≡ self.now.state.beside.away }
+    {
+        self.state.away()
+    }
+
+    /// The greatest time so far that the clock showed, in milliseconds.
+    pub fn time(&self) -> u64
+        ensures { result ≡ self.now.state.beside.time }
+    {
+        self.state.time()
+    }
+
+    /// How many connections are there.
+    pub fn present(&self) -> usize
+        ensures { result ≡ length self.now.state.table.present }
+    {
+        self.state.present()
+    }
+
+    /// The connection of this place in the order of joining.
+    pub fn conn_at(&self, index: usize) -> u64
+        requires { index < length self.now.state.table.present }
+        ensures { slice_get (names_of self.now) index ≡ Some result }
+    {
+        self.state.name_at(index)
+    }
+}
+
+// Hears the modem's whole messages, and says whether the stream is good behind them.
+fn hear_all(cutter: &mut MCutter, state: &mut State, whole: &mut Body) -> bool
+    ensures good { result ≡ not (is_invalid (size_of (cut size_of cutter.old.rest).rest)) }
+    ensures heard { state.new ≡ proxy.hear_all (mbim_handlers (setup_of state.old.beside)) size_of (cut size_of cutter.old.rest).messages state.old }
+    ensures rest { result ≡ true → (cutter.new.rest ≡ (cut size_of cutter.old.rest).rest) × IsPartial size_of cutter.new.rest }
+{
+    loop {
+        match cutter.next() {
+            Cut::Whole(span) => state.hear_modem(cutter.bytes(span), whole),
+            Cut::NeedMore => return true,
+            Cut::Bad(_) => return false,
+        }
+    }
+}
