@@ -112,7 +112,6 @@ IsOfTool _ = Unit {0}
 
 abbrev pub IsOfProxy : Status → Type 0
 IsOfProxy status.Done = Unit {0}
-IsOfProxy (status.Usage why) = Unit {0}
 IsOfProxy status.HubFault = Unit {0}
 IsOfProxy status.TurnsSpent = Unit {0}
 IsOfProxy status.OutOfMemory = Unit {0}
