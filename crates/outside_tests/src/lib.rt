@@ -8,6 +8,8 @@ mod hubs;
 #[cfg(test)]
 mod links;
 #[cfg(test)]
+mod mbim_proxies;
+#[cfg(test)]
 mod proxies;
 #[cfg(test)]
 mod sinks;

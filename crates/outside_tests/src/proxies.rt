@@ -104,26 +104,25 @@ fn assert_asked<R: Abort>(rt: &R, hub: &MemHub, calls: &[(HubCall, &[u8])]) {
 }
 
 fn with_turns(turns: &str) -> [&str; 7] {
+    of_proxy("qmi-proxy", turns)
+}
+
+fn of_proxy<'a>(proxy: &'a str, turns: &'a str) -> [&'a str; 7] {
     [
-        "qmi-proxy",
-        "-d",
-        "m.sock",
-        "--socket",
-        "p.sock",
-        "--turns",
-        turns,
+        proxy, "-d", "m.sock", "--socket", "p.sock", "--turns", turns,
     ]
 }
 
 /// Runs a proxy over these turns, until they are over. The hub was asked for this.
-fn assert_serves<R: Abort>(
+pub fn assert_serves<R: Abort>(
     rt: &R,
     alloc: Global,
+    proxy: &str,
     turns: Vec<HubTurn>,
     calls: &[(HubCall, &[u8])],
 ) -> Result<(), Fail> {
     let mut hub = hub_of(alloc, turns)?;
-    let line = with_turns("1000000000000");
+    let line = of_proxy(proxy, "1000000000000");
     assert_ends(rt, alloc, &line, &mut hub, (Status::Done, b""))?;
     assert_asked(rt, &hub, calls);
     Ok(())
@@ -158,7 +157,13 @@ fn clients_are_served_and_hung_up(rt: HostRuntime) -> Result<(), Fail> {
         (HubCall::Told(HubEvent::Piece(1, 1)), &[0x02]),
         (HubCall::HungUp { conn: 1 }, &[]),
     ];
-    assert_serves(&rt, rt.alloc(), served_turns(rt.alloc())?, &calls)
+    assert_serves(
+        &rt,
+        rt.alloc(),
+        "qmi-proxy",
+        served_turns(rt.alloc())?,
+        &calls,
+    )
 }
 
 /// A client opens the proxy and asks, the modem is lost, the client asks again, and time passes.
@@ -190,7 +195,13 @@ fn a_lost_modem_is_told_of_and_opened_again(rt: HostRuntime) -> Result<(), Fail>
         (HubCall::Told(HubEvent::Now(100)), &[]),
         (HubCall::Reopened, &[]),
     ];
-    assert_serves(&rt, rt.alloc(), lost_turns(rt.alloc())?, &calls)
+    assert_serves(
+        &rt,
+        rt.alloc(),
+        "qmi-proxy",
+        lost_turns(rt.alloc())?,
+        &calls,
+    )
 }
 
 fn tick(time: u64) -> HubTurn {
