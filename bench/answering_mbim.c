@@ -32,7 +32,7 @@ static size_t put_answer(unsigned char *to, const unsigned char *m, size_t lengt
 
 static void serve(int fd)
 {
-    static unsigned char out[16 * FRAGMENT];
+    static unsigned char out[32 * FRAGMENT];
     in.start = in.end = 0;
     for (;;) {
         ssize_t count = fill(fd, &in);
@@ -40,12 +40,14 @@ static void serve(int fd)
             if (count < 0 && (errno == EINTR || errno == EIO)) { usleep(10000); continue; }
             return;
         }
-        size_t length;
+        size_t length, at = 0;
         for (unsigned char *m; (m = next_message(&in, &length));) {
             uint32_t kind = number_at(m), transaction = number_at(m + 8);
-            if (kind == OPEN || kind == CLOSE) write_all(fd, out, put_short(out, kind | DONE, transaction, 0));
-            else if (kind == COMMAND) write_all(fd, out, put_answer(out, m, length));
+            if (kind == OPEN || kind == CLOSE) at += put_short(out + at, kind | DONE, transaction, 0);
+            else if (kind == COMMAND) at += put_answer(out + at, m, length);
+            if (at > sizeof out / 2) { write_all(fd, out, at); at = 0; }
         }
+        write_all(fd, out, at);
     }
 }
 

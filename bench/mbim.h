@@ -34,6 +34,7 @@ static size_t put_short(unsigned char *to, uint32_t kind, uint32_t transaction, 
 }
 
 /* Writes a body in as many fragments as it takes. */
+__attribute__((unused))
 static size_t put_fragments(unsigned char *to, uint32_t kind, uint32_t transaction, const unsigned char *body, size_t count)
 {
     size_t most = FRAGMENT - 20, total = count ? (count + most - 1) / most : 1, at = 0;

@@ -1,26 +1,27 @@
 #!/bin/sh
-# Our mbimcli, command by command, at a stand-in modem itself and through libmbim's real mbim-proxy, over the same
-# stand-in; and libmbim's real mbimcli in the same way. A line for each command: its exit status, and whether that and
-# all that was printed on both streams is the same both ways. Fails where anything differs, or where a command doesn't
-# end as it should.
-# libmbim's proxy listens at the abstract socket `@mbim-proxy`, and a relay leads there from a path. The modem has one
-# path for all: our tool finds a Unix socket there, and libmbim's programs a device node, in a mount namespace of
-# their own.
+# libmbim's real mbimcli, command by command: at a stand-in modem itself, through libmbim's real mbim-proxy and through
+# ours, over the same stand-in, while 32 other connections of the proxy ask all the time; and our own mbimcli in the
+# same ways. A line for each command: its exit status, and whether that and all that was printed on both streams is
+# the same all three ways. Fails where anything differs, or where a command doesn't end as it should.
+# libmbim's proxy listens at the abstract socket `@mbim-proxy`, to which the real mbimcli goes: a relay leads from there
+# to our proxy, and from a path to libmbim's. The modem has one path for all: our programs find a Unix socket there, and
+# libmbim's a terminal or a device node, in a mount namespace of their own.
 # MODEMKIT names a program that is built already. SHOW=1 shows what was printed.
 top=$(CDPATH= cd -- "$(dirname -- "$0")/.." && pwd) || exit 70
 peer=${MBIM_PROXY:-/usr/libexec/mbim-proxy}
 . "$top/bench/needs.sh"
-needs "Debian: gcc, libmbim-utils, libmbim-proxy, socat" cc mbimcli socat timeout unshare mount "$peer"
+needs "Debian: gcc, libmbim-utils, libmbim-proxy, socat" cc mbimcli socat mknod timeout unshare mount "$peer"
 is_taken() { grep -q ' @mbim-proxy$' /proc/net/unix; }
+is_free() { ! is_taken; }
 is_taken && { echo "another program has the socket @mbim-proxy; nothing was tried"; exit 0; }
 folder=$(mktemp -d) || exit 70
 started=
 stop() { [ -z "$started" ] || { kill $started; wait $started; } 2>/dev/null; started=; }
 trap 'stop; rm -rf "$folder"' EXIT
 trap 'exit 130' INT TERM
-unshare -m true 2>/dev/null || { echo "a mount namespace can't be made here (root is wanted); nothing was tried"; exit 0; }
+mknod "$folder/node" c 1 3 2>/dev/null && unshare -m true 2>/dev/null || { echo "a device node or a mount namespace can't be made here (root is wanted); nothing was tried"; exit 0; }
 program=${MODEMKIT:-$("$top/bench/build.sh")} || exit 70
-cc -O2 -o "$folder/answering" "$top/bench/answering_mbim.c" || exit 70
+cc -O2 -o "$folder/answering" "$top/bench/answering_mbim.c" && cc -O2 -o "$folder/load" "$top/bench/mbim_load.c" || exit 70
 
 # The status that each command ends with, and its words.
 cat >"$folder/commands" <<'C'
@@ -70,9 +71,13 @@ wait_until() {
     done
 }
 
-# over COMMAND..: runs it where the modem's terminal stands at the modem's path
+# Of the load: three streams, what it waits with, and 32 connections.
+all_ask() { [ "$(ls "/proc/$load/fd" | wc -l)" -ge 36 ]; }
+
+# over DEVICE COMMAND..: runs it where the device stands at the modem's path
 over() {
-    exec unshare -m sh -c 'mount --bind "$1" "$2" && shift 2 && exec "$@"' sh "$(readlink "$folder/terminal")" "$folder/modem" "$@"
+    device=$1; shift
+    exec unshare -m sh -c 'mount --bind "$1" "$2" && shift 2 && exec "$@"' sh "$device" "$folder/modem" "$@"
 }
 
 # ask SIDE TOOL LIST WORD..: runs each command of the list with the real mbimcli, or with ours, with these words
@@ -83,7 +88,7 @@ ask() {
     while read -r status words; do
         row=$((row + 1))
         case $tool in
-        real) (over timeout 30 mbimcli "$@" -d "$folder/modem" $words) ;;
+        real) (over "$node" timeout 30 mbimcli "$@" -d "$folder/modem" $words) ;;
         own) timeout 30 "$program" mbimcli "$@" -d "$folder/modem" $words ;;
         esac </dev/null >"$side.$tool.$row.out" 2>"$folder/said"
         echo "$?" >"$side.$tool.$row.status"
@@ -91,24 +96,50 @@ ask() {
     done <"$list"
 }
 
-# at the modem itself
-"$folder/answering" unix "$folder/modem" & started="$!"
-wait_until test -S "$folder/modem"
+# ask_all SIDE SOCKET: asks all through the proxy, ours at the socket, while the load asks, and ends all that was started
+ask_all() {
+    "$folder/load" @mbim-proxy "$folder/modem" 32 1 2000000000 2>>"$folder/log" & load=$!
+    started="$started $load"
+    wait_until all_ask
+    sleep 0.5
+    ask "$1" real "$folder/commands" -p
+    ask "$1" own "$folder/own" -p --socket "$2"
+    kill -0 "$load" 2>/dev/null || { echo "the load failed:" >&2; cat "$folder/log" >&2; exit 1; }
+    stop
+}
+
+# a new modem at its socket: it keeps what it is set to
+offer() {
+    rm -f "$folder/modem"
+    "$folder/answering" unix "$folder/modem" & started="$!"
+    wait_until test -S "$folder/modem"
+}
+
+# at the modem itself, and through our proxy
+node=$folder/node
+offer
 ask direct own "$folder/own"
 stop
+offer
+"$program" mbim-proxy -d "$folder/modem" --socket "$folder/proxy.sock" >>"$folder/log" 2>&1 & started="$started $!"
+wait_until test -S "$folder/proxy.sock"
+socat ABSTRACT-LISTEN:mbim-proxy,fork "UNIX-CONNECT:$folder/proxy.sock" 2>>"$folder/log" & started="$started $!"
+wait_until is_taken
+ask_all ours "$folder/proxy.sock"
+
+# at the modem's terminal, and through libmbim's proxy
+wait_until is_free
 rm -f "$folder/modem"
 : >"$folder/modem"
 "$folder/answering" pty "$folder/terminal" & started="$!"
 wait_until test -e "$folder/terminal"
+node=$(readlink "$folder/terminal")
 ask direct real "$folder/commands"
-
-# through libmbim's proxy
-(over "$peer" --no-exit >>"$folder/log" 2>&1) & started="$started $!"
+(over "$node" "$peer" --no-exit >>"$folder/log" 2>&1) & started="$started $!"
 wait_until is_taken
-socat "UNIX-LISTEN:$folder/proxy.sock,fork" ABSTRACT-CONNECT:mbim-proxy 2>>"$folder/log" & started="$started $!"
-wait_until test -S "$folder/proxy.sock"
-ask proxied real "$folder/commands" -p
-ask proxied own "$folder/own" -p --socket "$folder/proxy.sock"
+socat "UNIX-LISTEN:$folder/theirs.sock,fork" ABSTRACT-CONNECT:mbim-proxy 2>>"$folder/log" & started="$started $!"
+wait_until test -S "$folder/theirs.sock"
+ask_all theirs "$folder/theirs.sock"
 
 failed=0
 # compare TOOL LIST NAME: a line for each command of the list
@@ -117,14 +148,15 @@ compare() {
     while read -r status words; do
         row=$((row + 1))
         found=same
-        for side in direct proxied; do
+        for side in direct theirs ours; do
             cat "$folder/$side.$1.$row.out" "$folder/$side.$1.$row.err" "$folder/$side.$1.$row.status" >"$folder/$side"
         done
-        diff "$folder/direct" "$folder/proxied" >"$folder/diff" || found=differs
-        ended=$(cat "$folder/proxied.$1.$row.status")
+        diff "$folder/direct" "$folder/theirs" >"$folder/diff" || found=differs
+        diff "$folder/theirs" "$folder/ours" >>"$folder/diff" || found=differs
+        ended=$(cat "$folder/ours.$1.$row.status")
         [ "$found$ended" = "same$status" ] || failed=1
         printf '%-73s %3s  %s\n' "$3 $words" "$ended" "$found"
-        [ -z "$SHOW" ] || cat "$folder/proxied"
+        [ -z "$SHOW" ] || cat "$folder/ours"
         cat "$folder/diff" >&2
     done <"$2"
 }
