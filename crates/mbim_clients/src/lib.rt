@@ -15,5 +15,5 @@ mod traffic;
 mod writer;
 
 pub use client::Client;
-pub use side::ModemSide;
+pub use side::{ModemSide, is_same};
 pub use writer::Writer;

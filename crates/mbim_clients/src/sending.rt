@@ -1,17 +1,17 @@
-ghost use Rattle.std.specs.Prelude.{◌≡◌, length};
+ghost use Rattle.std.specs.Prelude.{◌≡◌, ◌+◌, ◌≤◌, length};
 ghost use Rattle.mbim_frame.specs.declared.kind.MessageKind.TheVariants as kind;
 ghost use Rattle.mbim_frame.specs.Kinds.{kind_number};
 ghost use Rattle.mbim_frame.specs.Writing.{open_request};
 ghost use Rattle.mbim_fragments.specs.Splitting.{split, split_size};
 ghost use Rattle.mbim_state.specs.declared.asked.Asked.TheVariants as asked;
-ghost use Rattle.mbim_clients.specs.Traffic.{number_for};
+ghost use Rattle.mbim_clients.specs.Traffic.{number_for, queues};
 ghost use Rattle.mbim_clients.specs.Commands.{list_text, own_list, sends};
 
 use crate::client::LONGEST_FRAGMENT;
 use crate::command::SUBSCRIBE_LIST;
-use crate::traffic::Traffic;
+use crate::traffic::{OUTBOX_LIMIT, Traffic};
 use crate::writer::Writer;
-use mbim_fragments::{Body, split_length};
+use mbim_fragments::{Body, LONGEST_BODY, split_length, unsplit_head};
 use mbim_frame::{CommandHead, MessageKind, open_request};
 use mbim_services::Service;
 use mbim_state::{Asked, CommandName};
@@ -42,10 +42,23 @@ pub fn send_command(
     let command = body.as_slice();
     let count = split_length(LONGEST_FRAGMENT, command.len());
     let number = traffic.give(count, name, Asked::Command(kept), deadline)?;
-    let kind = MessageKind::Command.number();
-    writer.split(kind, number, LONGEST_FRAGMENT, command);
-    traffic.queue(writer.text());
+    queue_command(traffic, writer, number, command);
     Some(number)
+}
+
+// A command waits for the modem under this number.
+fn queue_command(traffic: &mut Traffic, writer: &mut Writer, number: u32, command: &[u8])
+    requires short { length command.now ≤ LONGEST_BODY }
+    requires room { length traffic.old.outbox.bytes + split_size 4096 (length command.now) ≤ OUTBOX_LIMIT }
+    ensures { traffic.new ≡ queues (split (kind_number kind.Command) number 4096 command.now) traffic.old }
+{
+    let kind = MessageKind::Command.number();
+    let Some(head) = unsplit_head(kind, number, LONGEST_FRAGMENT, command) else {
+        writer.split(kind, number, LONGEST_FRAGMENT, command);
+        traffic.queue(writer.text());
+        return;
+    };
+    traffic.queue_both(&head, command);
 }
 
 /// Sends a list of subscriptions of the proxy itself, under the number that it gets, if it gets one.

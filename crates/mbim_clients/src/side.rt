@@ -21,7 +21,7 @@ use mbim_frame::status::SUCCESS;
 use mbim_state::Asked;
 use std::alloc::{AllocError, Global};
 use std::marker::Model;
-use subscriptions::{ClientList, PairList};
+use subscriptions::{ClientList, Pair, PairList};
 
 /// What a core keeps beside the clients' connections.
 #[derive(Drop)]
@@ -217,7 +217,7 @@ impl ModemSide {
     pub fn send_list(&mut self, list: &PairList)
         ensures { self.new ≡ transitions.send_list (setup_of self.old) list.now self.old }
     {
-        if is_same(list, &self.last_list) || !self.is_free() {
+        if is_same(list.pairs(), self.last_list.pairs()) || !self.is_free() {
             return;
         }
         let deadline = self.time.saturating_add(self.time_limit);
@@ -245,8 +245,9 @@ fn open_room(alloc: Global) -> Result<(Body, PairList, Writer), AllocError>
     ))
 }
 
-fn is_same(list: &PairList, other: &PairList) -> bool
+/// Whether the lists of subscriptions are the same.
+pub fn is_same(list: &[Pair], other: &[Pair]) -> bool
     ensures { result ≡ is_same_list list.now other.now }
 {
-    list.pairs().cmp(other.pairs()).is_eq()
+    list.cmp(other).is_eq()
 }

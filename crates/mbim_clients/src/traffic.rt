@@ -1,4 +1,4 @@
-ghost use Rattle.std.specs.Prelude.{◌≡◌, ◌+◌, ◌≤◌, ◌&&◌, ◌==◌, length, option_map, IfOk, IfSome};
+ghost use Rattle.std.specs.Prelude.{◌≡◌, ◌+◌, ◌≤◌, ◌&&◌, ◌==◌, ◌++◌, length, option_map, IfOk, IfSome};
 ghost use Rattle.std.specs.List.{list_any};
 ghost use Rattle.outbox.specs.Queue.{takes, clears};
 ghost use Rattle.outbox.specs.Queue as queue;
@@ -72,6 +72,14 @@ impl Traffic {
         ensures { self.new ≡ queues bytes.now self.old }
     {
         self.outbox.queue(bytes);
+    }
+
+    /// The bytes of both runs wait for the modem, one run behind the other, behind the others.
+    pub fn queue_both(&mut self, head: &[u8], rest: &[u8])
+        requires { length self.old.outbox.bytes + length head.now + length rest.now ≤ OUTBOX_LIMIT }
+        ensures { self.new ≡ queues (head.now ++ rest.now) self.old }
+    {
+        self.outbox.queue_both(head, rest);
     }
 
     /// The bytes that wait for the modem.

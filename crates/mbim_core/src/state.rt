@@ -1,4 +1,4 @@
-ghost use Rattle.std.specs.Prelude.{◌≡◌, ◌+◌, ◌<◌, ◌≤◌, ℕ, List, [], false, length, position, slice_get, Some, IfOk, IfSome, IsNone, IsTrue};
+ghost use Rattle.std.specs.Prelude.{◌≡◌, ◌+◌, ◌<◌, ◌≤◌, ◌++◌, ℕ, List, [], false, length, position, slice_get, Some, IfOk, IfSome, IsNone, IsTrue};
 ghost use Rattle.connections.specs.Table.{Connection as TableConnection, AreRising, connection_in, finds_room, queue_of, first_waiting, first_dropped, asked};
 ghost use Rattle.mbim_frame.specs.declared.kind.MessageKind.TheVariants.{CommandDone, OpenDone, FunctionError, IndicateStatus};
 ghost use Rattle.mbim_frame.specs.Bodies.{is_done, is_indication};
@@ -6,7 +6,7 @@ ghost use Rattle.mbim_frame.specs.Frame.{size_of};
 ghost use Rattle.mbim_frame.specs.Head.{kind_of};
 ghost use Rattle.mbim_frame.specs.Kinds.{kind_number};
 ghost use Rattle.mbim_frame.specs.Writing.{unsplit};
-ghost use Rattle.mbim_services.specs.SubscribeLists.{is_same_list};
+ghost use Rattle.mbim_fragments.specs.Splitting.{split};
 ghost use Rattle.mbim_proxy.specs.Setup.{Setup, mbim_setup};
 ghost use Rattle.mbim_proxy.specs.FromModem.{heard_if, IsDone, IsIndication};
 ghost use Rattle.proxy_state.specs.Chosen.{StandsAt, names_in};
@@ -21,15 +21,15 @@ use crate::answer::Answer;
 use connections::Connections;
 use framing::LONGEST_PIECE;
 use kit_bytes::{Text, u32_at};
-use mbim_clients::{Client, ModemSide, Writer};
-use mbim_fragments::{Body, LONGEST_BODY};
+use mbim_clients::{Client, ModemSide, Writer, is_same};
+use mbim_fragments::{Body, LONGEST_BODY, unsplit_head};
 use mbim_frame::{
     DoneHead, IndicationHead, MHead, Mbim, MessageKind, open_done, set_number, status,
 };
 use mbim_state::{Asked, CommandName};
 use std::alloc::{AllocError, Global};
 use std::marker::Model;
-use subscriptions::{Merge, Pair, PairList};
+use subscriptions::{Merge, PairList};
 
 /// How many connections are there at most.
 const CONNECTION_LIMIT: u16 = 64;
@@ -294,13 +294,14 @@ impl State {
             return;
         };
         let max = self.connections.client_at(place).fragment();
-        let kind = MessageKind::CommandDone.number();
-        self.writer.split(kind, command.number, max, body);
-        let stays = put(
+        let stays = put_done(
             &mut self.connections,
             &mut self.side,
+            &mut self.writer,
             name,
-            self.writer.text(),
+            command.number,
+            max,
+            body,
         );
         self.current &= stays;
     }
@@ -529,11 +530,55 @@ fn put(
     ensures limit { connections.new.limit ≡ connections.old.limit }
     ensures setup { setup_of side.new ≡ setup_of side.old }
 {
-    if connections.tell(name, bytes, &[]) {
+    put_both(connections, side, name, bytes, &[])
+}
+
+// A client gets the bytes of both runs, one run behind the other, or is dropped where they find no room.
+// Says whether it wasn't dropped.
+fn put_both(
+    connections: &mut Connections<Mbim, Client>,
+    side: &mut ModemSide,
+    name: u64,
+    head: &[u8],
+    rest: &[u8],
+) -> bool
+    ensures told { state_of connections.new side.new ≡ tell give_up (λ _. head.now ++ rest.now) (λ client. client) name (state_of connections.old side.old) }
+    ensures stays { result ≡ finds_room (head.now ++ rest.now) (connection_in name connections.old.present) }
+    ensures limit { connections.new.limit ≡ connections.old.limit }
+    ensures setup { setup_of side.new ≡ setup_of side.old }
+{
+    if connections.tell(name, head, rest) {
         return true;
     }
     side.give_up(name);
     false
+}
+
+// A client gets the answer with this body under this number, in fragments of at most `max` bytes, or is
+// dropped where it finds no room. Says whether it wasn't dropped.
+fn put_done(
+    connections: &mut Connections<Mbim, Client>,
+    side: &mut ModemSide,
+    writer: &mut Writer,
+    name: u64,
+    number: u32,
+    max: u32,
+    body: &[u8],
+) -> bool
+    requires least { 64 ≤ max }
+    requires most { max ≤ 4096 }
+    requires short { length body.now ≤ LONGEST_BODY }
+    ensures told { state_of connections.new side.new ≡ tell give_up (λ _. split (kind_number CommandDone) number max body.now) (λ client. client) name (state_of connections.old side.old) }
+    ensures stays { result ≡ finds_room (split (kind_number CommandDone) number max body.now) (connection_in name connections.old.present) }
+    ensures limit { connections.new.limit ≡ connections.old.limit }
+    ensures setup { setup_of side.new ≡ setup_of side.old }
+{
+    let kind = MessageKind::CommandDone.number();
+    let Some(head) = unsplit_head(kind, number, max, body) else {
+        writer.split(kind, number, max, body);
+        return put(connections, side, name, writer.text());
+    };
+    put_both(connections, side, name, &head, body)
 }
 
 // The lists of the open clients, one behind the other.
@@ -579,10 +624,4 @@ fn is_as_noted(
         return !was_open;
     }
     was_open && is_same(client.list().pairs(), list.pairs())
-}
-
-fn is_same(list: &[Pair], other: &[Pair]) -> bool
-    ensures { result ≡ is_same_list list.now other.now }
-{
-    list.cmp(other).is_eq()
 }

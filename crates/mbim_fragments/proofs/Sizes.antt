@@ -1,11 +1,12 @@
 -- How many bytes the pieces of a body have.
-use Rattle.std.proofs.Common.{◌≡◌, ℕ, zero, suc, ◌+◌, ◌-◌, ◌*◌, ◌/◌, ◌%◌, ◌<◌, ◌≤◌, min, List, ◌++◌, length, drop, map, ◌∙◌, ap, arith, length-append}
+use Rattle.std.proofs.Common.{◌≡◌, ℕ, zero, suc, ◌+◌, ◌-◌, ◌*◌, ◌/◌, ◌%◌, ◌<◌, ◌≤◌, min, max, List, ◌++◌, length, take, drop, map, refl, ◌∙◌, ap, ap₂, arith, length-append}
 use Rattle.std.specs.List.{concat, range_with_len}
 use Rattle.std.proofs.lemmas.Grind.{div_ceil_times}
 use Rattle.std.proofs.lemmas.Nat.{mul-le}
-use Rattle.std.proofs.lemmas.List.{length-take, length-drop}
+use Rattle.std.proofs.lemmas.List.{length-take, length-drop, take_all, append-nil}
 use Rattle.std.proofs.lemmas.List.FromFn.{map-range_with_len_more}
 use Rattle.kit_bytes.proofs.Lists.{concat-push}
+use Rattle.mbim_frame.specs.Writing.{fragment_text, unsplit}
 use Rattle.mbim_fragments.specs.Splitting.{part_count, part_at, piece_at, split, split_size}
 use Rattle.mbim_fragments.proofs.Pieces.{parts_hold_all}
 
@@ -62,3 +63,25 @@ split_fits longest length least short =
     let enough : 44 ≤ longest - 20 = omega (arith, least) in
     let few : length / size + min 1 (length % size) ≤ 1490 = few_parts (length / size + min 1 (length % size)) size length (div_ceil_times length size some).1 enough short in
     omega (arith, few, short)
+
+-- ---- a body in one piece ----
+
+pub one_part : (size length : ℕ) → 0 < size → length ≤ size → part_count size length ≡ 1
+one_part size length some short = by (length / size + min 1 (length % size)) (div_ceil_times length size some).1
+  where
+    by : (count : ℕ) → count * size < length + size → max 1 count ≡ 1
+    by zero few = refl
+    by (suc zero) few = refl
+    by (suc (suc count)) few =
+        let product : suc (suc count) * size ≡ count * size + size + size = omega arith in
+        absurd (omega (arith, few, product, short))
+
+pub split_is_unsplit : (kind number longest : ℕ) (body : List ℕ) → 64 ≤ longest → length body ≤ longest - 20 → split kind number longest body ≡ unsplit kind number body
+split_is_unsplit kind number longest body least short =
+    let size = longest - 20 in
+    let one : part_count size (length body) ≡ 1 = one_part size (length body) (omega (arith, least)) short in
+    let start : 0 * size ≡ 0 = omega arith in
+    let part : part_at size body 0 ≡ body = ap (λ (n : ℕ). take size (drop n body)) start ∙ take_all size body short in
+    ap (λ (n : ℕ). concat (map (piece_at kind number size body) (range_with_len 0 n))) one
+    ∙ append-nil (piece_at kind number size body 0)
+    ∙ ap₂ (λ (n : ℕ) (xs : List ℕ). fragment_text (record { kind = kind; number = number; total = n; current = 0 }) xs) one part

@@ -1,6 +1,7 @@
 ghost use Rattle.std.specs.Prelude.{◌≡◌, ◌≤◌, length, IfOk, IfSome};
 
 use crate::body::Body;
+use crate::unsplit::{is_unsplit, take_unsplit};
 use mbim_frame::{FragmentHead, MHead, body_in};
 use std::alloc::{AllocError, Global};
 use std::marker::Model;
@@ -67,7 +68,22 @@ impl Assembly {
 
     /// Takes the next fragment, which has both heads, and gives the body that the last one of a message
     /// completes. What isn't taken is dropped, and the fragments before it with it.
+    #[inline(always)]
     pub fn take(&mut self, fragment: &[u8], whole: &mut Body) -> Took
+        requires heads { 20 ≤ length fragment.now }
+        ensures told { result ≡ told (joining_behind LONGEST_BODY self.old fragment.now) }
+        ensures left { self.new ≡ assembled_after LONGEST_BODY self.old fragment.now }
+        ensures given { whole.new ≡ body_given (joining_behind LONGEST_BODY self.old fragment.now) whole.old }
+    {
+        if self.progress.is_some() || !is_unsplit(fragment) {
+            return self.take_part(fragment, whole);
+        }
+        take_unsplit(fragment, whole)
+    }
+
+    // Takes the next fragment, as any.
+    #[inline(never)]
+    fn take_part(&mut self, fragment: &[u8], whole: &mut Body) -> Took
         requires heads { 20 ≤ length fragment.now }
         ensures told { result ≡ told (joining_behind LONGEST_BODY self.old fragment.now) }
         ensures left { self.new ≡ assembled_after LONGEST_BODY self.old fragment.now }

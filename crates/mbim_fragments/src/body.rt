@@ -54,6 +54,15 @@ impl Body {
         self.bytes.clear();
     }
 
+    // Puts these bytes in the place of those that are there.
+    pub(crate) fn set(&mut self, bytes: &[u8])
+        requires { length bytes.now ≤ LONGEST_BODY }
+        ensures { self.new ≡ bytes.now }
+    {
+        self.bytes.clear();
+        append(&mut self.bytes, bytes);
+    }
+
     // Adds a part behind those that are there.
     pub(crate) fn append(&mut self, part: &[u8])
         requires { length self.old + length part.now ≤ LONGEST_BODY }

@@ -6,7 +6,9 @@ mod body;
 pub mod examples;
 pub mod laws;
 mod splitting;
+mod unsplit;
 
 pub use assembly::{Assembly, LONGEST_BODY, Took};
 pub use body::Body;
 pub use splitting::{LONGEST_SPLIT, split, split_into, split_length};
+pub use unsplit::unsplit_head;

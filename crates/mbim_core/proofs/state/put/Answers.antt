@@ -1,18 +1,10 @@
-use Rattle.std.proofs.Common.{◌≡◌, ℕ, Bool, true, List, ap, sym, ◌∙◌, append-nil, refl}
-use Rattle.connections.specs.Table.{Table, connection_in, finds_room, tells}
-use Rattle.proxy_state.specs.Step.{given_up_unless}
-use Rattle.proxy_state.proofs.Telling.{tell_is}
-use Rattle.mbim_state.specs.Core.{Client, ModemSide}
+use Rattle.std.proofs.Common.{ℕ, List, ap, ◌∙◌, append-nil}
+use Rattle.proxy_state.specs.Telling.{tell}
 use Rattle.mbim_state.specs.Transitions.{give_up}
 use Rattle.mbim_core.specs.State.{state_of}
 use Rattle.mbim_core.proofs.state.put.Goals as goal
 
-pub returns-then-tell-clause-told : goal.returns-then-tell-clause-told
-returns-then-tell-clause-told c =
-    let bytes : List ℕ = c.args.bytes.now in
-    let old : Table Client = c.args.connections.now in
-    let side : ModemSide = c.args.side.now in
-    let fits : true ≡ finds_room bytes (connection_in c.args.name old.present) = sym c.if-tell.true ∙ c.tell.ensures.stays ∙ ap (λ (l : List ℕ). finds_room l (connection_in c.args.name old.present)) (append-nil bytes) in
-    ap (λ (t : Table Client). state_of t side) (c.tell.ensures.told ∙ ap (λ (l : List ℕ). tells c.args.name l old) (append-nil bytes))
-    ∙ ap (λ (b : Bool). state_of (tells c.args.name bytes old) (given_up_unless give_up b c.args.name side)) fits
-    ∙ sym (tell_is give_up (λ _. bytes) c.args.name bytes (state_of old side) (λ k at. refl))
+pub returns-clause-told : goal.returns-clause-told
+returns-clause-told c =
+    c.put_both.ensures.told
+    ∙ ap (λ (l : List ℕ). tell give_up (λ _. l) (λ client. client) c.args.name (state_of c.args.connections.now c.args.side.now)) (append-nil c.args.bytes.now)

@@ -1,5 +1,6 @@
 use Rattle.std.proofs.Common.{ℕ, List, ap, ap₂, sym, ◌∙◌}
 use Rattle.kit_bytes.specs.Subscriptions.{Pair}
+use Rattle.mbim_services.specs.SubscribeLists.{is_same_list}
 use Rattle.mbim_state.specs.declared.asked.Asked.TheVariants as asked
 use Rattle.mbim_state.specs.Core.{ModemSide, setup_of}
 use Rattle.mbim_state.specs.Transitions.{is_free}
@@ -19,5 +20,5 @@ returns-then-is_some c =
     ap₂ (λ (t : Traffic) (l : List Pair). with_traffic_and_list was list t l)
     (c.send_list.ensures.traffic ∙ ap (λ (deadline : ℕ). sends c.send_list.result 0 (asked.Command own_list) deadline (list_text list) inside.traffic) c.saturating_add-deadline.ensures)
     c.set.ensures
-    ∙ sent_under was list c.send_list.result (sym c.send_list.ensures.number) (sym c.is_some.ensures ∙ c.if-is_some.true) free (sym c.is_same.ensures ∙ c.if-is_same.false)
+    ∙ sent_under was list c.send_list.result (sym c.send_list.ensures.number) (sym c.is_some.ensures ∙ c.if-is_some.true) free (ap₂ (λ (one other : List Pair). is_same_list one other) (sym c.pairs.ensures.pairs) (sym c.pairs-2.ensures.pairs) ∙ sym c.is_same.ensures ∙ c.if-is_same.false)
     ∙ ap (λ (side : ModemSide). transitions.send_list (setup_of side) list side) c.self.view_is

@@ -1,4 +1,4 @@
-use Rattle.std.proofs.Common.{◌≡◌, ℕ, true, ap, sym, ◌∙◌}
+use Rattle.std.proofs.Common.{◌≡◌, ℕ, true, List, ap, sym, ◌∙◌}
 use Rattle.std.proofs.lemmas.Bool.{and_parts}
 use Rattle.mbim_frame.specs.declared.kind.MessageKind.TheVariants.{CommandDone}
 use Rattle.mbim_frame.specs.Kinds.{kind_number}
@@ -21,24 +21,25 @@ returns-in_default c = λ m D.
 pub returns : goal.returns
 returns c = λ m D.
     let was : MbimState = state_of c.self.inside.connections c.self.inside.side in
-    let written : c.text.result.now ≡ response_text (known_by c.client_at.result.now) (ask_by c.args.command.now) m =
-    c.text.ensures ∙ c.split.ensures ∙ ap (λ (k : ℕ). split k c.args.command.now.number c.fragment-max.result c.args.body.now) c.number-kind.ensures
-    ∙ ap (λ (n : ℕ). split (kind_number CommandDone) c.args.command.now.number n c.args.body.now) c.fragment-max.ensures.fragment
+    let text : List ℕ = split (kind_number CommandDone) c.args.command.now.number c.fragment-max.result c.args.body.now in
+    let written : text ≡ response_text (known_by c.client_at.result.now) (ask_by c.args.command.now) m =
+    ap (λ (n : ℕ). split (kind_number CommandDone) c.args.command.now.number n c.args.body.now) c.fragment-max.ensures.fragment
     ∙ done_text_is c.args.body.now m D c.client_at.result.now c.args.command.now
     in
-    c.put-stays.ensures.told
-    ∙ one_told give_up (λ client. response_text (known_by client) (ask_by c.args.command.now) m) c.args.name was c.in-Some.place c.in-Some.ensures.place c.client_at.result.now c.client_at.ensures c.text.result.now written
+    c.put_done-stays.ensures.told
+    ∙ one_told give_up (λ client. response_text (known_by client) (ask_by c.args.command.now) m) c.args.name was c.in-Some.place c.in-Some.ensures.place c.client_at.result.now c.client_at.ensures text written
     ∙ ap (tell_answer c.args.command.now m c.args.name) c.self.view_is
 
 pub invariant_of-self : goal.invariant_of-self
 invariant_of-self c =
     let was : MbimState = state_of c.self.inside.connections c.self.inside.side in
+    let text : List ℕ = split (kind_number CommandDone) c.args.command.now.number c.fragment-max.result c.args.body.now in
     record {
-      limit = c.put-stays.ensures.limit ∙ c.self.invariant.limit;
+      limit = c.put_done-stays.ensures.limit ∙ c.self.invariant.limit;
       current = λ is.
-          let parts : (c.self.inside.current ≡ true) × (c.put-stays.result ≡ true) = and_parts c.self.inside.current c.put-stays.result is in
+          let parts : (c.self.inside.current ≡ true) × (c.put_done-stays.result ≡ true) = and_parts c.self.inside.current c.put_done-stays.result is in
           c.self.invariant.current parts.0
           ∙ sym
-          (ap (λ (x : MbimState). merged_in x.table.present) c.put-stays.ensures.told
-          ∙ told_merged give_up c.text.result.now c.args.name was (sym c.put-stays.ensures.stays ∙ parts.1));
+          (ap (λ (x : MbimState). merged_in x.table.present) c.put_done-stays.ensures.told
+          ∙ told_merged give_up text c.args.name was (sym c.put_done-stays.ensures.stays ∙ parts.1));
     }

@@ -4,7 +4,7 @@ use Rattle.mbim_fragments.specs.declared.assembly.TheConstants.{LONGEST_BODY}
 use Rattle.mbim_fragments.specs.Runs.{Joining, told}
 use Rattle.mbim_fragments.specs.Assembling.{body_given}
 use Rattle.mbim_fragments.proofs.Assembling.{joins-whole}
-use Rattle.mbim_fragments.proofs.assembly.Assembly.take.Goals as goal
+use Rattle.mbim_fragments.proofs.assembly.Assembly.take_part.Goals as goal
 
 pub returns-clause-told : goal.returns-clause-told
 returns-clause-told c =
