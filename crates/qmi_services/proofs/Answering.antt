@@ -1,7 +1,15 @@
 -- Reading the TLVs of the table, one after another.
-use Rattle.std.proofs.Common.{◌≡◌, ℕ, zero, suc, ◌+◌, ◌<◌, inl, inr, List, [], ◌∷◌, ◌++◌, Option, Some, length, get_or, take, map, refl, sym, ◌∙◌, ap, subst, arith, append_assoc}
+use Rattle.std.proofs.Common.{◌≡◌, ℕ, zero, suc, ◌+◌, ◌<◌, inl, inr, List, [], ◌∷◌, ◌++◌, Option, Some, None, length, get_or, take, map, refl, sym, ◌∙◌, ap, subst, arith, append_assoc}
 use Rattle.std.proofs.lemmas.List.{append-nil, map_push, take_more}
-use Rattle.tlv_codec.specs.Tlv.{tlv_value}
+use Rattle.std.proofs.lemmas.Option.{none-some, option_and_then_some}
+use Rattle.std.specs.Prelude.{◌==◌}
+use Rattle.kit_bytes.specs.Numbers.{u16_bytes}
+use Rattle.framing.specs.Framing.{AreBytes}
+use Rattle.tlv_codec.specs.Tlv.{Entry, entry_text, tlv_text, tlvs_of, first_value, tlv_value}
+use Rattle.tlv_codec.proofs.Texts.{text_of_read}
+use Rattle.tlv_values.specs.Reading.{reading}
+use Rattle.tlv_values.proofs.Readings.{read-back, bytes-front, bytes-back}
+use Rattle.qmi_services.proofs.Found.{holds-here}
 use Rattle.qmi_shapes.specs.Form.{Form}
 use Rattle.qmi_shapes.specs.WellMade.{IsWellMade}
 use Rattle.qmi_values.specs.Value.{Value}
@@ -23,6 +31,27 @@ Says-read output tlv tlvs bytes name form value same found names forms spelled =
     let field : List ℕ → Form → FieldValue = λ (n : List ℕ) (f : Form). record { name = n; form = f; value = value } in
     let is : field name form ∷ [] ≡ named output value ∷ [] = ap (λ (n : List ℕ). field n form ∷ []) name_is ∙ ap (λ (f : Form). field output.tlv.name f ∷ []) form_is in
     subst (λ (o : Option (List ℕ)). Says output o (field name form ∷ [])) there (value, is, subst (λ (f : Form). Spells f value bytes) form_is spelled)
+
+pub IsUnread-read : (output : Output) (tlv : TlvForm) (tlvs bytes : List ℕ) (form : Form) → tlv ≡ output.tlv → Some bytes ≡ tlv_value tlv.kind tlvs → form ≡ tlv.form → IsWellMade output.tlv.form
+    → None ≡ reading form bytes → IsUnread output (tlv_value output.tlv.kind tlvs)
+IsUnread-read output tlv tlvs bytes form same found forms made none =
+    let there : Some bytes ≡ tlv_value output.tlv.kind tlvs = found ∙ ap (λ (t : TlvForm). tlv_value t.kind tlvs) same in
+    let form_is : form ≡ output.tlv.form = forms ∙ ap (λ (t : TlvForm). t.form) same in
+    let unread : None ≡ reading output.tlv.form bytes = subst (λ (f : Form). None ≡ reading f bytes) form_is none in
+    subst (λ (o : Option (List ℕ)). IsUnread output o) there (λ value spells. none-some value (unread ∙ read-back output.tlv.form value bytes made spells))
+
+first-bytes : (entries : List Entry) (kind : ℕ) (value : List ℕ) → AreBytes (tlv_text entries) → first_value kind entries ≡ Some value → AreBytes value
+first-bytes [] kind value are is = absurd cc
+first-bytes (entry ∷ entries) kind value are is =
+    let here = bytes-front (entry_text entry) (tlv_text entries) are in
+    let rest = bytes-back (entry_text entry) (tlv_text entries) are in
+    holds-here AreBytes (entry.kind == kind) entry.value value (first_value kind entries) is (bytes-back (entry.kind ∷ u16_bytes (length entry.value)) entry.value here) (first-bytes entries kind value rest)
+
+-- the value of a TLV among bytes is of bytes
+pub value-bytes : (kind : ℕ) (tlvs value : List ℕ) → AreBytes tlvs → Some value ≡ tlv_value kind tlvs → AreBytes value
+value-bytes kind tlvs value are found =
+    option_and_then_some (first_value kind) (tlvs_of tlvs) value (sym found)
+    (λ entries of_tlvs of_value. first-bytes entries kind value (subst AreBytes (text_of_read tlvs entries are of_tlvs) are) of_value)
 
 pub IfUnread-weaker : (P Q : Type 0) (fault : AnswerFault) → (P → Q) → IfUnread P fault → IfUnread Q fault
 IfUnread-weaker P Q Unread weaker holds = weaker holds

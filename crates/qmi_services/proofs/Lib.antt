@@ -4,3 +4,7 @@ pub mod Answering
 pub mod OneWay
 pub mod Spelled
 pub mod Sound
+pub mod Found
+pub mod Lines
+pub mod Outputs
+pub mod Examples

@@ -1,19 +1,19 @@
 -- The bytes of requests spell their values.
-use Rattle.std.proofs.Common.{◌≡◌, ℕ, zero, suc, ◌/◌, ◌%◌, ◌^◌, ◌<◌, ◌≤◌, List, [], ◌∷◌, ◌++◌, Option, Some, None, length, map, refl, sym, ◌∙◌, ap, subst, arith, append_assoc}
-use Rattle.std.proofs.Math.Nat.{pow-suc}
+use Rattle.std.proofs.Common.{◌≡◌, ℕ, suc, ◌%◌, ◌^◌, ◌<◌, ◌≤◌, List, [], ◌∷◌, ◌++◌, Option, Some, None, length, map, refl, sym, ◌∙◌, subst, arith, append_assoc}
 use Rattle.std.proofs.lemmas.List.{append-nil, length-map}
 use Rattle.std.specs.List.{slice_index}
 use Rattle.std.specs.Option.{option_map}
 use Rattle.std.specs.Str.{encode_utf8_all}
 use Rattle.std.specs.Prelude.{IfSome}
-use Rattle.kit_bytes.specs.Numbers.{number_bytes, u16_bytes, u32_bytes}
+use Rattle.kit_bytes.specs.Numbers.{u16_bytes, u32_bytes}
 use Rattle.tlv_codec.specs.Tlv.{Entry}
 use Rattle.qmi_shapes.specs.Form.{Form}
 use Rattle.qmi_shapes.specs.View.{NamedForm}
 use Rattle.qmi_values.specs.Value.{Value, number, text, list_of, values_of as as_values}
-use Rattle.qmi_values.specs.Numbers.{little_endian, AreBytes, IsUnsigned}
+use Rattle.qmi_values.specs.Numbers.{IsUnsigned}
 use Rattle.qmi_values.specs.Spelling.{Follows, EachSpells, Spells}
 use Rattle.qmi_values.proofs.Spellings.{list_of-values_of}
+use Rattle.tlv_values.proofs.Numbers.{number_bytes-unsigned}
 use Rattle.message_tables.specs.Tlvs.{TlvForm}
 use Rattle.qmi_requests.specs.declared.QmiRequest.TheVariants as request
 use Rattle.qmi_services.specs.Table as table
@@ -23,26 +23,6 @@ use Rattle.qmi_services.specs.Inputs.{text_of, bytes_of, sequence_of, Gives, All
 use Rattle.qmi_services.specs.Laws.{AreSpelled}
 
 -- ---- numbers ----
-
-number_bytes-are : (size n : ℕ) → AreBytes size (number_bytes size n)
-number_bytes-are zero n = record { count = refl; each = λ at. omega arith }
-number_bytes-are (suc size) n =
-    let rest = number_bytes-are size (n / 256) in
-    record { count = ap suc rest.count; each = each size n rest.each }
-  where
-    each : (size n : ℕ) → ((at : ℕ) → slice_index (number_bytes size (n / 256)) at < 256) → (at : ℕ) → slice_index (number_bytes (suc size) n) at < 256
-    each size n rest zero = omega arith
-    each size n rest (suc at) = rest at
-
-number_bytes-is : (size n : ℕ) → n < 256 ^ size → n ≡ little_endian (number_bytes size n)
-number_bytes-is zero n small = omega arith
-number_bytes-is (suc size) n small =
-    let high : n / 256 < 256 ^ size = let s = pow-suc 256 size in omega arith in
-    let rest = number_bytes-is size (n / 256) high in
-    omega arith
-
-pub number_bytes-unsigned : (size n : ℕ) → n < 256 ^ size → IsUnsigned size n (number_bytes size n)
-number_bytes-unsigned size n small = record { are = number_bytes-are size n; is = number_bytes-is size n small }
 
 byte-unsigned : (n : ℕ) → n < 2 ^ 8 → IsUnsigned 1 n (n ∷ [])
 byte-unsigned n small = subst (λ (b : ℕ). IsUnsigned 1 n (b ∷ [])) (omega arith) (number_bytes-unsigned 1 n (omega arith))

@@ -10,8 +10,6 @@ use Rattle.qmi_values.specs.View.{val_view}
 use Rattle.qmi_values.specs.Spelling.{Spells}
 use Rattle.qmi_values.specs.Decoding.{SpellsNothing}
 use Rattle.qmi_shapes.specs.WellMade.{IsWellMade}
-use Rattle.qmi_values.specs.declared.fault.ValFault.{ValFault}
-use Rattle.qmi_values.specs.declared.fault.ValFault.TheVariants as val_fault
 use Rattle.qmi_services.specs.Table.{Output}
 use Rattle.qmi_services.specs.declared.answers.Field.{Field}
 use Rattle.qmi_services.specs.declared.answers.Fields.{Fields}
@@ -79,11 +77,6 @@ Reads outputs tlvs (success fields) = IsSuccess tlvs × AllSay outputs tlvs fiel
 abbrev pub AreWellMade : List Output → Type 0
 AreWellMade [] = Unit {0}
 AreWellMade (output ∷ outputs) = IsWellMade output.tlv.form × AreWellMade outputs
-
-abbrev pub fault_of : ValFault → AnswerFault
-fault_of (val_fault.Short place) = Unread
-fault_of (val_fault.Over place) = Unread
-fault_of val_fault.OutOfMemory = OutOfMemory
 
 -- this holds where the answer doesn't read
 abbrev pub IfUnread : Type 0 → AnswerFault → Type 0

@@ -5,3 +5,4 @@ pub mod Answers
 pub mod BuiltIn
 pub mod Inputs
 pub mod Laws
+pub mod Modem

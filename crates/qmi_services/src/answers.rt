@@ -2,7 +2,7 @@ ghost use Rattle.std.specs.Prelude.{◌≡◌, map, IfOk, IfErr, OnOk};
 ghost use Rattle.qmi_shapes.specs.WellMade.{IsWellMade};
 ghost use Rattle.qmi_services.specs.declared.answers.AnswerFault.TheVariants.{OutOfMemory};
 ghost use Rattle.tlv_codec.specs.Tlv.{tlv_value};
-ghost use Rattle.qmi_services.specs.Answers.{AddsField, AllSay, Answers, AnyUnread, AreWellMade, IfUnread, IsUnread, fault_of, field_view, fields_view};
+ghost use Rattle.qmi_services.specs.Answers.{AddsField, AllSay, Answers, AnyUnread, AreWellMade, IfUnread, IsUnread, field_view, fields_view};
 ghost use Rattle.qmi_services.specs.Requests.{row_of};
 ghost use Rattle.qmi_services.specs.View.{output_view};
 
@@ -11,10 +11,11 @@ use crate::table::{Output, TlvFormat, text};
 use kit_bytes::Text;
 use qmi_requests::QmiRequest;
 use qmi_shapes::Shape;
-use qmi_values::{Val, ValFault, decode};
+use qmi_values::Val;
 use std::alloc::{AllocError, AllocFailed, Global};
 use thiserror::Error;
 use tlv_codec::{outcome_in, tlv_value};
+use tlv_values::read_value;
 
 /// A value that an answer gives.
 #[derive(Debug, Drop)]
@@ -104,17 +105,6 @@ impl<T: Drop> From<AllocFailed<T>> for AnswerFault {
     }
 }
 
-impl From<ValFault> for AnswerFault {
-    ghost from_gives = { λ val_fault fault. fault ≡ fault_of val_fault };
-
-    fn from(fault: ValFault) -> Self {
-        match fault {
-            ValFault::Short { .. } | ValFault::Over { .. } => AnswerFault::Unread,
-            ValFault::OutOfMemory => AnswerFault::OutOfMemory,
-        }
-    }
-}
-
 /// What the TLVs of an answer to a request say. Of several TLVs of a type the first counts.
 pub fn answer(alloc: Global, body: &QmiRequest, tlvs: &[u8]) -> Result<QmiAnswer, AnswerFault>
     ensures { Answers (row_of body.now).output tlvs.now result }
@@ -163,7 +153,9 @@ fn read_field(
         };
     };
     let shape = format.shape(alloc)?;
-    let val = decode(alloc, &shape, value)?;
+    let Some(val) = read_value(alloc, &shape, value)? else {
+        return Err(AnswerFault::Unread);
+    };
     let name = text(alloc, name)?;
     fields.push(Field { name, shape, val })?;
     Ok(())

@@ -4,11 +4,13 @@
 mod answers;
 mod laws;
 mod messages;
+mod modem;
 mod requests;
 mod table;
 mod tables;
 
 pub use answers::{AnswerFault, Field, Fields, QmiAnswer, QmiEnd, answer};
 pub use laws::{answers_read_one_way, inputs_are_spelled};
+pub use modem::{Message, message_at};
 pub use requests::{message_of, request, service_of};
 pub use tables::built_in;

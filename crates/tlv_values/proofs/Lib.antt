@@ -1,0 +1,5 @@
+pub mod Numbers
+pub mod Spelled
+pub mod Readings
+pub mod Bytes
+pub mod Examples
