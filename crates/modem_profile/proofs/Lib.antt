@@ -1,0 +1,4 @@
+pub mod Texts
+pub mod Continued
+pub mod Units
+pub mod Within
