@@ -1,0 +1,6 @@
+//! What a simulated modem is to whoever serves it.
+#![tactic(auto)]
+
+mod sim;
+
+pub use sim::Sim;

@@ -1,0 +1,116 @@
+-- A client gets the answers to its own requests. Lists of events and of requests have the newest first.
+use Rattle.std.proofs.Common.{◌≡◌, ℕ, Bool, true, false, ◌==◌, if◌then◌else◌, List, [], ◌∷◌, ◌++◌, map, refl, ap, sym, ◌∙◌, append_assoc}
+use Rattle.std.proofs.lemmas.Bool.{eqb-true}
+use Rattle.std.proofs.lemmas.List.{append-nil}
+use Rattle.std.specs.List.{AllByRecursion}
+use Rattle.proxy_history.specs.Events.{Event, Joined, Piece, Left, ModemPiece, ModemGone, ModemBack, Now, Took, ModemTook}
+use Rattle.proxy_history.specs.Streams.{Framing, stream, messages_of_piece}
+use Rattle.proxy_history.specs.Connections.{contains, without}
+use Rattle.sim_modem.specs.Sim.{Answering}
+use Rattle.sim_serving.specs.Clients.{Request, goes_bad, present, brought, asks, requests, messages_of, answers_to, added, joins, text}
+use Rattle.sim_serving.specs.Laws.{own_answers, JoinsOnce}
+use Rattle.sim_serving.proofs.Names.{not_added, still_absent}
+
+abbrev pub asked_by : ℕ → List ℕ → Request
+asked_by c message = record { conn = c; message = message }
+
+module _ (answers : Answering) (c : ℕ) where
+  -- those that another connection asks add nothing
+  own_of_other : (d : ℕ) → (d == c) ≡ false → (messages : List (List ℕ)) (before : List Request) → own_answers answers c (asks (map (asked_by d) messages) before) ≡ own_answers answers c before
+  unfolding asks own_answers
+  own_of_other d other [] before = refl
+  own_of_other d other (m ∷ messages) before =
+      own_of_other d other messages (asked_by d m ∷ before)
+      ∙ ap (λ (b : Bool). if b then own_answers answers c before ++ answers (messages_of before) m else own_answers answers c before) other
+
+  -- those that the connection itself asks add their answers
+  own_of_own : (d : ℕ) → (d == c) ≡ true → (messages : List (List ℕ)) (before : List Request)
+      → own_answers answers c (asks (map (asked_by d) messages) before) ≡ own_answers answers c before ++ answers_to answers messages (messages_of before)
+  unfolding asks own_answers answers_to
+  own_of_own d own [] before = sym (append-nil (own_answers answers c before))
+  own_of_own d own (m ∷ messages) before =
+      let later : List ℕ = answers_to answers messages (m ∷ messages_of before) in
+      own_of_own d own messages (asked_by d m ∷ before)
+      ∙ ap (λ (b : Bool). (if b then own_answers answers c before ++ answers (messages_of before) m else own_answers answers c before) ++ later) own
+      ∙ append_assoc (own_answers answers c before) (answers (messages_of before) m) later
+
+  own_of : (d : ℕ) (messages : List (List ℕ)) (before : List Request)
+      → own_answers answers c (asks (map (asked_by d) messages) before) ≡ own_answers answers c before ++ (if d == c then answers_to answers messages (messages_of before) else [])
+  own_of d messages before =
+      let all : List Request = asks (map (asked_by d) messages) before in
+      let step : (b : Bool) → (d == c) ≡ b → own_answers answers c all ≡ own_answers answers c before ++ (if b then answers_to answers messages (messages_of before) else []) =
+      λ b. elim b as (λ b. (d == c) ≡ b → own_answers answers c all ≡ own_answers answers c before ++ (if b then answers_to answers messages (messages_of before) else [])) [
+        | true ↦ λ e. own_of_own d e messages before
+        | false ↦ λ e. own_of_other d e messages before ∙ sym (append-nil (own_answers answers c before))
+      ]
+      in step (d == c) refl
+
+  module _ (size : Framing) where
+    abbrev Never : List Event → Type 0
+    Never past = AllByRecursion (λ event. joins c event ≡ false) past
+
+    -- who never joined isn't there
+    never_there : (past : List Event) → Never past → contains c (present size past) ≡ false
+    unfolding present
+    never_there [] never = refl
+    never_there (Joined d ∷ past) never = not_added c d (present size past) never.0 (never_there past never.1)
+    never_there (Piece d piece ∷ past) never =
+        let step : (b : Bool) → contains c (if b then without d (present size past) else present size past) ≡ false =
+        elim [ true ↦ still_absent c d (present size past) (never_there past never.1) | false ↦ never_there past never.1 ]
+        in step (goes_bad size d piece past)
+    never_there (Left d ∷ past) never = still_absent c d (present size past) (never_there past never.1)
+    never_there (ModemPiece piece ∷ past) never = never_there past never.1
+    never_there (ModemGone ∷ past) never = never_there past never.1
+    never_there (ModemBack ∷ past) never = never_there past never.1
+    never_there (Now time ∷ past) never = never_there past never.1
+    never_there (Took d count ∷ past) never = never_there past never.1
+    never_there (ModemTook count ∷ past) never = never_there past never.1
+
+    -- who isn't there asks nothing
+    asked_nothing : (d : ℕ) (piece : List ℕ) (past : List Event) → d ≡ c → contains c (present size past) ≡ false
+        → own_answers answers c (asks (map (asked_by d) (brought size d piece past)) (requests size past)) ≡ own_answers answers c (requests size past)
+    unfolding asks
+    asked_nothing d piece past is absent =
+        ap (λ (b : Bool). own_answers answers c (asks (map (asked_by d) (if b then messages_of_piece size (stream d past) piece else [])) (requests size past))) (ap (λ (x : ℕ). contains x (present size past)) is ∙ absent)
+
+    -- and asked nothing
+    never_asked : (past : List Event) → Never past → own_answers answers c (requests size past) ≡ []
+    unfolding requests own_answers
+    never_asked [] never = refl
+    never_asked (Joined d ∷ past) never = never_asked past never.1
+    never_asked (Piece d piece ∷ past) never =
+        let before : List Request = requests size past in
+        let step : (b : Bool) → (d == c) ≡ b → own_answers answers c (asks (map (asked_by d) (brought size d piece past)) before) ≡ [] =
+        λ b. elim b as (λ b. (d == c) ≡ b → own_answers answers c (asks (map (asked_by d) (brought size d piece past)) before) ≡ []) [
+          | true ↦ λ e. asked_nothing d piece past (eqb-true d c e) (never_there past never.1) ∙ never_asked past never.1
+          | false ↦ λ e. own_of_other d e (brought size d piece past) before ∙ never_asked past never.1
+        ]
+        in step (d == c) refl
+    never_asked (Left d ∷ past) never = never_asked past never.1
+    never_asked (ModemPiece piece ∷ past) never = never_asked past never.1
+    never_asked (ModemGone ∷ past) never = never_asked past never.1
+    never_asked (ModemBack ∷ past) never = never_asked past never.1
+    never_asked (Now time ∷ past) never = never_asked past never.1
+    never_asked (Took d count ∷ past) never = never_asked past never.1
+    never_asked (ModemTook count ∷ past) never = never_asked past never.1
+
+    pub own_text : (past : List Event) → JoinsOnce c past → text size answers c past ≡ own_answers answers c (requests size past)
+    unfolding text requests own_answers
+    own_text [] once = refl
+    own_text (Joined d ∷ past) once =
+        let own : List ℕ = own_answers answers c (requests size past) in
+        let step : (b : Bool) → (d == c) ≡ b → (if b then [] else text size answers c past ++ []) ≡ own =
+        λ b. elim b as (λ b. (d == c) ≡ b → (if b then [] else text size answers c past ++ []) ≡ own) [
+          | true ↦ λ e. sym (never_asked past (once.0 e))
+          | false ↦ λ e. append-nil (text size answers c past) ∙ own_text past once.1
+        ]
+        in step (d == c) refl
+    own_text (Piece d piece ∷ past) once =
+        ap (λ (l : List ℕ). l ++ added size answers c (Piece d piece) past) (own_text past once) ∙ sym (own_of d (brought size d piece past) (requests size past))
+    own_text (Left d ∷ past) once = append-nil (text size answers c past) ∙ own_text past once
+    own_text (ModemPiece piece ∷ past) once = append-nil (text size answers c past) ∙ own_text past once
+    own_text (ModemGone ∷ past) once = append-nil (text size answers c past) ∙ own_text past once
+    own_text (ModemBack ∷ past) once = append-nil (text size answers c past) ∙ own_text past once
+    own_text (Now time ∷ past) once = append-nil (text size answers c past) ∙ own_text past once
+    own_text (Took d count ∷ past) once = append-nil (text size answers c past) ∙ own_text past once
+    own_text (ModemTook count ∷ past) once = append-nil (text size answers c past) ∙ own_text past once

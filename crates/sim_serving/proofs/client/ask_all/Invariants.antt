@@ -1,0 +1,16 @@
+use Rattle.std.proofs.Common.{◌≡◌, ℕ, List, length}
+use Rattle.framing.specs.Cutting.{cut}
+use Rattle.sim_modem.specs.Sim.{Answering}
+use Rattle.sim_serving.proofs.Hearing.{IsAsking}
+use Rattle.sim_serving.proofs.client.ask_all.Given as goal
+
+-- what is left to ask, asked, is what there was to ask, asked
+abbrev pub invariant-loop-span : goal.invariant-loop-span
+invariant-loop-span g l = record {
+  asking : (answers : Answering) (before : List (List ℕ)) → g.S.Sim.keeps answers before l.initial.sim
+      → IsAsking g.S.Sim.keeps answers before (cut g.S.Framing.Framing.size l.initial.stream.rest).messages l.initial.queue (cut g.S.Framing.Framing.size l.stream.rest).messages l.sim l.queue;
+  rest : (cut g.S.Framing.Framing.size l.stream.rest).rest ≡ (cut g.S.Framing.Framing.size l.initial.stream.rest).rest;
+}
+
+abbrev pub decreases-loop-span : goal.decreases-loop-span
+decreases-loop-span g l = length l.stream.rest

@@ -1,0 +1,92 @@
+-- What the core of a simulated modem's server keeps and shows. Lists of events have the newest first.
+use Rattle.std.specs.Prelude.{◌≡◌, ℕ, ◌≤◌, false, List, [], ◌∷◌, map, Option, Some, None, ◌==◌, find}
+use Rattle.std.specs.List.{AllByRecursion, IsDistinct}
+use Rattle.framing.specs.Cutting.{cut}
+use Rattle.proxy_history.specs.Events.{Event, Joined, Piece}
+use Rattle.proxy_history.specs.Streams.{Framing, stream}
+use Rattle.proxy_history.specs.Proxy.{Proxy}
+use Rattle.proxy_serving.specs.Face.{Face}
+use Rattle.sim_modem.specs.Sim.{Answering}
+use Rattle.sim_serving.specs.Clients.{present, dropped, requests, messages_of, waiting}
+use Rattle.sim_serving.specs.Proxy.{proxy_of}
+
+pub record Client : Type 0 where
+  pub name : ℕ
+  -- what its stream has behind its whole messages
+  pub rest : List ℕ
+  -- the bytes that wait for it
+  pub waiting : List ℕ
+
+pub record Core (S : Type 0) : Type 0 where
+  pub sim : S
+  -- in order of joining
+  pub clients : List Client
+  -- whose stream went bad, until it is asked for
+  pub dropped : Option ℕ
+  -- the greatest name of a connection so far
+  pub greatest : ℕ
+
+-- ---- what it shows ----
+
+abbrev pub names_of : List Client → List ℕ
+names_of clients = map (λ k. k.name) clients
+
+-- the first client of a name
+abbrev pub named : ℕ → List Client → Option Client
+named name clients = find (λ k. name == k.name) clients
+
+abbrev pub waiting_in : Option Client → List ℕ
+waiting_in None = []
+waiting_in (Some k) = k.waiting
+
+-- the bytes that wait for it
+abbrev pub waiting_for : ℕ → List Client → List ℕ
+waiting_for name clients = waiting_in (named name clients)
+
+abbrev pub listed : Option ℕ → List ℕ
+listed None = []
+listed (Some name) = name ∷ []
+
+abbrev pub face_of : {S : Type 0} → Core S → Face
+face_of core = record {
+  present = names_of core.clients;
+  queue = λ c. waiting_for c core.clients;
+  modem_queue = [];
+  modem_backlog = 0;
+  dropped = listed core.dropped;
+  away = false;
+  time = 0;
+  greatest = core.greatest;
+}
+
+-- ---- what it stands for ----
+
+-- the client of this name
+abbrev pub client_of : Framing → Answering → List Event → ℕ → Client
+client_of size answers past c = record { name = c; rest = (cut size (stream c past)).rest; waiting = waiting size answers c past }
+
+-- it stands for these events, where the modem has these answers
+pub record StandsFor {S : Type 0} (size : Framing) (keeps : Answering → List (List ℕ) → S → Type 0) (answers : Answering) (past : List Event) (core : Core S) : Type 0 where
+  pub modem : keeps answers (messages_of (requests size past)) core.sim
+  pub clients : core.clients ≡ map (client_of size answers past) (present size past)
+  pub distinct : IsDistinct (λ c d. c == d) (present size past)
+  pub known : AllByRecursion (λ c. c ≤ core.greatest) (present size past)
+  -- who was dropped may have been asked for
+  pub dropped : dropped size past ≡ [] → core.dropped ≡ None
+
+-- just after the newest of these events: whom it dropped is still to be hung up
+pub record StandsAfter {S : Type 0} (size : Framing) (keeps : Answering → List (List ℕ) → S → Type 0) (answers : Answering) (past : List Event) (core : Core S) : Type 0 where
+  pub stands : StandsFor size keeps answers past core
+  pub all_dropped : listed core.dropped ≡ dropped size past
+
+-- it keeps what it has to, by the definitions of this proxy
+pub record Keeps {S : Type 0} (size : Framing) (keeps : Answering → List (List ℕ) → S → Type 0) (p : Proxy) (past : List Event) (core : Core S) : Type 0 where
+  pub answers : Answering
+  pub same : p ≡ proxy_of size answers
+  pub stands : StandsFor size keeps answers past core
+
+-- memory may be lacking for a client that joins, and for what a piece asks
+abbrev pub TakesMemory : Event → Type 0
+TakesMemory (Joined c) = Unit {0}
+TakesMemory (Piece c piece) = Unit {0}
+TakesMemory _ = ⊥

@@ -1,0 +1,87 @@
+-- Worked examples of serving a simulated modem. Lists of events and of requests have the newest first.
+use Rattle.std.specs.Prelude.{◌≡◌, ℕ, zero, suc, List, [], ◌∷◌, length, reverse}
+use Rattle.framing.specs.declared.framing.Size.{Size}
+use Rattle.framing.specs.declared.framing.Size.TheVariants.{Unknown, Known, Invalid}
+use Rattle.proxy_history.specs.Events.{Event, Joined, Piece, Left, Now, Took}
+use Rattle.sim_modem.specs.Sim.{Answering}
+use Rattle.sim_serving.specs.Clients.{present, dropped, requests, text, waiting}
+
+-- ---- the modem of the examples ----
+
+-- a message begins with its length, which is not 0
+abbrev pub size_of : List ℕ → Size
+size_of [] = Unknown
+size_of (zero ∷ bytes) = Invalid
+size_of (suc count ∷ bytes) = Known (suc count)
+
+-- it answers how many requests came before, and the request itself
+abbrev pub counting : Answering
+counting before message = length before ∷ message
+
+abbrev pub text_of : ℕ → List Event → List ℕ
+text_of c past = text size_of counting c past
+
+abbrev pub waiting_of : ℕ → List Event → List ℕ
+waiting_of c past = waiting size_of counting c past
+
+-- the connections 1 and 2 join, and then these events come
+abbrev pub both_joined : List Event → List Event
+both_joined events = reverse (Joined 1 ∷ Joined 2 ∷ events)
+
+-- ---- examples ----
+
+-- the clients share one modem, which counts the requests of both
+abbrev pub taking_turns : List Event
+taking_turns = both_joined (Piece 1 (2 ∷ 7 ∷ []) ∷ Piece 2 (2 ∷ 8 ∷ []) ∷ Piece 1 (2 ∷ 9 ∷ []) ∷ [])
+
+pub record ClientsShareOneModem : Type 0 where
+  pub first : text_of 1 taking_turns ≡ 0 ∷ 2 ∷ 7 ∷ 2 ∷ 2 ∷ 9 ∷ []
+  pub second : text_of 2 taking_turns ≡ 1 ∷ 2 ∷ 8 ∷ []
+
+-- a request is asked once it is whole, behind one that was whole before; two may be whole at once
+abbrev pub cut_in_two : List Event
+cut_in_two = both_joined (Piece 1 (3 ∷ 5 ∷ []) ∷ Piece 2 (2 ∷ 8 ∷ []) ∷ Piece 1 (6 ∷ 2 ∷ 9 ∷ []) ∷ [])
+
+pub record RequestsAreAskedOnceWhole : Type 0 where
+  pub first : text_of 1 cut_in_two ≡ 1 ∷ 3 ∷ 5 ∷ 6 ∷ 2 ∷ 2 ∷ 9 ∷ []
+  pub second : text_of 2 cut_in_two ≡ 0 ∷ 2 ∷ 8 ∷ []
+
+-- a stream goes bad behind a whole request, which is asked; the connection is hung up, and its later bytes count for nothing
+abbrev pub going_bad : List Event
+going_bad = both_joined (Piece 1 (2 ∷ 7 ∷ 0 ∷ 2 ∷ 9 ∷ []) ∷ [])
+
+abbrev pub gone_bad : List Event
+gone_bad = Piece 2 (2 ∷ 8 ∷ []) ∷ Piece 1 (2 ∷ 9 ∷ []) ∷ going_bad
+
+pub record BadStreamsAreHungUp : Type 0 where
+  pub hung_up : dropped size_of going_bad ≡ 1 ∷ []
+  pub there : present size_of going_bad ≡ 2 ∷ []
+  pub asked : requests size_of going_bad ≡ record { conn = 1; message = 2 ∷ 7 ∷ [] } ∷ []
+  pub second : text_of 2 gone_bad ≡ 1 ∷ 2 ∷ 8 ∷ []
+  pub once : dropped size_of gone_bad ≡ []
+
+-- who left asks nothing
+abbrev pub leaving : List Event
+leaving = both_joined (Left 1 ∷ Piece 1 (2 ∷ 7 ∷ []) ∷ Piece 2 (2 ∷ 8 ∷ []) ∷ [])
+
+pub record WhoLeftGetsNothing : Type 0 where
+  pub first : text_of 1 leaving ≡ []
+  pub second : text_of 2 leaving ≡ 0 ∷ 2 ∷ 8 ∷ []
+  pub there : present size_of leaving ≡ 2 ∷ []
+  pub hung_up : dropped size_of leaving ≡ []
+
+-- half a request of who left is no part of what it sends under its next name; the modem goes on as it was
+abbrev pub coming_back : List Event
+coming_back = both_joined (Piece 1 (2 ∷ 7 ∷ 3 ∷ 5 ∷ []) ∷ Left 1 ∷ Joined 3 ∷ Piece 3 (2 ∷ 9 ∷ []) ∷ [])
+
+pub record WhoComesBackBeginsAnew : Type 0 where
+  pub third : text_of 3 coming_back ≡ 1 ∷ 2 ∷ 9 ∷ []
+  pub there : present size_of coming_back ≡ 2 ∷ 3 ∷ []
+
+-- what a socket took waits no longer, and what comes then waits behind the rest; the clock changes nothing
+abbrev pub taking_some : List Event
+taking_some = both_joined (Piece 1 (2 ∷ 7 ∷ []) ∷ Took 1 2 ∷ Now 1000 ∷ Piece 1 (2 ∷ 9 ∷ []) ∷ [])
+
+pub record TakenBytesWaitNoLonger : Type 0 where
+  pub all : text_of 1 taking_some ≡ 0 ∷ 2 ∷ 7 ∷ 1 ∷ 2 ∷ 9 ∷ []
+  pub left : waiting_of 1 taking_some ≡ 7 ∷ 1 ∷ 2 ∷ 9 ∷ []

@@ -1,0 +1,115 @@
+ghost use Rattle.std.specs.Prelude.{◌≡◌, ◌≤◌, ◌==◌, ℕ, [], List, not, true, length, nat_lt, IfOk, OnOk, Ok};
+ghost use Rattle.framing.specs.Cutting.{cut};
+ghost use Rattle.framing.specs.Framing.{IsPartial, is_invalid};
+ghost use Rattle.sim_modem.specs.Sim.{Answering};
+ghost use Rattle.sim_serving.specs.Hearing.{Answers, cut_of, goes_on, heard, took};
+
+use crate::queue::Queue;
+use framing::{Cutter, LONGEST_PIECE};
+use kit_bytes::Cut;
+use sim_modem::Sim;
+use std::alloc::{AllocError, Global};
+use std::marker::Model;
+
+/// A client that is there.
+#[derive(Drop)]
+pub struct Client<S: Sim> {
+    name: u64,
+    stream: Cutter<S::Framing>,
+    queue: Queue,
+}
+
+impl<S: Sim> Model for Client<S> {
+    ghost use Rattle.framing.specs.Framing.{IsPartial};
+    ghost use Rattle.sim_serving.specs.Core as core;
+
+    ghost Value = { core.Client };
+
+    ghost view = { λ k. record { name = k.name; rest = k.stream.rest; waiting = k.queue } };
+
+    ghost invariant = { λ k. IsPartial S.Framing.size k.stream.rest };
+}
+
+impl<S: Sim> Client<S> {
+    /// One that has joined under this name.
+    pub fn open(alloc: Global, name: u64) -> Result<Self, AllocError>
+        ensures { IfOk result (λ client. client ≡ record { name = name; rest = []; waiting = [] }) }
+    {
+        Ok(Client {
+            name,
+            stream: Cutter::open(alloc)?,
+            queue: Queue::new(alloc),
+        })
+    }
+
+    pub fn name(&self) -> u64
+        ensures { result ≡ self.now.name }
+    {
+        self.name
+    }
+
+    /// Has the modem asked what the next piece of its stream makes whole, queues the answers, and
+    /// says whether the stream is good behind that.
+    pub fn hear(&mut self, piece: &[u8], sim: &mut S) -> Result<bool, AllocError>
+        requires { length piece.now ≤ LONGEST_PIECE }
+        ensures name { self.new.name ≡ self.old.name }
+        ensures goes_on { IfOk result (λ good. good ≡ goes_on S.Framing.size piece.now self.old) }
+        ensures answers { OnOk result ((answers : Answering) (before : List (List ℕ)) → S.keeps answers before sim.old →
+            Answers S.keeps answers before (cut_of S.Framing.size piece.now self.old).messages sim.new self.old.waiting self.new.waiting) }
+        ensures rest { IfOk result (λ good. good ≡ true → self.new.rest ≡ (cut_of S.Framing.size piece.now self.old).rest) }
+    {
+        self.stream.push(piece);
+        let good = ask_all(&mut self.stream, &mut self.queue, sim);
+        if matches!(good, Ok(true)) {
+            return good;
+        }
+        self.stream.restart();
+        good
+    }
+
+    /// The bytes that wait for it.
+    pub fn queued(&self) -> &[u8]
+        ensures { result.now ≡ self.now.waiting }
+    {
+        self.queue.front()
+    }
+
+    /// Whether bytes wait for it.
+    pub fn is_waiting(&self) -> bool
+        ensures { result ≡ nat_lt 0 (length self.now.waiting) }
+    {
+        !self.queue.is_empty()
+    }
+
+    /// Its socket took the first so many bytes.
+    pub fn take(&mut self, count: usize)
+        requires { count ≤ length self.old.waiting }
+        ensures { self.new ≡ took count self.old }
+    {
+        self.queue.taken(count);
+    }
+}
+
+// Has the modem asked the whole messages, queues its answers, and says whether the stream is good
+// behind them.
+fn ask_all<S: Sim>(
+    stream: &mut Cutter<S::Framing>,
+    queue: &mut Queue,
+    sim: &mut S,
+) -> Result<bool, AllocError>
+    ensures good { IfOk result (λ good. good ≡ not (is_invalid (S.Framing.size (cut S.Framing.size stream.old.rest).rest))) }
+    ensures answers { OnOk result ((answers : Answering) (before : List (List ℕ)) → S.keeps answers before sim.old →
+        Answers S.keeps answers before (cut S.Framing.size stream.old.rest).messages sim.new queue.old queue.new) }
+    ensures rest { IfOk result (λ good. good ≡ true → (stream.new.rest ≡ (cut S.Framing.size stream.old.rest).rest) × IsPartial S.Framing.size stream.new.rest) }
+{
+    loop {
+        match stream.next() {
+            Cut::Whole(span) => {
+                let answer = sim.ask(stream.bytes(span))?;
+                queue.add(answer.as_slice())?;
+            }
+            Cut::NeedMore => return Ok(true),
+            Cut::Bad(_) => return Ok(false),
+        }
+    }
+}

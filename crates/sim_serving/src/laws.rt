@@ -1,0 +1,12 @@
+ghost use Rattle.sim_serving.specs.Laws.{SimulatedModemsAreLawful, GetsItsOwnAnswers};
+
+/// The law that serving a simulated modem keeps the rules by which clients can be served over a hub.
+pub fn simulated_modems_are_lawful()
+    ensures { SimulatedModemsAreLawful }
+{}
+
+/// The law that a client whose name was nobody's before gets the answers to its own requests, in
+/// their order, and no others.
+pub fn a_client_gets_its_own_answers()
+    ensures { GetsItsOwnAnswers }
+{}

@@ -1,0 +1,15 @@
+//! Serving the clients of a simulated modem over a hub: what each of them gets, the core that
+//! keeps it, and the serving.
+#![tactic(auto)]
+
+mod client;
+mod examples;
+mod laws;
+mod queue;
+mod serving;
+mod sim_core;
+#[cfg(test)]
+mod tests;
+
+pub use serving::serve_sim;
+pub use sim_core::SimCore;

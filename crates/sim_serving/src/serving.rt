@@ -1,0 +1,79 @@
+ghost use Rattle.std.specs.Prelude.{◌≡◌, ◌≤◌, ℕ, [], None};
+ghost use Rattle.kit_io.specs.Causes.{Rose};
+ghost use Rattle.hub_io.specs.Record.{Since};
+ghost use Rattle.proxy_serving.specs.Ends.{EndsFor};
+ghost use Rattle.sim_modem.specs.Sim.{Answering};
+ghost use Rattle.sim_serving.specs.Core.{face_of, Keeps, TakesMemory};
+ghost use Rattle.sim_serving.specs.Proxy.{proxy_of};
+ghost use Rattle.sim_serving.specs.Shows.{shows_of};
+
+use crate::sim_core::SimCore;
+use hub_io::{Event, Hub, ServeEnd};
+use proxy_serving::{ProxyCore, serve};
+use sim_modem::Sim;
+use std::alloc::{AllocError, Global};
+
+impl<S: Sim> ProxyCore for SimCore<S> {
+    ghost face = { λ core. face_of core };
+
+    ghost keeps = { λ p past core. Keeps S.Framing.size S.keeps p past core };
+
+    ghost lacks_memory = { TakesMemory };
+
+    fn step(&mut self, event: Event<'_>) -> Result<(), AllocError> {
+        SimCore::step(self, event)?;
+        Ok(())
+    }
+
+    fn queued(&mut self, conn: u64) -> &[u8] {
+        SimCore::queued(self, conn)
+    }
+
+    fn queued_modem(&mut self) -> &[u8] {
+        &[]
+    }
+
+    fn next_dropped(&mut self) -> Option<u64> {
+        SimCore::next_dropped(self)
+    }
+
+    fn waiting_from(&self, from: usize) -> Option<usize> {
+        SimCore::waiting_from(self, from)
+    }
+
+    fn conn_at(&self, index: usize) -> u64 {
+        self.name_at(index)
+    }
+
+    fn present(&self) -> usize {
+        SimCore::present(self)
+    }
+
+    fn away(&self) -> bool {
+        false
+    }
+
+    fn time(&self) -> u64 {
+        0
+    }
+
+    ghost shows = { λ p past core. shows_of S.Framing.size S.keeps p past core };
+}
+
+/// Serves the clients of a simulated modem over a hub that is open, and says why it ended. It never
+/// answers `Empty`.
+///
+/// Where the hub tells what was done to it: each client was handed the answers to its own requests,
+/// each given once all requests before it, of whichever client, had been answered. Each time before
+/// the hub was asked for more, all that waited was offered, and just those connections were hung up
+/// whose stream went bad or whose sending failed. The serving ended at once where the hub said so or
+/// failed, and never opened it.
+pub fn serve_sim<H: Hub, S: Sim>(alloc: Global, hub: &mut H, sim: S, turns: u64) -> ServeEnd
+    requires { (answers : Answering) × S.keeps answers [] sim }
+    ensures served { (answers : Answering) → S.keeps answers [] sim →
+        Since (H.calls hub.old) (H.calls hub.new) (EndsFor TakesMemory (proxy_of S.Framing.size answers) None turns result) }
+    ensures later { H.faults hub.old ≤ H.faults hub.new }
+    ensures fault { result ≡ ServeEnd.HubFault → Rose (H.faults hub.old) (H.faults hub.new) }
+{
+    serve(alloc, hub, SimCore::open(alloc, sim), None, turns)
+}

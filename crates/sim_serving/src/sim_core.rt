@@ -1,0 +1,202 @@
+ghost use Rattle.std.specs.Prelude.{◌≡◌, ◌<◌, ◌≤◌, ◌+◌, ◌==◌, ℕ, [], ◌∷◌, ◌++◌, List, None, Some, length, nat_lt, drop, slice_get, position, OnOk, OnErr, IfSome};
+ghost use Rattle.std.specs.Option.{option_map};
+ghost use Rattle.hub_io.specs.Events.{event_of};
+ghost use Rattle.proxy_history.specs.Events as history;
+ghost use Rattle.proxy_history.specs.Events.{greatest_after};
+ghost use Rattle.proxy_serving.specs.Face.{BringsIn, CanMeet};
+ghost use Rattle.sim_modem.specs.Sim.{Answering};
+ghost use Rattle.sim_serving.specs.Core.{named, names_of, waiting_for, face_of, StandsFor, StandsAfter, TakesMemory};
+ghost use Rattle.sim_serving.specs.Hearing.{Brings, changed, gone, took};
+
+use crate::client::Client;
+use framing::LONGEST_PIECE;
+use hub_io::Event;
+use sim_modem::Sim;
+use std::alloc::{AllocError, Global};
+use std::marker::Model;
+
+/// What serves the clients of a simulated modem: it is told what happens, and keeps what each client
+/// is to get.
+#[derive(Drop)]
+pub struct SimCore<S: Sim> {
+    alloc: Global,
+    sim: S,
+    // in order of joining
+    clients: Vec<Client<S>>,
+    // whose stream went bad, until it is asked for
+    dropped: Option<u64>,
+    // the greatest name of a client so far
+    greatest: u64,
+}
+
+impl<S: Sim> Model for SimCore<S> {
+    ghost use Rattle.sim_serving.specs.Core as core;
+
+    ghost Value = { core.Core S };
+
+    ghost view = { λ c. record { sim = c.sim; clients = c.clients.items; dropped = c.dropped; greatest = c.greatest } };
+}
+
+impl<S: Sim> SimCore<S> {
+    /// Nobody is there yet.
+    pub fn open(alloc: Global, sim: S) -> Self
+        ensures { result ≡ record { sim = sim; clients = []; dropped = None; greatest = 0 } }
+    {
+        SimCore {
+            alloc,
+            sim,
+            clients: Vec::new(alloc),
+            dropped: None,
+            greatest: 0,
+        }
+    }
+
+    /// Meets an event. What a modem or the clock tells changes nothing.
+    pub fn step(&mut self, event: Event<'_>) -> Result<(), AllocError>
+        requires { CanMeet (event_of event) (face_of self.old) }
+        ensures stands { OnOk result ((answers : Answering) (past : List history.Event) → StandsFor S.Framing.size S.keeps answers past self.old →
+            StandsAfter S.Framing.size S.keeps answers (event_of event.entry ∷ past) self.new) }
+        ensures greatest { OnOk result (self.new.greatest ≡ greatest_after (event_of event.entry) self.old.greatest) }
+        ensures memory { OnErr result (TakesMemory (event_of event.entry)) }
+        ensures brings { OnErr result (BringsIn (event_of event.entry)) }
+    {
+        match event {
+            Event::Joined(name) => {
+                self.join(name)?;
+                Ok(())
+            }
+            Event::Piece(name, piece) => {
+                self.bring(name, piece)?;
+                Ok(())
+            }
+            Event::Left(name) => {
+                self.leave(name);
+                Ok(())
+            }
+            Event::Took(name, count) => {
+                self.take(name, count);
+                Ok(())
+            }
+            Event::ModemPiece(_) => Ok(()),
+            Event::ModemGone => Ok(()),
+            Event::ModemBack => Ok(()),
+            Event::Now(_) => Ok(()),
+            Event::ModemTook(_) => Ok(()),
+        }
+    }
+
+    /// A client connected: it is there behind the others.
+    pub fn join(&mut self, name: u64) -> Result<(), AllocError>
+        ensures { OnOk result (self.new ≡ record self.old { clients = self.old.clients ++ record { name = name; rest = []; waiting = [] } ∷ []; greatest = name }) }
+    {
+        self.clients.push(Client::open(self.alloc, name)?)?;
+        self.greatest = name;
+        Ok(())
+    }
+
+    /// The next piece of a client's stream: the modem is asked what it makes whole, and the client is
+    /// dropped where the stream goes bad.
+    pub fn bring(&mut self, name: u64, piece: &[u8]) -> Result<(), AllocError>
+        requires { length piece.now ≤ LONGEST_PIECE }
+        ensures brought { OnOk result ((answers : Answering) (before : List (List ℕ)) → S.keeps answers before self.old.sim →
+            Brings S.Framing.size S.keeps answers before (named name self.old.clients) piece.now self.old self.new) }
+        ensures greatest { OnOk result (self.new.greatest ≡ self.old.greatest) }
+    {
+        let Some(place) = place_of(&self.clients, name) else {
+            return Ok(());
+        };
+        let client = &mut self.clients[place];
+        if client.hear(piece, &mut self.sim)? {
+            return Ok(());
+        }
+        self.clients.remove(place);
+        self.dropped = Some(name);
+        Ok(())
+    }
+
+    /// A client is gone.
+    pub fn leave(&mut self, name: u64)
+        ensures { self.new ≡ record self.old { clients = gone name self.old.clients } }
+    {
+        if let Some(place) = place_of(&self.clients, name) {
+            self.clients.remove(place);
+        }
+    }
+
+    /// The socket of a client took the first so many of the bytes that waited for it.
+    pub fn take(&mut self, name: u64, count: usize)
+        requires { count ≤ length (waiting_for name self.old.clients) }
+        ensures { self.new ≡ record self.old { clients = changed name (took count) self.old.clients } }
+    {
+        if let Some(place) = place_of(&self.clients, name) {
+            let client = &mut self.clients[place];
+            client.take(count);
+        }
+    }
+
+    /// The bytes that wait for a client; none where it isn't there.
+    pub fn queued(&self, name: u64) -> &[u8]
+        ensures { result.now ≡ waiting_for name self.now.clients }
+    {
+        match place_of(&self.clients, name) {
+            Some(place) => {
+                let client = &self.clients[place];
+                client.queued()
+            }
+            None => &[],
+        }
+    }
+
+    /// The client that is to be hung up, once.
+    pub fn next_dropped(&mut self) -> Option<u64>
+        ensures next { result ≡ self.old.dropped }
+        ensures asked { self.new ≡ record self.old { dropped = None } }
+    {
+        self.dropped.take()
+    }
+
+    /// The place of the first client, from this place on, for which bytes wait.
+    pub fn waiting_from(&self, from: usize) -> Option<usize>
+        requires { from ≤ length self.now.clients }
+        ensures place { result ≡ option_map (λ at. from + at) (position (λ k. nat_lt 0 (length k.waiting)) (drop from self.now.clients)) }
+        ensures within { IfSome result (λ place. (from ≤ place) × (place < length self.now.clients)) }
+        ensures fits { IfSome result (λ place. place < usize.MAX) }
+    {
+        match waiting_in(&self.clients[from..]) {
+            Some(at) => Some(from + at),
+            None => None,
+        }
+    }
+
+    /// How many clients are there.
+    pub fn present(&self) -> usize
+        ensures { result ≡ length self.now.clients }
+    {
+        self.clients.len()
+    }
+
+    /// The name of the client of this place.
+    pub fn name_at(&self, place: usize) -> u64
+        requires { place < length self.now.clients }
+        ensures { slice_get (names_of self.now.clients) place ≡ Some result }
+    {
+        let client = &self.clients[place];
+        client.name()
+    }
+}
+
+// Where the client of this name stands.
+fn place_of<S: Sim>(clients: &[Client<S>], name: u64) -> Option<usize>
+    ensures place { result ≡ position (λ k. name == k.name) clients.now }
+    ensures within { IfSome result (λ place. place < length clients.now) }
+{
+    clients.iter().position(|client| name == client.name())
+}
+
+// Where the first client stands for which bytes wait.
+fn waiting_in<S: Sim>(clients: &[Client<S>]) -> Option<usize>
+    ensures place { result ≡ position (λ k. nat_lt 0 (length k.waiting)) clients.now }
+    ensures within { IfSome result (λ place. place < length clients.now) }
+{
+    clients.iter().position(|client| client.is_waiting())
+}
