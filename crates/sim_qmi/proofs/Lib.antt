@@ -1,0 +1,10 @@
+pub mod Pairs
+pub mod ClientIds
+pub mod Storage
+pub mod Rows
+pub mod Fits
+pub mod Writing
+pub mod Meeting
+pub mod Distinct
+pub mod Replies
+pub mod Lacking

@@ -1,0 +1,14 @@
+use Rattle.std.proofs.Common.{refl}
+use Rattle.framing.specs.Cutting.{cut_from}
+use Rattle.qmux_frame.specs.Writing.{head_text}
+use Rattle.qmi_services.specs.Modem.{row_at}
+use Rattle.sim_qmi.specs.State.{client_ids}
+use Rattle.sim_qmi.proofs.examples.the_mode_is_set.Goals as goal
+
+pub returns : goal.returns
+unfolding cut_from head_text row_at client_ids
+returns c = record {
+  quiet = refl;
+  indicated = refl;
+  kept = refl;
+}

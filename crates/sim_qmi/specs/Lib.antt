@@ -1,0 +1,16 @@
+pub mod Errors
+pub mod State
+pub mod Step
+pub mod Inputs
+pub mod Values
+pub mod Ctl
+pub mod Wds
+pub mod Dms
+pub mod Nas
+pub mod Wms
+pub mod Fits
+pub mod View
+pub mod Requests
+pub mod Modem
+pub mod Examples
+pub mod Laws

@@ -1,0 +1,61 @@
+-- What a simulated modem answers to the messages of service 3 (NAS): the network that it is registered in.
+use Rattle.std.specs.Prelude.{ℕ, pos, ◌==◌, List, [], ◌∷◌, Option, Some, None, if◌then◌else◌}
+use Rattle.qmi_values.specs.Value.{Value, number, integer, text}
+use Rattle.qmi_services.specs.Inputs.{sequence_of}
+use Rattle.qmi_services.specs.Table as table
+use Rattle.qmi_services.specs.Table.{Row}
+use Rattle.modem_profile.specs.Profile.{Profile}
+use Rattle.sim_qmi.specs.declared.nas.NasRequest.{NasRequest}
+use Rattle.sim_qmi.specs.declared.nas.NasRequest.TheVariants.{GetSignalStrength, NetworkScan, GetServingSystem, GetHomeNetwork}
+use Rattle.sim_qmi.specs.State.{State}
+use Rattle.sim_qmi.specs.Step.{Step, answered}
+use Rattle.sim_qmi.specs.Values.{list_of, lte}
+
+-- ---- what a request asks ----
+
+-- the request with this message id
+abbrev pub nas_request : (id : ℕ) → Option NasRequest
+nas_request id =
+    if id == table.get_signal_strength.id then Some GetSignalStrength
+    else if id == table.network_scan.id then Some NetworkScan
+    else if id == table.get_serving_system.id then Some GetServingSystem
+    else if id == table.get_home_network.id then Some GetHomeNetwork
+    else None
+
+-- its line of the table
+abbrev pub nas_row : NasRequest → Row
+nas_row GetSignalStrength = table.get_signal_strength
+nas_row NetworkScan = table.network_scan
+nas_row GetServingSystem = table.get_serving_system
+nas_row GetHomeNetwork = table.get_home_network
+
+-- ---- what is answered ----
+
+abbrev pub signal : Profile → Value
+signal profile = sequence_of (integer profile.signal ∷ integer (pos lte) ∷ [])
+
+-- the one network, with the status "current serving"
+-- Source: the enum QmiNasNetworkStatus in libqmi's src/libqmi-glib/qmi-enums-nas.h.
+abbrev pub networks : Profile → Value
+networks profile = list_of (sequence_of (number profile.mcc ∷ number profile.mnc ∷ number 1 ∷ text profile.operator ∷ []) ∷ [])
+
+abbrev pub plmn : Profile → Value
+plmn profile = sequence_of (number profile.mcc ∷ number profile.mnc ∷ text profile.operator ∷ [])
+
+-- registered in the operating mode 0, which is online, and else not
+abbrev pub registration : (mode : ℕ) → ℕ
+registration mode = if mode == 0 then 1 else 0
+
+-- how it is registered, attached to both domains of a network of 3GPP, with LTE alone
+abbrev pub system : (mode : ℕ) → Value
+system mode = sequence_of (number (registration mode) ∷ number 1 ∷ number 1 ∷ number 2 ∷ list_of (integer (pos lte) ∷ []) ∷ [])
+
+-- the system, nothing of roaming, and the network
+abbrev pub serving_system : Profile → (mode : ℕ) → List (Option Value)
+serving_system profile mode = Some (system mode) ∷ None ∷ Some (plmn profile) ∷ []
+
+abbrev pub nas_step : Profile → State → NasRequest → Step
+nas_step profile state GetSignalStrength = answered state (Some (signal profile) ∷ [])
+nas_step profile state NetworkScan = answered state (Some (networks profile) ∷ [])
+nas_step profile state GetServingSystem = answered state (serving_system profile state.mode)
+nas_step profile state GetHomeNetwork = answered state (Some (plmn profile) ∷ [])
