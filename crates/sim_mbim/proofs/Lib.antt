@@ -1,0 +1,5 @@
+pub mod Loops
+pub mod Events
+pub mod Outcomes
+pub mod Encodings
+pub mod Answered

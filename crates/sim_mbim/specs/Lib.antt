@@ -1,0 +1,13 @@
+pub mod Values
+pub mod Places
+pub mod Modem
+pub mod BasicConnect
+pub mod Sms
+pub mod Ussd
+pub mod Phonebook
+pub mod Commands
+pub mod Writing
+pub mod Answers
+pub mod Messages
+pub mod Laws
+pub mod Examples

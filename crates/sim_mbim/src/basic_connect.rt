@@ -1,0 +1,354 @@
+//! The commands of the service Basic Connect.
+
+ghost use Rattle.std.specs.Prelude.{◌≡◌, map, option_map, IfOk, OnOk};
+ghost use Rattle.mbim_fields.specs.View.{value_view};
+ghost use Rattle.sim_mbim.specs.BasicConnect as spec;
+ghost use Rattle.sim_mbim.specs.Modem.{values_told, modem_left};
+
+use crate::lists::{list_fields, listed};
+use crate::modem::Modem;
+use crate::network::{RSSI, provider};
+use crate::services::device_services;
+use crate::sessions::ip_configuration;
+use crate::values::{
+    elements_at, list, no_text, number, number_at, structure, text, uuid, zero, zeros,
+};
+use mbim_fields::FieldValue;
+use modem_profile::Profile;
+use std::alloc::{AllocError, Global};
+use uuid::Uuid;
+
+const DEVICE_CAPS: u32 = 1;
+
+const SUBSCRIBER_READY: u32 = 2;
+
+const RADIO_STATE: u32 = 3;
+
+const PIN: u32 = 4;
+
+const HOME_PROVIDER: u32 = 6;
+
+const VISIBLE_PROVIDERS: u32 = 8;
+
+const REGISTER_STATE: u32 = 9;
+
+const PACKET_SERVICE: u32 = 10;
+
+const SIGNAL_STATE: u32 = 11;
+
+const CONNECT: u32 = 12;
+
+const IP_CONFIGURATION: u32 = 15;
+
+const DEVICE_SERVICES: u32 = 16;
+
+const SUBSCRIBE_LIST: u32 = 19;
+
+const PACKET_STATISTICS: u32 = 20;
+
+// What a switch of the radio may be: off and on.
+const OFF: u64 = 0;
+
+const ON: u64 = 1;
+
+// The one action of a scan: all providers.
+const FULL_SCAN: u64 = 0;
+
+// What may be done about the packet service.
+const ATTACH: u64 = 0;
+
+const DETACH: u64 = 1;
+
+// What may be done about a session.
+const DEACTIVATE: u64 = 0;
+
+const ACTIVATE: u64 = 1;
+
+impl Modem {
+    /// Answers a query of the service.
+    pub(crate) fn query_basic_connect(
+        &self,
+        alloc: Global,
+        cid: u32,
+        asked: &[FieldValue],
+    ) -> Result<Option<Vec<FieldValue>>, AllocError>
+        ensures { IfOk result (λ told. option_map (λ values. map value_view values.items) told ≡ spec.answer_to_query cid (map value_view asked.now) self.now) }
+    {
+        match cid {
+            DEVICE_CAPS => Ok(Some(device_caps(alloc, &self.profile)?)),
+            SUBSCRIBER_READY => Ok(Some(subscriber_ready(alloc, &self.profile)?)),
+            RADIO_STATE => Ok(Some(self.radio_state(alloc)?)),
+            PIN => Ok(Some(zeros(alloc, 3)?)),
+            HOME_PROVIDER => Ok(Some(provider(alloc, &self.profile)?)),
+            VISIBLE_PROVIDERS => self.visible_providers(alloc, number_at(asked, 0)),
+            REGISTER_STATE => Ok(Some(self.register_state(alloc)?)),
+            PACKET_SERVICE => Ok(Some(self.packet_service(alloc)?)),
+            SIGNAL_STATE => Ok(Some(signal_state(alloc)?)),
+            CONNECT => Ok(Some(self.connection(alloc, number_at(asked, 0))?)),
+            IP_CONFIGURATION => Ok(Some(ip_configuration(alloc, number_at(asked, 0))?)),
+            DEVICE_SERVICES => Ok(Some(device_services(alloc)?)),
+            PACKET_STATISTICS => Ok(Some(zeros(alloc, 8)?)),
+            _ => Ok(None),
+        }
+    }
+
+    /// Answers a set of the service.
+    pub(crate) fn set_basic_connect(
+        &mut self,
+        alloc: Global,
+        cid: u32,
+        asked: &[FieldValue],
+    ) -> Result<Option<Vec<FieldValue>>, AllocError>
+        ensures told { IfOk result (λ told. option_map (λ values. map value_view values.items) told ≡ values_told (spec.answer_to_set cid (map value_view asked.now) self.old)) }
+        ensures left { OnOk result (self.new ≡ modem_left self.old (spec.answer_to_set cid (map value_view asked.now) self.old)) }
+    {
+        match cid {
+            RADIO_STATE => self.set_radio(alloc, number_at(asked, 0)),
+            PACKET_SERVICE => self.set_packet_service(alloc, number_at(asked, 0)),
+            CONNECT => self.connect(alloc, number_at(asked, 0), number_at(asked, 1)),
+            SUBSCRIBE_LIST => self.subscribe(alloc, elements_at(asked, 1)),
+            _ => Ok(None),
+        }
+    }
+
+    // The switch of the hardware, which is always on, and that of the software.
+    fn radio_state(&self, alloc: Global) -> Result<Vec<FieldValue>, AllocError>
+        ensures { IfOk result (λ values. map value_view values.items ≡ spec.radio_state self.now) }
+    {
+        Ok(vec![in alloc; number(ON), number(u64::from(self.radio))]?)
+    }
+
+    fn set_radio(
+        &mut self,
+        alloc: Global,
+        state: u64,
+    ) -> Result<Option<Vec<FieldValue>>, AllocError>
+        ensures told { IfOk result (λ told. option_map (λ values. map value_view values.items) told ≡ values_told (spec.set_radio state self.old)) }
+        ensures left { OnOk result (self.new ≡ modem_left self.old (spec.set_radio state self.old)) }
+    {
+        match state {
+            ON => self.switch_radio(alloc, true),
+            OFF => self.switch_radio(alloc, false),
+            _ => Ok(None),
+        }
+    }
+
+    fn switch_radio(
+        &mut self,
+        alloc: Global,
+        radio: bool,
+    ) -> Result<Option<Vec<FieldValue>>, AllocError>
+        ensures told { IfOk result (λ told. option_map (λ values. map value_view values.items) told ≡ values_told (spec.switch_radio radio self.old)) }
+        ensures left { OnOk result (self.new ≡ modem_left self.old (spec.switch_radio radio self.old)) }
+    {
+        self.radio = radio;
+        Ok(Some(self.radio_state(alloc)?))
+    }
+
+    fn visible_providers(
+        &self,
+        alloc: Global,
+        action: u64,
+    ) -> Result<Option<Vec<FieldValue>>, AllocError>
+        ensures { IfOk result (λ told. option_map (λ values. map value_view values.items) told ≡ spec.visible_providers action self.now) }
+    {
+        if action != FULL_SCAN {
+            return Ok(None);
+        }
+        let provider = structure(provider(alloc, &self.profile)?);
+        let providers = list(vec![in alloc; provider]?);
+        Ok(Some(vec![in alloc; number(1), providers]?))
+    }
+
+    // At home while the radio is on, and else not registered.
+    fn registration(&self) -> u64
+        ensures { result ≡ spec.registration self.now }
+    {
+        if self.radio { 3 } else { 1 }
+    }
+
+    fn register_state(&self, alloc: Global) -> Result<Vec<FieldValue>, AllocError>
+        ensures { IfOk result (λ values. map value_view values.items ≡ spec.register_state self.now) }
+    {
+        Ok(vec![in alloc;
+            zero(),
+            number(self.registration()),
+            zero(),
+            zero(),
+            zero(),
+            no_text(alloc),
+            no_text(alloc),
+            no_text(alloc),
+            zero(),
+        ]?)
+    }
+
+    // Attached or detached.
+    fn attachment(&self) -> u64
+        ensures { result ≡ spec.attachment self.now }
+    {
+        if self.attached { 2 } else { 4 }
+    }
+
+    fn packet_service(&self, alloc: Global) -> Result<Vec<FieldValue>, AllocError>
+        ensures { IfOk result (λ values. map value_view values.items ≡ spec.packet_service self.now) }
+    {
+        Ok(vec![in alloc; zero(), number(self.attachment()), zero(), zero(), zero()]?)
+    }
+
+    fn set_packet_service(
+        &mut self,
+        alloc: Global,
+        action: u64,
+    ) -> Result<Option<Vec<FieldValue>>, AllocError>
+        ensures told { IfOk result (λ told. option_map (λ values. map value_view values.items) told ≡ values_told (spec.set_packet_service action self.old)) }
+        ensures left { OnOk result (self.new ≡ modem_left self.old (spec.set_packet_service action self.old)) }
+    {
+        match action {
+            ATTACH => self.switch_packet_service(alloc, true),
+            DETACH => self.switch_packet_service(alloc, false),
+            _ => Ok(None),
+        }
+    }
+
+    fn switch_packet_service(
+        &mut self,
+        alloc: Global,
+        attached: bool,
+    ) -> Result<Option<Vec<FieldValue>>, AllocError>
+        ensures told { IfOk result (λ told. option_map (λ values. map value_view values.items) told ≡ values_told (spec.switch_packet_service attached self.old)) }
+        ensures left { OnOk result (self.new ≡ modem_left self.old (spec.switch_packet_service attached self.old)) }
+    {
+        self.attached = attached;
+        Ok(Some(self.packet_service(alloc)?))
+    }
+
+    // Activated or deactivated.
+    fn activation(&self, session: u64) -> u64
+        ensures { result ≡ spec.activation session self.now }
+    {
+        if self.is_connected(session) { 1 } else { 3 }
+    }
+
+    fn is_connected(&self, session: u64) -> bool
+        ensures { result ≡ spec.is_connected session self.now }
+    {
+        self.sessions.iter().any(|connected| *connected == session)
+    }
+
+    fn connection(&self, alloc: Global, session: u64) -> Result<Vec<FieldValue>, AllocError>
+        ensures { IfOk result (λ values. map value_view values.items ≡ spec.connection session self.now) }
+    {
+        Ok(vec![in alloc;
+            number(session),
+            number(self.activation(session)),
+            zero(),
+            zero(),
+            uuid(Uuid::nil()),
+            zero(),
+        ]?)
+    }
+
+    fn connect(
+        &mut self,
+        alloc: Global,
+        session: u64,
+        command: u64,
+    ) -> Result<Option<Vec<FieldValue>>, AllocError>
+        ensures told { IfOk result (λ told. option_map (λ values. map value_view values.items) told ≡ values_told (spec.connect session command self.old)) }
+        ensures left { OnOk result (self.new ≡ modem_left self.old (spec.connect session command self.old)) }
+    {
+        match command {
+            ACTIVATE => self.activate(alloc, session),
+            DEACTIVATE => self.deactivate(alloc, session),
+            _ => Ok(None),
+        }
+    }
+
+    fn activate(
+        &mut self,
+        alloc: Global,
+        session: u64,
+    ) -> Result<Option<Vec<FieldValue>>, AllocError>
+        ensures told { IfOk result (λ told. option_map (λ values. map value_view values.items) told ≡ values_told (spec.activated session self.old)) }
+        ensures left { OnOk result (self.new ≡ modem_left self.old (spec.activated session self.old)) }
+    {
+        remove(&mut self.sessions, session);
+        self.sessions.push(session)?;
+        Ok(Some(self.connection(alloc, session)?))
+    }
+
+    fn deactivate(
+        &mut self,
+        alloc: Global,
+        session: u64,
+    ) -> Result<Option<Vec<FieldValue>>, AllocError>
+        ensures told { IfOk result (λ told. option_map (λ values. map value_view values.items) told ≡ values_told (spec.deactivated session self.old)) }
+        ensures left { OnOk result (self.new ≡ modem_left self.old (spec.deactivated session self.old)) }
+    {
+        remove(&mut self.sessions, session);
+        Ok(Some(self.connection(alloc, session)?))
+    }
+
+    // The host listens to these events from here on, and is told of them in normal form.
+    fn subscribe(
+        &mut self,
+        alloc: Global,
+        events: &[FieldValue],
+    ) -> Result<Option<Vec<FieldValue>>, AllocError>
+        ensures told { IfOk result (λ told. option_map (λ values. map value_view values.items) told ≡ values_told (spec.subscribe (spec.listed (map value_view events.now)) self.old)) }
+        ensures left { OnOk result (self.new ≡ modem_left self.old (spec.subscribe (spec.listed (map value_view events.now)) self.old)) }
+    {
+        self.subscribed = listed(alloc, events)?;
+        Ok(Some(list_fields(alloc, &self.subscribed)?))
+    }
+}
+
+fn remove(sessions: &mut Vec<u64>, session: u64)
+    ensures { sessions.new.items ≡ spec.others session sessions.old.items }
+{
+    sessions.retain(|connected| *connected != session);
+}
+
+fn device_caps(alloc: Global, profile: &Profile) -> Result<Vec<FieldValue>, AllocError>
+    ensures { IfOk result (λ values. map value_view values.items ≡ spec.device_caps profile.now) }
+{
+    let device = text(alloc, profile.imei().value())?;
+    let firmware = text(alloc, profile.revision().value())?;
+    let hardware = text(alloc, profile.model().value())?;
+    Ok(vec![in alloc;
+        zero(),
+        zero(),
+        zero(),
+        zero(),
+        zero(),
+        zero(),
+        zero(),
+        zero(),
+        no_text(alloc),
+        device,
+        firmware,
+        hardware,
+    ]?)
+}
+
+fn subscriber_ready(alloc: Global, profile: &Profile) -> Result<Vec<FieldValue>, AllocError>
+    ensures { IfOk result (λ values. map value_view values.items ≡ spec.subscriber_ready profile.now) }
+{
+    let phone = text(alloc, profile.msisdn().value())?;
+    let phones = list(vec![in alloc; phone]?);
+    Ok(vec![in alloc;
+        number(1),
+        no_text(alloc),
+        no_text(alloc),
+        zero(),
+        number(1),
+        phones,
+    ]?)
+}
+
+fn signal_state(alloc: Global) -> Result<Vec<FieldValue>, AllocError>
+    ensures { IfOk result (λ values. map value_view values.items ≡ spec.signal_state) }
+{
+    Ok(vec![in alloc; number(RSSI), zero(), zero(), zero(), zero()]?)
+}

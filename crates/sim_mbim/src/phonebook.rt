@@ -1,0 +1,197 @@
+//! The commands of the service Phonebook.
+
+ghost use Rattle.std.specs.Prelude.{◌≡◌, ◌+◌, ◌<◌, ◌++◌, [], ◌∷◌, length, map, option_map, position, is_none, IfOk, IfSome, OnOk};
+ghost use Rattle.mbim_fields.specs.View.{value_view};
+ghost use Rattle.sim_mbim.specs.Places as places;
+ghost use Rattle.sim_mbim.specs.Phonebook as spec;
+ghost use Rattle.sim_mbim.specs.Modem.{values_told, modem_left};
+
+use crate::modem::Modem;
+use crate::places::{ALL, ONE, find, forget_all};
+use crate::values::{list, number, number_at, structure, text, text_at, zeros};
+use mbim_fields::FieldValue;
+use modem_profile::{PhonebookEntry, is_phonebook_text};
+use std::alloc::{AllocError, Global};
+
+const CONFIGURATION: u32 = 1;
+
+const READ: u32 = 2;
+
+const DELETE: u32 = 3;
+
+const WRITE: u32 = 4;
+
+// Where an entry is to be kept: in a place that isn't used, or under an index.
+const SAVE_UNUSED: u64 = 0;
+
+const SAVE_INDEX: u64 = 1;
+
+impl Modem {
+    /// Answers a query of the service.
+    pub(crate) fn query_phonebook(
+        &self,
+        alloc: Global,
+        cid: u32,
+        asked: &[FieldValue],
+    ) -> Result<Option<Vec<FieldValue>>, AllocError>
+        ensures { IfOk result (λ told. option_map (λ values. map value_view values.items) told ≡ spec.answer_to_query cid (map value_view asked.now) self.now) }
+    {
+        match cid {
+            CONFIGURATION => Ok(Some(zeros(alloc, 5)?)),
+            READ => self.read_entries(alloc, number_at(asked, 0), number_at(asked, 1)),
+            _ => Ok(None),
+        }
+    }
+
+    /// Answers a set of the service.
+    pub(crate) fn set_phonebook(
+        &mut self,
+        alloc: Global,
+        cid: u32,
+        asked: &[FieldValue],
+    ) -> Result<Option<Vec<FieldValue>>, AllocError>
+        ensures told { IfOk result (λ told. option_map (λ values. map value_view values.items) told ≡ values_told (spec.answer_to_set cid (map value_view asked.now) self.old)) }
+        ensures left { OnOk result (self.new ≡ modem_left self.old (spec.answer_to_set cid (map value_view asked.now) self.old)) }
+    {
+        match cid {
+            DELETE => Ok(self.delete_entries(alloc, number_at(asked, 0), number_at(asked, 1))),
+            WRITE => {
+                let number = text_at(alloc, asked, 2)?;
+                let name = text_at(alloc, asked, 3)?;
+                let entry = PhonebookEntry { number, name };
+                Ok(self.write_entry(alloc, number_at(asked, 0), number_at(asked, 1), entry))
+            }
+            _ => Ok(None),
+        }
+    }
+
+    fn read_entries(
+        &self,
+        alloc: Global,
+        flag: u64,
+        index: u64,
+    ) -> Result<Option<Vec<FieldValue>>, AllocError>
+        ensures { IfOk result (λ told. option_map (λ values. map value_view values.items) told ≡ spec.read flag index self.now) }
+    {
+        match flag {
+            ALL => Ok(Some(list_of(alloc, all_entries(alloc, &self.entries)?)?)),
+            ONE => {
+                let Some((_, kept)) = find(&self.entries, index) else {
+                    return Ok(None);
+                };
+                let entry = entry(alloc, index, kept)?;
+                Ok(Some(list_of(alloc, vec![in alloc; entry]?)?))
+            }
+            _ => Ok(None),
+        }
+    }
+
+    fn delete_entries(&mut self, alloc: Global, flag: u64, index: u64) -> Option<Vec<FieldValue>>
+        ensures told { option_map (λ values. map value_view values.items) result ≡ values_told (spec.delete flag index self.old) }
+        ensures left { self.new ≡ modem_left self.old (spec.delete flag index self.old) }
+    {
+        match flag {
+            ALL => {
+                forget_all(&mut self.entries);
+                Some(Vec::new(alloc))
+            }
+            ONE => {
+                let (place, _) = find(&self.entries, index)?;
+                self.entries[place] = None;
+                Some(Vec::new(alloc))
+            }
+            _ => None,
+        }
+    }
+
+    fn write_entry(
+        &mut self,
+        alloc: Global,
+        flag: u64,
+        index: u64,
+        entry: PhonebookEntry,
+    ) -> Option<Vec<FieldValue>>
+        ensures told { option_map (λ values. map value_view values.items) result ≡ values_told (spec.write flag index entry self.old) }
+        ensures left { self.new ≡ modem_left self.old (spec.write flag index entry self.old) }
+    {
+        if !is_phonebook_text(&entry.number) || !is_phonebook_text(&entry.name) {
+            return None;
+        }
+        let place = self.place_for(flag, index)?;
+        self.entries[place] = Some(entry);
+        Some(Vec::new(alloc))
+    }
+
+    // Where an entry is to be kept.
+    fn place_for(&self, flag: u64, index: u64) -> Option<usize>
+        ensures place { option_map (λ place. place + 1) result ≡ spec.index_for flag index self.now }
+        ensures within { IfSome result (λ place. place < length self.now.entries) }
+    {
+        match flag {
+            SAVE_UNUSED => unused(&self.entries),
+            SAVE_INDEX => {
+                let place = usize::try_from(index.checked_sub(1)?).ok()?;
+                (place < self.entries.len()).then_some(place)
+            }
+            _ => None,
+        }
+    }
+}
+
+// The first place where nothing is kept.
+fn unused(entries: &[Option<PhonebookEntry>]) -> Option<usize>
+    ensures place { result ≡ position is_none entries.now }
+    ensures within { IfSome result (λ place. place < length entries.now) }
+{
+    entries.iter().position(|place| place.is_none())
+}
+
+// An entry: its index, its number and its name.
+fn entry(alloc: Global, index: u64, entry: &PhonebookEntry) -> Result<FieldValue, AllocError>
+    ensures { IfOk result (λ value. value_view value ≡ spec.entry (index, entry.now)) }
+{
+    let phone = text(alloc, &entry.number)?;
+    let name = text(alloc, &entry.name)?;
+    Ok(structure(vec![in alloc; number(index), phone, name]?))
+}
+
+// All entries that are kept.
+fn all_entries(
+    alloc: Global,
+    entries: &[Option<PhonebookEntry>],
+) -> Result<Vec<FieldValue>, AllocError>
+    ensures { IfOk result (λ values. map value_view values.items ≡ map spec.entry (places.kept entries.now)) }
+{
+    let mut values = Vec::new(alloc);
+    let mut index = 1;
+    for place in entries {
+        add_entry(alloc, &mut values, index, place)?;
+        index += 1;
+    }
+    Ok(values)
+}
+
+// Adds what is kept under an index.
+fn add_entry(
+    alloc: Global,
+    values: &mut Vec<FieldValue>,
+    index: u64,
+    place: &Option<PhonebookEntry>,
+) -> Result<(), AllocError>
+    ensures { OnOk result (map value_view values.new.items ≡ map value_view values.old.items ++ map spec.entry (places.kept_from index (place.now ∷ []))) }
+{
+    let Some(kept) = place else {
+        return Ok(());
+    };
+    let value = entry(alloc, index, kept)?;
+    values.push(value)?;
+    Ok(())
+}
+
+// The fields of a list of entries.
+fn list_of(alloc: Global, entries: Vec<FieldValue>) -> Result<Vec<FieldValue>, AllocError>
+    ensures { IfOk result (λ values. map value_view values.items ≡ spec.list_of (map value_view entries.items)) }
+{
+    let count = entries.len() as u64;
+    Ok(vec![in alloc; number(count), list(entries)]?)
+}

@@ -1,0 +1,158 @@
+//! The commands of the service SMS.
+
+ghost use Rattle.std.specs.Prelude.{◌≡◌, ◌++◌, [], ◌∷◌, map, option_map, IfOk, OnOk};
+ghost use Rattle.mbim_fields.specs.View.{value_view};
+ghost use Rattle.sim_mbim.specs.Places as places;
+ghost use Rattle.sim_mbim.specs.Sms as spec;
+ghost use Rattle.sim_mbim.specs.Modem.{values_told, modem_left};
+
+use crate::modem::Modem;
+use crate::places::{ALL, ONE, find, forget_all};
+use crate::values::{list, no_text, number, number_at, octets, structure, zero, zeros};
+use kit_bytes::Octets;
+use mbim_fields::FieldValue;
+use std::alloc::{AllocError, Global};
+
+const CONFIGURATION: u32 = 1;
+
+const READ: u32 = 2;
+
+const DELETE: u32 = 4;
+
+const STORE_STATUS: u32 = 5;
+
+// The one format of messages.
+const PDU: u64 = 0;
+
+impl Modem {
+    /// Answers a query of the service.
+    pub(crate) fn query_sms(
+        &self,
+        alloc: Global,
+        cid: u32,
+        asked: &[FieldValue],
+    ) -> Result<Option<Vec<FieldValue>>, AllocError>
+        ensures { IfOk result (λ told. option_map (λ values. map value_view values.items) told ≡ spec.answer_to_query cid (map value_view asked.now) self.now) }
+    {
+        match cid {
+            CONFIGURATION => Ok(Some(configuration(alloc)?)),
+            READ => {
+                let (format, flag) = (number_at(asked, 0), number_at(asked, 1));
+                self.read_messages(alloc, format, flag, number_at(asked, 2))
+            }
+            STORE_STATUS => Ok(Some(zeros(alloc, 2)?)),
+            _ => Ok(None),
+        }
+    }
+
+    /// Answers a set of the service.
+    pub(crate) fn set_sms(
+        &mut self,
+        alloc: Global,
+        cid: u32,
+        asked: &[FieldValue],
+    ) -> Result<Option<Vec<FieldValue>>, AllocError>
+        ensures told { IfOk result (λ told. option_map (λ values. map value_view values.items) told ≡ values_told (spec.answer_to_set cid (map value_view asked.now) self.old)) }
+        ensures left { OnOk result (self.new ≡ modem_left self.old (spec.answer_to_set cid (map value_view asked.now) self.old)) }
+    {
+        match cid {
+            DELETE => Ok(self.delete_messages(alloc, number_at(asked, 0), number_at(asked, 1))),
+            _ => Ok(None),
+        }
+    }
+
+    fn read_messages(
+        &self,
+        alloc: Global,
+        format: u64,
+        flag: u64,
+        index: u64,
+    ) -> Result<Option<Vec<FieldValue>>, AllocError>
+        ensures { IfOk result (λ told. option_map (λ values. map value_view values.items) told ≡ spec.read format flag index self.now) }
+    {
+        if format != PDU {
+            return Ok(None);
+        }
+        match flag {
+            ALL => Ok(Some(list_of(alloc, all_messages(alloc, &self.messages)?)?)),
+            ONE => {
+                let Some((_, octets)) = find(&self.messages, index) else {
+                    return Ok(None);
+                };
+                let message = message(alloc, index, octets)?;
+                Ok(Some(list_of(alloc, vec![in alloc; message]?)?))
+            }
+            _ => Ok(None),
+        }
+    }
+
+    fn delete_messages(&mut self, alloc: Global, flag: u64, index: u64) -> Option<Vec<FieldValue>>
+        ensures told { option_map (λ values. map value_view values.items) result ≡ values_told (spec.delete flag index self.old) }
+        ensures left { self.new ≡ modem_left self.old (spec.delete flag index self.old) }
+    {
+        match flag {
+            ALL => {
+                forget_all(&mut self.messages);
+                Some(Vec::new(alloc))
+            }
+            ONE => {
+                let (place, _) = find(&self.messages, index)?;
+                self.messages[place] = None;
+                Some(Vec::new(alloc))
+            }
+            _ => None,
+        }
+    }
+}
+
+fn configuration(alloc: Global) -> Result<Vec<FieldValue>, AllocError>
+    ensures { IfOk result (λ values. map value_view values.items ≡ spec.configuration) }
+{
+    Ok(vec![in alloc; zero(), zero(), zero(), zero(), no_text(alloc)]?)
+}
+
+// A message: its index, no status, and its octets.
+fn message(alloc: Global, index: u64, message: &Octets) -> Result<FieldValue, AllocError>
+    ensures { IfOk result (λ value. value_view value ≡ spec.message (index, message.now)) }
+{
+    let octets = octets(alloc, message.as_slice())?;
+    Ok(structure(vec![in alloc; number(index), zero(), octets]?))
+}
+
+// All messages that are kept.
+fn all_messages(alloc: Global, messages: &[Option<Octets>]) -> Result<Vec<FieldValue>, AllocError>
+    ensures { IfOk result (λ values. map value_view values.items ≡ map spec.message (places.kept messages.now)) }
+{
+    let mut values = Vec::new(alloc);
+    let mut index = 1;
+    for place in messages {
+        add_message(alloc, &mut values, index, place)?;
+        index += 1;
+    }
+    Ok(values)
+}
+
+// Adds what is kept under an index.
+fn add_message(
+    alloc: Global,
+    values: &mut Vec<FieldValue>,
+    index: u64,
+    place: &Option<Octets>,
+) -> Result<(), AllocError>
+    ensures { OnOk result (map value_view values.new.items ≡ map value_view values.old.items ++ map spec.message (places.kept_from index (place.now ∷ []))) }
+{
+    let Some(octets) = place else {
+        return Ok(());
+    };
+    let value = message(alloc, index, octets)?;
+    values.push(value)?;
+    Ok(())
+}
+
+// The fields of a list of messages.
+fn list_of(alloc: Global, messages: Vec<FieldValue>) -> Result<Vec<FieldValue>, AllocError>
+    ensures { IfOk result (λ values. map value_view values.items ≡ spec.list_of (map value_view messages.items)) }
+{
+    let count = messages.len() as u64;
+    Ok(vec![in alloc; zero(), number(count), list(messages)]?)
+}
