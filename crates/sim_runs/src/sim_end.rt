@@ -1,0 +1,47 @@
+ghost use Rattle.std.specs.Prelude.{◌≡◌};
+
+use file_io::FileFault;
+use hub_io::ServeEnd;
+use modem_profile::ProfileFault;
+
+/// How simulating a modem ended.
+#[derive(Clone, Copy, Debug, PartialEq, Eq)]
+pub enum SimEnd {
+    /// Its clients were served, until this.
+    Served(ServeEnd),
+    /// The hub couldn't be opened.
+    HubFault,
+    /// The profile's file couldn't be read.
+    ReadFault,
+    /// The profile isn't read, for this fault or since its file is too long.
+    ProfileFault(Option<ProfileFault>),
+    /// No memory was there to begin with.
+    OutOfMemory,
+}
+
+impl From<FileFault> for SimEnd {
+    ghost use Rattle.sim_runs.specs.Simulating.{end_of_file};
+
+    ghost from_gives = { λ fault end. end ≡ end_of_file fault };
+
+    fn from(fault: FileFault) -> Self {
+        match fault {
+            FileFault::ReadFault => SimEnd::ReadFault,
+            FileFault::Long => SimEnd::ProfileFault(None),
+            FileFault::OutOfMemory => SimEnd::OutOfMemory,
+        }
+    }
+}
+
+impl From<ProfileFault> for SimEnd {
+    ghost use Rattle.sim_runs.specs.Simulating.{end_of_profile};
+
+    ghost from_gives = { λ fault end. end ≡ end_of_profile fault };
+
+    fn from(fault: ProfileFault) -> Self {
+        match fault {
+            ProfileFault::OutOfMemory => SimEnd::OutOfMemory,
+            fault => SimEnd::ProfileFault(Some(fault)),
+        }
+    }
+}

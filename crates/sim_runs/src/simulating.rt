@@ -1,0 +1,85 @@
+ghost use Rattle.std.specs.Prelude.{◌≡◌, None};
+ghost use Rattle.std.specs.Option.{option_copied};
+ghost use Rattle.kit_io.specs.Causes.{Rose};
+ghost use Rattle.hub_io.specs.Record.{Since};
+ghost use Rattle.modem_profile.specs.Profile.{default_profile};
+ghost use Rattle.modem_profile.specs.Reading.{profile_in};
+ghost use Rattle.sim_runs.specs.Simulating.{IsHubFault, ServesProfile, ServesRead, Simulates, asked_in};
+
+use crate::SimEnd;
+use crate::serving::serve_profile;
+use file_io::{Files, read_file};
+use hub_io::Hub;
+use kit_bytes::{Kind, PathText};
+use modem_profile::{Profile, read_profile};
+use std::alloc::{AllocError, Global};
+
+/// Simulates a modem of a kind, to whose socket clients connect. It has the profile of the file at a
+/// path, or the default one where no file is named.
+///
+/// The profile is read first. Where it can't be read or isn't a profile, the hub isn't touched. Else
+/// the hub is opened once, for the socket and no device, and its clients are served for so many turns
+/// at most.
+pub fn simulate<H: Hub, F: Files>(
+    alloc: Global,
+    kind: Kind,
+    socket: &PathText,
+    profile: Option<&PathText>,
+    turns: u64,
+    hub: &mut H,
+    files: &mut F,
+) -> SimEnd
+    ensures simulates { Simulates (option_copied profile.entry) (asked_in kind socket.now turns)
+        (record { files = F.calls files.old; hub = H.calls hub.old })
+        (record { files = F.calls files.new; hub = H.calls hub.new })
+        result }
+    ensures apart { option_copied profile.entry ≡ None → files.new ≡ files.old }
+    // It doesn't give up by itself.
+    ensures hub_fault { IsHubFault result → Rose (H.faults hub.old) (H.faults hub.new) }
+    ensures read_fault { result ≡ SimEnd.ReadFault → Rose (F.read_faults files.old) (F.read_faults files.new) }
+{
+    match profile {
+        None => simulate_default(alloc, kind, socket, turns, hub),
+        Some(path) => match read_file(alloc, files, path.value().as_str()) {
+            Ok(text) => simulate_text(alloc, kind, socket, text.as_slice(), turns, hub),
+            Err(fault) => SimEnd::from(fault),
+        },
+    }
+}
+
+// Simulates a modem that has the default profile.
+fn simulate_default<H: Hub>(
+    alloc: Global,
+    kind: Kind,
+    socket: &PathText,
+    turns: u64,
+    hub: &mut H,
+) -> SimEnd
+    ensures serves { Since (H.calls hub.old) (H.calls hub.new) (ServesProfile (asked_in kind socket.now turns) default_profile result) }
+    ensures own { ¬ (result ≡ SimEnd.ReadFault) }
+    ensures hub_fault { IsHubFault result → Rose (H.faults hub.old) (H.faults hub.new) }
+{
+    match Profile::defaults(alloc) {
+        Ok(profile) => serve_profile(alloc, kind, socket, profile, turns, hub),
+        Err(AllocError) => SimEnd::OutOfMemory,
+    }
+}
+
+// Simulates a modem that has the profile of a text.
+fn simulate_text<H: Hub>(
+    alloc: Global,
+    kind: Kind,
+    socket: &PathText,
+    text: &[u8],
+    turns: u64,
+    hub: &mut H,
+) -> SimEnd
+    ensures serves { Since (H.calls hub.old) (H.calls hub.new) (ServesRead (asked_in kind socket.now turns) (profile_in text.now) result) }
+    ensures own { ¬ (result ≡ SimEnd.ReadFault) }
+    ensures hub_fault { IsHubFault result → Rose (H.faults hub.old) (H.faults hub.new) }
+{
+    match read_profile(alloc, text) {
+        Ok(profile) => serve_profile(alloc, kind, socket, profile, turns, hub),
+        Err(fault) => SimEnd::from(fault),
+    }
+}
