@@ -1,5 +1,5 @@
 -- What the program does: to its link, its hub and its files, and what it prints.
-use Rattle.std.specs.Prelude.{◌≡◌, ◌⊎◌, ℕ, Bool, true, false, List, [], Option, Result, Ok, Err}
+use Rattle.std.specs.Prelude.{◌≡◌, ◌⊎◌, ℕ, Bool, true, false, List, [], Option, None, Result, Ok, Err}
 use Rattle.std.specs.Str.{encode_utf8_all}
 use Rattle.kit_io.specs.Told.{Grows}
 use Rattle.link_io.specs.Calls as link
@@ -10,15 +10,16 @@ use Rattle.mbim_requests.specs.declared.MbimRequest.{MbimRequest}
 use Rattle.device_core.specs.declared.plan.QmiPlan.{QmiPlan}
 use Rattle.mbim_session.specs.declared.plan.MbimPlan.{MbimPlan}
 use Rattle.tool_words.specs.declared.command.ToolCommand.{ToolCommand}
-use Rattle.tool_words.specs.declared.command.ToolCommand.TheVariants.{Qmicli, Mbimcli, Describe, Proxy}
+use Rattle.tool_words.specs.declared.command.ToolCommand.TheVariants.{Qmicli, Mbimcli, Describe, Proxy, Simulator}
 use Rattle.tool_words.specs.declared.fault.UsageKind.{UsageKind}
 use Rattle.tool_runs.specs.Asking.{Asks}
 use Rattle.tool_runs.specs.Qmi.{qmi_asked}
 use Rattle.tool_runs.specs.Mbim.{mbim_asked}
 use Rattle.tool_runs.specs.Describing.{Describes}
+use Rattle.sim_runs.specs.Simulating as sim
 use Rattle.program.specs.declared.status.Status.{Status}
 use Rattle.program.specs.declared.status.Status.TheVariants as status
-use Rattle.program.specs.Status.{EndsAs}
+use Rattle.program.specs.Status.{EndsAs, status_of, status_of_sim}
 use Rattle.program.specs.Serving.{ServesProxy, asked_in}
 
 -- what is told of the outside, before and after
@@ -50,14 +51,16 @@ mbim_plan device proxied close request = record { device = device; proxied = pro
 
 -- ---- what the words ask for ----
 
--- a tool asks a modem or describes a file, and a proxy serves
+-- a tool asks a modem or describes a file, and a proxy or a simulated modem serves
 abbrev pub RunsCommand : ToolCommand → Told → Told → Status → Type 0
 RunsCommand (Qmicli device proxied cid keep request socket bridge) before after result =
-    EndsAs result (λ ends. Asks (path_to proxied device socket) (qmi_asked (qmi_plan device proxied cid keep request)) before.link after.link before.out ends after.out)
+    EndsAs status_of result (λ ends. Asks (path_to proxied device socket) (qmi_asked (qmi_plan device proxied cid keep request)) before.link after.link before.out ends after.out)
 RunsCommand (Mbimcli device proxied close request socket bridge) before after result =
-    EndsAs result (λ ends. Asks (path_to proxied device socket) (mbim_asked (mbim_plan device proxied close request)) before.link after.link before.out ends after.out)
-RunsCommand (Describe path) before after result = EndsAs result (λ ends. Describes (encode_utf8_all path) before.files after.files before.out ends after.out)
+    EndsAs status_of result (λ ends. Asks (path_to proxied device socket) (mbim_asked (mbim_plan device proxied close request)) before.link after.link before.out ends after.out)
+RunsCommand (Describe path) before after result = EndsAs status_of result (λ ends. Describes (encode_utf8_all path) before.files after.files before.out ends after.out)
 RunsCommand (Proxy kind device socket bridge empty time turns) before after result = hub.Since before.hub after.hub (ServesProxy kind (asked_in device socket empty time turns) result)
+RunsCommand (Simulator kind socket profile turns) before after result =
+    EndsAs status_of_sim result (λ ends. sim.Simulates profile (sim.asked_in kind socket turns) (record { files = before.files; hub = before.hub }) (record { files = after.files; hub = after.hub }) ends)
 
 -- what the words ask for, or that they are refused, and why
 abbrev pub RunsWords : Result ToolCommand UsageKind → Told → Told → Status → Type 0
@@ -77,12 +80,13 @@ pub record Objects (L H F O : Type 0) : Type 0 where
   pub files : F
   pub out : O
 
--- what a command has no use for is left as it was: hub and files by one that asks a modem, link and hub by one that describes a file, and all but the hub by a proxy
+-- what a command has no use for is left as it was: hub and files by one that asks a modem, link and hub by one that describes a file, all but the hub by a proxy, and link and output by a simulated modem, the files too where no profile is named
 abbrev pub CommandLeavesAlone : {L H F O : Type 0} → ToolCommand → Objects L H F O → Objects L H F O → Type 0
 CommandLeavesAlone (Qmicli device proxied cid keep request socket bridge) before after = (after.hub ≡ before.hub) × (after.files ≡ before.files)
 CommandLeavesAlone (Mbimcli device proxied close request socket bridge) before after = (after.hub ≡ before.hub) × (after.files ≡ before.files)
 CommandLeavesAlone (Describe path) before after = (after.link ≡ before.link) × (after.hub ≡ before.hub)
 CommandLeavesAlone (Proxy kind device socket bridge empty time turns) before after = (after.link ≡ before.link) × (after.files ≡ before.files) × (after.out ≡ before.out)
+CommandLeavesAlone (Simulator kind socket profile turns) before after = (after.link ≡ before.link) × (profile ≡ None → after.files ≡ before.files) × (after.out ≡ before.out)
 
 -- words that are refused leave all as it was
 abbrev pub LeavesAlone : {L H F O : Type 0} → Result ToolCommand UsageKind → Objects L H F O → Objects L H F O → Type 0

@@ -5,6 +5,11 @@ use Rattle.hub_io.specs.declared.settings.ServeEnd.TheVariants as end
 use Rattle.message_tables.specs.declared.fault.TableFault.{TableFault}
 use Rattle.message_tables.specs.declared.fault.TableFault.TheVariants as table
 use Rattle.message_tables.specs.Members.{member_text}
+use Rattle.modem_profile.specs.Members as profile_members
+use Rattle.modem_profile.specs.declared.fault.ProfileFault.{ProfileFault}
+use Rattle.modem_profile.specs.declared.fault.ProfileFault.TheVariants as profile
+use Rattle.sim_runs.specs.declared.sim_end.SimEnd.{SimEnd}
+use Rattle.sim_runs.specs.declared.sim_end.SimEnd.TheVariants as sim
 use Rattle.tool_runs.specs.declared.run_end.RunEnd.{RunEnd}
 use Rattle.tool_runs.specs.declared.run_end.RunEnd.TheVariants as run
 use Rattle.program.specs.declared.status.Status.{Status}
@@ -43,6 +48,13 @@ tables_line (Some (table.Twice at)) = object_line (codes "tables: twice") [] (de
 tables_line (Some (table.Deep at)) = object_line (codes "tables: deep") [] (decimal at)
 tables_line (Some table.OutOfMemory) = error_line (codes "out of memory") []
 
+-- why a profile isn't read; a file without a fault of its own is too long
+abbrev pub profile_line : Option ProfileFault → List ℕ
+profile_line None = error_line (codes "profile: long") []
+profile_line (Some profile.Json) = error_line (codes "profile: json") []
+profile_line (Some (profile.Member name)) = error_line (codes "profile: ") (profile_members.member_text name)
+profile_line (Some profile.OutOfMemory) = error_line (codes "out of memory") []
+
 -- the line that tells how a run ended: none where all went well
 abbrev pub line_of : Status → List ℕ
 line_of status.Done = []
@@ -58,6 +70,7 @@ line_of (status.TableFault fault) = tables_line fault
 line_of status.ReadFault = error_line (codes "read fault") []
 line_of status.HubFault = error_line (codes "hub fault") []
 line_of status.TurnsSpent = error_line (codes "turns spent") []
+line_of (status.ProfileFault fault) = profile_line fault
 line_of status.OutOfMemory = error_line (codes "out of memory") []
 
 abbrev pub code_of : Status → ℕ
@@ -74,6 +87,7 @@ code_of (status.TableFault fault) = 9
 code_of status.ReadFault = 10
 code_of status.HubFault = 13
 code_of status.TurnsSpent = 14
+code_of (status.ProfileFault fault) = 15
 code_of status.OutOfMemory = 70
 
 -- how a run ends whose command ended so
@@ -90,12 +104,6 @@ status_of run.ReadFault = status.ReadFault
 status_of run.WriteFault = status.WriteFault
 status_of run.OutOfMemory = status.OutOfMemory
 
--- a command's end is such, and the status tells of it
-pub record EndsAs (result : Status) (Is : RunEnd → Type 0) : Type 0 where
-  pub ends : RunEnd
-  pub is : Is ends
-  pub status : result ≡ status_of ends
-
 -- how a run ends whose serving ended so
 abbrev pub status_of_end : ServeEnd → Status
 status_of_end end.Stopped = status.Done
@@ -104,10 +112,25 @@ status_of_end end.HubFault = status.HubFault
 status_of_end end.TurnsSpent = status.TurnsSpent
 status_of_end end.OutOfMemory = status.OutOfMemory
 
--- how a tool's run may end, and how a proxy's
+-- how a run ends whose simulated modem ended so
+abbrev pub status_of_sim : SimEnd → Status
+status_of_sim (sim.Served why) = status_of_end why
+status_of_sim sim.HubFault = status.HubFault
+status_of_sim sim.ReadFault = status.ReadFault
+status_of_sim (sim.ProfileFault fault) = status.ProfileFault fault
+status_of_sim sim.OutOfMemory = status.OutOfMemory
+
+-- an end is such, and the status tells of it
+pub record EndsAs {E : Type 0} (status_for : E → Status) (result : Status) (Is : E → Type 0) : Type 0 where
+  pub ends : E
+  pub is : Is ends
+  pub status : result ≡ status_for ends
+
+-- how a run may end of a tool, of a proxy, and of a simulated modem
 abbrev pub IsOfTool : Status → Type 0
 IsOfTool status.HubFault = ⊥
 IsOfTool status.TurnsSpent = ⊥
+IsOfTool (status.ProfileFault fault) = ⊥
 IsOfTool _ = Unit {0}
 
 abbrev pub IsOfProxy : Status → Type 0
@@ -116,3 +139,12 @@ IsOfProxy status.HubFault = Unit {0}
 IsOfProxy status.TurnsSpent = Unit {0}
 IsOfProxy status.OutOfMemory = Unit {0}
 IsOfProxy _ = ⊥
+
+abbrev pub IsOfSimulator : Status → Type 0
+IsOfSimulator status.Done = Unit {0}
+IsOfSimulator status.HubFault = Unit {0}
+IsOfSimulator status.TurnsSpent = Unit {0}
+IsOfSimulator status.ReadFault = Unit {0}
+IsOfSimulator (status.ProfileFault fault) = Unit {0}
+IsOfSimulator status.OutOfMemory = Unit {0}
+IsOfSimulator _ = ⊥

@@ -6,8 +6,9 @@ ghost use Rattle.tool_words.specs.Command.{command_in};
 ghost use Rattle.program.specs.Running.{CommandLeavesAlone, LeavesAlone, Runs, RunsCommand};
 ghost use Rattle.program.specs.Status.{line_of};
 
-use crate::proxy::{serve, settings_of};
+use crate::proxy::serve_asked;
 use crate::report::report;
+use crate::simulator::simulate_modem;
 use crate::status::Status;
 use crate::tool::{ask_modem, describe_file, path_to};
 use device_core::QmiPlan;
@@ -16,10 +17,11 @@ use hub_io::Hub;
 use kit_io::Sink;
 use link_io::Link;
 use mbim_session::MbimPlan;
-use std::alloc::{AllocError, Global};
+use std::alloc::Global;
 use tool_words::{ToolCommand, WordFault, command_of};
 
-/// Does all that the program does: what the words ask, as a tool or as a proxy. The program ends with the status.
+/// Does all that the program does: what the words ask, as a tool, a proxy or a simulated modem. The
+/// program ends with the status.
 pub fn run<O: Sink, E: Sink, L: Link, H: Hub, F: Files>(
     alloc: Global,
     words: &[String],
@@ -94,13 +96,8 @@ fn run_command<O: Sink, L: Link, H: Hub, F: Files>(
                 keep,
                 request,
             };
-            ask_modem(
-                alloc,
-                path_to(proxied, &plan.device, &socket),
-                &plan,
-                out,
-                link,
-            )
+            let path = path_to(proxied, &plan.device, &socket);
+            ask_modem(alloc, path, &plan, out, link)
         }
         ToolCommand::Mbimcli {
             device,
@@ -116,13 +113,8 @@ fn run_command<O: Sink, L: Link, H: Hub, F: Files>(
                 close,
                 request,
             };
-            ask_modem(
-                alloc,
-                path_to(proxied, &plan.device, &socket),
-                &plan,
-                out,
-                link,
-            )
+            let path = path_to(proxied, &plan.device, &socket);
+            ask_modem(alloc, path, &plan, out, link)
         }
         ToolCommand::Describe { file } => describe_file(alloc, &file, out, files),
         ToolCommand::Proxy {
@@ -133,9 +125,12 @@ fn run_command<O: Sink, L: Link, H: Hub, F: Files>(
             empty,
             time,
             turns,
-        } => match settings_of(alloc, &device, empty, time, turns) {
-            Ok(settings) => serve(alloc, kind, &socket, &settings, hub),
-            Err(AllocError) => Status::OutOfMemory,
-        },
+        } => serve_asked(alloc, kind, &device, &socket, empty, time, turns, hub),
+        ToolCommand::Simulator {
+            kind,
+            socket,
+            profile,
+            turns,
+        } => simulate_modem(alloc, kind, &socket, profile.as_ref(), turns, hub, files),
     }
 }

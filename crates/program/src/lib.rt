@@ -1,9 +1,10 @@
-//! What the program does: as a tool and as a proxy, from its words to its status.
+//! What the program does: as a tool, as a proxy and as a simulated modem, from its words to its status.
 #![tactic(auto)]
 
 mod dispatch;
 mod proxy;
 mod report;
+mod simulator;
 mod status;
 mod tool;
 

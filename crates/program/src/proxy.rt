@@ -17,7 +17,7 @@ use qmi_serving::serve_qmi;
 use std::alloc::{AllocError, Global};
 
 // How the words of a proxy want it.
-pub fn settings_of(
+fn settings_of(
     alloc: Global,
     device: &PathText,
     empty: Option<u64>,
@@ -41,8 +41,29 @@ fn target_of(alloc: Global, settings: &Settings) -> Result<Target, AllocError>
     Ok(Target::Socket(Text::from_str(alloc, settings.device.as_str())?))
 }
 
+// Opens the hub, and serves its clients as the words of a proxy want it.
+pub fn serve_asked<H: Hub>(
+    alloc: Global,
+    kind: Kind,
+    device: &PathText,
+    socket: &PathText,
+    empty: Option<u64>,
+    time: u64,
+    turns: u64,
+    hub: &mut H,
+) -> Status
+    ensures serves { Since (H.calls hub.old) (H.calls hub.new) (ServesProxy kind (asked_in device.now socket.now empty time turns) result) }
+    ensures own { IsOfProxy result }
+    ensures hub_fault { result ≡ Status.HubFault → Rose (H.faults hub.old) (H.faults hub.new) }
+{
+    match settings_of(alloc, device, empty, time, turns) {
+        Ok(settings) => serve(alloc, kind, socket, &settings, hub),
+        Err(AllocError) => Status::OutOfMemory,
+    }
+}
+
 // Opens the hub, and serves its clients as a proxy of a kind.
-pub fn serve<H: Hub>(
+fn serve<H: Hub>(
     alloc: Global,
     kind: Kind,
     socket: &PathText,

@@ -1,13 +1,14 @@
 ghost use Rattle.std.specs.Prelude.{◌≡◌, OnOk, Some};
 ghost use Rattle.kit_io.specs.Causes.{Rose, HasCause};
 ghost use Rattle.kit_io.specs.Told.{Grows};
-ghost use Rattle.program.specs.Status.{denied_text, error_line, line_of, object_line, tables_line};
+ghost use Rattle.program.specs.Status.{denied_text, error_line, line_of, object_line, profile_line, tables_line};
 
 use crate::Status;
 use crate::status::kind_word;
 use itoa::Buffer;
 use kit_io::{Sink, WriteFault, write_all_to};
 use message_tables::TableFault;
+use modem_profile::ProfileFault;
 use tool_words::UsageKind;
 
 /// Refuses words that couldn't be read.
@@ -63,6 +64,7 @@ fn write_line<E: Sink>(status: Status, err: &mut E) -> Result<(), WriteFault>
         Status::ReadFault => write_error(b"read fault", b"", err),
         Status::HubFault => write_error(b"hub fault", b"", err),
         Status::TurnsSpent => write_error(b"turns spent", b"", err),
+        Status::ProfileFault { fault } => write_fault_of_profile(fault, err),
         Status::OutOfMemory => write_error(b"out of memory", b"", err),
     }
 }
@@ -115,6 +117,23 @@ fn write_fault_of_tables<E: Sink>(fault: TableFault, err: &mut E) -> Result<(), 
             write_object(b"tables: deep", b"", number.format(object).as_bytes(), err)
         }
         TableFault::OutOfMemory => write_error(b"out of memory", b"", err),
+    }
+}
+
+fn write_fault_of_profile<E: Sink>(
+    fault: Option<ProfileFault>,
+    err: &mut E,
+) -> Result<(), WriteFault>
+    ensures line { OnOk result (Grows (E.taken err.old) (profile_line fault) (E.taken err.new)) }
+    ensures cause { HasCause (E.faults err.old) (E.faults err.new) result }
+{
+    match fault {
+        None => write_error(b"profile: long", b"", err),
+        Some(ProfileFault::Json) => write_error(b"profile: json", b"", err),
+        Some(ProfileFault::Member(name)) => {
+            write_error(b"profile: ", name.as_str().as_bytes(), err)
+        }
+        Some(ProfileFault::OutOfMemory) => write_error(b"out of memory", b"", err),
     }
 }
 

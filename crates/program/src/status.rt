@@ -3,6 +3,8 @@ ghost use Rattle.program.specs.Status.{kind_word};
 
 use hub_io::ServeEnd;
 use message_tables::TableFault;
+use modem_profile::ProfileFault;
+use sim_runs::SimEnd;
 use tool_runs::RunEnd;
 use tool_words::UsageKind;
 
@@ -34,6 +36,8 @@ pub enum Status {
     HubFault,
     /// All the turns were taken.
     TurnsSpent,
+    /// The profile of a simulated modem isn't read, for this fault or since it is too long.
+    ProfileFault { fault: Option<ProfileFault> },
     OutOfMemory,
 }
 
@@ -73,6 +77,7 @@ impl Status {
             Status::ReadFault => 10,
             Status::HubFault => 13,
             Status::TurnsSpent => 14,
+            Status::ProfileFault { .. } => 15,
             Status::OutOfMemory => 70,
         }
     }
@@ -111,6 +116,22 @@ impl From<ServeEnd> for Status {
             ServeEnd::HubFault => Status::HubFault,
             ServeEnd::TurnsSpent => Status::TurnsSpent,
             ServeEnd::OutOfMemory => Status::OutOfMemory,
+        }
+    }
+}
+
+impl From<SimEnd> for Status {
+    ghost use Rattle.program.specs.Status.{status_of_sim};
+
+    ghost from_gives = { λ end status. status ≡ status_of_sim end };
+
+    fn from(end: SimEnd) -> Self {
+        match end {
+            SimEnd::Served(end) => Status::from(end),
+            SimEnd::HubFault => Status::HubFault,
+            SimEnd::ReadFault => Status::ReadFault,
+            SimEnd::ProfileFault(fault) => Status::ProfileFault { fault },
+            SimEnd::OutOfMemory => Status::OutOfMemory,
         }
     }
 }

@@ -4,7 +4,7 @@ ghost use Rattle.kit_io.specs.Causes.{Rose};
 ghost use Rattle.tool_runs.specs.Asking.{Asks, asked_of, HasFailed};
 ghost use Rattle.tool_runs.specs.Describing.{Describes};
 ghost use Rattle.program.specs.Running.{path_to};
-ghost use Rattle.program.specs.Status.{IsOfTool, EndsAs};
+ghost use Rattle.program.specs.Status.{IsOfTool, EndsAs, status_of};
 
 use crate::status::Status;
 use file_io::Files;
@@ -29,7 +29,7 @@ pub fn ask_modem<S: Session, O: Sink, L: Link>(
     out: &mut O,
     link: &mut L,
 ) -> Status
-    ensures asks { EndsAs result (λ ends. Asks (encode_utf8_all path.now) (asked_of S.session S.refused S.printed plan.now) (L.calls link.old) (L.calls link.new) (O.taken out.old) ends (O.taken out.new)) }
+    ensures asks { EndsAs status_of result (λ ends. Asks (encode_utf8_all path.now) (asked_of S.session S.refused S.printed plan.now) (L.calls link.old) (L.calls link.new) (O.taken out.old) ends (O.taken out.new)) }
     ensures own { IsOfTool result }
     ensures link_fault { result ≡ Status.LinkFault → HasFailed L.faults L.open_faults link.old link.new }
     ensures write_fault { result ≡ Status.WriteFault → Rose (O.faults out.old) (O.faults out.new) }
@@ -44,7 +44,7 @@ pub fn describe_file<O: Sink, F: Files>(
     out: &mut O,
     files: &mut F,
 ) -> Status
-    ensures describes { EndsAs result (λ ends. Describes (encode_utf8_all file.now) (F.calls files.old) (F.calls files.new) (O.taken out.old) ends (O.taken out.new)) }
+    ensures describes { EndsAs status_of result (λ ends. Describes (encode_utf8_all file.now) (F.calls files.old) (F.calls files.new) (O.taken out.old) ends (O.taken out.new)) }
     ensures own { IsOfTool result }
     ensures read_fault { result ≡ Status.ReadFault → Rose (F.read_faults files.old) (F.read_faults files.new) }
     ensures write_fault { result ≡ Status.WriteFault → Rose (O.faults out.old) (O.faults out.new) }

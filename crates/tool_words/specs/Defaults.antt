@@ -8,6 +8,10 @@ abbrev pub proxy_socket : Kind → List ℕ
 proxy_socket Qmi = codes "/tmp/qmi-proxy.sock"
 proxy_socket Mbim = codes "/tmp/mbim-proxy.sock"
 
+-- the socket on which a simulated modem listens
+abbrev pub simulator_socket : List ℕ
+simulator_socket = codes "/tmp/modem-sim.sock"
+
 -- the socket over which a device node is reached
 abbrev pub bridge_socket : List ℕ
 bridge_socket = codes "/tmp/modemkit.bridge"

@@ -10,6 +10,7 @@ pub mod Defaults
 pub mod Link
 pub mod ModemTools
 pub mod Proxy
+pub mod Simulator
 pub mod QmiCommands
 pub mod Qmicli
 pub mod MbimCommands

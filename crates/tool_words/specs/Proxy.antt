@@ -1,5 +1,5 @@
 -- The words of a proxy, by the kind of its modem.
-use Rattle.std.specs.Prelude.{ℕ, ◌*◌, ◌^◌, ◌==◌, ◌||◌, Bool, true, List, [], ◌∷◌, Option, Some, None, Result, Err, codes, if◌then◌else◌, option_and_then}
+use Rattle.std.specs.Prelude.{ℕ, ◌*◌, ◌==◌, ◌||◌, Bool, true, List, [], ◌∷◌, Option, Some, None, Result, Err, codes, if◌then◌else◌, option_and_then}
 use Rattle.clap.specs.Simple.{App}
 use Rattle.clap.specs.Walk.{Row}
 use Rattle.kit_bytes.specs.declared.Kind.{Kind}
@@ -9,7 +9,7 @@ use Rattle.tool_words.specs.Defaults.{bridge_socket, proxy_socket}
 use Rattle.tool_words.specs.Given.{is_given, value_given}
 use Rattle.tool_words.specs.Reading.{with_options, without_options}
 use Rattle.tool_words.specs.Spelling.{Spelling, flag, or_letter, valued}
-use Rattle.tool_words.specs.Values.{◌>>=◌, device_in, number_or, path_or}
+use Rattle.tool_words.specs.Values.{◌>>=◌, device_in, number_or, path_or, turns_in}
 use Rattle.tool_words.specs.declared.command.ToolCommand.{ToolCommand}
 use Rattle.tool_words.specs.declared.command.ToolCommand.TheVariants.{Proxy}
 use Rattle.tool_words.specs.declared.fault.UsageKind.{UsageKind}
@@ -55,7 +55,7 @@ proxy_values kind rows = do
   bridge ← path_or bridge_socket (value_given proxy_spelling rows option.Bridge)
   seconds ← number_or 30 0 86400 (value_given proxy_spelling rows option.EmptyTimeout)
   time ← number_or 30000 1 86400000 (value_given proxy_spelling rows option.Time)
-  turns ← number_or (10 ^ 12) 0 (10 ^ 12) (value_given proxy_spelling rows option.Turns)
+  turns ← turns_in (value_given proxy_spelling rows option.Turns)
   Some (Proxy kind device socket bridge (empty_time (is_given proxy_spelling rows option.NoExit) seconds) time turns)
 
 -- ---- what the words ask for ----

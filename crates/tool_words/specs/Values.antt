@@ -4,8 +4,10 @@ use Rattle.std.specs.Char.{is_ascii_digit}
 use Rattle.hex.specs.Hex.{decode_of}
 use Rattle.std.specs.List.{after_first, before_first, list_all, position_or_len, starts_with}
 use Rattle.std.specs.Result.{result_ok}
-use Rattle.std.specs.Str.{chars}
+use Rattle.std.specs.Str.{bytes_eq, chars}
 use Rattle.std.specs.Str.Parse.{digits_value}
+use Rattle.kit_bytes.specs.declared.Kind.{Kind}
+use Rattle.kit_bytes.specs.declared.Kind.TheVariants.{Qmi, Mbim}
 use Rattle.tool_words.specs.declared.fault.UsageKind.TheVariants.{Value}
 use Rattle.tool_words.specs.declared.fault.WordFault.{WordFault}
 use Rattle.tool_words.specs.declared.fault.WordFault.TheVariants as fault
@@ -42,6 +44,24 @@ number_32_in = number_within 0 (2 ^ 32 - 1)
 unfoldable pub number_or : ℕ → ℕ → ℕ → Option (List ℕ) → Option ℕ
 number_or default least most (Some text) = number_within least most text
 number_or default least most None = Some default
+
+-- after how many events the program ends: 0 to 1,000,000,000,000, and as many as may be where there is no text
+abbrev pub turns_in : Option (List ℕ) → Option ℕ
+turns_in = number_or (10 ^ 12) 0 (10 ^ 12)
+
+-- ---- kinds of modems ----
+
+-- the kind of this name
+unfoldable pub kind_named : List ℕ → Option Kind
+kind_named name =
+    if bytes_eq name (codes "qmi") then Some Qmi
+    else if bytes_eq name (codes "mbim") then Some Mbim
+    else None
+
+-- the same, or the default where there is no text
+unfoldable pub kind_or : Kind → Option (List ℕ) → Option Kind
+kind_or default (Some text) = kind_named text
+kind_or default None = Some default
 
 -- ---- texts ----
 

@@ -7,6 +7,7 @@ use crate::mbimcli::{mbimcli_asked, mbimcli_reader};
 use crate::proxy::{proxy_asked, proxy_name, proxy_reader};
 use crate::qmicli::{qmicli_asked, qmicli_reader};
 use crate::reader::read_words;
+use crate::simulator::{simulator_asked, simulator_reader};
 use crate::{UsageKind, WordFault};
 use clap::{ArgMatches, Command};
 use kit_bytes::{Kind, PathText};
@@ -58,6 +59,15 @@ pub enum ToolCommand {
         /// After how many events it ends.
         turns: u64,
     },
+    /// Serves a simulated modem to the clients of a socket.
+    Simulator {
+        kind: Kind,
+        socket: PathText,
+        /// The file that says what the modem tells of itself, if one is given.
+        profile: Option<PathText>,
+        /// After how many events it ends.
+        turns: u64,
+    },
 }
 
 /// A tool, which the first word names.
@@ -67,6 +77,8 @@ enum Tool {
     Mbimcli,
     /// The proxy for a kind of modem.
     Proxy(Kind),
+    /// The simulated modem.
+    Simulator,
 }
 
 #[tactic(auto, unfolding(crate::specs::Command::tool_named))]
@@ -81,6 +93,8 @@ fn tool_named(word: &str) -> Option<Tool>
         Some(Tool::Proxy(Kind::Qmi))
     } else if word == proxy_name(Kind::Mbim) {
         Some(Tool::Proxy(Kind::Mbim))
+    } else if word == "modem-sim" {
+        Some(Tool::Simulator)
     } else {
         None
     }
@@ -94,6 +108,7 @@ fn reader<'a>(alloc: Global, tool: Tool) -> Result<Command<'a>, AllocError>
         Tool::Qmicli => qmicli_reader(alloc),
         Tool::Mbimcli => mbimcli_reader(alloc),
         Tool::Proxy(kind) => proxy_reader(alloc, kind),
+        Tool::Simulator => simulator_reader(alloc),
     }
 }
 
@@ -105,6 +120,7 @@ fn asked(alloc: Global, tool: Tool, matches: &ArgMatches<'_>) -> Result<ToolComm
         Tool::Qmicli => qmicli_asked(alloc, matches),
         Tool::Mbimcli => mbimcli_asked(alloc, matches),
         Tool::Proxy(kind) => proxy_asked(alloc, kind, matches),
+        Tool::Simulator => simulator_asked(alloc, matches),
     }
 }
 

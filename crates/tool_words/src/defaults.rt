@@ -1,5 +1,5 @@
 ghost use Rattle.std.specs.Prelude.{◌≡◌};
-ghost use Rattle.tool_words.specs.Defaults.{bridge_socket, proxy_socket};
+ghost use Rattle.tool_words.specs.Defaults.{bridge_socket, proxy_socket, simulator_socket};
 
 use kit_bytes::Kind;
 
@@ -11,6 +11,13 @@ pub fn proxy_socket(kind: Kind) -> &'static str
         Kind::Qmi => "/tmp/qmi-proxy.sock",
         Kind::Mbim => "/tmp/mbim-proxy.sock",
     }
+}
+
+/// The socket on which a simulated modem listens, where none is named.
+pub fn simulator_socket() -> &'static str
+    ensures { result.now ≡ simulator_socket }
+{
+    "/tmp/modem-sim.sock"
 }
 
 /// The socket over which a device node is reached, where none is named.

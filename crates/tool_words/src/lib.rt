@@ -15,6 +15,7 @@ mod proxy;
 mod qmi_commands;
 mod qmicli;
 mod reader;
+mod simulator;
 mod sole;
 mod values;
 

@@ -8,7 +8,7 @@ use crate::defaults::{bridge_socket, proxy_socket};
 use crate::given::{is_given, value_given};
 use crate::options::{OptionSpelling, ToolOption, flag, valued};
 use crate::reader::{add_options, without_options};
-use crate::values::{device, number_or, path_or};
+use crate::values::{device, number_or, path_or, turns};
 use crate::{ToolCommand, UsageKind, WordFault};
 use clap::{ArgMatches, Command};
 use kit_bytes::{Kind, PathText};
@@ -112,8 +112,7 @@ fn values(alloc: Global, kind: Kind, matches: &ArgMatches<'_>) -> Result<ToolCom
     let seconds = number_or(30, 0, 86_400, seconds)?;
     let time = value_given(matches, ProxyOption::Time);
     let time = number_or(30_000, 1, 86_400_000, time)?;
-    let turns = value_given(matches, ProxyOption::Turns);
-    let turns = number_or(1_000_000_000_000, 0, 1_000_000_000_000, turns)?;
+    let turns = turns(value_given(matches, ProxyOption::Turns))?;
     Ok(ToolCommand::Proxy {
         kind,
         device,

@@ -2,11 +2,11 @@ ghost use Rattle.std.specs.Prelude.{◌≡◌, ◌≤◌, IfOk, IfSome, MatchOpt
 ghost use Rattle.std.specs.Char.{is_ascii_digit};
 ghost use Rattle.std.specs.List.{list_all};
 ghost use Rattle.std.specs.Str.{chars, encode_utf8_all};
-ghost use Rattle.tool_words.specs.Values.{Gives, device_in, is_decimal, number_32_in, number_8_in, number_in, number_or, number_within, octets_in, path_in, path_or, short_in, split_at, optional};
+ghost use Rattle.tool_words.specs.Values.{Gives, device_in, is_decimal, kind_named, kind_or, number_32_in, number_8_in, number_in, number_or, number_within, octets_in, path_in, path_or, short_in, split_at, optional, turns_in};
 
 use crate::{UsageKind, WordFault};
 use hex::FromHexError;
-use kit_bytes::{Octets, PathText, ShortOctets, ShortText, Text};
+use kit_bytes::{Kind, Octets, PathText, ShortOctets, ShortText, Text};
 use std::alloc::{AllocError, Global};
 
 /// A value that reads, or the fault that it doesn't.
@@ -93,6 +93,37 @@ pub fn number_or(default: u64, least: u64, most: u64, text: Option<&str>) -> Res
     }
 }
 
+/// After how many events the program ends, or the most there may be where there is no text.
+pub fn turns(text: Option<&str>) -> Result<u64, WordFault>
+    ensures { Gives (turns_in (option_map (λ t. t.now) text.entry)) result }
+{
+    number_or(1_000_000_000_000, 0, 1_000_000_000_000, text)
+}
+
+#[tactic(auto, unfolding(crate::specs::Values::kind_named))]
+fn kind_named(name: &str) -> Option<Kind>
+    ensures { result ≡ kind_named name.now }
+{
+    if name == "qmi" {
+        Some(Kind::Qmi)
+    } else if name == "mbim" {
+        Some(Kind::Mbim)
+    } else {
+        None
+    }
+}
+
+/// The kind of modem that the text names, or the default where there is no text.
+#[tactic(auto, unfolding(crate::specs::Values::kind_or))]
+pub fn kind_or(default: Kind, text: Option<&str>) -> Result<Kind, WordFault>
+    ensures { Gives (kind_or default (option_map (λ t. t.now) text.entry)) result }
+{
+    match text {
+        Some(text) => or_fault(kind_named(text)),
+        None => Ok(default),
+    }
+}
+
 fn text_of(alloc: Global, text: &str) -> Result<Text, AllocError>
     ensures chars { IfOk result (λ copy. copy ≡ chars text.now) }
     ensures bytes { IfOk result (λ copy. encode_utf8_all copy ≡ text.now) }
@@ -131,6 +162,17 @@ pub fn path_or(alloc: Global, default: &str, text: Option<&str>) -> Result<PathT
     path(alloc, text.unwrap_or(default))
 }
 
+/// The path that the text spells, if there is one.
+pub fn path_if_given(alloc: Global, text: Option<&str>) -> Result<Option<PathText>, WordFault>
+    ensures { Gives (optional path_in (option_map (λ t. t.now) text.entry)) result }
+{
+    let Some(text) = text else {
+        return Ok(None);
+    };
+    let path = path(alloc, text)?;
+    Ok(Some(path))
+}
+
 /// The text of a request.
 #[tactic(auto, unfolding(crate::specs::Values::short_in))]
 pub fn short(alloc: Global, text: &str) -> Result<ShortText, WordFault>
@@ -139,7 +181,7 @@ pub fn short(alloc: Global, text: &str) -> Result<ShortText, WordFault>
     or_fault(ShortText::of(text_of(alloc, text)?))
 }
 
-/// The same, if there is one.
+/// The text of a request, if there is one.
 pub fn short_if_given(alloc: Global, text: Option<&str>) -> Result<Option<ShortText>, WordFault>
     ensures { Gives (optional short_in (option_map (λ t. t.now) text.entry)) result }
 {

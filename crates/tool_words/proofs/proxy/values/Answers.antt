@@ -18,8 +18,8 @@ returns c =
       c.in_ok-seconds.ensures.value,
       ← c.value_given-time.ensures,
       c.in_ok-time.ensures.value,
-      ← c.value_given-turns.ensures,
-      c.in_ok-turns.ensures.value,
+      ← c.value_given-2.ensures,
+      c.in_ok-turns.ensures,
       ← c.is_given-stays.ensures,
       ← c.empty_time.ensures,
     ) refl

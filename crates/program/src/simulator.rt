@@ -1,0 +1,34 @@
+ghost use Rattle.std.specs.Prelude.{◌≡◌, None};
+ghost use Rattle.std.specs.Option.{option_copied};
+ghost use Rattle.kit_io.specs.Causes.{Rose};
+ghost use Rattle.sim_runs.specs.Simulating.{Simulates, asked_in};
+ghost use Rattle.program.specs.Status.{EndsAs, IsOfSimulator, status_of_sim};
+
+use crate::status::Status;
+use file_io::Files;
+use hub_io::Hub;
+use kit_bytes::{Kind, PathText};
+use sim_runs::simulate;
+use std::alloc::Global;
+
+// Simulates a modem to the clients of a socket.
+pub fn simulate_modem<H: Hub, F: Files>(
+    alloc: Global,
+    kind: Kind,
+    socket: &PathText,
+    profile: Option<&PathText>,
+    turns: u64,
+    hub: &mut H,
+    files: &mut F,
+) -> Status
+    ensures simulates { EndsAs status_of_sim result (λ ends. Simulates (option_copied profile.entry) (asked_in kind socket.now turns)
+        (record { files = F.calls files.old; hub = H.calls hub.old })
+        (record { files = F.calls files.new; hub = H.calls hub.new })
+        ends) }
+    ensures apart { option_copied profile.entry ≡ None → files.new ≡ files.old }
+    ensures own { IsOfSimulator result }
+    ensures hub_fault { result ≡ Status.HubFault → Rose (H.faults hub.old) (H.faults hub.new) }
+    ensures read_fault { result ≡ Status.ReadFault → Rose (F.read_faults files.old) (F.read_faults files.new) }
+{
+    Status::from(simulate(alloc, kind, socket, profile, turns, hub, files))
+}

@@ -1,0 +1,91 @@
+ghost use Rattle.std.specs.Prelude.{◌≡◌, IfOk};
+ghost use Rattle.clap.specs.Words.{app_of, found_of, rows_of};
+ghost use Rattle.tool_words.specs.Answers.{Answers};
+ghost use Rattle.tool_words.specs.Simulator.{simulator_app, simulator_asked, simulator_options, simulator_spelling, simulator_values};
+ghost use Rattle.tool_words.specs.Values.{Gives};
+
+use crate::defaults::simulator_socket;
+use crate::given::{is_given, value_given};
+use crate::options::{OptionSpelling, ToolOption, valued};
+use crate::reader::{add_options, without_options};
+use crate::values::{kind_or, path_if_given, path_or, turns};
+use crate::{ToolCommand, UsageKind, WordFault};
+use clap::{ArgMatches, Command};
+use kit_bytes::Kind;
+use std::alloc::{AllocError, Global};
+
+/// An option of a simulated modem.
+#[derive(Clone, Copy, Debug, PartialEq, Eq)]
+pub enum SimulatorOption {
+    Kind,
+    Socket,
+    Profile,
+    Turns,
+    /// How often it may be started. No value of it is served yet.
+    Keep,
+}
+
+impl ToolOption for SimulatorOption {
+    ghost spelling = { simulator_spelling };
+
+    fn spelling(self) -> OptionSpelling {
+        match self {
+            SimulatorOption::Kind => valued("kind"),
+            SimulatorOption::Socket => valued("socket"),
+            SimulatorOption::Profile => valued("profile"),
+            SimulatorOption::Turns => valued("turns"),
+            SimulatorOption::Keep => valued("keep"),
+        }
+    }
+}
+
+static SIMULATOR_OPTIONS: [SimulatorOption; 5] = [
+    SimulatorOption::Kind,
+    SimulatorOption::Socket,
+    SimulatorOption::Profile,
+    SimulatorOption::Turns,
+    SimulatorOption::Keep,
+];
+
+#[tactic(auto, unfolding(crate::specs::Simulator::simulator_options))]
+fn options() -> &'static [SimulatorOption]
+    ensures { result.now ≡ simulator_options }
+{
+    SIMULATOR_OPTIONS.as_slice()
+}
+
+/// The options of a simulated modem.
+pub fn simulator_reader<'a>(alloc: Global) -> Result<Command<'a>, AllocError>
+    ensures { IfOk result (λ command. app_of command ≡ simulator_app) }
+{
+    let command = add_options(alloc, without_options(alloc, "modem-sim"), options())?;
+    Ok(command)
+}
+
+#[tactic(auto, unfolding(crate::specs::Simulator::simulator_values))]
+fn values(alloc: Global, matches: &ArgMatches<'_>) -> Result<ToolCommand, WordFault>
+    ensures { Gives (simulator_values (rows_of (found_of matches.now))) result }
+{
+    let kind = kind_or(Kind::Qmi, value_given(matches, SimulatorOption::Kind))?;
+    let socket = value_given(matches, SimulatorOption::Socket);
+    let socket = path_or(alloc, simulator_socket(), socket)?;
+    let profile = path_if_given(alloc, value_given(matches, SimulatorOption::Profile))?;
+    let turns = turns(value_given(matches, SimulatorOption::Turns))?;
+    Ok(ToolCommand::Simulator {
+        kind,
+        socket,
+        profile,
+        turns,
+    })
+}
+
+/// What the words of a simulated modem ask for.
+#[tactic(auto, unfolding(crate::specs::Simulator::simulator_asked))]
+pub fn simulator_asked(alloc: Global, matches: &ArgMatches<'_>) -> Result<ToolCommand, WordFault>
+    ensures { Answers (simulator_asked (rows_of (found_of matches.now))) result }
+{
+    if is_given(matches, SimulatorOption::Keep) {
+        return Err(WordFault::Usage(UsageKind::Value));
+    }
+    values(alloc, matches)
+}
