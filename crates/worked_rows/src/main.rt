@@ -15,6 +15,7 @@ mod tables;
 mod tool;
 
 use crate::found::Place;
+use crate::proxy::{mbim_proxy, qmi_proxy};
 use anyhow::{Context, Result, bail};
 use row_text::{Row, Rows, read_rows};
 use std::process::ExitCode;
@@ -55,9 +56,38 @@ fn run_row(rt: &HostRuntime, file: &str, rows: &Rows<'_>, row: &Row<'_>) -> Resu
     };
     match row.first.key {
         "words" => tool::is_as_told(rt, rt.alloc(), place, rows, row),
-        "story" => story::is_as_told(rt, rt.alloc(), file, rows, row),
+        "story" => {
+            Ok(qmi_story(rt, file, rows, row, true)? && qmi_story(rt, file, rows, row, false)?)
+        }
+        "mbim-story" => {
+            Ok(mbim_story(rt, file, rows, row, true)? && mbim_story(rt, file, rows, row, false)?)
+        }
         "format" => format::is_as_told(rt, rt.alloc(), place, rows, row),
         "tables" => tables::is_as_told(rt, rt.alloc(), file, row),
         _ => bail!("{place}: no kind of a row"),
     }
+}
+
+// Whether a story of a QMI proxy is what is found.
+fn qmi_story(
+    rt: &HostRuntime,
+    file: &str,
+    rows: &Rows<'_>,
+    row: &Row<'_>,
+    whole: bool,
+) -> Result<bool> {
+    let proxy = qmi_proxy(rt.alloc())?;
+    story::is_as_told(rt, rt.alloc(), file, rows, row, proxy, whole)
+}
+
+// And of an MBIM proxy.
+fn mbim_story(
+    rt: &HostRuntime,
+    file: &str,
+    rows: &Rows<'_>,
+    row: &Row<'_>,
+    whole: bool,
+) -> Result<bool> {
+    let proxy = mbim_proxy(rt.alloc())?;
+    story::is_as_told(rt, rt.alloc(), file, rows, row, proxy, whole)
 }

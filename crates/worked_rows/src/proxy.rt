@@ -1,45 +1,71 @@
-ghost use Rattle.std.specs.Prelude.{◌≡◌, IsTrue};
+ghost use Rattle.std.specs.Prelude.{◌≡◌, true, IsTrue};
 ghost use Rattle.hub_io.specs.Events.{event_of};
-ghost use Rattle.qmi_core.specs.Core.{MayCome};
+ghost use Rattle.proxy_history.specs.Events.{greatest_after};
+ghost use Rattle.proxy_serving.specs.Face.{MayCome};
 
 use anyhow::{Result, ensure};
 use framing::LONGEST_PIECE;
 use hub_io::{Event, Limits};
+use kit_bytes::Text;
+use mbim_core::MbimCore;
+use proxy_serving::ProxyCore;
 use qmi_core::QmiCore;
 use std::alloc::{AllocError, Global};
 
 /// A proxy that is told what happens.
 #[derive(Drop)]
-pub struct Proxy {
-    core: QmiCore,
+pub struct Proxy<C: ProxyCore> {
+    core: C,
     // the greatest name of a client so far
     greatest: u64,
-    ghost greatest_is: { core.state.table.greatest ≡ greatest },
+    // memory never ran out
+    sound: bool,
+    ghost greatest_is: { sound ≡ true → (C.face core).greatest ≡ greatest },
 }
 
-impl Proxy {
-    /// A proxy of /dev/cdc-wdm0 with 30 seconds for an answer, to which nothing has happened.
-    pub fn open(alloc: Global) -> Result<Self, AllocError> {
-        let limits = Limits { time: 30_000 };
-        let core = QmiCore::open(alloc, &limits, "/dev/cdc-wdm0")?;
-        Ok(Proxy { core, greatest: 0 })
-    }
+/// A QMI proxy of /dev/cdc-wdm0 with 30 seconds for an answer, to which nothing has happened.
+pub fn qmi_proxy(alloc: Global) -> Result<Proxy<QmiCore>, AllocError> {
+    let limits = Limits { time: 30_000 };
+    let core = QmiCore::open(alloc, &limits, "/dev/cdc-wdm0")?;
+    Ok(Proxy {
+        core,
+        greatest: 0,
+        sound: true,
+    })
+}
 
+/// An MBIM proxy of the same device and time, to which nothing has happened.
+pub fn mbim_proxy(alloc: Global) -> Result<Proxy<MbimCore>, AllocError> {
+    let limits = Limits { time: 30_000 };
+    let device = Text::from_str(alloc, "/dev/cdc-wdm0")?;
+    let core = MbimCore::open(alloc, &limits, device)?;
+    Ok(Proxy {
+        core,
+        greatest: 0,
+        sound: true,
+    })
+}
+
+impl<C: ProxyCore> Proxy<C> {
     /// Meets an event. Whoever was dropped must have been asked for.
     pub fn meet(&mut self, event: Event<'_>) -> Result<()> {
+        ensure!(self.sound, "memory ran out");
         ensure!(self.core.next_dropped().is_none(), "a client was dropped");
         ensure!(self.may_come(event), "this can't come now");
-        self.core.step(event);
-        if let Event::Joined(name) = event {
-            self.greatest = name;
-        }
+        self.sound = false;
+        self.core.step(event)?;
+        self.greatest = greatest_behind(event, self.greatest);
+        self.sound = true;
         Ok(())
     }
 
     // Whether the event may come now: names rise, and no more is taken than waits.
     fn may_come(&mut self, event: Event<'_>) -> bool
-        ensures may { IsTrue result → MayCome (event_of event.entry) self.new.core }
-        ensures same { self.new.core ≡ self.old.core }
+        requires { self.old.sound ≡ true }
+        ensures may { IsTrue result → MayCome (event_of event.entry) (C.face self.new.core) }
+        ensures core { self.new.core ≡ self.old.core }
+        ensures greatest { self.new.greatest ≡ self.old.greatest }
+        ensures sound { self.new.sound ≡ self.old.sound }
     {
         match event {
             Event::Joined(name) => self.greatest < name,
@@ -78,5 +104,22 @@ impl Proxy {
     /// The next client to hang up.
     pub fn next_dropped(&mut self) -> Option<u64> {
         self.core.next_dropped()
+    }
+}
+
+// The greatest name of a client behind an event.
+fn greatest_behind(event: Event<'_>, greatest: u64) -> u64
+    ensures { result ≡ greatest_after (event_of event.entry) greatest }
+{
+    match event {
+        Event::Joined(name) => name,
+        Event::Piece(..)
+        | Event::ModemPiece(_)
+        | Event::Took(..)
+        | Event::ModemTook(_)
+        | Event::Left(_)
+        | Event::ModemGone
+        | Event::ModemBack
+        | Event::Now(_) => greatest,
     }
 }

@@ -3,6 +3,7 @@ use crate::proxy::Proxy;
 use anyhow::{Context, Result, bail};
 use framing::LONGEST_PIECE;
 use hub_io::Event;
+use proxy_serving::ProxyCore;
 use row_text::{Line, Row, Rows};
 use std::alloc::{AllocError, Global};
 
@@ -19,8 +20,8 @@ use std::alloc::{AllocError, Global};
 ///     there: 1 2            away: yes             who is there; whether the modem is away
 ///     dropped: 3                                  who is hung up next
 #[derive(Drop)]
-struct Story {
-    proxy: Proxy,
+struct Story<C: ProxyCore> {
+    proxy: Proxy<C>,
     // Whether bytes come in one piece, and up to 1,024 not byte by byte.
     whole: bool,
     // How often the next event happens.
@@ -34,31 +35,19 @@ enum Whom {
     Client(u64),
 }
 
-/// Whether a story is what is found, also where bytes come byte by byte, up to 1,024 at a time. Tells
-/// what differs.
-pub fn is_as_told<R: Print>(
+/// Whether a story of a new proxy is what is found, where bytes come whole, or byte by byte, up to 1,024
+/// at a time. Tells what differs.
+pub fn is_as_told<R: Print, C: ProxyCore>(
     rt: &R,
     alloc: Global,
     file: &str,
     rows: &Rows<'_>,
     row: &Row<'_>,
-) -> Result<bool> {
-    Ok(
-        happens_as_told(rt, alloc, file, rows, row, true)?
-            && happens_as_told(rt, alloc, file, rows, row, false)?,
-    )
-}
-
-fn happens_as_told<R: Print>(
-    rt: &R,
-    alloc: Global,
-    file: &str,
-    rows: &Rows<'_>,
-    row: &Row<'_>,
+    proxy: Proxy<C>,
     whole: bool,
 ) -> Result<bool> {
     let mut story = Story {
-        proxy: Proxy::open(alloc)?,
+        proxy,
         whole,
         times: 1,
     };
@@ -81,7 +70,7 @@ fn happens_as_told<R: Print>(
     )
 }
 
-impl Story {
+impl<C: ProxyCore> Story<C> {
     fn follow<R: Print>(
         &mut self,
         rt: &R,
