@@ -1,5 +1,5 @@
-/* A load on a QMI proxy: each client gets a client id, and asks for the model. The service, the client id and the
-   number of each answer are checked. */
+/* A load on a QMI proxy or modem: each client gets a client id, and asks for the model. The service, the client id
+   and the number of each answer are checked. */
 #define _GNU_SOURCE
 #include "qmux.h"
 #include "load.h"
@@ -25,6 +25,7 @@ static int open_device(struct client *c, const char *device, int silent)
 {
     unsigned char tlvs[4100] = { 0x01, strlen(device) & 0xFF, strlen(device) >> 8 };
     size_t length;
+    if (!*device) return silent ? 0 : allocate(c);
     memcpy(tlvs + 3, device, strlen(device));
     unsigned char *m = ask(c, PROXY_OPEN, tlvs, strlen(device) + 3, &length);
     if (length < 19 || m[15] || m[16]) { fprintf(stderr, "the device isn't opened\n"); exit(1); }
@@ -35,6 +36,8 @@ static size_t put_request(unsigned char *to, const struct client *c, unsigned co
 {
     return put_message(to, DMS, c->id, 0, count % 65535 + 1, GET_MODEL, NULL, 0);
 }
+
+static int is_indication(const unsigned char *m) { return m[6] & (m[4] == CTL ? 2 : 4); }
 
 static int is_answer(const struct client *c, const unsigned char *m, size_t length, unsigned count)
 {

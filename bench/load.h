@@ -1,6 +1,8 @@
 /* Programs that share a modem through a proxy: each opens the device, and keeps so many requests in flight. Each
-   answer is checked. The protocol's file has `open_device`, `put_request` and `is_answer`.
+   answer is checked, and indications are passed over. The protocol's file has `open_device`, `put_request`, `is_answer`
+   and `is_indication`.
    load SOCKET DEVICE CLIENTS IN_FLIGHT REQUESTS [SILENT]   (@NAME is an abstract socket)
+   An empty DEVICE is a modem's own socket, where no device is named.
    SILENT more clients open the device and then say nothing. An answer to another request ends it; where LENIENT is set,
    such answers are counted. Prints the requests a second, and that count. */
 #include <stddef.h>
@@ -18,6 +20,8 @@ static int open_device(struct client *c, const char *device, int silent);
 static size_t put_request(unsigned char *to, const struct client *c, unsigned count);
 /* Whether the message answers the request of this count. */
 static int is_answer(const struct client *c, const unsigned char *m, size_t length, unsigned count);
+/* Whether the message is one that nobody asked for. */
+static int is_indication(const unsigned char *m);
 
 static int connect_to(const char *path)
 {
@@ -85,11 +89,13 @@ int main(int argc, char **argv)
             size_t length;
             unsigned answers = 0;
             if (fill(c->fd, &c->in) <= 0) { fprintf(stderr, "the proxy hung up\n"); return 1; }
-            for (unsigned char *m; (m = next_message(&c->in, &length)); answers++)
-                if (!is_answer(c, m, length, c->answered++)) {
-                    if (!lenient) { show(m, length); return 1; }
-                    wrong++;
-                }
+            for (unsigned char *m; (m = next_message(&c->in, &length));) {
+                if (is_indication(m)) continue;
+                answers++;
+                if (is_answer(c, m, length, c->answered++)) continue;
+                if (!lenient) { show(m, length); return 1; }
+                wrong++;
+            }
             done += answers;
             unsigned left = each - c->sent;
             send_some(c, answers < left ? answers : left);

@@ -2,7 +2,7 @@
    Source: the USB-IF MBIM specification 1.0. */
 #include "streams.h"
 
-enum { OPEN = 1, CLOSE = 2, COMMAND = 3, DONE = 0x80000000, FUNCTION_ERROR = 0x80000004, FRAGMENT = 4096 };
+enum { OPEN = 1, CLOSE = 2, COMMAND = 3, DONE = 0x80000000, FUNCTION_ERROR = 0x80000004, INDICATE_STATUS = 0x80000007, FRAGMENT = 4096 };
 enum { NO_DEVICE_SUPPORT = 9, FRAGMENT_OUT_OF_SEQUENCE = 2 };
 
 static uint32_t number_at(const unsigned char *at)

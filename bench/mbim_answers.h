@@ -12,14 +12,25 @@ static const unsigned char uuids[SERVICES][16] = {
 static const unsigned char internet[16] = /* the context of a connection to the internet */
     { 0x7E, 0x5E, 0x2A, 0x7E, 0x4E, 0x6F, 0x72, 0x72, 0x73, 0x6B, 0x65, 0x6E, 0x7E, 0x5E, 0x2A, 0x7E };
 
-/* A buffer that is being made: its fixed part so far, and where the next of its data goes. */
+/* A buffer that is being made: its fixed part so far, and where the next of its data goes. Nothing behind that is cleared
+   yet, so that a short answer costs a modem nothing more than its own bytes. */
 struct buffer { unsigned char bytes[FRAGMENT * 8]; size_t at, end; };
 
 static struct buffer *begin(struct buffer *b, size_t fixed)
 {
-    memset(b, 0, sizeof *b);
+    memset(b->bytes, 0, fixed);
+    b->at = 0;
     b->end = fixed;
     return b;
+}
+
+/* Puts bytes behind the others, filled up to a multiple of four. */
+static void put_behind(struct buffer *b, const void *bytes, size_t count)
+{
+    size_t whole = (count + 3) / 4 * 4;
+    memcpy(b->bytes + b->end, bytes, count);
+    memset(b->bytes + b->end + count, 0, whole - count);
+    b->end += whole;
 }
 
 static struct buffer *u32(struct buffer *b, uint32_t number) { b->at += put_number(b->bytes + b->at, number); return b; }
@@ -36,8 +47,7 @@ static struct buffer *data(struct buffer *b, const void *bytes, size_t count)
 {
     u32(b, count ? b->end : 0);
     u32(b, count);
-    memcpy(b->bytes + b->end, bytes, count);
-    b->end += (count + 3) / 4 * 4;
+    put_behind(b, bytes, count);
     return b;
 }
 
@@ -45,8 +55,7 @@ static struct buffer *data(struct buffer *b, const void *bytes, size_t count)
 static struct buffer *address(struct buffer *b, const void *bytes, size_t count)
 {
     u32(b, b->end);
-    memcpy(b->bytes + b->end, bytes, count);
-    b->end += (count + 3) / 4 * 4;
+    put_behind(b, bytes, count);
     return b;
 }
 

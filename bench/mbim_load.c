@@ -1,5 +1,5 @@
-/* A load on an MBIM proxy: each client names the device and opens, and asks for the radio state. The kind, the number,
-   the command and the status of each answer are checked. */
+/* A load on an MBIM proxy or modem: each client names the device and opens, and asks for the radio state. The kind,
+   the number, the command and the status of each answer are checked. */
 #define _GNU_SOURCE
 #include "mbim.h"
 #include "load.h"
@@ -38,9 +38,12 @@ static int open_device(struct client *c, const char *device, int silent)
 {
     unsigned char message[5000], buffer[4000];
     size_t length, count = put_configuration(buffer, device);
+    unsigned char *m;
     (void)silent;
-    unsigned char *m = exchange(c, message, put_command(message, 1, PROXY_CONTROL, PROXY_CONFIGURATION, SETS, buffer, count), &length);
-    if (length < 48 || number_at(m) != (COMMAND | DONE) || number_at(m + 40) != 0) { show(m, length); exit(1); }
+    if (*device) {
+        m = exchange(c, message, put_command(message, 1, PROXY_CONTROL, PROXY_CONFIGURATION, SETS, buffer, count), &length);
+        if (length < 48 || number_at(m) != (COMMAND | DONE) || number_at(m + 40) != 0) { show(m, length); exit(1); }
+    }
     m = exchange(c, message, put_short(message, OPEN, 2, FRAGMENT), &length);
     if (length != 16 || number_at(m) != (OPEN | DONE) || number_at(m + 12) != 0) { show(m, length); exit(1); }
     return 0;
@@ -51,6 +54,8 @@ static size_t put_request(unsigned char *to, const struct client *c, unsigned co
     (void)c;
     return put_command(to, count + 3, BASIC_CONNECT_UUID, RADIO_STATE, ASKS, NULL, 0);
 }
+
+static int is_indication(const unsigned char *m) { return number_at(m) == INDICATE_STATUS; }
 
 static int is_answer(const struct client *c, const unsigned char *m, size_t length, unsigned count)
 {

@@ -6,7 +6,8 @@
 # libmbim's proxy listens at the abstract socket `@mbim-proxy`, to which the real mbimcli goes: a relay leads from there
 # to our proxy, and from a path to libmbim's. The modem has one path for all: our programs find a Unix socket there, and
 # libmbim's a terminal or a device node, in a mount namespace of their own.
-# MODEMKIT names a program that is built already. SHOW=1 shows what was printed.
+# MODEMKIT names a program that is built already. SHOW=1 shows what was printed. MODEM=sim has the program's own
+# simulated modem in place of the stand-in.
 top=$(CDPATH= cd -- "$(dirname -- "$0")/.." && pwd) || exit 70
 peer=${MBIM_PROXY:-/usr/libexec/mbim-proxy}
 . "$top/bench/needs.sh"
@@ -21,6 +22,8 @@ trap 'stop; rm -rf "$folder"' EXIT
 trap 'exit 130' INT TERM
 mknod "$folder/node" c 1 3 2>/dev/null && unshare -m true 2>/dev/null || { echo "a device node or a mount namespace can't be made here (root is wanted); nothing was tried"; exit 0; }
 program=${MODEMKIT:-$("$top/bench/build.sh")} || exit 70
+kind=mbim
+. "$top/bench/offer.sh"
 cc -O2 -o "$folder/answering" "$top/bench/answering_mbim.c" && cc -O2 -o "$folder/load" "$top/bench/mbim_load.c" || exit 70
 
 # The status that each command ends with, and its words.
@@ -61,16 +64,6 @@ cat "$folder/commands" - >"$folder/own" <<'C'
 0 --detach-packet-service
 C
 
-# wait_until CONDITION WORD..
-wait_until() {
-    tries=0
-    until "$@" 2>/dev/null; do
-        tries=$((tries + 1))
-        [ "$tries" -le 200 ] || { echo "waited in vain: $*" >&2; cat "$folder/log" >&2; exit 70; }
-        sleep 0.05
-    done
-}
-
 # Of the load: three streams, what it waits with, and 32 connections.
 all_ask() { [ "$(ls "/proc/$load/fd" | wc -l)" -ge 36 ]; }
 
@@ -109,11 +102,7 @@ ask_all() {
 }
 
 # a new modem at its socket: it keeps what it is set to
-offer() {
-    rm -f "$folder/modem"
-    "$folder/answering" unix "$folder/modem" & started="$!"
-    wait_until test -S "$folder/modem"
-}
+offer() { rm -f "$folder/modem"; offer_socket "$folder/modem"; }
 
 # at the modem itself, and through our proxy
 node=$folder/node
@@ -131,8 +120,7 @@ ask_all ours "$folder/proxy.sock"
 wait_until is_free
 rm -f "$folder/modem"
 : >"$folder/modem"
-"$folder/answering" pty "$folder/terminal" & started="$!"
-wait_until test -e "$folder/terminal"
+offer_terminal "$folder/terminal"
 node=$(readlink "$folder/terminal")
 ask direct real "$folder/commands"
 (over "$node" "$peer" --no-exit >>"$folder/log" 2>&1) & started="$started $!"

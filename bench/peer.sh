@@ -8,7 +8,8 @@
 # from there to ours. Our qmicli asks a socket that has a path: our proxy's, or one from which a relay leads to
 # libqmi's. The modem has one path for all: where our proxy finds a Unix socket, libqmi's finds a pseudo terminal
 # and the real qmicli a device node, each in a mount namespace of its own.
-# MODEMKIT names a program that is built already. SHOW=1 shows what was printed.
+# MODEMKIT names a program that is built already. SHOW=1 shows what was printed. MODEM=sim has the program's own
+# simulated modem in place of the stand-in.
 top=$(CDPATH= cd -- "$(dirname -- "$0")/.." && pwd) || exit 70
 peer=${QMI_PROXY:-/usr/libexec/qmi-proxy}
 . "$top/bench/needs.sh"
@@ -23,10 +24,12 @@ trap 'stop; rm -rf "$folder"' EXIT
 trap 'exit 130' INT TERM
 mknod "$folder/node" c 1 3 2>/dev/null || { echo "a device node can't be made here (root is wanted); nothing was tried"; exit 0; }
 program=${MODEMKIT:-$("$top/bench/build.sh")} || exit 70
+kind=qmi
+. "$top/bench/offer.sh"
 cc -O2 -o "$folder/answering" "$top/bench/answering_modem.c" && cc -O2 -o "$folder/load" "$top/bench/load.c" || exit 70
 
 # The status that each command ends with, and its words. N is the client id that was kept last; the last line uses
-# it once it was released. The modem doesn't know an MSISDN.
+# it once it was released. The stand-in doesn't know an MSISDN.
 cat >"$folder/commands" <<'C'
 0 --get-service-version-info
 0 --dms-get-model
@@ -45,18 +48,10 @@ cat >"$folder/commands" <<'C'
 0 --dms-get-revision --client-cid=N
 1 --dms-get-revision --client-cid=N
 C
+[ "$MODEM" != sim ] || sed -i 's/^1 --dms-get-msisdn/0 --dms-get-msisdn/' "$folder/commands"
 # Our qmicli has the same words, but for this one.
 sed 's/--dms-noop/--dms-get-model/' "$folder/commands" >"$folder/own"
 
-# wait_until CONDITION WORD..
-wait_until() {
-    tries=0
-    until "$@" 2>/dev/null; do
-        tries=$((tries + 1))
-        [ "$tries" -le 200 ] || { echo "waited in vain: $*" >&2; cat "$folder/log" >&2; exit 70; }
-        sleep 0.05
-    done
-}
 # Of the load: three streams, what it waits with, and 32 connections.
 all_ask() { [ "$(ls "/proc/$load/fd" | wc -l)" -ge 36 ]; }
 
@@ -99,8 +94,7 @@ ask_all() {
 }
 
 side=$folder/ours
-"$folder/answering" unix "$folder/modem" & started=$!
-wait_until test -S "$folder/modem"
+offer_socket "$folder/modem"
 "$program" qmi-proxy -d "$folder/modem" --socket "$folder/proxy.sock" >>"$folder/log" 2>&1 & started="$started $!"
 wait_until test -S "$folder/proxy.sock"
 socat ABSTRACT-LISTEN:qmi-proxy,fork "UNIX-CONNECT:$folder/proxy.sock" 2>>"$folder/log" & started="$started $!"
@@ -111,8 +105,7 @@ side=$folder/theirs
 wait_until is_free
 rm -f "$folder/modem"
 : >"$folder/modem"
-"$folder/answering" pty "$folder/terminal" & started=$!
-wait_until test -e "$folder/terminal"
+offer_terminal "$folder/terminal"
 over "$(readlink "$folder/terminal")" "$peer" --no-exit >>"$folder/log" 2>&1 & started="$started $!"
 wait_until is_taken
 socat "UNIX-LISTEN:$folder/theirs.sock,fork" ABSTRACT-CONNECT:qmi-proxy 2>>"$folder/log" & started="$started $!"
@@ -143,8 +136,7 @@ compare() {
 compare real "$folder/commands"
 compare own "$folder/own" "modemkit qmicli -p "
 
-"$folder/answering" unix "$folder/alone" & started=$!
-wait_until test -S "$folder/alone"
+offer_socket "$folder/alone"
 "$program" qmicli -d "$folder/alone" --get-service-version-info >"$folder/said"
 status=$?
 awk '$1 == "Service:" { name = $3 } $1 == "Major:" { major = $2 } $1 == "Minor:" { print name, major "." $2 }' "$folder/said" | tr -d '()' >"$folder/ours"
