@@ -1,6 +1,7 @@
 -- Parts put one after another, and the runs of a list.
-use Rattle.std.proofs.Common.{◌≡◌, ◌≢◌, ℕ, ◌+◌, ◌*◌, ◌<◌, ◌≤◌, inl, inr, Bool, true, false, not, List, [], ◌∷◌, ◌++◌, length, take, drop, get_or, flat_map, bytes_eq, Option, Some, None, refl, sym, ◌∙◌, ap, ap₂, subst, arith, append_assoc, length-append}
-use Rattle.std.proofs.lemmas.List.{append-nil, take-append-drop, length-take-le, length-drop, drop-drop, take_more, drop_more, drop_all}
+use Rattle.std.proofs.Common.{◌≡◌, ◌≢◌, ℕ, suc, ◌+◌, ◌*◌, ◌<◌, ◌≤◌, inl, inr, Bool, true, false, not, List, [], ◌∷◌, ◌++◌, length, take, drop, get_or, flat_map, bytes_eq, Option, Some, None, refl, sym, ◌∙◌, ap, ap₂, subst, arith, append_assoc, length-append}
+use Rattle.std.specs.List.{prefix_len}
+use Rattle.std.proofs.lemmas.List.{append-nil, take-append-drop, length-take-le, length-drop, drop-drop, drop_more, drop_all}
 use Rattle.std.proofs.Math.Seq.{take-append_seam, drop-append_seam}
 use Rattle.std.proofs.lemmas.Slice.Eq.{bytes_eq-Decides}
 use Rattle.std.proofs.lemmas.Grind.{flat_map-append}
@@ -9,7 +10,7 @@ use Rattle.kit_bytes.specs.Numbers.{number_bytes}
 use Rattle.mbim_fields.proofs.RoundTrip.{number_bytes-length}
 use Rattle.mbim_fields.proofs.Agreement.{true_or}
 use Rattle.mbim_services.specs.SubscribeLists.{structure, references}
-use Rattle.mbim_services.specs.Writing.{Puts, IsRun, cids_in, first_uuid, subscription_in}
+use Rattle.mbim_services.specs.Writing.{Puts, cids_in, first_uuid, is_of, run_length, subscription_in}
 
 -- ---- parts ----
 
@@ -89,21 +90,9 @@ numbers-length (n ∷ numbers) = omega (arith, length-append (number_bytes 4 n) 
 
 -- ---- runs ----
 
-abbrev pub AreOf : List ℕ → List Pair → Type 0
-AreOf uuid [] = Unit {0}
-AreOf uuid (pair ∷ pairs) = (pair.0 ≡ uuid) × AreOf uuid pairs
-
--- none of them, or the first isn't of the service
-abbrev pub IsNotOf : List ℕ → List Pair → Type 0
-IsNotOf uuid [] = Unit {0}
-IsNotOf uuid (pair ∷ pairs) = pair.0 ≢ uuid
-
-AreOf-push : (uuid : List ℕ) (pairs : List Pair) (pair : Pair) → AreOf uuid pairs → pair.0 ≡ uuid → AreOf uuid (pairs ++ pair ∷ [])
-AreOf-push uuid [] pair are is = (is, tt)
-AreOf-push uuid (first ∷ pairs) pair are is = (are.0, AreOf-push uuid pairs pair are.1 is)
-
-pub AreOf-more : (uuid : List ℕ) (pairs : List Pair) (count : ℕ) (d : Pair) → count < length pairs → AreOf uuid (take count pairs) → (get_or pairs count d).0 ≡ uuid → AreOf uuid (take (count + 1) pairs)
-AreOf-more uuid pairs count d within are is = rw (take_more pairs count d within) (AreOf-push uuid (take count pairs) (get_or pairs count d) are is)
+-- the first so many pairs are one subscription of the list, and it goes on with the others
+pub record IsRun (pairs : List Pair) (count : ℕ) : Type 0 where
+  pub is : by_service pairs ≡ subscription_in (take count pairs) ∷ by_service (drop count pairs)
 
 pub joined : (s first : Subscription) (others : List Subscription) → first.uuid ≡ s.uuid → in_front s (first ∷ others) ≡ record { uuid = first.uuid; cids = s.cids ++ first.cids } ∷ others
 joined s first others is = let eq : bytes_eq first.uuid s.uuid ≡ true = (bytes_eq-Decides first.uuid s.uuid).1 is in rw eq refl
@@ -138,31 +127,65 @@ leads-in pair pairs (first ∷ others) is = elim (true_or (bytes_eq first.uuid p
 leads : (pair : Pair) (pairs : List Pair) → Leads (pair ∷ pairs) pair.0
 leads pair pairs = leads-in pair pairs (by_service pairs) refl
 
--- a pair before those that aren't of its service
-alone : (pair : Pair) (rest : List Pair) → IsNotOf pair.0 rest → in_front (subscription_of pair) (by_service rest) ≡ subscription_of pair ∷ by_service rest
-alone pair [] isnt = refl
-alone pair (next ∷ rest) isnt =
+-- a pair before one of another service
+alone : (pair next : Pair) (rest : List Pair) → next.0 ≢ pair.0 → by_service (pair ∷ next ∷ rest) ≡ subscription_of pair ∷ by_service (next ∷ rest)
+alone pair next rest isnt =
     let l = leads next rest in
     ap (in_front (subscription_of pair)) l.is ∙ apart (subscription_of pair) (record { uuid = next.0; cids = l.cids }) l.others isnt ∙ ap (λ (s : List Subscription). subscription_of pair ∷ s) (sym l.is)
 
-run-by : (uuid : List ℕ) (pair : Pair) (run rest : List Pair) → AreOf uuid (pair ∷ run) → IsNotOf uuid rest → by_service ((pair ∷ run) ++ rest) ≡ record { uuid = pair.0; cids = cids_in (pair ∷ run) } ∷ by_service rest
-run-by uuid pair [] rest are isnt =
-    let differs : IsNotOf pair.0 rest = subst (λ (u : List ℕ). IsNotOf u rest) (sym are.0) isnt in
-    alone pair rest differs ∙ ap (λ (l : List ℕ). record { uuid = pair.0; cids = l } ∷ by_service rest) (sym (append-nil (cids_of pair.1)))
-run-by uuid pair (next ∷ run) rest are isnt =
-    let more = run-by uuid next run rest are.1 isnt in
-    let same : next.0 ≡ pair.0 = are.1.0 ∙ sym are.0 in
-    ap (in_front (subscription_of pair)) more ∙ joined (subscription_of pair) (record { uuid = next.0; cids = cids_in (next ∷ run) }) (by_service rest) same
-    ∙ ap (λ (u : List ℕ). record { uuid = u; cids = cids_of pair.1 ++ cids_in (next ∷ run) } ∷ by_service rest) same
+-- how many pairs of a service are in front
+abbrev front : List ℕ → List Pair → ℕ
+front uuid pairs = prefix_len (is_of uuid) pairs
 
-run-with : (uuid : List ℕ) (run rest : List Pair) → 1 ≤ length run → AreOf uuid run → IsNotOf uuid rest → by_service (run ++ rest) ≡ subscription_in run ∷ by_service rest
-run-with uuid [] rest some are isnt = absurd (omega (arith, some))
-run-with uuid (pair ∷ run) rest some are isnt = run-by uuid pair run rest are isnt
+-- a pair, and so many behind it, are one subscription
+record Leads_on (pair : Pair) (rest : List Pair) (count : ℕ) : Type 0 where
+  pub is : by_service (pair ∷ rest) ≡ record { uuid = pair.0; cids = cids_in (pair ∷ take count rest) } ∷ by_service (drop count rest)
 
-pub run-there : (uuid : List ℕ) (pairs : List Pair) (count : ℕ) → 1 ≤ count → count ≤ length pairs → AreOf uuid (take count pairs) → IsNotOf uuid (drop count pairs) → IsRun pairs count
-run-there uuid pairs count some within are isnt =
-    let long : 1 ≤ length (take count pairs) = omega (arith, some, length-take-le count pairs within) in
-    record { is = ap by_service (sym (take-append-drop count pairs)) ∙ run-with uuid (take count pairs) (drop count pairs) long are isnt }
+one-more : (more : ℕ) → 1 + more ≡ suc more
+one-more more = omega arith
+
+leads_on : (uuid : List ℕ) (pair : Pair) (rest : List Pair) → pair.0 ≡ uuid → Leads_on pair rest (front uuid rest)
+leads_on uuid pair [] same = record { is = ap (λ (l : List ℕ). record { uuid = pair.0; cids = l } ∷ []) (sym (append-nil (cids_of pair.1))) }
+leads_on uuid pair (next ∷ rest) same = elim (true_or (bytes_eq next.0 uuid)) [
+  | inl eq ↦
+      let next_same = (bytes_eq-Decides next.0 uuid).0 eq in
+      let cids : List ℕ = cids_in (next ∷ take (front uuid rest) rest) in
+      let behind : List Subscription = by_service (drop (front uuid rest) rest) in
+      let both : by_service (pair ∷ next ∷ rest) ≡ record { uuid = pair.0; cids = cids_of pair.1 ++ cids } ∷ behind =
+      ap (in_front (subscription_of pair)) (leads_on uuid next rest next_same).is ∙ joined (subscription_of pair) (record { uuid = next.0; cids = cids }) behind (next_same ∙ sym same)
+      ∙ ap (λ (u : List ℕ). record { uuid = u; cids = cids_of pair.1 ++ cids } ∷ behind) (next_same ∙ sym same) in
+      let count : front uuid (next ∷ rest) ≡ suc (front uuid rest) = rw eq (one-more (front uuid rest)) in
+      subst (Leads_on pair (next ∷ rest)) (sym count) (record { is = both })
+  | inr isnt ↦
+      let differs : next.0 ≢ pair.0 = λ alike. (let h = sym isnt ∙ (bytes_eq-Decides next.0 uuid).1 (alike ∙ same) in absurd cc) in
+      let count : front uuid (next ∷ rest) ≡ 0 = rw isnt refl in
+      subst (Leads_on pair (next ∷ rest)) (sym count)
+      (record { is = alone pair next rest differs ∙ ap (λ (l : List ℕ). record { uuid = pair.0; cids = l } ∷ by_service (next ∷ rest)) (sym (append-nil (cids_of pair.1))) })
+]
+
+is-run-by : (pair : Pair) (rest : List Pair) (count : ℕ) → Leads_on pair rest count → IsRun (pair ∷ rest) (suc count)
+is-run-by pair rest count on = record { is = on.is }
+
+first-counts : {C : Type 0} (pair : List ℕ × C) (rest : List (List ℕ × C)) → run_length (pair ∷ rest) ≡ suc (prefix_len (is_of pair.0) rest)
+first-counts pair rest =
+    let own : bytes_eq pair.0 pair.0 ≡ true = (bytes_eq-Decides pair.0 pair.0).1 refl in
+    rw own (one-more (prefix_len (is_of pair.0) rest))
+
+pub some-run : {C : Type 0} (pairs : List (List ℕ × C)) → 1 ≤ length pairs → 1 ≤ run_length pairs
+some-run [] some = absurd (omega (arith, some))
+some-run (pair ∷ rest) some = omega (arith, first-counts pair rest)
+
+pub is-run : (pairs : List Pair) (count : ℕ) → 1 ≤ count → count ≡ run_length pairs → IsRun pairs count
+is-run [] count some is = absurd (omega (arith, some, is))
+is-run (pair ∷ rest) count some is = subst (IsRun (pair ∷ rest)) (sym (is ∙ first-counts pair rest)) (is-run-by pair rest (front pair.0 rest) (leads_on pair.0 pair rest refl))
+
+-- a run is counted
+pub counted-on : (left behind : List Pair) (count n services most : ℕ) → 1 ≤ count → count ≤ length left → count ≡ run_length left → behind ≡ drop count left
+    → (n + length (by_service left) ≡ services) × (n + length left ≤ most) → (n + 1 + length (by_service behind) ≡ services) × (n + 1 + length behind ≤ most)
+counted-on left behind count n services most some within is behind_is so_far =
+    let parts = ap length (is-run left count some is).is in
+    let same = ap (λ (l : List Pair). length (by_service l)) behind_is in
+    (omega (arith, so_far.0, parts, same), omega (arith, so_far.1, some, within, length-drop count left, ap length behind_is))
 
 -- ---- CIDs ----
 
@@ -183,7 +206,7 @@ cids_of-few (Some cid) = omega arith
 pub structure-length : (s : Subscription) → length (structure s) ≡ length s.uuid + 4 + 4 * length s.cids
 structure-length s = omega (arith, length-append (s.uuid ++ number_bytes 4 (length s.cids)) (flat_map (number_bytes 4) s.cids), length-append s.uuid (number_bytes 4 (length s.cids)), number_bytes-length 4 (length s.cids), numbers-length s.cids)
 
-pub first-is : (pairs : List Pair) (d : Pair) → 1 ≤ length pairs → first_uuid pairs ≡ (get_or pairs 0 d).0
+pub first-is : {C : Type 0} (pairs : List (List ℕ × C)) (d : List ℕ × C) → 1 ≤ length pairs → first_uuid pairs ≡ (get_or pairs 0 d).0
 first-is [] d some = absurd (omega (arith, some))
 first-is (pair ∷ pairs) d some = refl
 
@@ -227,9 +250,3 @@ agree a b test is fails = elim (true_or (bytes_eq a b)) [
   | inl eq ↦ (bytes_eq-Decides a b).0 eq
   | inr isnt ↦ absurd (let h = sym fails ∙ is ∙ ap not isnt in cc)
 ]
-
-pub IsNotOf-at : (uuid : List ℕ) (pairs : List Pair) (count : ℕ) (d : Pair) → count < length pairs → (get_or pairs count d).0 ≢ uuid → IsNotOf uuid (drop count pairs)
-IsNotOf-at uuid pairs count d within isnt = subst (IsNotOf uuid) (sym (drop_more pairs count d within)) isnt
-
-pub IsNotOf-end : (uuid : List ℕ) (pairs : List Pair) (count : ℕ) → length pairs ≤ count → IsNotOf uuid (drop count pairs)
-IsNotOf-end uuid pairs count past = subst (IsNotOf uuid) (sym (drop_all count pairs past)) tt

@@ -18,7 +18,7 @@ mod table;
 pub use answers::{AnswerFault, MbimAnswer, done};
 pub use events::Events;
 pub use laws::{each_command_stands_once, each_layout_is_well_made, each_request_has_a_buffer};
-pub use lists::{LONGEST_LIST, MOST_PAIRS, write_events};
+pub use lists::{LONGEST_LIST, MOST_PAIRS, run_length, write_events};
 pub use paths::config_path_is;
 pub use requests::{LONGEST_BUFFER, command};
 pub use sent::Command;

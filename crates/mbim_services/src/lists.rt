@@ -3,7 +3,8 @@ ghost use Rattle.std.specs.List.{flat_map};
 ghost use Rattle.kit_bytes.specs.Subscriptions.{by_service, cids_of};
 ghost use Rattle.kit_bytes.specs.Numbers.{number_bytes};
 ghost use Rattle.mbim_services.specs.SubscribeLists.{list_buffer, references, structure};
-ghost use Rattle.mbim_services.specs.Writing.{Puts, IsRun, cids_in, subscription_in};
+ghost use Rattle.mbim_services.specs.Writing as runs;
+ghost use Rattle.mbim_services.specs.Writing.{Puts, cids_in, subscription_in};
 
 use uuid::Uuid;
 
@@ -28,6 +29,17 @@ pub fn write_events(pairs: &[(Uuid, Option<u32>)], into: &mut [u8]) -> usize
     put_structures(pairs, into, structures)
 }
 
+/// How many pairs of a service's UUID and what is listed with it are of one service, from the first on.
+pub fn run_length<T>(pairs: &[(Uuid, T)]) -> usize
+    requires { 1 ≤ length pairs.now }
+    ensures some { 1 ≤ result }
+    ensures within { result ≤ length pairs.now }
+    ensures run { result ≡ runs.run_length pairs.now }
+{
+    let uuid = pairs[0].0;
+    pairs.iter().take_while(|pair| pair.0 == uuid).count()
+}
+
 // In what follows bytes are put at the place `at`, and what is answered is the place behind them.
 
 fn put(into: &mut [u8], at: usize, bytes: &[u8]) -> usize
@@ -46,24 +58,6 @@ fn put_number(into: &mut [u8], at: usize, number: u32) -> usize
     ensures put { Puts at (number_bytes 4 number) into.old into.new }
 {
     put(into, at, &number.to_le_bytes())
-}
-
-// How many of these pairs, from the first on, are of one service.
-fn run_length(pairs: &[(Uuid, Option<u32>)]) -> usize
-    requires { 1 ≤ length pairs.now }
-    ensures some { 1 ≤ result }
-    ensures within { result ≤ length pairs.now }
-    ensures run { IsRun pairs.now result }
-{
-    let uuid = pairs[0].0;
-    let mut count = 1;
-    while count < pairs.len() {
-        if pairs[count].0 != uuid {
-            return count;
-        }
-        count += 1;
-    }
-    count
 }
 
 // How many services these pairs have.

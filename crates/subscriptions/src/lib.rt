@@ -14,5 +14,5 @@ pub use laws::{
     merges_are_short, merges_want_what_lists_want, normal_forms_want_the_same,
 };
 pub use merge::Merge;
-pub use pair_list::{LONGEST_LIST, Pair, PairList};
+pub use pair_list::{LONGEST_LIST, Pair, PairList, normalize};
 pub use subscriptions::{CLIENT_LIMIT, Subscriptions, TooMany};

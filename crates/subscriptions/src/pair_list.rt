@@ -140,8 +140,8 @@ pub(crate) fn append(pairs: &mut Vec<Pair>, more: &[Pair])
     let _ = pairs.extend_from_slice(more);
 }
 
-// Brings pairs into normal form, in their own memory.
-fn normalize(pairs: &mut Vec<Pair>)
+/// Brings pairs into normal form, in their own memory.
+pub fn normalize(pairs: &mut Vec<Pair>)
     ensures items { pairs.new.items ≡ normal_form pairs.old.items }
     ensures capacity { vec_capacity pairs.old ≤ vec_capacity pairs.new }
 {
