@@ -1,6 +1,7 @@
-ghost use Rattle.std.specs.Prelude.{◌≡◌, option_map, IfOk};
+ghost use Rattle.std.specs.Prelude.{◌≡◌, Option, option_map, IfOk};
+ghost use Rattle.serde_json.specs.Data.{Data};
 ghost use Rattle.serde_json.specs.View.{view, items_view};
-ghost use Rattle.modem_profile.specs.Values.{few_values, pdu, pdus, phonebook_text, phonebook_entry, phonebook_entries};
+ghost use Rattle.modem_profile.specs.Values.{few_values, short_list, pdu, pdus, phonebook_text, phonebook_entry, phonebook_entries};
 
 use crate::copies::text_of;
 use crate::{PhonebookEntry, is_phonebook_text};
@@ -28,22 +29,58 @@ fn few_values(value: &Value) -> Option<&[Value]>
     }
 }
 
-/// The messages that a value lists.
-#[tactic(auto, unfolding(crate::specs::Values::pdus))]
-pub(crate) fn pdus(alloc: Global, value: &Value) -> Result<Option<Vec<Octets>>, AllocError>
-    ensures { IfOk result (λ list. option_map (λ v. v.items) list ≡ pdus (view value.now)) }
+/// What the values of a list give.
+trait Listed: Sized + Drop {
+    /// What a value gives, if it gives something.
+    ghost read: { Data → Option Self };
+
+    fn read(alloc: Global, value: &Value) -> Result<Option<Self>, AllocError>
+        ensures { IfOk result (λ item. item ≡ read (view value.now)) };
+}
+
+impl Listed for Octets {
+    ghost use Rattle.modem_profile.specs.Values.{pdu};
+
+    ghost read = { pdu };
+
+    fn read(alloc: Global, value: &Value) -> Result<Option<Self>, AllocError> {
+        pdu(alloc, value)
+    }
+}
+
+impl Listed for PhonebookEntry {
+    ghost use Rattle.modem_profile.specs.Values.{phonebook_entry};
+
+    ghost read = { phonebook_entry };
+
+    fn read(alloc: Global, value: &Value) -> Result<Option<Self>, AllocError> {
+        phonebook_entry(alloc, value)
+    }
+}
+
+// What the values of a list that isn't too long give, if each gives something.
+fn short_list<T: Listed>(alloc: Global, value: &Value) -> Result<Option<Vec<T>>, AllocError>
+    ensures { IfOk result (λ list. option_map (λ v. v.items) list ≡ short_list T.read (view value.now)) }
 {
     let Some(values) = few_values(value) else {
         return Ok(None);
     };
     let mut list = Vec::new(alloc);
     for value in values {
-        let Some(octets) = pdu(alloc, value)? else {
+        let Some(item) = T::read(alloc, value)? else {
             return Ok(None);
         };
-        list.push(octets)?;
+        list.push(item)?;
     }
     Ok(Some(list))
+}
+
+/// The messages that a value lists.
+#[tactic(auto, unfolding(crate::specs::Values::pdus))]
+pub(crate) fn pdus(alloc: Global, value: &Value) -> Result<Option<Vec<Octets>>, AllocError>
+    ensures { IfOk result (λ list. option_map (λ v. v.items) list ≡ pdus (view value.now)) }
+{
+    short_list(alloc, value)
 }
 
 // The bytes that a value's pairs of hexadecimal digits spell.
@@ -69,17 +106,7 @@ pub(crate) fn phonebook_entries(
 ) -> Result<Option<Vec<PhonebookEntry>>, AllocError>
     ensures { IfOk result (λ list. option_map (λ v. v.items) list ≡ phonebook_entries (view value.now)) }
 {
-    let Some(values) = few_values(value) else {
-        return Ok(None);
-    };
-    let mut list = Vec::new(alloc);
-    for value in values {
-        let Some(entry) = phonebook_entry(alloc, value)? else {
-            return Ok(None);
-        };
-        list.push(entry)?;
-    }
-    Ok(Some(list))
+    short_list(alloc, value)
 }
 
 // The entry that an object's `number` and `name` make.
