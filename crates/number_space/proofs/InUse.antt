@@ -1,6 +1,6 @@
 -- Rows by their places and by their numbers.
-use Rattle.std.proofs.Common.{◌-◌, ◌⊎◌, ⊎_elim, inl, inr, Any, length-append, ◌≡◌, ℕ, zero, suc, ◌+◌, ◌<◌, ◌≤◌, min, Bool, true, false, not, cond, ◌&&◌, ◌||◌, List, [], ◌∷◌, ◌++◌, length, map, filter, get_or, set, take, take_all, subst, refl, ap, sym, ◌∙◌, arith, Some, None, find, ◌==◌, nat_le, nat_lt}
-use Rattle.std.specs.List.{AllByRecursion, IsDistinct, position, position_or_len, remove, list_any}
+use Rattle.std.proofs.Common.{◌⊎◌, ⊎_elim, inl, inr, Any, length-append, ◌≡◌, ℕ, zero, suc, ◌+◌, ◌<◌, ◌≤◌, min, Bool, true, false, not, cond, ◌&&◌, List, [], ◌∷◌, ◌++◌, length, map, filter, get_or, set, take, take_all, subst, refl, ap, sym, ◌∙◌, arith, Some, None, find, ◌==◌, nat_le, nat_lt}
+use Rattle.std.specs.List.{AllByRecursion, IsDistinct, position, position_or_len, remove}
 use Rattle.std.proofs.lemmas.Bool.Decides.{nat_tests}
 use Rattle.std.proofs.lemmas.Bool.{eqb-true, or_parts, and_parts}
 use Rattle.std.proofs.lemmas.List.Quantifiers.{position-Some, Any-push}
@@ -10,7 +10,7 @@ use Rattle.proxy_history.proofs.Numbers.{free_used}
 use Rattle.proxy_history.specs.Connections.{contains}
 use Rattle.proxy_history.specs.Requests.{following, free_from}
 use Rattle.number_space.specs.declared.space.Row.{Row}
-use Rattle.number_space.specs.Table.{numbers, without, settled_where, settles_number, is_due, IsPendingUntil, IsNextAbove, NoneIsDueBefore, IsFreeThrough, StandsAt}
+use Rattle.number_space.specs.Table.{numbers, without, settled_where, settles_number, is_due, IsPendingUntil, NoneIsDueBefore, StandsAt}
 
 -- ---- the first that passes a test ----
 
@@ -232,7 +232,7 @@ module _ {T : Type 0} where
   pub any_all : (P : Row T → Type 0) (rows : List (Row T)) (i : ℕ) → length rows ≤ i → Any P (take i rows) → Any P rows
   any_all P rows i all some = subst (λ (l : List (Row T)). Any P l) (take_all i rows all) some
 
-  -- the least deadline, and the number before the least one above, are those of some row
+  -- the least deadline is that of some row
   pub least_more : (time least bound : ℕ) (rows : List (Row T)) (i : ℕ) (row : Row T) → i < length rows → row ≡ get_or rows i row → row.pending ≡ true → least ≡ min time row.deadline
       → (time < bound → Any (IsPendingUntil time) (take i rows)) → least < bound → Any (IsPendingUntil least) (take (i + 1) rows)
   least_more time least bound rows i row within is pending least_is before below =
@@ -244,64 +244,5 @@ module _ {T : Type 0} where
       inl (subst (λ (t : ℕ). Any (IsPendingUntil t) (take i rows)) same (before (omega arith))))
       (first_or_later row.deadline time))
 
-  pub nearest_more : (last through nearest top : ℕ) (rows : List (Row T)) (i : ℕ) (row : Row T) → i < length rows → row ≡ get_or rows i row → last < row.number → nearest ≡ min through (row.number - 1)
-      → (through < top → Any (IsNextAbove last through) (take i rows)) → nearest < top → Any (IsNextAbove last nearest) (take (i + 1) rows)
-  nearest_more last through nearest top rows i row within is above nearest_is before below =
-      any_more (IsNextAbove last nearest) rows i row within is
-      (⊎_elim
-      (λ (first : row.number - 1 ≤ through). inr (above, omega arith))
-      (λ (later : through < row.number - 1).
-      let same : through ≡ nearest = omega arith in
-      inl (subst (λ (t : ℕ). Any (IsNextAbove last t) (take i rows)) same (before (omega arith))))
-      (first_or_later (row.number - 1) through))
-
   pub any_on : (P : Row T → Type 0) (rows : List (Row T)) (i : ℕ) (row : Row T) → i < length rows → row ≡ get_or rows i row → Any P (take i rows) → Any P (take (i + 1) rows)
   any_on P rows i row within is some = any_more P rows i row within is (inl some)
-
-  -- ---- what is free ----
-
-  pub free_ahead : (last next through : ℕ) (rows : List (Row T)) → last ≤ next → IsFreeThrough last through rows → IsFreeThrough next through rows
-  free_ahead last next through rows ahead free =
-      All-weaker (λ (r : Row T). last < r.number → through < r.number) (λ (r : Row T). next < r.number → through < r.number) (λ r above beyond. above (omega arith)) rows free
-
-  pub free_push : (last through : ℕ) (rows : List (Row T)) (new : Row T) → new.number ≤ last → IsFreeThrough last through rows → IsFreeThrough last through (rows ++ new ∷ [])
-  free_push last through rows new given free = All-push (λ (r : Row T). last < r.number → through < r.number) rows new free (λ beyond. absurd (omega arith))
-
-  pub free_settled : (test : Row T → Bool) (last through : ℕ) (rows : List (Row T)) → IsFreeThrough last through rows → IsFreeThrough last through (map (settled_where test) rows)
-  free_settled test last through rows free = All-map (λ (r : Row T). last < r.number → through < r.number) (settled_where test) rows free
-
-  pub free_more : (last through nearer : ℕ) (rows : List (Row T)) (i : ℕ) (row : Row T) → i < length rows → row ≡ get_or rows i row → IsFreeThrough last through (take i rows) →
-      nearer ≤ through → (last < row.number → nearer < row.number) → IsFreeThrough last nearer (take (i + 1) rows)
-  free_more last through nearer rows i row within is free near here =
-      All-more (λ (r : Row T). last < r.number → nearer < r.number) rows i row within
-      (All-weaker (λ (r : Row T). last < r.number → through < r.number) (λ (r : Row T). last < r.number → nearer < r.number) (λ r bound above. omega (arith, bound above)) (take i rows) free)
-      (subst (λ (r : Row T). last < r.number → nearer < r.number) is here)
-
-  pub free_all : (last through : ℕ) (rows : List (Row T)) (i : ℕ) → length rows ≤ i → IsFreeThrough last through (take i rows) → IsFreeThrough last through rows
-  free_all last through rows i all free = subst (λ (l : List (Row T)). IsFreeThrough last through l) (take_all i rows all) free
-
-  pub free_next : (last through : ℕ) (rows : List (Row T)) → last < through → IsFreeThrough last through rows → contains (last + 1) (numbers rows) ≡ false
-  free_next last through [] near free = refl
-  free_next last through (row ∷ rows) near free =
-      let bound : last < row.number → through < row.number = All-head (λ (r : Row T). last < r.number → through < r.number) row rows free in
-      let other : (last + 1 == row.number) ≡ false = apart row.number bound in
-      rw (other, free_next last through rows near (All-tail (λ (r : Row T). last < r.number → through < r.number) row rows free)) refl
-    where
-      apart : (n : ℕ) → (last < n → through < n) → (last + 1 == n) ≡ false
-      apart n bound =
-          let step : (b : Bool) → (last + 1 == n) ≡ b → b ≡ false =
-          λ b. elim b as (λ b. (last + 1 == n) ≡ b → b ≡ false) [
-            | true ↦ λ e. let same : last + 1 ≡ n = eqb-true (last + 1) n e in let beyond : through < n = bound (omega arith) in absurd (omega arith)
-            | false ↦ λ e. refl
-          ]
-          in step (last + 1 == n) refl
-
-  pub free_steps : (last top through : ℕ) (rows : List (Row T)) (steps : ℕ) → last < through → through ≤ top → IsFreeThrough last through rows → last + 1 ≡ free_from steps top (numbers rows) (following top last)
-  free_steps last top through rows steps near within free =
-      let next : following top last ≡ last + 1 = grind (arith, nat_tests, near, within) in
-      sym (ap (free_from steps top (numbers rows)) next ∙ free_stops steps top (numbers rows) (last + 1) (free_next last through rows near free))
-
-  -- whether a number is in use
-  pub list_any-contains : (number : ℕ) (rows : List (Row T)) → list_any (λ r. number == r.number) rows ≡ contains number (numbers rows)
-  list_any-contains number [] = refl
-  list_any-contains number (row ∷ rows) = ap (λ b. number == row.number || b) (list_any-contains number rows)

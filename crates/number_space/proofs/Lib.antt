@@ -1,3 +1,7 @@
+pub mod Links
+pub mod Keyed
+pub mod Index
+pub mod Walks
 pub mod InUse
 pub mod Tables
 pub mod Since

@@ -11,9 +11,9 @@ use Rattle.proxy_history.specs.Requests.{following, free_from, number_after}
 use Rattle.proxy_history.specs.Laws.{IsFirstFree}
 use Rattle.proxy_history.proofs.Numbers.{number_after-free}
 use Rattle.number_space.specs.declared.space.Row.{Row}
-use Rattle.number_space.specs.Table.{Table, numbers, without, answers, settled_where, settles_number, is_due, first_due, expires_row, expires, IsSound, NoneIsDueBefore, IsFreeThrough, StandsAt}
-use Rattle.kit_bytes.proofs.Lists.{find_first, find_none}
-use Rattle.number_space.proofs.InUse.{AreDistinct, kept_whole, is_at, without_at, settles_at, distinct_filter, distinct_push, numbers_settled, none_due_settled, free_settled}
+use Rattle.number_space.specs.Table.{Table, row_of, next_number, gives_number, gives, numbers, without, answers, settled_where, settles_number, is_due, first_due, expires_row, expires, IsSound, NoneIsDueBefore, StandsAt}
+use Rattle.kit_bytes.proofs.Lists.{find_first}
+use Rattle.number_space.proofs.InUse.{AreDistinct, kept_whole, is_at, without_at, settles_at, distinct_filter, distinct_push, numbers_settled, none_due_settled}
 
 module _ {T : Type 0} where
   abbrev pub with_rows : Table T → List (Row T) → Table T
@@ -47,11 +47,6 @@ module _ {T : Type 0} where
       let kept : without number table.rows ≡ rows = without_is number i table d sound at ∙ sym is in
       subst (λ (l : List (Row T)). NoneIsDueBefore time l) kept (All-filter (λ (r : Row T). not (number == r.number)) (λ (r : Row T). r.pending ≡ true → time ≤ r.deadline) table.rows none)
 
-  pub free_remove : (number i : ℕ) (table : Table T) (d : Row T) (rows : List (Row T)) (last through : ℕ) → IsSound table → position (λ r. number == r.number) table.rows ≡ Some i → rows ≡ remove table.rows i → IsFreeThrough last through table.rows → IsFreeThrough last through rows
-  free_remove number i table d rows last through sound at is free =
-      let kept : without number table.rows ≡ rows = without_is number i table d sound at ∙ sym is in
-      subst (λ (l : List (Row T)). IsFreeThrough last through l) kept (All-filter (λ (r : Row T). not (number == r.number)) (λ (r : Row T). last < r.number → through < r.number) table.rows free)
-
   pub sound_settled : (test : Row T → Bool) (table : Table T) (rows : List (Row T)) → IsSound table → rows ≡ map (settled_where test) table.rows → IsSound (with_rows table rows)
   sound_settled test table rows sound is =
       sound_with table rows sound (subst (λ (l : List ℕ). IsDistinct (λ m n. m == n) l) (sym (ap numbers is ∙ numbers_settled test table.rows)) sound.distinct)
@@ -74,22 +69,29 @@ module _ {T : Type 0} where
   pub none_due_none : (time : ℕ) (rows : List (Row T)) → rows ≡ [] → NoneIsDueBefore time rows
   none_due_none time rows none = subst (λ (l : List (Row T)). NoneIsDueBefore time l) (sym none) (All-nil (λ (r : Row T). r.pending ≡ true → time ≤ r.deadline))
 
-  pub free_none : (last through : ℕ) (rows : List (Row T)) → rows ≡ [] → IsFreeThrough last through rows
-  free_none last through rows none = subst (λ (l : List (Row T)). IsFreeThrough last through l) (sym none) (All-nil (λ (r : Row T). last < r.number → through < r.number))
-
   -- ---- giving ----
+
+  number_is : (table : Table T) → length table.rows < table.limit → number_after table.limit table.top table.last (numbers table.rows) ≡ Some (free_from (length table.rows) table.top (numbers table.rows) (following table.top table.last))
+  number_is table few =
+      let count : length (numbers table.rows) ≡ length table.rows = length-map table.rows (λ r. r.number) in
+      let less : length (numbers table.rows) < table.limit = omega arith in
+      let test : nat_lt (length (numbers table.rows)) table.limit ≡ true = grind (arith, nat_tests, less) in
+      rw test (ap (λ (k : ℕ). Some (free_from k table.top (numbers table.rows) (following table.top table.last))) count)
 
   pub given_is_first_free : (table : Table T) → IsSound table → length table.rows < table.limit →
       IsFirstFree table.top (following table.top table.last) (numbers table.rows) (free_from (length table.rows) table.top (numbers table.rows) (following table.top table.last))
   given_is_first_free table sound few =
-      let count : length (numbers table.rows) ≡ length table.rows = length-map table.rows (λ r. r.number) in
-      let less : length (numbers table.rows) < table.limit = omega arith in
-      let test : nat_lt (length (numbers table.rows)) table.limit ≡ true = grind (arith, nat_tests, less) in
-      let given : number_after table.limit table.top table.last (numbers table.rows) ≡ Some (free_from (length table.rows) table.top (numbers table.rows) (following table.top table.last)) =
-      rw test (ap (λ (k : ℕ). Some (free_from k table.top (numbers table.rows) (following table.top table.last))) count)
-      in
+      let less : length (numbers table.rows) < table.limit = omega (arith, length-map table.rows (λ r. r.number)) in
       let free = number_after-free table.limit table.top table.last (numbers table.rows) sound.limit sound.last less in
-      subst (λ (given : Option ℕ). IsSomeAnd given (IsFirstFree table.top (following table.top table.last) (numbers table.rows))) given free
+      subst (λ (given : Option ℕ). IsSomeAnd given (IsFirstFree table.top (following table.top table.last) (numbers table.rows))) (number_is table few) free
+
+  pub next_given : (table : Table T) (number : ℕ) → length table.rows < table.limit → number ≡ free_from (length table.rows) table.top (numbers table.rows) (following table.top table.last) → Some number ≡ next_number table
+  next_given table number few is = ap Some is ∙ sym (number_is table few)
+
+  pub gives_is : (table : Table T) (number conn : ℕ) (note : T) (deadline : ℕ) (rows : List (Row T)) → Some number ≡ next_number table
+      → rows ≡ table.rows ++ record { number = number; conn = conn; note = note; deadline = deadline; pending = true } ∷ [] → record table { rows = rows; last = number } ≡ gives conn note deadline table
+  gives_is table number conn note deadline rows next is =
+      ap (λ (l : List (Row T)). record table { rows = l; last = number }) is ∙ ap (λ (o : Option ℕ). gives_number o conn note deadline table) next
 
   pub sound_push : (table : Table T) (row : Row T) (rows : List (Row T)) → IsSound table → length table.rows < table.limit → row.number ≤ table.top → contains row.number (numbers table.rows) ≡ false → rows ≡ table.rows ++ row ∷ [] →
       IsSound (record table { rows = rows; last = row.number })
@@ -103,8 +105,8 @@ module _ {T : Type 0} where
 
   -- ---- answers ----
 
-  pub answers_none : (number : ℕ) (table : Table T) → position (λ r. number == r.number) table.rows ≡ None → table ≡ answers number table
-  answers_none number table at = ap (with_rows table) (sym (kept_whole (λ r. number == r.number) table.rows (find_none (λ r. number == r.number) table.rows at)))
+  pub answers_none : (number : ℕ) (table : Table T) → row_of number table.rows ≡ None → table ≡ answers number table
+  answers_none number table none = ap (with_rows table) (sym (kept_whole (λ r. number == r.number) table.rows none))
 
   pub answers_at : (number i : ℕ) (table : Table T) (d : Row T) (rows : List (Row T)) → IsSound table → position (λ r. number == r.number) table.rows ≡ Some i → rows ≡ remove table.rows i → with_rows table rows ≡ answers number table
   answers_at number i table d rows sound at is = ap (with_rows table) (is ∙ sym (without_is number i table d sound at))
@@ -142,8 +144,3 @@ module _ {T : Type 0} where
       NoneIsDueBefore time (set table.rows i (record row { pending = false }))
   none_due_expires now i time table row sound at is none =
       subst (λ (l : List (Row T)). NoneIsDueBefore time l) (sym (settled_is now i table row sound at is)) (none_due_settled (λ r. row.number == r.number) time table.rows none)
-
-  pub free_expires : (now i last through : ℕ) (table : Table T) (row : Row T) → IsSound table → position (is_due now) table.rows ≡ Some i → row ≡ get_or table.rows i row → IsFreeThrough last through table.rows →
-      IsFreeThrough last through (set table.rows i (record row { pending = false }))
-  free_expires now i last through table row sound at is free =
-      subst (λ (l : List (Row T)). IsFreeThrough last through l) (sym (settled_is now i table row sound at is)) (free_settled (λ r. row.number == r.number) last through table.rows free)

@@ -1,3 +1,5 @@
 pub mod Table
 pub mod Calls
 pub mod Laws
+pub mod Chain
+pub mod Index

@@ -1,5 +1,5 @@
 -- What a number space keeps, and what each call makes of it.
-use Rattle.std.specs.Prelude.{◌≡◌, ℕ, ◌+◌, ◌<◌, ◌≤◌, Bool, true, not, ◌&&◌, ◌==◌, nat_le, if◌then◌else◌, List, [], ◌∷◌, ◌++◌, length, map, filter, find, Option, Some, None, slice_index_or, All}
+use Rattle.std.specs.Prelude.{◌≡◌, ℕ, ◌<◌, ◌≤◌, Bool, true, not, ◌&&◌, ◌==◌, nat_le, if◌then◌else◌, List, [], ◌∷◌, ◌++◌, length, map, filter, find, Option, Some, None, slice_index_or, All}
 use Rattle.std.specs.List.{IsDistinct}
 use Rattle.proxy_history.specs.Requests.{number_after}
 use Rattle.number_space.specs.declared.space.Row.{Row}
@@ -107,11 +107,3 @@ IsPendingUntil time row = (row.pending ≡ true) × (row.deadline ≡ time)
 -- no pending number is due before this time
 abbrev pub NoneIsDueBefore : {T : Type 0} → ℕ → List (Row T) → Type 0
 NoneIsDueBefore time rows = All (λ row. row.pending ≡ true → time ≤ row.deadline) rows
-
--- its number is above this one, and follows that
-abbrev pub IsNextAbove : {T : Type 0} → ℕ → ℕ → Row T → Type 0
-IsNextAbove last through row = (last < row.number) × (row.number ≡ through + 1)
-
--- no number in use is above this one and no greater than that
-abbrev pub IsFreeThrough : {T : Type 0} → ℕ → ℕ → List (Row T) → Type 0
-IsFreeThrough last through rows = All (λ row. last < row.number → through < row.number) rows

@@ -1,6 +1,8 @@
 //! Transaction numbers: each is given to one request at a time, and stays in use until its answer.
 #![tactic(auto)]
 
+mod by_number;
+mod chain;
 mod laws;
 mod rows;
 mod space;

@@ -5,7 +5,9 @@ ghost use Rattle.proxy_history.specs.Laws.{IsFirstFree};
 ghost use Rattle.number_space.specs.Table.{opened, numbers, row_of, next_number, gives, found, answers, first_due, expires, orphans, resets, IsSound};
 ghost use Rattle.number_space.specs.Calls.{Call, Give, Answer, Expire, Orphan, Reset, StandsFor};
 
-use crate::rows;
+use crate::by_number::Numbered;
+use crate::chain::Chain;
+use crate::{by_number, rows};
 use std::alloc::{AllocError, Global};
 use std::collections::VecDeque;
 use std::marker::Model;
@@ -41,12 +43,13 @@ pub enum Found<T> {
 /// connection left, stays in use, so that its late answer finds nobody else.
 #[derive(Drop)]
 pub struct Space<T> {
-    rows: VecDeque<Row<T>>,
+    // in order of giving
+    rows: Chain<Row<T>>,
+    // in rising order
+    index: VecDeque<Numbered>,
     last: u32,
     limit: u32,
     top: u32,
-    // no number in use is above `last` and no greater than this one
-    free_through: u32,
     // no pending number is due before this time
     earliest: u64,
 }
@@ -54,18 +57,20 @@ pub struct Space<T> {
 impl<T> Model for Space<T> {
     ghost use Rattle.std.specs.Prelude.{◌≤◌};
     ghost use Rattle.std.specs.VecDeque.{deque_capacity};
-    ghost use Rattle.number_space.specs.Table.{Table, IsSound, NoneIsDueBefore, IsFreeThrough};
+    ghost use Rattle.number_space.specs.Table.{Table, IsSound, NoneIsDueBefore};
+    ghost use Rattle.number_space.specs.Chain.{values};
+    ghost use Rattle.number_space.specs.Index.{IsIndexOf};
 
     ghost Value = { Table T };
 
-    ghost view = { λ s. record { rows = s.rows.items; last = s.last; limit = s.limit; top = s.top } };
+    ghost view = { λ s. record { rows = values s.rows.entries; last = s.last; limit = s.limit; top = s.top } };
 
     ghost invariant = { λ s. record {
-      sound : IsSound (record { rows = s.rows.items; last = s.last; limit = s.limit; top = s.top });
-      room : s.limit ≤ deque_capacity s.rows;
-      free : IsFreeThrough s.last s.free_through s.rows.items;
-      within : s.free_through ≤ s.top;
-      none_due : NoneIsDueBefore s.earliest s.rows.items;
+      sound : IsSound (record { rows = values s.rows.entries; last = s.last; limit = s.limit; top = s.top });
+      room : s.limit ≤ s.rows.capacity;
+      index_room : s.limit ≤ deque_capacity s.index;
+      indexed : IsIndexOf s.index.items s.rows.entries;
+      none_due : NoneIsDueBefore s.earliest (values s.rows.entries);
     } };
 }
 
@@ -77,11 +82,11 @@ impl<T: Copy> Space<T> {
         ensures { IfOk result (λ space. space ≡ opened limit top) }
     {
         Ok(Space {
-            rows: VecDeque::with_capacity(alloc, limit as usize)?,
+            rows: Chain::open(alloc, limit as usize)?,
+            index: VecDeque::with_capacity(alloc, limit as usize)?,
             last: 0,
             limit,
             top,
-            free_through: top,
             earliest: u64::MAX,
         })
     }
@@ -99,21 +104,16 @@ impl<T: Copy> Space<T> {
         if self.rows.len() >= self.limit as usize {
             return None;
         }
-        let (number, free_through) = rows::next_free(
-            &self.rows,
-            self.top,
-            self.last,
-            self.free_through,
-        );
-        self.rows.push_back_reserved(Row {
+        let (number, place) = by_number::next_free(&self.index, self.top, self.last);
+        let key = self.rows.push(Row {
             number,
             conn,
             note,
             deadline,
             pending: true,
         });
+        by_number::put(&mut self.index, place, Numbered { number, key });
         self.last = number;
-        self.free_through = free_through;
         self.earliest = self.earliest.min(deadline);
         Some(number)
     }
@@ -123,8 +123,9 @@ impl<T: Copy> Space<T> {
         ensures row { result ≡ option_map (λ r. (r.conn, r.note, r.pending)) (row_of number self.now.rows) }
         ensures sound { IsSound self.now }
     {
-        let index = rows::index_of(&self.rows, self.top, self.last, number)?;
-        let row = &self.rows[index];
+        let place = by_number::find(&self.index, number)?;
+        let entry = &self.index[place];
+        let (row, _) = self.rows.at(entry.key);
         Some((row.conn, row.note, row.pending))
     }
 
@@ -141,12 +142,13 @@ impl<T: Copy> Space<T> {
         ensures table { self.new ≡ answers number self.old }
         ensures stands { (limit top : ℕ) (calls : List (Call T)) → StandsFor limit top calls self.old → StandsFor limit top (Answer number ∷ calls) self.new }
     {
-        let Some(index) = rows::index_of(&self.rows, self.top, self.last, number) else {
+        let Some(place) = by_number::find(&self.index, number) else {
             return Found::Stray;
         };
-        let Some(row) = self.rows.remove(index) else {
+        let Some(entry) = by_number::take(&mut self.index, place) else {
             return Found::Stray;
         };
+        let row = self.rows.remove(entry.key);
         if row.pending {
             Found::Pending(row.conn, row.note)
         } else {
@@ -164,12 +166,13 @@ impl<T: Copy> Space<T> {
         if now < self.earliest {
             return None;
         }
-        let Some(index) = rows::first_due(&self.rows, now) else {
+        let Some(key) = rows::first_due(&self.rows, now) else {
             self.earliest = rows::earliest_deadline(&self.rows);
             return None;
         };
-        let row = &mut self.rows[index];
+        let (mut row, _) = self.rows.at(key);
         row.pending = false;
+        self.rows.set(key, row);
         Some((row.conn, row.note))
     }
 
@@ -187,7 +190,7 @@ impl<T: Copy> Space<T> {
         ensures stands { (limit top : ℕ) (calls : List (Call T)) → StandsFor limit top calls self.old → StandsFor limit top (Reset ∷ calls) self.new }
     {
         self.rows.clear();
-        self.free_through = self.top;
+        self.index.clear();
         self.earliest = u64::MAX;
     }
 }

@@ -1,19 +1,26 @@
-use Rattle.std.proofs.Common.{◌≡◌, Some, None, ap, sym, ◌∙◌, ◌==◌, option_map}
-use Rattle.std.specs.List.{position}
+use Rattle.std.proofs.Common.{ap, sym, ◌∙◌, option_map, is_some, arith}
+use Rattle.number_space.specs.Index.{NumberAt}
 use Rattle.number_space.specs.Table.{Table, row_of}
-use Rattle.kit_bytes.proofs.Lists.{find_first, find_none}
+use Rattle.number_space.proofs.Index.{RowAt, row_at, row_is, row_none}
 use Rattle.number_space.proofs.space.Space.look.Goals as goal
 
-pub returns-in_err-index-clause-row : goal.returns-in_err-index-clause-row
-returns-in_err-index-clause-row g c =
-    let none : position (λ r. c.args.number == r.number) c.self.inside.rows.items ≡ None = sym c.index_of.ensures ∙ c.in_err-index.was in
+pub returns-in_err-place-clause-row : goal.returns-in_err-place-clause-row
+returns-in_err-place-clause-row g c =
     c.from_residual.ensures
     ∙ ap (option_map (λ r. (r.conn, r.note, r.pending)))
-    (sym (find_none (λ r. c.args.number == r.number) c.self.inside.rows.items none) ∙ ap (λ (t : Table g.row.T.Denot). row_of c.args.number t.rows) c.self.view_is)
+    (sym (row_none c.self.inside.index.items c.self.inside.rows.entries c.args.number c.self.invariant.indexed (c.find.ensures.absent (ap is_some c.in_err-place.was))) ∙ ap (λ (t : Table g.row.T.Denot). row_of c.args.number t.rows) c.self.view_is)
+
+pub index-entry-requires : goal.index-entry-requires
+index-entry-requires g c = let at : NumberAt c.args.number c.self.inside.index.items c.in_ok-place.place = rw c.in_ok-place.was at c.find.ensures.found in omega (arith, at.within)
+
+pub at-row-requires : goal.at-row-requires
+at-row-requires g c =
+    let row : RowAt c.args.number c.index-entry.result.now.key c.self.inside.rows.entries = row_at c.self.inside.index.items c.self.inside.rows.entries c.args.number c.in_ok-place.place c.index-entry.result.now c.self.invariant.indexed (rw c.in_ok-place.was at c.find.ensures.found) c.index-entry.ensures in
+    record { place = row.place; there = row.there }
 
 pub returns-clause-row : goal.returns-clause-row
 returns-clause-row g c =
-    let at : position (λ r. c.args.number == r.number) c.self.inside.rows.items ≡ Some c.in_ok-index.index = sym c.index_of.ensures ∙ c.in_ok-index.was in
+    let row : RowAt c.args.number c.index-entry.result.now.key c.self.inside.rows.entries = row_at c.self.inside.index.items c.self.inside.rows.entries c.args.number c.in_ok-place.place c.index-entry.result.now c.self.invariant.indexed (rw c.in_ok-place.was at c.find.ensures.found) c.index-entry.ensures in
     ap (option_map (λ r. (r.conn, r.note, r.pending)))
-    (ap Some c.index-row.ensures ∙ sym (find_first (λ r. c.args.number == r.number) c.self.inside.rows.items c.in_ok-index.index c.index-row.result.now at)
+    (sym (row_is c.self.inside.rows.entries c.args.number c.index-entry.result.now.key c.at-row.result.0 c.self.invariant.sound.distinct row (c.at-row.ensures.value row.place (c.index-entry.result.now.key, c.at-row.result.0) row.there))
     ∙ ap (λ (t : Table g.row.T.Denot). row_of c.args.number t.rows) c.self.view_is)

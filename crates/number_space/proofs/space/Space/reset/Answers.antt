@@ -1,12 +1,14 @@
-use Rattle.std.proofs.Common.{arith}
-use Rattle.number_space.proofs.Tables.{sound_none, none_due_none, free_none}
+use Rattle.std.proofs.Common.{ap, arith}
+use Rattle.number_space.specs.Chain.{values}
+use Rattle.number_space.proofs.Tables.{sound_none, none_due_none}
+use Rattle.number_space.proofs.Index.{index_none}
 use Rattle.number_space.proofs.space.Space.reset.Goals as goal
 
 pub invariant_of-self : goal.invariant_of-self
 invariant_of-self g c = record {
-  sound = sound_none _ c.clear.new.self.items c.self.invariant.sound c.clear.ensures.items;
+  sound = sound_none _ (values c.clear.new.self.entries) c.self.invariant.sound (ap values c.clear.ensures.entries);
   room = omega (arith, c.self.invariant.room, c.clear.ensures.capacity);
-  free = free_none _ _ c.clear.new.self.items c.clear.ensures.items;
-  within = omega arith;
-  none_due = none_due_none _ c.clear.new.self.items c.clear.ensures.items;
+  index_room = omega (arith, c.self.invariant.index_room, c.clear-2.ensures.capacity);
+  indexed = index_none c.clear-2.new.self.items c.clear.new.self.entries c.clear-2.ensures.items c.clear.ensures.entries;
+  none_due = none_due_none _ (values c.clear.new.self.entries) (ap values c.clear.ensures.entries);
 }
