@@ -8,32 +8,20 @@ use Rattle.std.proofs.lemmas.Simd.{map-map}
 use Rattle.kit_bytes.specs.Subscriptions.{Pair, Subscription, by_service, pairs_of, normal_form}
 use Rattle.mbim_fields.specs.Value.{Value}
 use Rattle.mbim_services.specs.SubscribeLists.{subscription_value}
-use Rattle.mbim_services.specs.Writing.{IsRun, subscription_in}
-use Rattle.sim_mbim.specs.Values.{number_of, uuid_at, elements_at, fields_of}
-use Rattle.sim_mbim.specs.BasicConnect.{pairs_in, listed}
+use Rattle.mbim_services.specs.Writing.{subscription_in}
+use Rattle.mbim_services.proofs.Runs.{IsRun}
+use Rattle.subscriptions.proofs.Covering.{form_joined}
 
 -- ---- reading ----
 
-many_pairs : {X : Type 0} (view : X → Value) (uuid : List ℕ) (xs : List X) → (length xs == 0) ≡ false → pairs_of uuid (map number_of (map view xs)) ≡ map (λ x. (uuid, Some (number_of (view x)))) xs
-many_pairs view uuid [] some = absurd (cc)
-many_pairs view uuid (x ∷ xs) some =
-    ap (λ l. (uuid, Some (number_of (view x))) ∷ l) (ap (map (λ n. (uuid, Some n))) (map-map number_of view xs) ∙ map-map (λ n. (uuid, Some n)) (λ x. number_of (view x)) xs)
+-- a pair is taken, and what was taken has the same normal form, whatever follows
+pub taken : (all pairs more now behind left : List Pair) (pair : Pair) → normal_form (pairs ++ left) ≡ normal_form all → left ≡ pair ∷ behind → more ≡ pairs ++ pair ∷ []
+    → ((rest : List Pair) → normal_form (now ++ rest) ≡ normal_form (more ++ rest)) → normal_form (now ++ behind) ≡ normal_form all
+taken all pairs more now behind left pair so_far is pushed same =
+    same behind ∙ ap normal_form (ap (λ l. l ++ behind) pushed ∙ append_assoc pairs (pair ∷ []) behind ∙ ap (λ l. pairs ++ l) (sym is)) ∙ so_far
 
-pub pairs_added : {X : Type 0} (view : X → Value) (event : Value) (fields cids : List X) (uuid : List ℕ) (empty : Bool) (old new : List Pair) (i : ℕ)
-    → map view fields ≡ fields_of event → uuid ≡ uuid_at (map view fields) 0 → map view cids ≡ elements_at (map view fields) 2 → empty ≡ (length cids == 0) → empty ≡ false
-    → length cids ≤ i → new ≡ old ++ map (λ x. (uuid, Some (number_of (view x)))) (take i cids) → new ≡ old ++ pairs_in event
-pairs_added view event fields cids uuid empty old new i fields_are uuid_is cids_are test none all made =
-    let uuid_in : uuid ≡ uuid_at (fields_of event) 0 = uuid_is ∙ ap (λ f. uuid_at f 0) fields_are in
-    let cids_in : map view cids ≡ elements_at (fields_of event) 2 = cids_are ∙ ap (λ f. elements_at f 2) fields_are in
-    made
-    ∙ ap (λ l. old ++ map (λ x. (uuid, Some (number_of (view x)))) l) (take_all i cids all)
-    ∙ ap (λ l. old ++ l) (sym (many_pairs view uuid cids (sym test ∙ none)))
-    ∙ ap (λ u. old ++ pairs_of u (map number_of (map view cids))) uuid_in
-    ∙ ap (λ l. old ++ pairs_of (uuid_at (fields_of event) 0) (map number_of l)) cids_in
-
-pub all_listed : {X : Type 0} (view : X → Value) (events : List X) (made new : List Pair) (i : ℕ) → length events ≤ i → made ≡ flat_map (λ event. pairs_in (view event)) (take i events) → new ≡ normal_form made → new ≡ listed (map view events)
-all_listed view events made new i all is normal =
-    normal ∙ ap normal_form (is ∙ ap (flat_map (λ event. pairs_in (view event))) (take_all i events all) ∙ sym (flat_map-map pairs_in view events))
+pub all_taken : (all pairs left : List Pair) → normal_form (pairs ++ left) ≡ normal_form all → left ≡ [] → normal_form pairs ≡ normal_form all
+all_taken all pairs left so_far none = ap normal_form (sym (append-nil pairs) ∙ ap (λ l. pairs ++ l) (sym none)) ∙ so_far
 
 -- ---- writing ----
 

@@ -1,7 +1,7 @@
 -- What the modem answers to messages, one after another.
 -- Source: the USB-IF MBIM specification 1.0, sections 9.1 to 9.4. Which error stands for which refusal, and how long messages may be, are this modem's own.
-use Rattle.std.specs.Prelude.{◌≡◌, ℕ, true, not, ◌==◌, nat_lt, min, max, List, [], ◌∷◌, ◌++◌, length, Option, Some, None, if◌then◌else◌}
-use Rattle.sim_modem.specs.Sim.{Answering}
+use Rattle.std.specs.Prelude.{ℕ, true, not, ◌==◌, nat_lt, min, max, List, [], length, Option, Some, None, if◌then◌else◌}
+use Rattle.sim_modem.specs.Sim.{Answering, Machine, HasMet}
 use Rattle.mbim_frame.specs.declared.kind.MessageKind.TheVariants as kind
 use Rattle.mbim_frame.specs.declared.error.TheConstants.{OUT_OF_SEQUENCE, LENGTH_MISMATCH, NOT_OPENED, TOO_LONG}
 use Rattle.mbim_frame.specs.declared.status.TheConstants.{SUCCESS}
@@ -22,14 +22,14 @@ use Rattle.sim_mbim.specs.Commands.{Reply, reply_to}
 use Rattle.sim_mbim.specs.Writing.{reply_text}
 
 -- what is said to a message, and the modem that it leaves
-pub record Turn : Type 0 where
+pub record Exchange : Type 0 where
   pub text : List ℕ
   pub modem : Modem
 
-abbrev pub says : Modem → List ℕ → Turn
+abbrev pub says : Modem → List ℕ → Exchange
 says m text = record { text = text; modem = m }
 
-abbrev pub errs : (number code : ℕ) → Modem → Turn
+abbrev pub errs : (number code : ℕ) → Modem → Exchange
 errs number code m = says m (function_error number code)
 
 -- ---- what a message asks for ----
@@ -51,20 +51,20 @@ opened longest m = record m { opened = true; longest = min (max longest 64) 4096
 
 -- ---- commands ----
 
-abbrev pub turn_at_reply : (number : ℕ) → CommandHead → Reply → Turn
-turn_at_reply number head reply = says reply.modem (reply_text number reply.modem.longest head reply)
+abbrev pub exchange_at_reply : (number : ℕ) → CommandHead → Reply → Exchange
+exchange_at_reply number head reply = says reply.modem (reply_text number reply.modem.longest head reply)
 
 -- to the command that a whole body spells, if it spells one
-abbrev pub turn_at_command : (number : ℕ) → (body : List ℕ) → Modem → Option CommandHead → Turn
-turn_at_command number body m None = errs number LENGTH_MISMATCH m
-turn_at_command number body m (Some head) = if m.opened then turn_at_reply number head (reply_to head (buffer_of body) m) else errs number NOT_OPENED m
+abbrev pub exchange_at_command : (number : ℕ) → (body : List ℕ) → Modem → Option CommandHead → Exchange
+exchange_at_command number body m None = errs number LENGTH_MISMATCH m
+exchange_at_command number body m (Some head) = if m.opened then exchange_at_reply number head (reply_to head (buffer_of body) m) else errs number NOT_OPENED m
 
 -- to what a fragment comes to
-abbrev pub turn_at_joining : (number : ℕ) → Modem → Joining → Turn
-turn_at_joining number m More = says m []
-turn_at_joining number m OutOfSequence = errs number OUT_OF_SEQUENCE m
-turn_at_joining number m TooLong = errs number TOO_LONG m
-turn_at_joining number m (Whole body) = turn_at_command number body m (read_command body)
+abbrev pub exchange_at_joining : (number : ℕ) → Modem → Joining → Exchange
+exchange_at_joining number m More = says m []
+exchange_at_joining number m OutOfSequence = errs number OUT_OF_SEQUENCE m
+exchange_at_joining number m TooLong = errs number TOO_LONG m
+exchange_at_joining number m (Whole body) = exchange_at_command number body m (read_command body)
 
 -- ---- every message ----
 
@@ -76,15 +76,15 @@ pub record State : Type 0 where
 abbrev pub fresh : Profile → State
 fresh p = record { begun = assembling.fresh; modem = started p }
 
-abbrev pub turn_at_request : (message : List ℕ) → State → Request → Turn
-turn_at_request m s (Open longest) = says (opened longest s.modem) (open_done (number_of m) SUCCESS)
-turn_at_request m s Close = says s.modem (close_done (number_of m) SUCCESS)
-turn_at_request m s Command = turn_at_joining (number_of m) s.modem (joining_behind LONGEST_BODY s.begun m)
-turn_at_request m s Wrong = errs (number_of m) LENGTH_MISMATCH s.modem
-turn_at_request m s Other = says s.modem []
+abbrev pub exchange_at_request : (message : List ℕ) → State → Request → Exchange
+exchange_at_request m s (Open longest) = says (opened longest s.modem) (open_done (number_of m) SUCCESS)
+exchange_at_request m s Close = says s.modem (close_done (number_of m) SUCCESS)
+exchange_at_request m s Command = exchange_at_joining (number_of m) s.modem (joining_behind LONGEST_BODY s.begun m)
+exchange_at_request m s Wrong = errs (number_of m) LENGTH_MISMATCH s.modem
+exchange_at_request m s Other = says s.modem []
 
-abbrev pub turn_at : (message : List ℕ) → State → Turn
-turn_at m s = turn_at_request m s (request_of m)
+abbrev pub exchange_at : (message : List ℕ) → State → Exchange
+exchange_at m s = exchange_at_request m s (request_of m)
 
 -- only a fragment of a command goes on with what has come
 abbrev pub begun_at_request : (message : List ℕ) → Assembled → Request → Assembled
@@ -92,18 +92,18 @@ begun_at_request m begun Command = assembled_after LONGEST_BODY begun m
 begun_at_request m begun _ = begun
 
 abbrev pub state_at : (message : List ℕ) → State → State
-state_at m s = record { begun = begun_at_request m s.begun (request_of m); modem = (turn_at m s).modem }
+state_at m s = record { begun = begun_at_request m s.begun (request_of m); modem = (exchange_at m s).modem }
 
--- behind messages, the newest first
-abbrev pub state_after : Profile → (past : List (List ℕ)) → State
-state_after p [] = fresh p
-state_after p (message ∷ past) = state_at message (state_after p past)
+-- ---- a modem ----
 
-abbrev pub answers : Profile → Answering
-answers p past message = (turn_at message (state_after p past)).text
+abbrev pub machine : Profile → Machine State
+machine p = record {
+  fresh = fresh p;
+  sends = λ s message. (exchange_at message s).text;
+  next = λ s message. state_at message s;
+}
 
--- a modem in this state gives these answers, behind these messages
+-- a modem of some profile, with these answers, has met these messages
 pub record Keeps (answering : Answering) (past : List (List ℕ)) (s : State) : Type 0 where
   pub profile : Profile
-  pub answers_are : (past : List (List ℕ)) (message : List ℕ) → answering past message ≡ answers profile past message
-  pub state_is : s ≡ state_after profile past
+  pub has_met : HasMet (machine profile) answering past s

@@ -1,16 +1,16 @@
 -- What the modem answers to the commands of the service Basic Connect.
 -- Source: the USB-IF MBIM specification 1.0, section 10.5, for what the numbers mean.
-use Rattle.std.specs.Prelude.{ℕ, ◌+◌, ◌/◌, ◌%◌, ◌==◌, nat_lt, bytes_eq, Bool, true, false, not, List, [], ◌∷◌, ◌++◌, length, map, filter, replicate, Option, Some, None, if◌then◌else◌}
-use Rattle.std.specs.List.{flat_map, list_any}
-use Rattle.kit_bytes.specs.Subscriptions.{Pair, normal_form, by_service, pairs_of}
+use Rattle.std.specs.Prelude.{ℕ, ◌+◌, ◌/◌, ◌%◌, ◌==◌, nat_lt, bytes_eq, Bool, true, false, not, List, [], ◌∷◌, ◌++◌, length, map, filter, replicate, Option, Some, None, option_and_then, if◌then◌else◌}
+use Rattle.std.specs.List.{list_any}
+use Rattle.kit_bytes.specs.Subscriptions.{Pair, normal_form, by_service}
 use Rattle.mbim_fields.specs.Value.{Value, number, uuid_of, octets, text_of, absent}
-use Rattle.mbim_services.specs.SubscribeLists.{list_values}
+use Rattle.mbim_services.specs.SubscribeLists.{list_of_buffer, list_values}
 use Rattle.mbim_services.specs.Table as table
 use Rattle.mbim_services.specs.Table.{rows}
 use Rattle.mbim_services.specs.Requests.{no_text, no_elements}
 use Rattle.modem_profile.specs.Profile.{Profile}
 use Rattle.sim_mbim.specs.Values as values
-use Rattle.sim_mbim.specs.Values.{number_at, uuid_at, elements_at, fields_of, number_of, zeros, list, structure}
+use Rattle.sim_mbim.specs.Values.{number_at, zeros, list, structure}
 use Rattle.sim_mbim.specs.Modem.{Modem, Outcome, becomes}
 
 -- ---- what it is ----
@@ -197,18 +197,15 @@ ip_configuration session =
 
 -- ---- what the host listens to ----
 
--- the pairs of an event: its service, and each of its CIDs, or all of them where it has none
-abbrev pub pairs_in : (event : Value) → List Pair
-pairs_in event = pairs_of (uuid_at (fields_of event) 0) (map number_of (elements_at (fields_of event) 2))
-
-abbrev pub listed : (events : List Value) → List Pair
-listed events = normal_form (flat_map pairs_in events)
-
 -- the list is told in normal form
 abbrev pub subscribe : List Pair → Modem → Option Outcome
-subscribe pairs m = becomes (record m { subscribed = pairs }) (list_values (by_service pairs))
+subscribe pairs m = becomes (record m { subscribed = normal_form pairs }) (list_values (by_service (normal_form pairs)))
 
--- ---- queries and sets ----
+-- a buffer that spells no list has no meaning
+abbrev pub set_list : (buffer : List ℕ) → Modem → Option Outcome
+set_list buffer m = option_and_then (λ pairs. subscribe pairs m) (list_of_buffer buffer)
+
+-- ---- queries, and sets but that of the list ----
 
 abbrev pub answer_to_query : (cid : ℕ) → List Value → Modem → Option (List Value)
 answer_to_query cid asked m =
@@ -232,5 +229,4 @@ answer_to_set cid asked m =
     if cid == table.radio_state.cid then set_radio (number_at asked 0) m
     else if cid == table.packet_service.cid then set_packet_service (number_at asked 0) m
     else if cid == table.connect.cid then connect (number_at asked 0) (number_at asked 1) m
-    else if cid == table.subscribe_list.cid then subscribe (listed (elements_at asked 1)) m
     else None

@@ -1,6 +1,6 @@
 -- What the modem replies to a whole command.
 -- Source: the USB-IF MBIM specification 1.0, MBIM_COMMAND_MSG (section 9.3.3) and MBIM_COMMAND_DONE (section 9.4.3).
-use Rattle.std.specs.Prelude.{ℕ, Bool, bytes_eq, List, [], Option, Some, None, Result, Ok, Err, option_map, option_and_then, unwrap_or, if◌then◌else◌}
+use Rattle.std.specs.Prelude.{ℕ, Bool, bytes_eq, ◌&&◌, ◌==◌, List, [], Option, Some, None, Result, Ok, Err, option_map, option_and_then, unwrap_or, if◌then◌else◌}
 use Rattle.mbim_frame.specs.declared.bodies.CommandHead.{CommandHead}
 use Rattle.mbim_frame.specs.declared.status.TheConstants.{SUCCESS, NO_DEVICE_SUPPORT, INVALID_PARAMETERS}
 use Rattle.mbim_fields.specs.Layout.{Layout}
@@ -72,5 +72,12 @@ reply_in head buffer m (Some layout) = reply_to_values head m (read layout buffe
 abbrev pub way : (set : Bool) → Way
 way set = if set then Set else Query
 
+-- the set of the list to which the host listens
+abbrev pub is_list_set : CommandHead → Bool
+is_list_set head = head.set && bytes_eq head.uuid table.basic_connect && head.cid == table.subscribe_list.cid
+
+-- a list is read pair by pair, since few bytes may spell many: they are those of the layout's fields
 abbrev pub reply_to : CommandHead → (buffer : List ℕ) → Modem → Reply
-reply_to head buffer m = reply_in head buffer m (layout_for head.uuid head.cid (way head.set))
+reply_to head buffer m =
+    if is_list_set head then replied head m (basic_connect.set_list buffer m)
+    else reply_in head buffer m (layout_for head.uuid head.cid (way head.set))

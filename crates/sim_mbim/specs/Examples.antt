@@ -2,7 +2,8 @@
 use Rattle.std.specs.Prelude.{◌≡◌, ℕ, List, [], ◌∷◌, ◌++◌, replicate, chars, codes}
 use Prim.Native.String.{String}
 use Rattle.modem_profile.specs.Profile.{Profile, default_profile}
-use Rattle.sim_mbim.specs.Answers.{answers}
+use Rattle.sim_modem.specs.Sim.{answers}
+use Rattle.sim_mbim.specs.Answers.{machine}
 use Rattle.sim_mbim.specs.Messages.{open_1, opened_1, open_small, close_3, closed_3, query_caps, caps, small_caps, query_radio, radio_on, radio_off, switch_off, switch_on, switch_wrong, told_off, told_on, refused_radio, short_switch, wrong_length, query_unknown, unknown, set_caps, unset_caps, first_part, second_part, out_of_sequence, not_opened, mismatched, long_open, host_error, subscribe_none, has_none, subscribe_some, has_some, read_messages, has_messages, read_second, has_second, delete_first, deleted, not_deleted, read_first, not_read, read_wrong, read_book, has_two, delete_one, one_deleted, write_unused, write_third, write_beyond, written, not_written, has_least, has_third, connect, disconnect, query_session, connected, disconnected, query_addresses, addresses, query_home, home, exchange, exchanged}
 
 -- ---- the modem ----
@@ -23,13 +24,13 @@ abbrev pub behind : List (List ℕ) → List (List ℕ)
 behind past = past ++ open_1 ∷ []
 
 abbrev pub Answers : List (List ℕ) → (message answer : List ℕ) → Type 0
-Answers past message answer = answers profile (behind past) message ≡ answer
+Answers past message answer = answers (machine profile) (behind past) message ≡ answer
 
 -- ---- opening ----
 
 pub record OpeningComesFirst : Type 0 where
-  pub opens : answers profile [] open_1 ≡ opened_1
-  pub before : answers profile [] query_radio ≡ not_opened
+  pub opens : answers (machine profile) [] open_1 ≡ opened_1
+  pub before : answers (machine profile) [] query_radio ≡ not_opened
   pub behind : Answers [] query_radio radio_on
   pub closes : Answers [] close_3 closed_3
   pub stays_open : Answers (close_3 ∷ []) query_radio radio_on
@@ -45,7 +46,7 @@ pub record CommandsAreRefused : Type 0 where
   pub wrong : Answers [] switch_wrong refused_radio
   pub unchanged : Answers (switch_wrong ∷ []) query_radio radio_on
   pub length : Answers [] wrong_length mismatched
-  pub length_before : answers profile [] wrong_length ≡ mismatched
+  pub length_before : answers (machine profile) [] wrong_length ≡ mismatched
 
 -- ---- fragments ----
 
@@ -55,8 +56,8 @@ pub record FragmentsAreJoined : Type 0 where
   pub alone : Answers [] second_part out_of_sequence
   pub twice : Answers (first_part ∷ []) first_part out_of_sequence
   pub between : Answers (query_radio ∷ first_part ∷ []) second_part out_of_sequence
-  pub before : answers profile (first_part ∷ []) second_part ≡ not_opened
-  pub small : answers profile (open_small ∷ []) query_caps ≡ small_caps
+  pub before : answers (machine profile) (first_part ∷ []) second_part ≡ not_opened
+  pub small : answers (machine profile) (open_small ∷ []) query_caps ≡ small_caps
 
 -- ---- the device ----
 
@@ -107,8 +108,8 @@ pub record EntriesFindPlaces : Type 0 where
   pub third : Answers (write_unused ∷ []) read_book has_third
   pub named : Answers (write_third ∷ []) read_book has_third
   pub beyond : Answers [] write_beyond not_written
-  pub full_book : answers full (open_1 ∷ []) write_unused ≡ not_written
-  pub over : answers full (open_1 ∷ []) write_third ≡ written
+  pub full_book : answers (machine full) (open_1 ∷ []) write_unused ≡ not_written
+  pub over : answers (machine full) (open_1 ∷ []) write_third ≡ written
 
 -- ---- a dialogue ----
 

@@ -1,12 +1,12 @@
 -- What the modem answers to the commands of the service Phonebook.
 -- Source: the USB-IF MBIM specification 1.0, section 10.8. How long a text may be is this modem's own.
-use Rattle.std.specs.Prelude.{ℕ, ◌+◌, ◌*◌, ◌==◌, nat_le, nat_lt, Bool, ◌&&◌, ◌||◌, List, [], ◌∷◌, length, map, position, is_none, Option, Some, None, option_map, option_and_then, if◌then◌else◌}
+use Rattle.std.specs.Prelude.{ℕ, ◌+◌, ◌*◌, ◌==◌, nat_le, nat_lt, Bool, ◌&&◌, ◌||◌, List, [], ◌∷◌, length, position, is_none, Option, Some, None, option_map, option_and_then, if◌then◌else◌}
 use Rattle.mbim_fields.specs.Value.{Value, number, text_of}
 use Rattle.mbim_services.specs.Table as table
 use Rattle.modem_profile.specs.declared.phonebook.PhonebookEntry.{PhonebookEntry}
 use Rattle.modem_profile.specs.Limits.{is_phonebook_text}
 use Rattle.sim_mbim.specs.Values.{number_at, text_at, zeros, count_of, list, structure}
-use Rattle.sim_mbim.specs.Places.{asked, with_item, without}
+use Rattle.sim_mbim.specs.Places.{values_asked, with_item, without}
 use Rattle.sim_mbim.specs.Modem.{Modem, Outcome, becomes}
 
 -- ---- reading ----
@@ -19,7 +19,7 @@ abbrev pub list_of : (entries : List Value) → List Value
 list_of entries = count_of entries ∷ list entries ∷ []
 
 abbrev pub read : (flag index : ℕ) → Modem → Option (List Value)
-read flag index m = option_map (λ kept. list_of (map entry kept)) (asked flag index m.entries)
+read flag index m = option_map list_of (values_asked entry flag index m.entries)
 
 abbrev pub delete : (flag index : ℕ) → Modem → Option Outcome
 delete flag index m = option_and_then (λ left. becomes (record m { entries = left }) []) (without flag index m.entries)

@@ -1,6 +1,6 @@
 -- What is kept under indexes, which are counted from 1 and don't move. Where something was deleted, or nothing was written yet, there is None.
 -- Source: the USB-IF MBIM specification 1.0, MBIM_SMS_FLAG and MBIM_PHONEBOOK_FLAG.
-use Rattle.std.specs.Prelude.{ℕ, zero, suc, ◌-◌, ◌==◌, List, [], ◌∷◌, length, replicate, get_or, set, filter_map, Option, Some, None, option_map, if◌then◌else◌}
+use Rattle.std.specs.Prelude.{ℕ, zero, suc, ◌-◌, ◌==◌, List, [], ◌∷◌, length, map, replicate, get_or, set, filter_map, Option, Some, None, option_map, if◌then◌else◌}
 use Rattle.std.specs.List.{enumerate_from}
 
 -- ---- flags ----
@@ -33,6 +33,10 @@ asked flag index places =
     if flag == all then Some (kept places)
     else if flag == one then option_map (λ item. (index, item) ∷ []) (kept_at index places)
     else None
+
+-- and the values of that
+abbrev pub values_asked : {A B : Type 0} → (ℕ × A → B) → (flag index : ℕ) → List (Option A) → Option (List B)
+values_asked value flag index places = option_map (map value) (asked flag index places)
 
 -- ---- what is changed ----
 

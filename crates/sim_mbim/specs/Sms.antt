@@ -1,11 +1,11 @@
 -- What the modem answers to the commands of the service SMS.
 -- Source: the USB-IF MBIM specification 1.0, section 10.6.
-use Rattle.std.specs.Prelude.{ℕ, ◌==◌, List, [], ◌∷◌, ◌++◌, map, Option, Some, None, option_map, option_and_then, if◌then◌else◌}
+use Rattle.std.specs.Prelude.{ℕ, ◌==◌, List, [], ◌∷◌, ◌++◌, Option, Some, None, option_map, option_and_then, if◌then◌else◌}
 use Rattle.mbim_fields.specs.Value.{Value, number, octets}
 use Rattle.mbim_services.specs.Table as table
 use Rattle.mbim_services.specs.Requests.{no_text}
 use Rattle.sim_mbim.specs.Values.{number_at, zero, zeros, count_of, list, structure}
-use Rattle.sim_mbim.specs.Places.{asked, without}
+use Rattle.sim_mbim.specs.Places.{values_asked, without}
 use Rattle.sim_mbim.specs.Modem.{Modem, Outcome, becomes}
 
 abbrev pub configuration : List Value
@@ -25,7 +25,7 @@ abbrev pub pdu : ℕ
 pdu = 0
 
 abbrev pub read : (format flag index : ℕ) → Modem → Option (List Value)
-read format flag index m = if format == pdu then option_map (λ kept. list_of (map message kept)) (asked flag index m.messages) else None
+read format flag index m = if format == pdu then option_map list_of (values_asked message flag index m.messages) else None
 
 abbrev pub delete : (flag index : ℕ) → Modem → Option Outcome
 delete flag index m = option_and_then (λ left. becomes (record m { messages = left }) []) (without flag index m.messages)

@@ -13,21 +13,11 @@ number_of value = unwrap_or (as_number value) 0
 abbrev pub number_at : List Value → ℕ → ℕ
 number_at values place = number_of (value_at values place)
 
-abbrev pub uuid_at : List Value → ℕ → List ℕ
-uuid_at values place = unwrap_or (as_uuid (value_at values place)) (replicate 16 0)
-
 abbrev pub octets_at : List Value → ℕ → List ℕ
 octets_at values place = unwrap_or (as_octets (value_at values place)) []
 
 abbrev pub text_at : List Value → ℕ → List ℕ
 text_at values place = unwrap_or (as_text (value_at values place)) []
-
-abbrev pub elements_at : List Value → ℕ → List Value
-elements_at values place = list_of (unwrap_or (as_elements (value_at values place)) no_more)
-
--- the values of the fields of a structure
-abbrev pub fields_of : Value → List Value
-fields_of value = list_of (unwrap_or (as_members value) no_more)
 
 -- ---- of an answer ----
 

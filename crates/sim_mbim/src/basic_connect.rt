@@ -5,14 +5,12 @@ ghost use Rattle.mbim_fields.specs.View.{value_view};
 ghost use Rattle.sim_mbim.specs.BasicConnect as spec;
 ghost use Rattle.sim_mbim.specs.Modem.{values_told, modem_left};
 
-use crate::lists::{list_fields, listed};
+use crate::lists::{list_fields, read_list};
 use crate::modem::Modem;
 use crate::network::{RSSI, provider};
 use crate::services::device_services;
 use crate::sessions::ip_configuration;
-use crate::values::{
-    elements_at, list, no_text, number, number_at, structure, text, uuid, zero, zeros,
-};
+use crate::values::{list, no_text, number, number_at, structure, text, uuid, zero, zeros};
 use mbim_fields::FieldValue;
 use modem_profile::Profile;
 use std::alloc::{AllocError, Global};
@@ -42,7 +40,7 @@ const IP_CONFIGURATION: u32 = 15;
 
 const DEVICE_SERVICES: u32 = 16;
 
-const SUBSCRIBE_LIST: u32 = 19;
+pub(crate) const SUBSCRIBE_LIST: u32 = 19;
 
 const PACKET_STATISTICS: u32 = 20;
 
@@ -106,7 +104,6 @@ impl Modem {
             RADIO_STATE => self.set_radio(alloc, number_at(asked, 0)),
             PACKET_SERVICE => self.set_packet_service(alloc, number_at(asked, 0)),
             CONNECT => self.connect(alloc, number_at(asked, 0), number_at(asked, 1)),
-            SUBSCRIBE_LIST => self.subscribe(alloc, elements_at(asked, 1)),
             _ => Ok(None),
         }
     }
@@ -290,16 +287,19 @@ impl Modem {
         Ok(Some(self.connection(alloc, session)?))
     }
 
-    // The host listens to these events from here on, and is told of them in normal form.
-    fn subscribe(
+    /// The host listens to the list that a buffer spells from here on, and is told it in normal form.
+    pub(crate) fn set_list(
         &mut self,
         alloc: Global,
-        events: &[FieldValue],
+        buffer: &[u8],
     ) -> Result<Option<Vec<FieldValue>>, AllocError>
-        ensures told { IfOk result (λ told. option_map (λ values. map value_view values.items) told ≡ values_told (spec.subscribe (spec.listed (map value_view events.now)) self.old)) }
-        ensures left { OnOk result (self.new ≡ modem_left self.old (spec.subscribe (spec.listed (map value_view events.now)) self.old)) }
+        ensures told { IfOk result (λ told. option_map (λ values. map value_view values.items) told ≡ values_told (spec.set_list buffer.now self.old)) }
+        ensures left { OnOk result (self.new ≡ modem_left self.old (spec.set_list buffer.now self.old)) }
     {
-        self.subscribed = listed(alloc, events)?;
+        let Some(pairs) = read_list(alloc, buffer)? else {
+            return Ok(None);
+        };
+        self.subscribed = pairs;
         Ok(Some(list_fields(alloc, &self.subscribed)?))
     }
 }

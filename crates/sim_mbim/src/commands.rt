@@ -1,10 +1,11 @@
 //! The reply to a whole command.
 
-ghost use Rattle.std.specs.Prelude.{◌≡◌, [], map, option_map, IfOk, OnOk};
+ghost use Rattle.std.specs.Prelude.{◌≡◌, [], Option, map, option_map, IfOk, OnOk};
 ghost use Rattle.mbim_fields.specs.View.{value_view};
 ghost use Rattle.sim_mbim.specs.Commands as spec;
-ghost use Rattle.sim_mbim.specs.Modem.{values_told, modem_left};
+ghost use Rattle.sim_mbim.specs.Modem.{Modem, Outcome, values_told, modem_left};
 
+use crate::basic_connect::SUBSCRIBE_LIST;
 use crate::modem::Modem;
 use crate::ussd::set_ussd;
 use kit_bytes::{Octets, services};
@@ -49,6 +50,10 @@ impl Modem {
     ) -> Result<Reply, AllocError>
         ensures { IfOk result (λ reply. spec.reply_to head.now buffer.now self.old ≡ record { status = reply.status; buffer = reply.buffer; modem = self.new }) }
     {
+        if is_list_set(head) {
+            let told = self.set_list(alloc, buffer)?;
+            return replied(alloc, head, told);
+        }
         let Some(shape) = layout(head.uuid, head.cid, way(head.set)) else {
             return Ok(refused(alloc, NO_DEVICE_SUPPORT));
         };
@@ -70,14 +75,8 @@ impl Modem {
     ) -> Result<Reply, AllocError>
         ensures { IfOk result (λ reply. spec.replied head.now self.old (spec.outcome head.now (map value_view asked.now) self.old) ≡ record { status = reply.status; buffer = reply.buffer; modem = self.new }) }
     {
-        let Some(values) = self.outcome(alloc, head, asked)? else {
-            return Ok(refused(alloc, INVALID_PARAMETERS));
-        };
-        let buffer = encoded(alloc, head, values)?;
-        Ok(Reply {
-            status: SUCCESS,
-            buffer,
-        })
+        let told = self.outcome(alloc, head, asked)?;
+        replied(alloc, head, told)
     }
 
     // What a command comes to: the values of its answer's fields, or None where it has no meaning.
@@ -146,8 +145,33 @@ impl Modem {
     }
 }
 
-// The encoding of values in the layout of a command's answers. What has none would take more than four
-// gigabytes.
+// Whether a command sets the list to which the host listens.
+fn is_list_set(head: &CommandHead) -> bool
+    ensures { result ≡ spec.is_list_set head.now }
+{
+    head.set && head.uuid == Service::BasicConnect.uuid() && head.cid == SUBSCRIBE_LIST
+}
+
+// The reply to a command that came to an outcome with these values.
+fn replied(
+    alloc: Global,
+    head: &CommandHead,
+    told: Option<Vec<FieldValue>>,
+) -> Result<Reply, AllocError>
+    ensures { IfOk result (λ reply. (m : Modem) (outcome : Option Outcome) → option_map (λ values. map value_view values.items) told ≡ values_told outcome
+        → spec.replied head.now m outcome ≡ record { status = reply.status; buffer = reply.buffer; modem = modem_left m outcome }) }
+{
+    let Some(values) = told else {
+        return Ok(refused(alloc, INVALID_PARAMETERS));
+    };
+    let buffer = encoded(alloc, head, values)?;
+    Ok(Reply {
+        status: SUCCESS,
+        buffer,
+    })
+}
+
+// The encoding of values in the layout of a command's answers, and nothing where they have none.
 fn encoded(alloc: Global, head: &CommandHead, values: Vec<FieldValue>) -> Result<Octets, AllocError>
     ensures { IfOk result (λ buffer. buffer ≡ spec.encoded head.now (map value_view values.items)) }
 {
@@ -156,6 +180,7 @@ fn encoded(alloc: Global, head: &CommandHead, values: Vec<FieldValue>) -> Result
     };
     match encode_fields(alloc, &shape, &FieldVal::from(values)) {
         Ok(buffer) => Ok(buffer),
-        Err(EncodeFault::OutOfMemory | EncodeFault::Misfit) => Err(AllocError),
+        Err(EncodeFault::OutOfMemory) => Err(AllocError),
+        Err(EncodeFault::Misfit) => Ok(Octets::new(alloc)),
     }
 }

@@ -1,25 +1,23 @@
 //! What the host listens to.
 
-ghost use Rattle.std.specs.Prelude.{◌≡◌, ◌≤◌, ◌++◌, [], ◌∷◌, ◌&&◌, ◌==◌, bytes_eq, length, map, IfOk, OnOk};
+ghost use Rattle.std.specs.Prelude.{List, ◌≡◌, ◌≤◌, ◌++◌, [], ◌∷◌, ◌&&◌, ◌==◌, bytes_eq, length, map, option_map, IfOk, OnOk};
 ghost use Rattle.kit_bytes.specs.Services.{starting_list};
-ghost use Rattle.kit_bytes.specs.Subscriptions.{by_service, cids_of, normal_form};
+ghost use Rattle.kit_bytes.specs.Subscriptions.{Pair as TablePair, by_service, cids_of, normal_form};
 ghost use Rattle.kit_bytes.specs.Indications as indications;
 ghost use Rattle.mbim_fields.specs.Value as field;
 ghost use Rattle.mbim_fields.specs.View.{value_view};
 ghost use Rattle.mbim_services.specs.SubscribeLists as lists;
+ghost use Rattle.mbim_services.specs.SubscribeLists.{list_of_buffer};
 ghost use Rattle.mbim_services.specs.Writing as runs;
-ghost use Rattle.mbim_services.specs.Writing.{IsRun, subscription_in};
-ghost use Rattle.subscriptions.specs.Lists as normal;
-ghost use Rattle.sim_mbim.specs.BasicConnect as spec;
+ghost use Rattle.mbim_services.specs.Writing.{subscription_in};
 
-use crate::values::{elements_at, fields_of, list, number, number_of, structure, uuid, uuid_at};
+use crate::values::{list, number, structure, uuid};
 use kit_bytes::services;
 use mbim_fields::FieldValue;
+use mbim_services::{Events, run_length};
 use std::alloc::{AllocError, Global};
+use subscriptions::{Pair, normalize};
 use uuid::Uuid;
-
-/// One CID of the service of this UUID, or None for all of them.
-pub(crate) type Pair = (Uuid, Option<u64>);
 
 /// To what the host listens at first.
 pub(crate) fn starting_list(alloc: Global) -> Result<Vec<Pair>, AllocError>
@@ -44,53 +42,41 @@ pub(crate) fn wants(pairs: &[Pair], uuid: Uuid, cid: u32) -> bool
 fn asks(pair: &Pair, uuid: Uuid, cid: u32) -> bool
     ensures { result ≡ (bytes_eq pair.now.0 uuid && indications.is_cid cid pair.now.1) }
 {
-    pair.0 == uuid && pair.1.is_none_or(|number| number == u64::from(cid))
+    pair.0 == uuid && pair.1.is_none_or(|number| number == cid)
 }
 
 // ---- reading ----
 
-/// The pairs of events, in normal form.
-pub(crate) fn listed(alloc: Global, events: &[FieldValue]) -> Result<Vec<Pair>, AllocError>
-    ensures { IfOk result (λ pairs. pairs.items ≡ spec.listed (map value_view events.now)) }
+// How many pairs are taken before they are first brought into normal form.
+const FEW: usize = 1_024;
+
+/// The list that a buffer spells, in normal form. It takes memory for the list, however often the buffer
+/// has each pair.
+pub(crate) fn read_list(alloc: Global, buffer: &[u8]) -> Result<Option<Vec<Pair>>, AllocError>
+    ensures { IfOk result (λ list. option_map (λ pairs. pairs.items) list ≡ option_map normal_form (list_of_buffer buffer.now)) }
 {
+    let Some(mut events) = Events::read(buffer) else {
+        return Ok(None);
+    };
     let mut pairs = Vec::new(alloc);
-    for event in events {
-        add_pairs(&mut pairs, event)?;
+    let mut most = FEW;
+    'events: while let Some(pair) = events.next() {
+        pairs.push(pair)?;
+        most = shorten(&mut pairs, most);
     }
     normalize(&mut pairs);
-    Ok(pairs)
+    Ok(Some(pairs))
 }
 
-// Adds the pairs of an event.
-fn add_pairs(pairs: &mut Vec<Pair>, event: &FieldValue) -> Result<(), AllocError>
-    ensures { OnOk result (pairs.new.items ≡ pairs.old.items ++ spec.pairs_in (value_view event.now)) }
+// Brings pairs into normal form where they are so many, and says how many they may be the next time.
+fn shorten(pairs: &mut Vec<Pair>, most: usize) -> usize
+    ensures { (left : List TablePair) → normal_form (pairs.new.items ++ left) ≡ normal_form (pairs.old.items ++ left) }
 {
-    let fields = fields_of(event);
-    let uuid = uuid_at(fields, 0);
-    let cids = elements_at(fields, 2);
-    if cids.is_empty() {
-        pairs.push((uuid, None))?;
-        return Ok(());
+    if pairs.len() < most {
+        return most;
     }
-    for cid in cids {
-        pairs.push((uuid, Some(number_of(cid))))?;
-    }
-    Ok(())
-}
-
-// Brings pairs into normal form.
-fn normalize(pairs: &mut Vec<Pair>)
-    ensures { pairs.new.items ≡ normal_form pairs.old.items }
-{
-    pairs.sort_unstable();
-    pairs.dedup_by(|pair, last| covers(last, pair));
-}
-
-// Whether the pair is the other one, or all CIDs of its service.
-fn covers(pair: &Pair, other: &Pair) -> bool
-    ensures { result ≡ normal.covers pair.now other.now }
-{
-    pair.0 == other.0 && (pair.1.is_none() || pair.1 == other.1)
+    normalize(pairs);
+    pairs.len().saturating_mul(2).saturating_add(FEW)
 }
 
 // ---- writing ----
@@ -119,24 +105,6 @@ fn events_of(alloc: Global, pairs: &[Pair]) -> Result<Vec<FieldValue>, AllocErro
     Ok(events)
 }
 
-// How many of these pairs, from the first on, are of one service.
-fn run_length(pairs: &[Pair]) -> usize
-    requires { 1 ≤ length pairs.now }
-    ensures some { 1 ≤ result }
-    ensures within { result ≤ length pairs.now }
-    ensures run { IsRun pairs.now result }
-{
-    let uuid = pairs[0].0;
-    let mut count = 1;
-    while count < pairs.len() {
-        if pairs[count].0 != uuid {
-            return count;
-        }
-        count += 1;
-    }
-    count
-}
-
 // The event of the service that all of these pairs are of.
 fn event_of(alloc: Global, run: &[Pair]) -> Result<FieldValue, AllocError>
     requires { 1 ≤ length run.now }
@@ -161,12 +129,12 @@ fn cids_in(alloc: Global, pairs: &[Pair]) -> Result<Vec<FieldValue>, AllocError>
 }
 
 // Adds a CID, if there is one.
-fn add_cid(cids: &mut Vec<FieldValue>, cid: Option<u64>) -> Result<(), AllocError>
+fn add_cid(cids: &mut Vec<FieldValue>, cid: Option<u32>) -> Result<(), AllocError>
     ensures { OnOk result (map value_view cids.new.items ≡ map value_view cids.old.items ++ map field.number (cids_of cid)) }
 {
     let Some(cid) = cid else {
         return Ok(());
     };
-    cids.push(number(cid))?;
+    cids.push(number(u64::from(cid)))?;
     Ok(())
 }

@@ -2,11 +2,12 @@ ghost use Rattle.std.specs.Prelude.{◌≡◌, ◌≤◌, ◌-◌, ◌++◌, len
 ghost use Rattle.sim_mbim.specs.Modem as spec;
 ghost use Rattle.sim_mbim.specs.Answers.{opened};
 
-use crate::lists::{Pair, starting_list};
+use crate::lists::starting_list;
 use kit_bytes::Octets;
 use modem_profile::{PhonebookEntry, Profile};
 use std::alloc::{AllocError, Global};
 use std::marker::Model;
+use subscriptions::Pair;
 
 // How many bytes a message has at least and at most that may be asked for.
 const SHORTEST_MESSAGE: u32 = 64;
@@ -56,9 +57,10 @@ impl Model for Modem {
 
 impl Modem {
     /// A modem that is started with this profile.
-    pub(crate) fn start(alloc: Global, profile: Profile) -> Result<Self, AllocError>
-        ensures { IfOk result (λ modem. modem ≡ spec.started profile) }
+    pub(crate) fn start(alloc: Global, profile: &Profile) -> Result<Self, AllocError>
+        ensures { IfOk result (λ modem. modem ≡ spec.started profile.now) }
     {
+        let profile = profile.copy(alloc)?;
         let messages = messages_of(alloc, profile.sms())?;
         let entries = entries_of(alloc, profile.phonebook())?;
         let subscribed = starting_list(alloc)?;

@@ -1,13 +1,12 @@
 //! The commands of the service Phonebook.
 
-ghost use Rattle.std.specs.Prelude.{◌≡◌, ◌+◌, ◌<◌, ◌++◌, [], ◌∷◌, length, map, option_map, position, is_none, IfOk, IfSome, OnOk};
+ghost use Rattle.std.specs.Prelude.{◌≡◌, ◌+◌, ◌<◌, length, map, option_map, position, is_none, IfOk, IfSome, OnOk};
 ghost use Rattle.mbim_fields.specs.View.{value_view};
-ghost use Rattle.sim_mbim.specs.Places as places;
 ghost use Rattle.sim_mbim.specs.Phonebook as spec;
 ghost use Rattle.sim_mbim.specs.Modem.{values_told, modem_left};
 
 use crate::modem::Modem;
-use crate::places::{ALL, ONE, find, forget_all};
+use crate::places::{Kept, forget, values_asked};
 use crate::values::{list, number, number_at, structure, text, text_at, zeros};
 use mbim_fields::FieldValue;
 use modem_profile::{PhonebookEntry, is_phonebook_text};
@@ -73,35 +72,18 @@ impl Modem {
     ) -> Result<Option<Vec<FieldValue>>, AllocError>
         ensures { IfOk result (λ told. option_map (λ values. map value_view values.items) told ≡ spec.read flag index self.now) }
     {
-        match flag {
-            ALL => Ok(Some(list_of(alloc, all_entries(alloc, &self.entries)?)?)),
-            ONE => {
-                let Some((_, kept)) = find(&self.entries, index) else {
-                    return Ok(None);
-                };
-                let entry = entry(alloc, index, kept)?;
-                Ok(Some(list_of(alloc, vec![in alloc; entry]?)?))
-            }
-            _ => Ok(None),
-        }
+        let Some(entries) = values_asked(alloc, &self.entries, flag, index)? else {
+            return Ok(None);
+        };
+        Ok(Some(list_of(alloc, entries)?))
     }
 
     fn delete_entries(&mut self, alloc: Global, flag: u64, index: u64) -> Option<Vec<FieldValue>>
         ensures told { option_map (λ values. map value_view values.items) result ≡ values_told (spec.delete flag index self.old) }
         ensures left { self.new ≡ modem_left self.old (spec.delete flag index self.old) }
     {
-        match flag {
-            ALL => {
-                forget_all(&mut self.entries);
-                Some(Vec::new(alloc))
-            }
-            ONE => {
-                let (place, _) = find(&self.entries, index)?;
-                self.entries[place] = None;
-                Some(Vec::new(alloc))
-            }
-            _ => None,
-        }
+        forget(&mut self.entries, flag, index)?;
+        Some(Vec::new(alloc))
     }
 
     fn write_entry(
@@ -146,46 +128,17 @@ fn unused(entries: &[Option<PhonebookEntry>]) -> Option<usize>
     entries.iter().position(|place| place.is_none())
 }
 
-// An entry: its index, its number and its name.
-fn entry(alloc: Global, index: u64, entry: &PhonebookEntry) -> Result<FieldValue, AllocError>
-    ensures { IfOk result (λ value. value_view value ≡ spec.entry (index, entry.now)) }
-{
-    let phone = text(alloc, &entry.number)?;
-    let name = text(alloc, &entry.name)?;
-    Ok(structure(vec![in alloc; number(index), phone, name]?))
-}
+impl Kept for PhonebookEntry {
+    ghost use Rattle.sim_mbim.specs.Phonebook as spec;
 
-// All entries that are kept.
-fn all_entries(
-    alloc: Global,
-    entries: &[Option<PhonebookEntry>],
-) -> Result<Vec<FieldValue>, AllocError>
-    ensures { IfOk result (λ values. map value_view values.items ≡ map spec.entry (places.kept entries.now)) }
-{
-    let mut values = Vec::new(alloc);
-    let mut index = 1;
-    for place in entries {
-        add_entry(alloc, &mut values, index, place)?;
-        index += 1;
+    ghost value = { spec.entry };
+
+    // Its index, its number and its name.
+    fn value(&self, alloc: Global, index: u64) -> Result<FieldValue, AllocError> {
+        let phone = text(alloc, &self.number)?;
+        let name = text(alloc, &self.name)?;
+        Ok(structure(vec![in alloc; number(index), phone, name]?))
     }
-    Ok(values)
-}
-
-// Adds what is kept under an index.
-fn add_entry(
-    alloc: Global,
-    values: &mut Vec<FieldValue>,
-    index: u64,
-    place: &Option<PhonebookEntry>,
-) -> Result<(), AllocError>
-    ensures { OnOk result (map value_view values.new.items ≡ map value_view values.old.items ++ map spec.entry (places.kept_from index (place.now ∷ []))) }
-{
-    let Some(kept) = place else {
-        return Ok(());
-    };
-    let value = entry(alloc, index, kept)?;
-    values.push(value)?;
-    Ok(())
 }
 
 // The fields of a list of entries.

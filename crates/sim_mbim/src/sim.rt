@@ -4,7 +4,8 @@ ghost use Rattle.mbim_frame.specs.Head.{number_of};
 ghost use Rattle.mbim_frame.specs.Writing as writing;
 ghost use Rattle.mbim_fragments.specs.declared.assembly.TheConstants.{LONGEST_BODY};
 ghost use Rattle.mbim_fragments.specs.Assembling.{joining_behind, assembled_after};
-ghost use Rattle.sim_mbim.specs.Answers.{Keeps, answers, fresh, says, state_at, turn_at, turn_at_command, turn_at_joining};
+ghost use Rattle.sim_modem.specs.Sim.{answers};
+ghost use Rattle.sim_mbim.specs.Answers.{Keeps, fresh, machine, says, state_at, exchange_at, exchange_at_command, exchange_at_joining};
 ghost use Rattle.sim_mbim.specs.Writing as spec;
 
 use crate::commands::Reply;
@@ -47,9 +48,9 @@ impl Model for MbimSim {
 
 impl MbimSim {
     /// A modem that is started with this profile, and that nothing was asked of yet.
-    pub fn open(alloc: Global, profile: Profile) -> Result<Self, AllocError>
-        ensures fresh { IfOk result (λ sim. sim ≡ fresh profile) }
-        ensures keeps { IfOk result (λ sim. Keeps (answers profile) [] sim) }
+    pub fn open(alloc: Global, profile: &Profile) -> Result<Self, AllocError>
+        ensures fresh { IfOk result (λ sim. sim ≡ fresh profile.now) }
+        ensures keeps { IfOk result (λ sim. Keeps (answers (machine profile.now)) [] sim) }
     {
         let modem = Modem::start(alloc, profile)?;
         let begun = Assembly::open(alloc)?;
@@ -64,7 +65,7 @@ impl MbimSim {
     // What is said to a message.
     fn hear(&mut self, message: &[u8]) -> Result<Octets, AllocError>
         requires { 12 ≤ length message.now }
-        ensures text { IfOk result (λ text. text ≡ (turn_at message.now self.old).text) }
+        ensures text { IfOk result (λ text. text ≡ (exchange_at message.now self.old).text) }
         ensures state { OnOk result (self.new ≡ state_at message.now self.old) }
     {
         let number = MHead::read(message).number;
@@ -83,8 +84,8 @@ impl MbimSim {
     // What is said to a fragment of a command.
     fn hear_fragment(&mut self, number: u32, fragment: &[u8]) -> Result<Octets, AllocError>
         requires { 20 ≤ length fragment.now }
-        ensures text { IfOk result (λ text. text ≡ (turn_at_joining number self.old.modem (joining_behind LONGEST_BODY self.old.begun fragment.now)).text) }
-        ensures modem { OnOk result (self.new.modem ≡ (turn_at_joining number self.old.modem (joining_behind LONGEST_BODY self.old.begun fragment.now)).modem) }
+        ensures text { IfOk result (λ text. text ≡ (exchange_at_joining number self.old.modem (joining_behind LONGEST_BODY self.old.begun fragment.now)).text) }
+        ensures modem { OnOk result (self.new.modem ≡ (exchange_at_joining number self.old.modem (joining_behind LONGEST_BODY self.old.begun fragment.now)).modem) }
         ensures begun { OnOk result (self.new.begun ≡ assembled_after LONGEST_BODY self.old.begun fragment.now) }
     {
         match self.begun.take(fragment, &mut self.body) {
@@ -111,7 +112,7 @@ impl Sim for MbimSim {
 impl Modem {
     // What is said to a command that this body spells, if it spells one.
     fn hear(&mut self, alloc: Global, number: u32, body: &[u8]) -> Result<Octets, AllocError>
-        ensures { IfOk result (λ text. turn_at_command number body.now self.old (read_command body.now) ≡ says self.new text) }
+        ensures { IfOk result (λ text. exchange_at_command number body.now self.old (read_command body.now) ≡ says self.new text) }
     {
         let Some(head) = CommandHead::read(body) else {
             return error(alloc, number, LENGTH_MISMATCH);

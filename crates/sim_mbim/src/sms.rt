@@ -1,13 +1,12 @@
 //! The commands of the service SMS.
 
-ghost use Rattle.std.specs.Prelude.{◌≡◌, ◌++◌, [], ◌∷◌, map, option_map, IfOk, OnOk};
+ghost use Rattle.std.specs.Prelude.{◌≡◌, map, option_map, IfOk, OnOk};
 ghost use Rattle.mbim_fields.specs.View.{value_view};
-ghost use Rattle.sim_mbim.specs.Places as places;
 ghost use Rattle.sim_mbim.specs.Sms as spec;
 ghost use Rattle.sim_mbim.specs.Modem.{values_told, modem_left};
 
 use crate::modem::Modem;
-use crate::places::{ALL, ONE, find, forget_all};
+use crate::places::{Kept, forget, values_asked};
 use crate::values::{list, no_text, number, number_at, octets, structure, zero, zeros};
 use kit_bytes::Octets;
 use mbim_fields::FieldValue;
@@ -73,35 +72,18 @@ impl Modem {
         if format != PDU {
             return Ok(None);
         }
-        match flag {
-            ALL => Ok(Some(list_of(alloc, all_messages(alloc, &self.messages)?)?)),
-            ONE => {
-                let Some((_, octets)) = find(&self.messages, index) else {
-                    return Ok(None);
-                };
-                let message = message(alloc, index, octets)?;
-                Ok(Some(list_of(alloc, vec![in alloc; message]?)?))
-            }
-            _ => Ok(None),
-        }
+        let Some(messages) = values_asked(alloc, &self.messages, flag, index)? else {
+            return Ok(None);
+        };
+        Ok(Some(list_of(alloc, messages)?))
     }
 
     fn delete_messages(&mut self, alloc: Global, flag: u64, index: u64) -> Option<Vec<FieldValue>>
         ensures told { option_map (λ values. map value_view values.items) result ≡ values_told (spec.delete flag index self.old) }
         ensures left { self.new ≡ modem_left self.old (spec.delete flag index self.old) }
     {
-        match flag {
-            ALL => {
-                forget_all(&mut self.messages);
-                Some(Vec::new(alloc))
-            }
-            ONE => {
-                let (place, _) = find(&self.messages, index)?;
-                self.messages[place] = None;
-                Some(Vec::new(alloc))
-            }
-            _ => None,
-        }
+        forget(&mut self.messages, flag, index)?;
+        Some(Vec::new(alloc))
     }
 }
 
@@ -111,42 +93,16 @@ fn configuration(alloc: Global) -> Result<Vec<FieldValue>, AllocError>
     Ok(vec![in alloc; zero(), zero(), zero(), zero(), no_text(alloc)]?)
 }
 
-// A message: its index, no status, and its octets.
-fn message(alloc: Global, index: u64, message: &Octets) -> Result<FieldValue, AllocError>
-    ensures { IfOk result (λ value. value_view value ≡ spec.message (index, message.now)) }
-{
-    let octets = octets(alloc, message.as_slice())?;
-    Ok(structure(vec![in alloc; number(index), zero(), octets]?))
-}
+impl Kept for Octets {
+    ghost use Rattle.sim_mbim.specs.Sms as spec;
 
-// All messages that are kept.
-fn all_messages(alloc: Global, messages: &[Option<Octets>]) -> Result<Vec<FieldValue>, AllocError>
-    ensures { IfOk result (λ values. map value_view values.items ≡ map spec.message (places.kept messages.now)) }
-{
-    let mut values = Vec::new(alloc);
-    let mut index = 1;
-    for place in messages {
-        add_message(alloc, &mut values, index, place)?;
-        index += 1;
+    ghost value = { spec.message };
+
+    // Its index, no status, and its octets.
+    fn value(&self, alloc: Global, index: u64) -> Result<FieldValue, AllocError> {
+        let octets = octets(alloc, self.as_slice())?;
+        Ok(structure(vec![in alloc; number(index), zero(), octets]?))
     }
-    Ok(values)
-}
-
-// Adds what is kept under an index.
-fn add_message(
-    alloc: Global,
-    values: &mut Vec<FieldValue>,
-    index: u64,
-    place: &Option<Octets>,
-) -> Result<(), AllocError>
-    ensures { OnOk result (map value_view values.new.items ≡ map value_view values.old.items ++ map spec.message (places.kept_from index (place.now ∷ []))) }
-{
-    let Some(octets) = place else {
-        return Ok(());
-    };
-    let value = message(alloc, index, octets)?;
-    values.push(value)?;
-    Ok(())
 }
 
 // The fields of a list of messages.

@@ -28,15 +28,6 @@ pub(crate) fn number_at(values: &[FieldValue], place: usize) -> u64
     }
 }
 
-pub(crate) fn uuid_at(values: &[FieldValue], place: usize) -> Uuid
-    ensures { result ≡ spec.uuid_at (map value_view values.now) place }
-{
-    match values.get(place) {
-        Some(value) => value.as_uuid().unwrap_or(Uuid::nil()),
-        None => Uuid::nil(),
-    }
-}
-
 pub(crate) fn octets_at(
     alloc: Global,
     values: &[FieldValue],
@@ -73,25 +64,6 @@ fn empty(alloc: Global) -> Text
     ensures { result ≡ [] }
 {
     Text::from(String::new(alloc))
-}
-
-pub(crate) fn elements_at(values: &[FieldValue], place: usize) -> &[FieldValue]
-    ensures { map value_view result.now ≡ spec.elements_at (map value_view values.now) place }
-{
-    match values.get(place) {
-        Some(FieldValue::List(val)) => val.as_slice(),
-        _ => &[],
-    }
-}
-
-// The values of the fields of a structure.
-pub(crate) fn fields_of(value: &FieldValue) -> &[FieldValue]
-    ensures { map value_view result.now ≡ spec.fields_of (value_view value.now) }
-{
-    match value {
-        FieldValue::Members(val) => val.as_slice(),
-        _ => &[],
-    }
 }
 
 // ---- of an answer ----

@@ -1,1 +1,3 @@
 pub mod Sim
+pub mod Laws
+pub mod Examples

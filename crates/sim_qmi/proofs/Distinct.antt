@@ -4,12 +4,13 @@ use Rattle.std.proofs.lemmas.Option.{same_Some}
 use Rattle.std.proofs.Common.{subst}
 use Rattle.std.specs.Prelude.{cond, filter, find, not, ◌||◌, ◌&&◌, ◌==◌, if◌then◌else◌, Result, Ok, Err}
 use Rattle.std.specs.List.{AllByRecursion, IsDistinct, list_any}
+use Rattle.kit_bytes.proofs.Lists.{all_filter, all_push}
 use Rattle.qmux_frame.specs.declared.kind.MessageKind.{MessageKind}
 use Rattle.qmux_frame.specs.declared.kind.MessageKind.TheVariants as kind
 use Rattle.qmux_frame.specs.Head.{head_of, tlvs_in}
 use Rattle.qmux_frame.specs.Kind.{framed_kind}
 use Rattle.modem_profile.specs.Profile.{Profile}
-use Rattle.sim_qmi.specs.declared.client.Client.{Client}
+use Rattle.sim_qmi.specs.declared.client_id.ClientId.{ClientId}
 use Rattle.sim_qmi.specs.declared.request.Request.{Request}
 use Rattle.sim_qmi.specs.declared.request.Request.TheVariants.{Ctl, Wds, Dms, Nas, Wms}
 use Rattle.sim_qmi.specs.declared.ctl.CtlRequest.TheVariants as ctl
@@ -20,7 +21,8 @@ use Rattle.sim_qmi.specs.declared.wms.WmsRequest.TheVariants as wms
 use Rattle.sim_qmi.specs.Ctl.{allocates, client_id}
 use Rattle.sim_qmi.specs.Errors.{invalid_client_id}
 use Rattle.sim_qmi.specs.Laws.{NoIdIsGivenTwice, is_same}
-use Rattle.sim_qmi.specs.Modem.{serves, state_after, takes, takes_kind}
+use Rattle.sim_modem.specs.Sim.{state_after}
+use Rattle.sim_qmi.specs.Modem.{machine, serves, takes, takes_kind}
 use Rattle.sim_qmi.specs.Requests.{asked}
 use Rattle.sim_qmi.specs.State.{State, client_ids, free_id, is_client, is_given, message_at, without_client}
 use Rattle.sim_qmi.specs.Step.{refused, success}
@@ -32,26 +34,14 @@ or_parts : (a b : Bool) → (a || b) ≡ false → (a ≡ false) × (b ≡ false
 or_parts true b neither = absurd cc
 or_parts false b neither = (refl, neither)
 
-all_push : (P : Client → Type 0) (clients : List Client) (client : Client) → AllByRecursion P clients → P client → AllByRecursion P (clients ++ client ∷ [])
-all_push P [] client all last = (last, tt)
-all_push P (first ∷ clients) client all last = (all.0, all_push P clients client all.1 last)
-
-push : (clients : List Client) (service id : ℕ) → IsDistinct is_same clients → is_given clients service id ≡ false → IsDistinct is_same (clients ++ record { service = service; id = id } ∷ [])
+push : (clients : List ClientId) (service id : ℕ) → IsDistinct is_same clients → is_given clients service id ≡ false → IsDistinct is_same (clients ++ record { service = service; id = id } ∷ [])
 unfolding IsDistinct
 push [] service id distinct free = (tt, tt)
 push (first ∷ clients) service id distinct free =
     let p = or_parts (is_client service id first) (list_any (is_client service id) clients) free in
     (all_push (λ client. is_same first client ≡ false) clients (record { service = service; id = id }) distinct.0 p.0, push clients service id distinct.1 p.1)
 
-all_filter : (P : Client → Type 0) (p : Client → Bool) (clients : List Client) → AllByRecursion P clients → AllByRecursion P (filter p clients)
-all_filter P p [] all = tt
-all_filter P p (first ∷ clients) all = here (p first) (all_filter P p clients all.1)
-  where
-    here : (b : Bool) → AllByRecursion P (filter p clients) → AllByRecursion P (cond b (first ∷ filter p clients) (filter p clients))
-    here true rest = (all.0, rest)
-    here false rest = rest
-
-distinct_filter : (p : Client → Bool) (clients : List Client) → IsDistinct is_same clients → IsDistinct is_same (filter p clients)
+distinct_filter : (p : ClientId → Bool) (clients : List ClientId) → IsDistinct is_same clients → IsDistinct is_same (filter p clients)
 unfolding IsDistinct
 distinct_filter p [] distinct = tt
 distinct_filter p (first ∷ clients) distinct = here (p first) (all_filter (λ client. is_same first client ≡ false) p clients distinct.0) (distinct_filter p clients distinct.1)
@@ -75,7 +65,7 @@ not_true : (b : Bool) → not b ≡ true → b ≡ false
 not_true true is = absurd cc
 not_true false is = refl
 
-free_isnt_given : (clients : List Client) (service id : ℕ) → free_id clients service ≡ Some id → is_given clients service id ≡ false
+free_isnt_given : (clients : List ClientId) (service id : ℕ) → free_id clients service ≡ Some id → is_given clients service id ≡ false
 free_isnt_given clients service id is = not_true (is_given clients service id) (find_passes (λ n. not (is_given clients service n)) client_ids id is)
 
 -- ---- what a request makes of them ----
@@ -152,4 +142,4 @@ of_kind profile state message None distinct = distinct
 pub distinct : NoIdIsGivenTwice
 unfolding AreDistinct IsDistinct
 distinct profile [] = tt
-distinct profile (message ∷ past) = of_kind profile (state_after profile past) message (framed_kind message) (distinct profile past)
+distinct profile (message ∷ past) = of_kind profile (state_after (machine profile) past) message (framed_kind message) (distinct profile past)

@@ -15,7 +15,7 @@ use Rattle.qmi_services.specs.Table.{Output, Row}
 use Rattle.qmi_services.proofs.Found.{find-holds}
 use Rattle.modem_profile.specs.Profile.{Profile}
 use Rattle.modem_profile.specs.Limits.{IsWithin}
-use Rattle.sim_qmi.specs.declared.client.Client.{Client}
+use Rattle.sim_qmi.specs.declared.client_id.ClientId.{ClientId}
 use Rattle.sim_qmi.specs.declared.request.Request.{Request}
 use Rattle.sim_qmi.specs.declared.request.Request.TheVariants.{Ctl, Wds, Dms, Nas, Wms}
 use Rattle.sim_qmi.specs.declared.ctl.CtlRequest.{CtlRequest}
@@ -75,7 +75,7 @@ ids_below : AllByRecursion (λ (n : ℕ). n < 256) client_ids
 unfolding client_ids
 ids_below = range_below 1 254 (lit≤ tt)
 
-free_id_below : (clients : List Client) (service id : ℕ) → free_id clients service ≡ Some id → id < 256
+free_id_below : (clients : List ClientId) (service id : ℕ) → free_id clients service ≡ Some id → id < 256
 free_id_below clients service id is = find-holds (λ (n : ℕ). n < 256) (λ n. not (is_given clients service n)) client_ids id ids_below is
 
 allocation_fits : (state : State) (service : ℕ) (free : Option ℕ) → service < 256 → ((id : ℕ) → free ≡ Some id → id < 256) → Fits table.allocate.output (allocates state service free).answer

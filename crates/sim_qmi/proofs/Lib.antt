@@ -4,7 +4,6 @@ pub mod Storage
 pub mod Rows
 pub mod Fits
 pub mod Writing
-pub mod Meeting
 pub mod Distinct
 pub mod Replies
 pub mod Lacking

@@ -10,7 +10,7 @@ use Rattle.sim_qmi.specs.Errors.{client_ids_exhausted, invalid_client_id}
 use Rattle.sim_qmi.specs.State.{State, is_given, free_id, with_client, without_client}
 use Rattle.sim_qmi.specs.Step.{Step, success, refused, answered}
 use Rattle.sim_qmi.specs.Inputs.{byte_in, first_in, second_in}
-use Rattle.sim_qmi.specs.Values.{list_of}
+use Rattle.sim_qmi.specs.Values.{list}
 
 -- ---- what a request asks ----
 
@@ -42,7 +42,7 @@ abbrev pub version : ℕ → Value
 version service = sequence_of (number service ∷ number 1 ∷ number 0 ∷ [])
 
 abbrev pub versions : Value
-versions = list_of (map version (table.ctl ∷ table.wds ∷ table.dms ∷ table.nas ∷ table.wms ∷ []))
+versions = list (map version (table.ctl ∷ table.wds ∷ table.dms ∷ table.nas ∷ table.wms ∷ []))
 
 abbrev pub client_id : (service id : ℕ) → Value
 client_id service id = sequence_of (number service ∷ number id ∷ [])

@@ -11,7 +11,7 @@ use Rattle.sim_qmi.specs.declared.dms.DmsRequest.TheVariants.{GetCapabilities, G
 use Rattle.sim_qmi.specs.State.{State}
 use Rattle.sim_qmi.specs.Step.{Step, success, answered}
 use Rattle.sim_qmi.specs.Inputs.{byte_in}
-use Rattle.sim_qmi.specs.Values.{list_of, lte, max_tx, max_rx}
+use Rattle.sim_qmi.specs.Values.{list, lte, max_tx, max_rx}
 
 -- ---- what a request asks ----
 
@@ -41,9 +41,17 @@ dms_row (SetOperatingMode mode) = table.set_operating_mode
 
 -- ---- what is answered ----
 
--- the rates, a data service, a SIM, and LTE alone
+-- a data service in the circuit-switched domain, and a SIM
+-- Source: the enums QmiDmsDataServiceCapability and QmiDmsSimCapability in libqmi's src/libqmi-glib/qmi-enums-dms.h.
+abbrev pub data_service_cs : ℕ
+data_service_cs = 1
+
+abbrev pub sim_supported : ℕ
+sim_supported = 2
+
+-- the rates, the data service, the SIM, and LTE alone
 abbrev pub capabilities : Value
-capabilities = sequence_of (max_tx ∷ max_rx ∷ number 1 ∷ number 2 ∷ list_of (number lte ∷ []) ∷ [])
+capabilities = sequence_of (max_tx ∷ max_rx ∷ number data_service_cs ∷ number sim_supported ∷ list (number lte ∷ []) ∷ [])
 
 abbrev pub dms_step : Profile → State → DmsRequest → Step
 dms_step profile state GetCapabilities = answered state (Some capabilities ∷ [])

@@ -2,12 +2,13 @@
 use Rattle.std.specs.Prelude.{◌≡◌, ℕ, List, [], ◌∷◌, ◌++◌, codes}
 use Rattle.kit_bytes.specs.Hex.{hex}
 use Rattle.modem_profile.specs.Profile.{Profile, default_profile}
-use Rattle.sim_qmi.specs.Modem.{answers}
+use Rattle.sim_modem.specs.Sim.{answers}
+use Rattle.sim_qmi.specs.Modem.{machine}
 use Rattle.sim_qmi.specs.Wds.{handle_after}
 
 -- what the modem that says nothing of its own sends for a request behind these
 abbrev pub sent : List (List ℕ) → List ℕ → List ℕ
-sent past message = answers default_profile past message
+sent past message = answers (machine default_profile) past message
 
 -- ---- client ids ----
 
@@ -144,7 +145,7 @@ abbrev pub with_messages : Profile
 with_messages = record default_profile { sms = (0xA1 ∷ []) ∷ (0xB1 ∷ 0xB2 ∷ []) ∷ (0xC1 ∷ []) ∷ [] }
 
 abbrev pub sent_with : List (List ℕ) → List ℕ → List ℕ
-sent_with past message = answers with_messages past message
+sent_with past message = answers (machine with_messages) past message
 
 abbrev pub allocate_wms : List ℕ
 allocate_wms = hex (codes "01 0F 00 00 00 00 00 01 22 00 04 00 01 01 00 05")

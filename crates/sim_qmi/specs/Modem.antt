@@ -1,5 +1,5 @@
--- The messages that a simulated QMI modem sends. Lists of requests have the newest first.
-use Rattle.std.specs.Prelude.{◌≡◌, ℕ, List, [], ◌∷◌, ◌++◌, Option, Some, Result, Ok, Err, if◌then◌else◌}
+-- The messages that a simulated QMI modem sends. Lists of messages have the newest first.
+use Rattle.std.specs.Prelude.{ℕ, List, [], ◌++◌, Option, Some, Result, Ok, Err, if◌then◌else◌}
 use Rattle.qmux_frame.specs.declared.head.Head.{Head}
 use Rattle.qmux_frame.specs.declared.kind.MessageKind.{MessageKind}
 use Rattle.qmux_frame.specs.declared.kind.MessageKind.TheVariants as kind
@@ -14,7 +14,7 @@ use Rattle.qmi_services.specs.Table as table
 use Rattle.qmi_services.specs.Table.{Output}
 use Rattle.qmi_services.specs.Modem.{output_tlvs}
 use Rattle.modem_profile.specs.Profile.{Profile}
-use Rattle.sim_modem.specs.Sim.{Answering}
+use Rattle.sim_modem.specs.Sim.{Answering, Machine, HasMet}
 use Rattle.sim_qmi.specs.declared.request.Request.{Request}
 use Rattle.sim_qmi.specs.declared.request.Request.TheVariants.{Ctl, Wds, Dms, Nas, Wms}
 use Rattle.sim_qmi.specs.declared.dms.DmsRequest.TheVariants.{SetOperatingMode}
@@ -60,46 +60,43 @@ serves profile state (Nas request) = nas_step profile state request
 serves profile state (Wms request) = wms_step state request
 
 -- the messages that a request brings, and the state then
-pub record Turn : Type 0 where
+pub record Exchange : Type 0 where
   pub messages : List ℕ
   pub state : State
 
 -- the response, and then the indication of the state then, if there is one
-abbrev pub turn : Profile → Head → Request → Step → Turn
-turn profile head request step = record {
+abbrev pub exchange : Profile → Head → Request → Step → Exchange
+exchange profile head request step = record {
   messages = response head (row_of request).output step.answer ++ indications profile step.state request;
   state = step.state;
 }
 
-abbrev pub takes : Profile → State → Head → Result Request ℕ → Turn
+abbrev pub takes : Profile → State → Head → Result Request ℕ → Exchange
 takes profile state head (Err error) = record { messages = response head [] (failure error); state = state }
-takes profile state head (Ok request) = turn profile head request (serves profile state request)
+takes profile state head (Ok request) = exchange profile head request (serves profile state request)
 
 -- a message that isn't a request, or that isn't framed, brings nothing
-abbrev pub takes_kind : Profile → State → (message : List ℕ) → Option MessageKind → Turn
+abbrev pub takes_kind : Profile → State → (message : List ℕ) → Option MessageKind → Exchange
 takes_kind profile state message (Some kind.Request) = takes profile state (head_of message) (asked state (head_of message) (tlvs_in message))
 takes_kind profile state message _ = record { messages = []; state = state }
 
-abbrev pub meets : Profile → State → (message : List ℕ) → Turn
+abbrev pub meets : Profile → State → (message : List ℕ) → Exchange
 meets profile state message = takes_kind profile state message (framed_kind message)
 
--- ---- all requests ----
-
-abbrev pub state_after : Profile → List (List ℕ) → State
-state_after profile [] = fresh profile
-state_after profile (message ∷ past) = (meets profile (state_after profile past) message).state
-
-abbrev pub answers : Profile → Answering
-answers profile past message = (meets profile (state_after profile past) message).messages
-
 -- ---- a modem ----
+
+abbrev pub machine : Profile → Machine State
+machine profile = record {
+  fresh = fresh profile;
+  sends = λ state message. (meets profile state message).messages;
+  next = λ state message. (meets profile state message).state;
+}
 
 -- what it tells of itself, and what it keeps
 pub record Modem : Type 0 where
   pub profile : Profile
   pub state : State
 
--- a modem with these answers has met these requests
-pub record HasMet (answering : Answering) (past : List (List ℕ)) (modem : Modem) : Type 0 where
-  pub answered : answering ≡ answers modem.profile
-  pub met : modem.state ≡ state_after modem.profile past
+-- a modem with these answers has met these messages
+abbrev pub Keeps : Answering → (past : List (List ℕ)) → Modem → Type 0
+Keeps answering past modem = HasMet (machine modem.profile) answering past modem.state

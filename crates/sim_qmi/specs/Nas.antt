@@ -9,7 +9,7 @@ use Rattle.sim_qmi.specs.declared.nas.NasRequest.{NasRequest}
 use Rattle.sim_qmi.specs.declared.nas.NasRequest.TheVariants.{GetSignalStrength, NetworkScan, GetServingSystem, GetHomeNetwork}
 use Rattle.sim_qmi.specs.State.{State}
 use Rattle.sim_qmi.specs.Step.{Step, answered}
-use Rattle.sim_qmi.specs.Values.{list_of, lte}
+use Rattle.sim_qmi.specs.Values.{list, lte}
 
 -- ---- what a request asks ----
 
@@ -34,21 +34,39 @@ nas_row GetHomeNetwork = table.get_home_network
 abbrev pub signal : Profile → Value
 signal profile = sequence_of (integer profile.signal ∷ integer (pos lte) ∷ [])
 
--- the one network, with the status "current serving"
+-- the status of a network that serves
 -- Source: the enum QmiNasNetworkStatus in libqmi's src/libqmi-glib/qmi-enums-nas.h.
+abbrev pub current_serving : ℕ
+current_serving = 1
+
+-- the one network
 abbrev pub networks : Profile → Value
-networks profile = list_of (sequence_of (number profile.mcc ∷ number profile.mnc ∷ number 1 ∷ text profile.operator ∷ []) ∷ [])
+networks profile = list (sequence_of (number profile.mcc ∷ number profile.mnc ∷ number current_serving ∷ text profile.operator ∷ []) ∷ [])
 
 abbrev pub plmn : Profile → Value
 plmn profile = sequence_of (number profile.mcc ∷ number profile.mnc ∷ text profile.operator ∷ [])
 
+-- Source of these: the enums QmiNasRegistrationState, QmiNasAttachState and QmiNasNetworkType there.
+abbrev pub not_registered : ℕ
+not_registered = 0
+
+abbrev pub registered : ℕ
+registered = 1
+
+abbrev pub attached : ℕ
+attached = 1
+
+-- a network of 3GPP
+abbrev pub network_3gpp : ℕ
+network_3gpp = 2
+
 -- registered in the operating mode 0, which is online, and else not
 abbrev pub registration : (mode : ℕ) → ℕ
-registration mode = if mode == 0 then 1 else 0
+registration mode = if mode == 0 then registered else not_registered
 
 -- how it is registered, attached to both domains of a network of 3GPP, with LTE alone
 abbrev pub system : (mode : ℕ) → Value
-system mode = sequence_of (number (registration mode) ∷ number 1 ∷ number 1 ∷ number 2 ∷ list_of (integer (pos lte) ∷ []) ∷ [])
+system mode = sequence_of (number (registration mode) ∷ number attached ∷ number attached ∷ number network_3gpp ∷ list (integer (pos lte) ∷ []) ∷ [])
 
 -- the system, nothing of roaming, and the network
 abbrev pub serving_system : Profile → (mode : ℕ) → List (Option Value)

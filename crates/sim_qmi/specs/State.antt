@@ -2,11 +2,11 @@
 use Rattle.std.specs.Prelude.{◌≡◌, ◌<◌, ℕ, Bool, false, not, ◌&&◌, ◌==◌, nat_le, nat_lt, true, length, List, [], ◌∷◌, ◌++◌, map, filter, find, slice_get, slice_set, Option, Some, None, option_and_then}
 use Rattle.std.specs.List.{list_any, list_all, range_with_len}
 use Rattle.modem_profile.specs.Profile.{Profile}
-use Rattle.sim_qmi.specs.declared.client.Client.{Client}
+use Rattle.sim_qmi.specs.declared.client_id.ClientId.{ClientId}
 
 pub record State : Type 0 where
   -- the client ids that are given
-  pub clients : List Client
+  pub clients : List ClientId
   -- the operating mode
   pub mode : ℕ
   -- the packet data handle that was given last, 0 before the first
@@ -23,15 +23,15 @@ fresh profile = record { clients = []; mode = 0; handle = 0; connected = false; 
 
 -- ---- client ids ----
 
-abbrev pub is_client : (service id : ℕ) → Client → Bool
+abbrev pub is_client : (service id : ℕ) → ClientId → Bool
 is_client service id client = client.service == service && client.id == id
 
 -- whether this id of a service is given
-abbrev pub is_given : List Client → (service id : ℕ) → Bool
+abbrev pub is_given : List ClientId → (service id : ℕ) → Bool
 is_given clients service id = list_any (is_client service id) clients
 
 -- whether any id of a service is given
-abbrev pub is_any_given : List Client → (service : ℕ) → Bool
+abbrev pub is_any_given : List ClientId → (service : ℕ) → Bool
 is_any_given clients service = list_any (λ client. client.service == service) clients
 
 -- the ids that are given: 0 is service 0's, and 255 is everybody's
@@ -39,7 +39,7 @@ unfoldable pub client_ids : List ℕ
 client_ids = range_with_len 1 254
 
 -- the least id of a service that isn't given
-abbrev pub free_id : List Client → (service : ℕ) → Option ℕ
+abbrev pub free_id : List ClientId → (service : ℕ) → Option ℕ
 free_id clients service = find (λ id. not (is_given clients service id)) client_ids
 
 abbrev pub with_client : State → (service id : ℕ) → State

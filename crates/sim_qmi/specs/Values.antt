@@ -2,8 +2,8 @@
 use Rattle.std.specs.Prelude.{ℕ, ◌+◌, ◌*◌, ◌%◌, List}
 use Rattle.qmi_values.specs.Value.{Value, number, elements, values_of}
 
-abbrev pub list_of : List Value → Value
-list_of values = elements (values_of values)
+abbrev pub list : List Value → Value
+list values = elements (values_of values)
 
 -- an IPv4 address as a number, its first byte the highest
 abbrev pub address : (a b c d : ℕ) → Value

@@ -12,7 +12,7 @@ use Rattle.sim_qmi.specs.Errors.{invalid_client_id}
 use Rattle.sim_qmi.specs.State.{State, message_at, without_message}
 use Rattle.sim_qmi.specs.Step.{Step, success, refused, answered}
 use Rattle.sim_qmi.specs.Inputs.{word_in, second_in}
-use Rattle.sim_qmi.specs.Values.{list_of, number_after}
+use Rattle.sim_qmi.specs.Values.{list, number_after}
 
 -- ---- what a request asks ----
 
@@ -65,7 +65,7 @@ listed (index, None) = None
 listed (index, Some message) = Some (sequence_of (number index ∷ number tag ∷ []))
 
 abbrev pub listing : State → Value
-listing state = list_of (filter_map listed (enumerate_from 0 state.messages))
+listing state = list (filter_map listed (enumerate_from 0 state.messages))
 
 abbrev pub wms_step : State → WmsRequest → Step
 wms_step state RawSend = sends state (number_after 65535 state.sent)

@@ -32,6 +32,11 @@ const GET_OPERATING_MODE: u16 = 0x002d;
 
 const SET_OPERATING_MODE: u16 = 0x002e;
 
+// A data service in the circuit-switched domain.
+const DATA_SERVICE_CS: u64 = 1;
+
+const SIM_SUPPORTED: u64 = 2;
+
 /// What a request to service 2 asks.
 #[derive(Clone, Copy, Debug, PartialEq, Eq)]
 pub(crate) enum DmsRequest {
@@ -120,8 +125,8 @@ fn capabilities(alloc: Global) -> Result<Val, AllocError>
         [
             Val::U(MAX_TX),
             Val::U(MAX_RX),
-            Val::U(1),
-            Val::U(2),
+            Val::U(DATA_SERVICE_CS),
+            Val::U(SIM_SUPPORTED),
             interfaces,
         ],
     )

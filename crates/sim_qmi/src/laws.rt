@@ -6,8 +6,9 @@ pub fn no_id_is_given_twice()
     ensures { NoIdIsGivenTwice }
 {}
 
-/// The law that the messages after a request begin with the response to it, which has its service,
-/// its client id, its number and its message id.
+/// The law that a request is answered by one response, which has its service, its client id, its
+/// number and its message id. Behind it stands the Serving System indication of the state then where
+/// the request set the operating mode and any client id of NAS is given, and else nothing.
 pub fn each_request_is_answered()
     ensures { EachRequestIsAnswered }
 {}

@@ -2,7 +2,7 @@
 #![tactic(auto)]
 
 mod answer;
-mod client;
+mod client_id;
 mod ctl;
 mod dms;
 mod errors;
@@ -19,7 +19,7 @@ mod values;
 mod wds;
 mod wms;
 
-use client::Client;
+use client_id::ClientId;
 use ctl::CtlRequest;
 use dms::DmsRequest;
 pub use laws::{each_request_is_answered, no_id_is_given_twice, only_the_input_is_missed};

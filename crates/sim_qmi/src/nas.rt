@@ -1,6 +1,6 @@
 //! Service 3 (NAS): the network that the modem is registered in.
 
-ghost use Rattle.std.specs.Prelude.{◌≡◌, ◌∷◌, map, option_map, IfOk};
+ghost use Rattle.std.specs.Prelude.{◌≡◌, map, option_map, IfOk};
 ghost use Rattle.qmi_values.specs.View.{val_view};
 ghost use Rattle.sim_qmi.specs.Nas.{nas_request, nas_step, networks, plmn, registration, serving_system, signal, system};
 ghost use Rattle.sim_qmi.specs.View.{answer_view};
@@ -21,6 +21,17 @@ const NETWORK_SCAN: u16 = 0x0021;
 pub(crate) const GET_SERVING_SYSTEM: u16 = 0x0024;
 
 const GET_HOME_NETWORK: u16 = 0x0025;
+
+// The status of a network that serves.
+const CURRENT_SERVING: u64 = 1;
+
+const NOT_REGISTERED: u64 = 0;
+
+const REGISTERED: u64 = 1;
+
+const ATTACHED: u64 = 1;
+
+const NETWORK_3GPP: u64 = 2;
 
 /// What a request to service 3 asks.
 #[derive(Clone, Copy, Debug, PartialEq, Eq)]
@@ -82,15 +93,19 @@ pub(crate) fn serving_system(
 fn system(alloc: Global, mode: u8) -> Result<Val, AllocError>
     ensures { IfOk result (λ val. val_view val ≡ system mode) }
 {
-    let registration = if mode == 0 { 1 } else { 0 };
+    let registration = if mode == 0 {
+        REGISTERED
+    } else {
+        NOT_REGISTERED
+    };
     let interfaces = list_of_one(alloc, Val::I(i64::from(LTE)))?;
     sequence(
         alloc,
         [
             Val::U(registration),
-            Val::U(1),
-            Val::U(1),
-            Val::U(2),
+            Val::U(ATTACHED),
+            Val::U(ATTACHED),
+            Val::U(NETWORK_3GPP),
             interfaces,
         ],
     )
@@ -115,7 +130,7 @@ fn networks(alloc: Global, profile: &Profile) -> Result<Val, AllocError>
         [
             Val::U(u64::from(profile.mcc())),
             Val::U(u64::from(profile.mnc())),
-            Val::U(1),
+            Val::U(CURRENT_SERVING),
             name,
         ],
     )?;

@@ -1,10 +1,11 @@
-ghost use Rattle.std.specs.Prelude.{◌≡◌, ◌≤◌, ◌++◌, [], length, IfOk, OnOk};
+ghost use Rattle.std.specs.Prelude.{◌≡◌, ◌++◌, [], IfOk, OnOk};
 ghost use Rattle.framing.specs.Framing.{IsMessage};
 ghost use Rattle.modem_profile.specs.Limits.{IsWithin};
 ghost use Rattle.qmi_services.specs.View.{row_view};
 ghost use Rattle.qmux_frame.specs.Frame.{size_of};
-ghost use Rattle.sim_qmi.specs.Fits.{Fits, IsInRange};
-ghost use Rattle.sim_qmi.specs.Modem.{HasMet, answers, indications, meets, serves, takes, turn};
+ghost use Rattle.sim_modem.specs.Sim.{answers};
+ghost use Rattle.sim_qmi.specs.Fits.{IsInRange};
+ghost use Rattle.sim_qmi.specs.Modem.{Keeps, exchange, indications, machine, meets, serves, takes};
 ghost use Rattle.sim_qmi.specs.Requests.{asked, row_of};
 ghost use Rattle.sim_qmi.specs.State.{IsSound};
 ghost use Rattle.sim_qmi.specs.View.{IsOfItsRow, answer_view, asked_view};
@@ -54,7 +55,7 @@ pub(crate) enum Asked {
 impl QmiSim {
     /// A modem of this profile, before any request.
     pub fn open(alloc: Global, profile: &Profile) -> Result<QmiSim, AllocError>
-        ensures { IfOk result (HasMet (answers profile.now) []) }
+        ensures { IfOk result (Keeps (answers (machine profile.now)) []) }
     {
         let profile = profile.copy(alloc)?;
         let state = ModemState::fresh(alloc, &profile)?;
@@ -97,6 +98,7 @@ impl QmiSim {
         ensures sound { IsSound self.now.state }
         ensures within { IsWithin self.now.profile }
     {
+        self.state.tell_sound();
         if !self.state.is_known(head) {
             return Ok(Asked::Refused(INVALID_CLIENT_ID));
         }
@@ -120,7 +122,7 @@ impl QmiSim {
         requires range { IsInRange request }
         requires sound { IsSound self.old.state }
         requires within { IsWithin self.old.profile }
-        ensures messages { IfOk result (λ octets. octets ≡ (turn self.old.profile head.now request (serves self.old.profile self.old.state request)).messages) }
+        ensures messages { IfOk result (λ octets. octets ≡ (exchange self.old.profile head.now request (serves self.old.profile self.old.state request)).messages) }
         ensures state { OnOk result (self.new ≡ record self.old { state = (serves self.old.profile self.old.state request).state }) }
     {
         let answer = self.answer(request)?;
@@ -163,7 +165,7 @@ impl QmiSim {
 impl Sim for QmiSim {
     type Framing = Qmux;
 
-    ghost keeps = { HasMet };
+    ghost keeps = { Keeps };
 
     fn ask(&mut self, message: &[u8]) -> Result<Octets, AllocError> {
         self.meet(message)

@@ -7,7 +7,7 @@ ghost use Rattle.sim_qmi.specs.Wds.{handle_after, starts, stops};
 ghost use Rattle.sim_qmi.specs.Wms.{deletes, sends};
 ghost use Rattle.sim_qmi.specs.Values.{number_after};
 
-use crate::Client;
+use crate::ClientId;
 use crate::services::CTL;
 use kit_bytes::Octets;
 use modem_profile::Profile;
@@ -19,7 +19,7 @@ use std::marker::Model;
 #[derive(Debug, Drop)]
 pub(crate) struct ModemState {
     /// The client ids that are given.
-    clients: Vec<Client>,
+    clients: Vec<ClientId>,
     /// The operating mode.
     mode: u8,
     /// The packet data handle that was given last, 0 before the first.
@@ -32,7 +32,7 @@ pub(crate) struct ModemState {
 }
 
 impl Model for ModemState {
-    ghost use Rattle.std.specs.Prelude.{◌≡◌, true};
+    ghost use Rattle.std.specs.Prelude.{◌≡◌, ◌<◌, true};
     ghost use Rattle.sim_qmi.specs.State.{State, are_stored};
 
     ghost Value = { State };
@@ -46,7 +46,10 @@ impl Model for ModemState {
       sent = s.sent;
     } };
 
-    ghost invariant = { λ s. are_stored s.messages.items ≡ true };
+    ghost invariant = { λ s. record {
+      mode : s.mode < 256;
+      stored : are_stored s.messages.items ≡ true;
+    } };
 }
 
 impl ModemState {
@@ -65,21 +68,27 @@ impl ModemState {
         })
     }
 
+    /// Tells what is always so, and does nothing else.
+    pub(crate) fn tell_sound(&self)
+        ensures { IsSound self.now }
+    {
+        // A function knows the invariant where it uses a field.
+        let _ = &self.messages;
+    }
+
     /// Whether this id of a service is given.
     pub(crate) fn is_given(&self, service: u8, id: u8) -> bool
         ensures { result ≡ is_given self.now.clients service id }
     {
         self.clients
             .iter()
-            .any(|client| (client.service == service) & (client.id == id))
+            .any(|client| *client == ClientId { service, id })
     }
 
     /// Whether a request with this head comes from a client whose id is given. Service 0 needs none.
     pub(crate) fn is_known(&self, head: &Head) -> bool
-        ensures known { result ≡ is_known self.now head.now }
-        ensures sound { IsSound self.now }
+        ensures { result ≡ is_known self.now head.now }
     {
-        let _mode = self.mode;
         head.service == CTL || self.is_given(head.service, head.client)
     }
 
@@ -111,7 +120,7 @@ impl ModemState {
         let Some(id) = self.free_id(service) else {
             return Ok(None);
         };
-        self.clients.push(Client { service, id })?;
+        self.clients.push(ClientId { service, id })?;
         Ok(Some(id))
     }
 
@@ -123,7 +132,8 @@ impl ModemState {
         if !self.is_given(service, id) {
             return false;
         }
-        self.clients.retain(|client| !((client.service == service) & (client.id == id)));
+        self.clients
+            .retain(|client| *client != ClientId { service, id });
         true
     }
 

@@ -1,8 +1,7 @@
 ghost use Rattle.std.specs.Prelude.{◌≡◌, [], ◌∷◌, IfOk};
 ghost use Rattle.qmi_values.specs.View.{val_view};
-ghost use Rattle.qmi_services.specs.Inputs.{bytes_of};
 ghost use Rattle.qmi_values.specs.Value.{text as text_value};
-ghost use Rattle.sim_qmi.specs.Values.{address, list_of};
+ghost use Rattle.sim_qmi.specs.Values.{address, list};
 
 use kit_bytes::Octets;
 use modem_profile::AsciiText;
@@ -21,20 +20,9 @@ pub(crate) const LTE: u8 = 8;
 
 /// A list of one element.
 pub(crate) fn list_of_one(alloc: Global, element: Val) -> Result<Val, AllocError>
-    ensures { IfOk result (λ val. val_view val ≡ list_of (val_view element ∷ [])) }
+    ensures { IfOk result (λ val. val_view val ≡ list (val_view element ∷ [])) }
 {
     let elements = Vec::from_array(alloc, [element])?;
-    Ok(list(elements))
-}
-
-/// A list of bytes.
-pub(crate) fn bytes(alloc: Global, bytes: &[u8]) -> Result<Val, AllocError>
-    ensures { IfOk result (λ val. val_view val ≡ bytes_of bytes.now) }
-{
-    let mut elements = Vec::new(alloc);
-    for byte in bytes {
-        elements.push(Val::U(u64::from(*byte)))?;
-    }
     Ok(list(elements))
 }
 

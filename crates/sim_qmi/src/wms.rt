@@ -11,11 +11,10 @@ use crate::answer::Answer;
 use crate::errors::INVALID_CLIENT_ID;
 use crate::inputs::{second_in, word_in};
 use crate::state::ModemState;
-use crate::values::bytes;
 use kit_bytes::Octets;
 use qmi_values::Val;
 use std::alloc::{AllocError, Global};
-use tlv_values::{list, sequence};
+use tlv_values::{list, list_of_bytes, sequence};
 
 const RAW_SEND: u16 = 0x0020;
 
@@ -111,7 +110,7 @@ pub(crate) fn answer(
 fn raw(alloc: Global, message: &[u8]) -> Result<Val, AllocError>
     ensures { IfOk result (λ val. val_view val ≡ raw message.now) }
 {
-    let octets = bytes(alloc, message)?;
+    let octets = list_of_bytes(alloc, message)?;
     sequence(alloc, [Val::U(TAG), Val::U(POINT_TO_POINT), octets])
 }
 

@@ -19,6 +19,7 @@ use Rattle.modem_profile.specs.Profile.{Profile, default_profile}
 use Rattle.modem_profile.specs.Reading.{profile_in}
 use Rattle.modem_profile.specs.declared.fault.ProfileFault.{ProfileFault}
 use Rattle.modem_profile.specs.declared.fault.ProfileFault.TheVariants as profile_fault
+use Rattle.sim_modem.specs.Sim.{answers}
 use Rattle.sim_serving.specs.Core.{TakesMemory}
 use Rattle.sim_serving.specs.Proxy.{proxy_of}
 use Rattle.sim_qmi.specs.Modem as qmi
@@ -40,8 +41,8 @@ asked_in kind socket turns = record { kind = kind; socket = socket; turns = turn
 
 -- serving a simulated modem of this kind and profile, as serving a proxy
 abbrev pub modem_of : Kind → Profile → Proxy
-modem_of kind.Qmi profile = proxy_of qmux.size_of (qmi.answers profile)
-modem_of kind.Mbim profile = proxy_of mbim_frame.size_of (mbim.answers profile)
+modem_of kind.Qmi profile = proxy_of qmux.size_of (answers (qmi.machine profile))
+modem_of kind.Mbim profile = proxy_of mbim_frame.size_of (answers (mbim.machine profile))
 
 -- ---- the hub ----
 

@@ -34,7 +34,7 @@ pub fn serve_profile<H: Hub>(
             Ok(sim) => serve_at(alloc, socket, sim, turns, hub),
             Err(AllocError) => SimEnd::OutOfMemory,
         },
-        Kind::Mbim => match MbimSim::open(alloc, profile) {
+        Kind::Mbim => match MbimSim::open(alloc, &profile) {
             Ok(sim) => serve_at(alloc, socket, sim, turns, hub),
             Err(AllocError) => SimEnd::OutOfMemory,
         },

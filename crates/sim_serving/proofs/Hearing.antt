@@ -9,6 +9,7 @@ use Rattle.framing.proofs.Cuts.{cut-first}
 use Rattle.sim_modem.specs.Sim.{Answering}
 use Rattle.sim_serving.specs.Clients.{asks, answers_to}
 use Rattle.sim_serving.specs.Hearing.{Answers}
+use Rattle.sim_serving.proofs.Asking.{asks-first}
 
 pub partial_is : (size : Size) (count : ℕ) → IsShort size count → is_invalid size ≡ false
 partial_is Unknown count short = refl
@@ -56,7 +57,7 @@ module _ {S : Type 0} (keeps : Answering → List (List ℕ) → S → Type 0) (
       record {
         asked = m ∷ it.asked;
         modem = keeps_on it.asked it.modem;
-        others = sym (ap (λ (l : List (List ℕ)). asks l it.asked) first) ∙ it.others;
+        others = sym (ap (λ (l : List (List ℕ)). asks l it.asked) first ∙ asks-first m later it.asked) ∙ it.others;
         answered =
             ap (λ (l : List ℕ). l ++ answers_to answers later (m ∷ it.asked)) (queued ∙ ap (λ (l : List ℕ). waits ++ l) (is it.asked it.modem))
             ∙ append_assoc waits (answers it.asked m) (answers_to answers later (m ∷ it.asked))

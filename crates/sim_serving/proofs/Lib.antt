@@ -1,4 +1,5 @@
 pub mod Names
+pub mod Asking
 pub mod Own
 pub mod Standing
 pub mod Hearing

@@ -1,5 +1,5 @@
 -- A client gets the answers to its own requests. Lists of events and of requests have the newest first.
-use Rattle.std.proofs.Common.{◌≡◌, ℕ, Bool, true, false, ◌==◌, if◌then◌else◌, List, [], ◌∷◌, ◌++◌, map, refl, ap, sym, ◌∙◌, append_assoc}
+use Rattle.std.proofs.Common.{◌≡◌, ℕ, ◌≤◌, Bool, true, false, cond, ◌==◌, if◌then◌else◌, List, [], ◌∷◌, ◌++◌, length, map, filter, refl, ap, sym, ◌∙◌, append_assoc, arith}
 use Rattle.std.proofs.lemmas.Bool.{eqb-true}
 use Rattle.std.proofs.lemmas.List.{append-nil}
 use Rattle.std.specs.List.{AllByRecursion}
@@ -9,7 +9,17 @@ use Rattle.proxy_history.specs.Connections.{contains, without}
 use Rattle.sim_modem.specs.Sim.{Answering}
 use Rattle.sim_serving.specs.Clients.{Request, goes_bad, present, brought, asks, requests, messages_of, answers_to, added, joins, text}
 use Rattle.sim_serving.specs.Laws.{own_answers, JoinsOnce}
+use Rattle.sim_serving.proofs.Asking.{asks-first}
 use Rattle.sim_serving.proofs.Names.{not_added, still_absent}
+
+module _ {X : Type 0} (p : X → Bool) where
+  none_passes : (xs : List X) → length (filter p xs) ≤ 0 → AllByRecursion (λ x. p x ≡ false) xs
+  none_passes [] none = tt
+  none_passes (x ∷ xs) none = here (p x) refl (none_passes xs) none
+    where
+      here : (b : Bool) → p x ≡ b → (length (filter p xs) ≤ 0 → AllByRecursion (λ y. p y ≡ false) xs) → length (cond b (x ∷ filter p xs) (filter p xs)) ≤ 0 → (p x ≡ false) × AllByRecursion (λ y. p y ≡ false) xs
+      here true is later none = absurd (omega (arith, none))
+      here false is later none = (is, later none)
 
 abbrev pub asked_by : ℕ → List ℕ → Request
 asked_by c message = record { conn = c; message = message }
@@ -20,7 +30,8 @@ module _ (answers : Answering) (c : ℕ) where
   unfolding asks own_answers
   own_of_other d other [] before = refl
   own_of_other d other (m ∷ messages) before =
-      own_of_other d other messages (asked_by d m ∷ before)
+      ap (own_answers answers c) (asks-first (asked_by d m) (map (asked_by d) messages) before)
+      ∙ own_of_other d other messages (asked_by d m ∷ before)
       ∙ ap (λ (b : Bool). if b then own_answers answers c before ++ answers (messages_of before) m else own_answers answers c before) other
 
   -- those that the connection itself asks add their answers
@@ -30,7 +41,8 @@ module _ (answers : Answering) (c : ℕ) where
   own_of_own d own [] before = sym (append-nil (own_answers answers c before))
   own_of_own d own (m ∷ messages) before =
       let later : List ℕ = answers_to answers messages (m ∷ messages_of before) in
-      own_of_own d own messages (asked_by d m ∷ before)
+      ap (own_answers answers c) (asks-first (asked_by d m) (map (asked_by d) messages) before)
+      ∙ own_of_own d own messages (asked_by d m ∷ before)
       ∙ ap (λ (b : Bool). (if b then own_answers answers c before ++ answers (messages_of before) m else own_answers answers c before) ++ later) own
       ∙ append_assoc (own_answers answers c before) (answers (messages_of before) m) later
 
@@ -99,12 +111,13 @@ module _ (answers : Answering) (c : ℕ) where
     own_text [] once = refl
     own_text (Joined d ∷ past) once =
         let own : List ℕ = own_answers answers c (requests size past) in
-        let step : (b : Bool) → (d == c) ≡ b → (if b then [] else text size answers c past ++ []) ≡ own =
-        λ b. elim b as (λ b. (d == c) ≡ b → (if b then [] else text size answers c past ++ []) ≡ own) [
-          | true ↦ λ e. sym (never_asked past (once.0 e))
-          | false ↦ λ e. append-nil (text size answers c past) ∙ own_text past once.1
+        let joined : List Event = filter (joins c) past in
+        let step : (b : Bool) → length (if b then Joined d ∷ joined else joined) ≤ 1 → (if b then [] else text size answers c past ++ []) ≡ own =
+        λ b. elim b as (λ b. length (if b then Joined d ∷ joined else joined) ≤ 1 → (if b then [] else text size answers c past ++ []) ≡ own) [
+          | true ↦ λ one. sym (never_asked past (none_passes (joins c) past (omega (arith, one))))
+          | false ↦ λ one. append-nil (text size answers c past) ∙ own_text past one
         ]
-        in step (d == c) refl
+        in step (d == c) once
     own_text (Piece d piece ∷ past) once =
         ap (λ (l : List ℕ). l ++ added size answers c (Piece d piece) past) (own_text past once) ∙ sym (own_of d (brought size d piece past) (requests size past))
     own_text (Left d ∷ past) once = append-nil (text size answers c past) ∙ own_text past once

@@ -17,6 +17,7 @@ use Rattle.sim_serving.specs.Core.{Client, Core, named, client_of, listed, Stand
 use Rattle.sim_serving.specs.Hearing.{cut_of, goes_on, heard, changed, gone, took, Hears, Brings}
 use Rattle.sim_serving.specs.Lawful.{waiting_after, waiting_joined, nothing_added}
 use Rattle.sim_serving.specs.Shows.{named_is}
+use Rattle.sim_serving.proofs.Asking.{asks-first}
 use Rattle.sim_serving.proofs.Own.{asked_by}
 use Rattle.sim_serving.proofs.Names.{AreDistinct, AreOthers, others_where_absent, without_others, without_are_others, distinct_without, distinct_push, others_below, same_clients, gone_is, changed_is}
 
@@ -28,7 +29,8 @@ none_listed (Some c) is = absurd (cc)
 pub messages_asked : (c : ℕ) (messages : List (List ℕ)) (before : List Request) → messages_of (asks (map (asked_by c) messages) before) ≡ asks messages (messages_of before)
 unfolding asks
 messages_asked c [] before = refl
-messages_asked c (m ∷ messages) before = messages_asked c messages (asked_by c m ∷ before)
+messages_asked c (m ∷ messages) before =
+    ap messages_of (asks-first (asked_by c m) (map (asked_by c) messages) before) ∙ messages_asked c messages (asked_by c m ∷ before) ∙ sym (asks-first m messages (messages_of before))
 
 module _ {S : Type 0} (size : Framing) (keeps : Answering → List (List ℕ) → S → Type 0) (answers : Answering) (past : List Event) (old : Core S) (Sd : StandsFor size keeps answers past old) (hung_up : listed old.dropped ≡ []) where
   abbrev names : List ℕ

@@ -1,6 +1,6 @@
 -- The clients of a simulated modem, what they ask and what they get, read off the events. Lists of events and of requests have the newest first.
 -- `size` is the framing of the clients' streams, and `answers` is what the modem answers.
-use Rattle.std.specs.Prelude.{ℕ, Bool, false, ◌&&◌, ◌==◌, if◌then◌else◌, List, [], ◌∷◌, ◌++◌, map, drop}
+use Rattle.std.specs.Prelude.{ℕ, Bool, false, ◌&&◌, ◌==◌, if◌then◌else◌, List, [], ◌∷◌, ◌++◌, map, drop, reverse}
 use Rattle.proxy_history.specs.Events.{Event, Joined, Piece, Left, Took}
 use Rattle.proxy_history.specs.Streams.{Framing, stream, messages_of_piece, is_bad}
 use Rattle.proxy_history.specs.Connections.{contains, without}
@@ -38,8 +38,7 @@ pub record Request : Type 0 where
 
 -- these are asked one after another, behind those before
 unfoldable pub asks : {X : Type 0} → List X → (before : List X) → List X
-asks [] before = before
-asks (x ∷ others) before = asks others (x ∷ before)
+asks others before = reverse others ++ before
 
 -- all requests, in the order in which they became whole
 unfoldable pub requests : Framing → List Event → List Request

@@ -1,7 +1,6 @@
 -- Laws of serving a simulated modem. Lists of events and of requests have the newest first.
-use Rattle.std.specs.Prelude.{◌≡◌, ℕ, true, false, ◌==◌, if◌then◌else◌, List, [], ◌∷◌, ◌++◌}
-use Rattle.std.specs.List.{AllByRecursion}
-use Rattle.proxy_history.specs.Events.{Event, Joined}
+use Rattle.std.specs.Prelude.{◌≡◌, ◌≤◌, ℕ, ◌==◌, if◌then◌else◌, List, [], ◌∷◌, ◌++◌, filter, length}
+use Rattle.proxy_history.specs.Events.{Event}
 use Rattle.proxy_history.specs.Streams.{Framing}
 use Rattle.proxy_history.specs.Proxy.{IsLawful}
 use Rattle.sim_modem.specs.Sim.{Answering}
@@ -17,12 +16,10 @@ unfoldable pub own_answers : Answering → ℕ → List Request → List ℕ
 own_answers answers c [] = []
 own_answers answers c (r ∷ before) = if r.conn == c then own_answers answers c before ++ answers (messages_of before) r.message else own_answers answers c before
 
--- no other connection had the name before it
+-- no two connections had the name
 abbrev pub JoinsOnce : ℕ → List Event → Type 0
-JoinsOnce c [] = Unit {0}
-JoinsOnce c (Joined d ∷ past) = ((d == c) ≡ true → AllByRecursion (λ event. joins c event ≡ false) past) × JoinsOnce c past
-JoinsOnce c (_ ∷ past) = JoinsOnce c past
+JoinsOnce c past = length (filter (joins c) past) ≤ 1
 
--- whose name was nobody's before gets the answers to its own requests, in their order, and no others
+-- whose name is no other's gets the answers to its own requests, in their order, and no others
 abbrev pub GetsItsOwnAnswers : Type 0
 GetsItsOwnAnswers = (size : Framing) (answers : Answering) (c : ℕ) (past : List Event) → JoinsOnce c past → text size answers c past ≡ own_answers answers c (requests size past)

@@ -1,25 +1,33 @@
+//! Worked examples of what clients of a simulated modem get.
+
 ghost use Rattle.sim_serving.specs.Examples.{ClientsShareOneModem, RequestsAreAskedOnceWhole, BadStreamsAreHungUp, WhoLeftGetsNothing, WhoComesBackBeginsAnew, TakenBytesWaitNoLonger};
 
+/// The clients share one modem, which counts the requests of both.
 pub fn clients_share_one_modem()
     ensures { ClientsShareOneModem }
 {}
 
+/// A request is asked once it is whole, behind one that was whole before.
 pub fn requests_are_asked_once_whole()
     ensures { RequestsAreAskedOnceWhole }
 {}
 
+/// A client whose stream goes bad is hung up, once what was whole before is asked.
 pub fn bad_streams_are_hung_up()
     ensures { BadStreamsAreHungUp }
 {}
 
+/// A client that left asks nothing.
 pub fn who_left_gets_nothing()
     ensures { WhoLeftGetsNothing }
 {}
 
+/// Half a request of a client that left is no part of what it sends under its next name.
 pub fn who_comes_back_begins_anew()
     ensures { WhoComesBackBeginsAnew }
 {}
 
+/// What a socket took waits no longer, and what comes then waits behind the rest.
 pub fn taken_bytes_wait_no_longer()
     ensures { TakenBytesWaitNoLonger }
 {}

@@ -5,8 +5,8 @@ pub fn simulated_modems_are_lawful()
     ensures { SimulatedModemsAreLawful }
 {}
 
-/// The law that a client whose name was nobody's before gets the answers to its own requests, in
-/// their order, and no others.
+/// The law that a client whose name is no other's gets the answers to its own requests, in their
+/// order, and no others.
 pub fn a_client_gets_its_own_answers()
     ensures { GetsItsOwnAnswers }
 {}

@@ -1,4 +1,4 @@
-ghost use Rattle.std.specs.Prelude.{◌≡◌, ◌≤◌, ℕ, [], None};
+ghost use Rattle.std.specs.Prelude.{◌≡◌, ◌≤◌, [], None};
 ghost use Rattle.kit_io.specs.Causes.{Rose};
 ghost use Rattle.hub_io.specs.Record.{Since};
 ghost use Rattle.proxy_serving.specs.Ends.{EndsFor};
@@ -60,18 +60,18 @@ impl<S: Sim> ProxyCore for SimCore<S> {
     ghost shows = { λ p past core. shows_of S.Framing.size S.keeps p past core };
 }
 
-/// Serves the clients of a simulated modem over a hub that is open, and says why it ended. It never
-/// answers `Empty`.
+/// Serves the clients of a simulated modem over a hub that is open, and says why it ended.
 ///
 /// Where the hub tells what was done to it: each client was handed the answers to its own requests,
 /// each given once all requests before it, of whichever client, had been answered. Each time before
 /// the hub was asked for more, all that waited was offered, and just those connections were hung up
 /// whose stream went bad or whose sending failed. The serving ended at once where the hub said so or
-/// failed, and never opened it.
+/// failed, never because nobody was there, and it never opened the hub.
 pub fn serve_sim<H: Hub, S: Sim>(alloc: Global, hub: &mut H, sim: S, turns: u64) -> ServeEnd
     requires { (answers : Answering) × S.keeps answers [] sim }
     ensures served { (answers : Answering) → S.keeps answers [] sim →
         Since (H.calls hub.old) (H.calls hub.new) (EndsFor TakesMemory (proxy_of S.Framing.size answers) None turns result) }
+    ensures never_empty { Since (H.calls hub.old) (H.calls hub.new) (λ calls. ¬ (result ≡ ServeEnd.Empty)) }
     ensures later { H.faults hub.old ≤ H.faults hub.new }
     ensures fault { result ≡ ServeEnd.HubFault → Rose (H.faults hub.old) (H.faults hub.new) }
 {

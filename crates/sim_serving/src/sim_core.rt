@@ -85,8 +85,8 @@ impl<S: Sim> SimCore<S> {
         }
     }
 
-    /// A client connected: it is there behind the others.
-    pub fn join(&mut self, name: u64) -> Result<(), AllocError>
+    // A client connected: it is there behind the others.
+    fn join(&mut self, name: u64) -> Result<(), AllocError>
         ensures { OnOk result (self.new ≡ record self.old { clients = self.old.clients ++ record { name = name; rest = []; waiting = [] } ∷ []; greatest = name }) }
     {
         self.clients.push(Client::open(self.alloc, name)?)?;
@@ -94,9 +94,9 @@ impl<S: Sim> SimCore<S> {
         Ok(())
     }
 
-    /// The next piece of a client's stream: the modem is asked what it makes whole, and the client is
-    /// dropped where the stream goes bad.
-    pub fn bring(&mut self, name: u64, piece: &[u8]) -> Result<(), AllocError>
+    // The next piece of a client's stream: the modem is asked what it makes whole, and the client is
+    // dropped where the stream goes bad.
+    fn bring(&mut self, name: u64, piece: &[u8]) -> Result<(), AllocError>
         requires { length piece.now ≤ LONGEST_PIECE }
         ensures brought { OnOk result ((answers : Answering) (before : List (List ℕ)) → S.keeps answers before self.old.sim →
             Brings S.Framing.size S.keeps answers before (named name self.old.clients) piece.now self.old self.new) }
@@ -114,8 +114,8 @@ impl<S: Sim> SimCore<S> {
         Ok(())
     }
 
-    /// A client is gone.
-    pub fn leave(&mut self, name: u64)
+    // A client is gone.
+    fn leave(&mut self, name: u64)
         ensures { self.new ≡ record self.old { clients = gone name self.old.clients } }
     {
         if let Some(place) = place_of(&self.clients, name) {
@@ -123,8 +123,8 @@ impl<S: Sim> SimCore<S> {
         }
     }
 
-    /// The socket of a client took the first so many of the bytes that waited for it.
-    pub fn take(&mut self, name: u64, count: usize)
+    // The socket of a client took the first so many of the bytes that waited for it.
+    fn take(&mut self, name: u64, count: usize)
         requires { count ≤ length (waiting_for name self.old.clients) }
         ensures { self.new ≡ record self.old { clients = changed name (took count) self.old.clients } }
     {

@@ -1,6 +1,6 @@
 /// A client id of a service.
 #[derive(Clone, Copy, Debug, PartialEq, Eq)]
-pub(crate) struct Client {
+pub(crate) struct ClientId {
     pub(crate) service: u8,
     pub(crate) id: u8,
 }
