@@ -10,13 +10,11 @@ use crate::proxy::serve_asked;
 use crate::report::report;
 use crate::simulator::simulate_modem;
 use crate::status::Status;
-use crate::tool::{ask_modem, describe_file, path_to};
-use device_core::QmiPlan;
+use crate::tool::{ask_mbim, ask_qmi, describe_file};
 use file_io::Files;
 use hub_io::Hub;
 use kit_io::Sink;
 use link_io::Link;
-use mbim_session::MbimPlan;
 use std::alloc::Global;
 use tool_words::{ToolCommand, WordFault, command_of};
 
@@ -88,17 +86,9 @@ fn run_command<O: Sink, L: Link, H: Hub, F: Files>(
             request,
             socket,
             bridge: _bridge,
-        } => {
-            let plan = QmiPlan {
-                device,
-                proxied,
-                cid,
-                keep,
-                request,
-            };
-            let path = path_to(proxied, &plan.device, &socket);
-            ask_modem(alloc, path, &plan, out, link)
-        }
+        } => ask_qmi(
+            alloc, device, proxied, cid, keep, request, &socket, out, link,
+        ),
         ToolCommand::Mbimcli {
             device,
             proxied,
@@ -106,16 +96,7 @@ fn run_command<O: Sink, L: Link, H: Hub, F: Files>(
             request,
             socket,
             bridge: _bridge,
-        } => {
-            let plan = MbimPlan {
-                device,
-                proxied,
-                close,
-                request,
-            };
-            let path = path_to(proxied, &plan.device, &socket);
-            ask_modem(alloc, path, &plan, out, link)
-        }
+        } => ask_mbim(alloc, device, proxied, close, request, &socket, out, link),
         ToolCommand::Describe { file } => describe_file(alloc, &file, out, files),
         ToolCommand::Proxy {
             kind,
