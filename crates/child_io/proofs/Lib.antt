@@ -1,0 +1,4 @@
+pub mod Alive
+pub mod Stops
+pub mod Started
+pub mod Notes

@@ -1,0 +1,97 @@
+ghost use Rattle.std.specs.Prelude.{◌≡◌, ◌<◌, None, length, IfOk};
+
+use crate::{KIDS_LIMIT, Spawner};
+use kit_io::{Failed, Faults};
+use std::alloc::{AllocError, Global};
+use std::io::{self, ErrorKind};
+use std::process::{Child, Command, OpenProcess, Processes, Stdio};
+
+/// The processes of the system. It tells no content.
+///
+/// A child has nothing to read, its output goes nowhere, and its errors go where this program's do.
+/// It is named by its process number.
+#[derive(Drop)]
+pub struct StdSpawner<'a, R: Processes> {
+    rt: &'a R,
+    alloc: Global,
+    program: String,
+    children: Vec<Child<R::Started>>,
+    faults: Faults,
+}
+
+impl<'a, R: Processes> StdSpawner<'a, R> {
+    /// A spawner that starts the program at this path.
+    pub fn new(rt: &'a R, alloc: Global, program: String) -> Result<Self, AllocError> {
+        Ok(StdSpawner {
+            rt,
+            alloc,
+            program,
+            children: Vec::with_capacity(alloc, KIDS_LIMIT)?,
+            faults: Faults::none(),
+        })
+    }
+
+    fn spawn(&mut self, words: &[String]) -> io::Result<u32>
+        ensures { self.new.faults ≡ self.old.faults }
+    {
+        self.children.try_reserve(1)?;
+        let child = Command::new(self.alloc, self.program.as_str())?
+            .args(words)?
+            .stdin(Stdio::null())
+            .stdout(Stdio::null())
+            .spawn(self.rt)?;
+        let number = child.id();
+        self.children.push_reserved(child);
+        Ok(number)
+    }
+}
+
+// Where the child stands.
+fn place_of<P: OpenProcess>(children: &[Child<P>], child: u32) -> io::Result<usize>
+    ensures { IfOk result (λ place. place < length children.now) }
+{
+    match children.iter().position(|other| other.id() == child) {
+        Some(place) => Ok(place),
+        None => Err(io::Error::from(ErrorKind::NotFound)),
+    }
+}
+
+// Waits for a child's end, and forgets it.
+fn wait<P: OpenProcess + Drop>(children: &mut Vec<Child<P>>, child: u32) -> io::Result<i32> {
+    let place = place_of(children, child)?;
+    let status = children[place].wait()?;
+    children.swap_remove(place);
+    Ok(status.code().unwrap_or(-1))
+}
+
+fn kill<P: OpenProcess>(children: &mut [Child<P>], child: u32) -> io::Result<()> {
+    let place = place_of(children, child)?;
+    children[place].kill()
+}
+
+impl<R: Processes> Spawner for StdSpawner<'_, R> {
+    ghost calls = { λ _. None };
+
+    ghost faults = { λ s. s.faults };
+
+    fn start(&mut self, words: &[String]) -> Result<u32, Failed> {
+        match self.spawn(words) {
+            Ok(child) => Ok(child),
+            Err(_) => Err(self.faults.fail()),
+        }
+    }
+
+    fn ended(&mut self, child: u32) -> Result<i32, Failed> {
+        match wait(&mut self.children, child) {
+            Ok(status) => Ok(status),
+            Err(_) => Err(self.faults.fail()),
+        }
+    }
+
+    fn stop(&mut self, child: u32) -> Result<(), Failed> {
+        if kill(&mut self.children, child).is_ok() && wait(&mut self.children, child).is_ok() {
+            return Ok(());
+        }
+        Err(self.faults.fail())
+    }
+}
