@@ -9,13 +9,17 @@ use Rattle.proxy_history.specs.Items.{Joins, Says, Garbles, Leaves, ModemSays, M
 use Rattle.proxy_history.specs.Facts.{Fact, EventBegan, Admitted, Ended, NotAdmitted, BadStream, Closed, Drained, ModemReturned}
 use Rattle.proxy_history.specs.Connections.{present, is_present}
 use Rattle.proxy_history.specs.Modem.{to_modem, modem_drained}
+use Rattle.proxy_solo.specs.Part as alone_part
 use Rattle.qmi_proxy.specs.Limits.{connection_limit}
 use Rattle.qmi_proxy.specs.Setup.{Setup}
 use Rattle.qmi_proxy.specs.Clients.{hear_client}
 use Rattle.qmi_proxy.specs.History.{add, add_all, history, qmi_protocol}
-use Rattle.qmi_solo.specs.Part.{concerns, as_known, fact_if, part}
+use Rattle.proxy_solo.specs.Part.{concerns}
+use Rattle.qmi_solo.proofs.Meets.{as_known, fact_if}
+use Rattle.qmi_solo.specs.Part.{part}
 use Rattle.qmi_solo.specs.Law.{MayCome}
-use Rattle.qmi_solo.proofs.Fit.{AreGeneral, Fit}
+use Rattle.proxy_solo.proofs.Reading.{AreGeneral}
+use Rattle.qmi_solo.proofs.Fit.{Fit}
 use Rattle.qmi_solo.proofs.Actions.{ticks-part}
 use Rattle.qmi_solo.proofs.Fair.{AreFair, fair_each}
 use Rattle.qmi_solo.proofs.Fits.{fit_add}
@@ -42,7 +46,7 @@ module _ (s : Setup) (c : ℕ) where
   modem_fits (m ∷ messages) bad past F = modem_fits messages bad (add s (ModemSays m) past) (fit_add false c s (ModemSays m) past F tt)
 
   pub fit_event : (event : Event) (events : List Event) → MayCome s event events → (event ≡ Joined c → AreGeneral (part c (history s events))) → Fit false c (history s events) → Fit false c (history s (event ∷ events))
-  unfolding proxy.history proxy.add_all part to_modem modem_drained
+  unfolding proxy.history proxy.add_all alone_part.part to_modem modem_drained
   fit_event (Joined d) events may new F = fit_add false c s (Joins d) (begun events) (begun_fit false (history s events) F) (tt, λ e. new (ap (λ (x : ℕ). Joined x) (eqb-true d c e)))
   fit_event (Piece d bytes) events may new F = piece_fits s c false d tt (messages_of_piece size_of (stream d events) bytes) (is_bad size_of (stream d events ++ bytes)) (begun events) (begun_fit false (history s events) F)
   fit_event (Left d) events may new F = fit_add false c s (Leaves d) (begun events) (begun_fit false (history s events) F) tt
@@ -82,7 +86,7 @@ module _ (s : Setup) (c : ℕ) where
   AreNow past = AreGeneral (part c past)
 
   pub general_event : (event : Event) (events : List Event) → (event ≡ Joined c → ⊥) → Fit false c (history s events) → AreGeneral (part c (history s events)) → AreGeneral (part c (history s (event ∷ events)))
-  unfolding proxy.history proxy.add_all part present
+  unfolding proxy.history proxy.add_all alone_part.part present
   general_event (Joined d) events new F general =
       own_or_other d (λ b. AreGeneral (part c (add s (Joins d) (begun events)))) (λ e. absurd (new (ap (λ (x : ℕ). Joined x) (eqb-true d c e)))) (λ e. subst AreGeneral (sym (joins_elsewhere s c d e (begun events))) general)
   general_event (Piece d bytes) events new F general =
@@ -113,7 +117,7 @@ module _ (s : Setup) (c : ℕ) where
   -- ---- what was fair behind an event was so before it ----
 
   fair_cons : (fact : Fact) (past : List Fact) → AreFair (part c (fact ∷ past)) → AreFair (part c past)
-  unfolding part
+  unfolding alone_part.part
   fair_cons fact past fair = elim (concerns c fact) as (λ b. AreFair (fact_if b (as_known c fact) (part c past)) → AreFair (part c past)) [ true ↦ λ f. f.1 | false ↦ λ f. f ] fair
 
   fair_if : (b : Bool) (one other past : List Fact) → (AreFair (part c one) → AreFair (part c past)) → (AreFair (part c other) → AreFair (part c past)) → AreFair (part c (if b then one else other)) → AreFair (part c past)
@@ -121,7 +125,7 @@ module _ (s : Setup) (c : ℕ) where
   fair_if false one other past x y fair = y fair
 
   pub fair_event : (event : Event) (events : List Event) → Fit false c (history s events) → AreFair (part c (history s (event ∷ events))) → AreFair (part c (history s events))
-  unfolding proxy.history proxy.add_all part
+  unfolding proxy.history proxy.add_all alone_part.part
   fair_event (Joined d) events F fair = fair_if (nat_lt (length (present (begun events))) connection_limit) (Admitted d ∷ begun events) (Ended d NotAdmitted ∷ begun events) (begun events) (fair_cons (Admitted d) (begun events)) (fair_cons (Ended d NotAdmitted) (begun events)) fair
   fair_event (Piece d bytes) events F fair =
       own_or_other d (λ b. AreFair (part c (add_all s (client_items size_of d (stream d events) bytes) (begun events))) → AreFair (part c (begun events)))
@@ -140,6 +144,6 @@ module _ (s : Setup) (c : ℕ) where
       ] fair
   fair_event ModemBack events F fair =
       elim (bytes_of events) as (λ o. AreFair (part c (add_all s (returns_once o) (begun events))) → AreFair (part c (begun events))) [ None ↦ fair_cons ModemReturned (begun events) | Some before ↦ λ f. f ] fair
-  fair_event (Now time) events F fair = (fair_each s.device c true _ _ (subst AreFair (ticks-part s.device c time (begun events) (begun_fit false (history s events) F)).same fair)).1
+  fair_event (Now time) events F fair = fair_each s.device c true _ _ (subst AreFair (ticks-part s.device c time (begun events) (begun_fit false (history s events) F)).same fair)
   fair_event (Took d count) events F fair = fair_if (is_present d (begun events)) (Drained d count ∷ begun events) (begun events) (begun events) (fair_cons (Drained d count) (begun events)) (λ f. f) fair
   fair_event (ModemTook count) events F fair = fair

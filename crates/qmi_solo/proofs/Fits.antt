@@ -26,9 +26,12 @@ use Rattle.qmi_proxy.specs.OwnReplies.{is_open}
 use Rattle.qmi_proxy.proofs.Verdicts.{can_go}
 use Rattle.qmi_proxy.proofs.Answered.{found_is, change_free}
 use Rattle.qmi_solo.specs.Part.{part}
-use Rattle.qmi_solo.proofs.Fit.{AreGeneral, ComesFrom, MayBe, IsFit, Fit, older, place_within}
+use Rattle.proxy_solo.proofs.Placed.{older}
+use Rattle.proxy_solo.proofs.Reading.{AreGeneral}
+use Rattle.qmi_solo.proofs.Fit.{ComesFrom, MayBe, IsFit, Fit, place_within}
 use Rattle.qmi_solo.proofs.Alone.{forwarded_so}
-use Rattle.qmi_solo.proofs.Actions.{self, fit_ends, aborts-part, loses-part, ticks-part}
+use Rattle.proxy_solo.proofs.Lists.{self}
+use Rattle.qmi_solo.proofs.Actions.{fit_ends, aborts-part, loses-part, ticks-part}
 
 module _ (alone : Bool) (c : ℕ) (s : Setup) where
   abbrev FitFacts : List Fact → Type 0
@@ -61,13 +64,15 @@ module _ (alone : Bool) (c : ℕ) (s : Setup) where
         from,
         refl,
         λ mine.
-            let is : d ≡ c = eqb-true d c mine in (
-              ap (λ (x : ℕ). message_count x before) is,
-              λ q at.
+            let is : d ≡ c = eqb-true d c mine in
+            record {
+              place = ap (λ (x : ℕ). message_count x before) is;
+              rises =
+                  λ q at.
                   let within = place_within alone c past q F.fits (older c (Judged d (message_count d past + 1) m Forward) past q (λ e. cc) at) in
                   let same : message_count d past ≡ message_count c past = ap (λ (x : ℕ). message_count x past) is in
-                  omega (arith, within, same, place_is),
-            ),
+                  omega (arith, within, same, place_is);
+            },
       ),
       (tt, F.fits),
     )

@@ -2,22 +2,25 @@
 use Rattle.std.proofs.Common.{◌≡◌, ℕ, max, Bool, true, false, ◌&&◌, ◌==◌, if◌then◌else◌, List, [], ◌∷◌, refl, ap, sym, ◌∙◌, subst, Contains, Option, Some, None}
 use Rattle.qmux_frame.specs.Kind.{framed_kind}
 use Rattle.qmux_frame.specs.Control.{is_sync}
-use Rattle.proxy_history.specs.Facts.{Fact, Request, Stray, Reset, ModemLost, ModemReturned, TimeIs}
+use Rattle.proxy_history.specs.Facts.{Fact, Request, Stray, Freed, Reset, ModemLost, ModemReturned}
 use Rattle.proxy_history.specs.Connections.{present, is_present}
 use Rattle.proxy_history.specs.Requests.{in_use, pending, is_pending}
 use Rattle.proxy_history.specs.Modem.{now}
 use Rattle.proxy_history.specs.Noting.{each_pending}
 use Rattle.proxy_history.specs.Unanswered.{due}
 use Rattle.proxy_history.proofs.Lists.{Contains-nil}
+use Rattle.proxy_solo.specs.Part as alone_part
 use Rattle.qmi_proxy.specs.Setup.{Setup}
 use Rattle.qmi_proxy.specs.FromModem.{respond, first_answered_by, abort_all, tell, hear_as, hear_modem, lose, tick, in_expiry_order}
 use Rattle.qmi_proxy.proofs.Answered.{found_is}
 use Rattle.qmi_solo.specs.Solo.{names_nobody}
-use Rattle.qmi_solo.specs.Part.{as_sent, part, sent_by}
-use Rattle.qmi_solo.proofs.Fit.{AreGeneral, Fit}
+use Rattle.proxy_solo.specs.Part.{as_sent, sent_by}
+use Rattle.qmi_solo.specs.Part.{part}
+use Rattle.proxy_solo.proofs.Reading.{AreGeneral}
+use Rattle.qmi_solo.proofs.Fit.{Fit}
 use Rattle.qmi_solo.proofs.Queries.{present-part, in_use-part}
 use Rattle.qmi_solo.proofs.Actions.{known_aborts, loses-part, ticks-part, known_ticks, refuse_known}
-use Rattle.qmi_solo.proofs.Matching.{sent_there}
+use Rattle.proxy_solo.proofs.Matching.{sent_there}
 use Rattle.qmi_solo.proofs.EachKind.{by_kind}
 use Rattle.qmi_solo.proofs.Hearing.{known_tell, tells-part, syncs-part, answered_elsewhere}
 
@@ -27,7 +30,7 @@ general_present c [] all = refl
 general_present c (Reset ∷ facts) all = general_present c facts all.1
 general_present c (ModemLost ∷ facts) all = general_present c facts all.1
 general_present c (ModemReturned ∷ facts) all = general_present c facts all.1
-general_present c (TimeIs time ∷ facts) all = general_present c facts all.1
+general_present c (Freed d service client ∷ facts) all = general_present c facts all.1
 general_present c (_ ∷ facts) all = absurd (let clash : false ≡ true = all.0 in cc)
 
 general_in_use : (facts : List Fact) → AreGeneral facts → in_use facts ≡ []
@@ -36,7 +39,7 @@ general_in_use [] all = refl
 general_in_use (Reset ∷ facts) all = refl
 general_in_use (ModemLost ∷ facts) all = refl
 general_in_use (ModemReturned ∷ facts) all = general_in_use facts all.1
-general_in_use (TimeIs time ∷ facts) all = general_in_use facts all.1
+general_in_use (Freed d service client ∷ facts) all = general_in_use facts all.1
 general_in_use (_ ∷ facts) all = absurd (let clash : false ≡ true = all.0 in cc)
 
 general_pending : (facts : List Fact) → AreGeneral facts → pending facts ≡ []
@@ -45,7 +48,7 @@ general_pending [] all = refl
 general_pending (Reset ∷ facts) all = refl
 general_pending (ModemLost ∷ facts) all = refl
 general_pending (ModemReturned ∷ facts) all = general_pending facts all.1
-general_pending (TimeIs time ∷ facts) all = general_pending facts all.1
+general_pending (Freed d service client ∷ facts) all = general_pending facts all.1
 general_pending (_ ∷ facts) all = absurd (let clash : false ≡ true = all.0 in cc)
 
 skipped : (b more : Bool) (facts others : List Fact) → b ≡ false → (if b && more then facts else others) ≡ others
@@ -60,9 +63,9 @@ module _ (s : Setup) (c : ℕ) where
   unfolding each_pending
   no_aborts facts general = ap (λ (l : List Request). each_pending (refuse_known s.device c false) (in_expiry_order l) facts) (general_pending facts general)
 
-  no_ticks : (time : ℕ) (facts : List Fact) → AreGeneral facts → AreGeneral (known_ticks s.device c time facts)
+  no_ticks : (shown : ℕ) (facts : List Fact) → AreGeneral facts → AreGeneral (known_ticks s.device c shown facts)
   unfolding each_pending
-  no_ticks time facts general = subst (λ (l : List Request). AreGeneral (each_pending (refuse_known s.device c true) (in_expiry_order (due (max time (now facts)) l)) (TimeIs (max time (now facts)) ∷ facts))) (sym (general_pending facts general)) (refl, general)
+  no_ticks shown facts general = subst (λ (l : List Request). AreGeneral (each_pending (refuse_known s.device c true) (in_expiry_order (due shown l)) facts)) (sym (general_pending facts general)) general
 
   untold : (m : List ℕ) (facts : List Fact) → AreGeneral facts → known_tell s c m facts ≡ facts
   untold m facts general = skipped (is_present c facts) _ _ facts (general_present c facts general)
@@ -71,7 +74,7 @@ module _ (s : Setup) (c : ℕ) where
   general_loses past F general = subst AreGeneral (sym ((loses-part s.device c past F).same ∙ ap (λ (l : List Fact). ModemLost ∷ l) (no_aborts (part c past) general))) (refl, general)
 
   pub general_ticks : (time : ℕ) (past : List Fact) → Fit false c past → AreGeneral (part c past) → AreGeneral (part c (tick s.device time past))
-  general_ticks time past F general = subst AreGeneral (sym (ticks-part s.device c time past F).same) (no_ticks time (part c past) general)
+  general_ticks time past F general = subst AreGeneral (sym (ticks-part s.device c time past F).same) (no_ticks (max time (now past)) (part c past) general)
 
   theirs : (past : List Fact) (r : Request) → Fit false c past → AreGeneral (part c past) → Contains (in_use past) r → (r.conn == c) ≡ false
   theirs past r F general at =
@@ -84,7 +87,7 @@ module _ (s : Setup) (c : ℕ) where
       in step (r.conn == c) refl
 
   pub general_heard : (m : List ℕ) (past : List Fact) → Fit false c past → AreGeneral (part c past) → AreGeneral (part c (hear_modem s.device m past))
-  unfolding part
+  unfolding alone_part.part
   general_heard m past F general =
       let answers : (found : Option Request) → first_answered_by m (in_use past) ≡ found → AreGeneral (part c (respond s.device found m past)) =
       λ found. elim found as (λ found. first_answered_by m (in_use past) ≡ found → AreGeneral (part c (respond s.device found m past))) [
@@ -92,7 +95,7 @@ module _ (s : Setup) (c : ℕ) where
         | Some r ↦ λ is. subst AreGeneral (sym (answered_elsewhere s c (is_pending r past) r m past (theirs past r F general (found_is m (in_use past) r is).0))) general
       ]
       in
-      let told : AreGeneral (part c (tell s.device m past)) = subst AreGeneral (sym (tells-part s c false m past F.fits ∙ untold m (part c past) general)) general in
+      let told : AreGeneral (part c (tell s.device m past)) = subst AreGeneral (sym (tells-part s c m past F.sound ∙ untold m (part c past) general)) general in
       let synced : AreGeneral (part c (tell s.device m (Reset ∷ abort_all s.device past))) =
       subst AreGeneral (sym (syncs-part s c m past F ∙ ap (λ (l : List Fact). known_tell s c m (Reset ∷ l)) (no_aborts (part c past) general) ∙ untold m (Reset ∷ part c past) (refl, general))) (refl, general)
       in

@@ -16,15 +16,20 @@ use Rattle.proxy_history.specs.Connections.{contains}
 use Rattle.proxy_history.specs.Requests.{in_use, is_pending}
 use Rattle.proxy_history.specs.ClientIds.{held, is_other}
 use Rattle.proxy_history.proofs.Sound.{forwarded_from_in_use}
+use Rattle.proxy_solo.specs.Part as alone_part
+use Rattle.proxy_history.specs.Sound.{IsSound}
+use Rattle.qmi_proxy.specs.Limits.{qmi_limits}
 use Rattle.qmi_proxy.specs.Setup.{Setup}
 use Rattle.qmi_proxy.specs.Messages.{value_of, has_length, byte_of, used_service, used_client, is_success}
 use Rattle.qmi_proxy.specs.Text.{blank}
 use Rattle.qmi_proxy.specs.FromModem.{IdChange, NoChange, Grants, Collides, Frees, granted_unless, id_change, brings_id, holder_of_brought, answer_or_late, respond, first_answered_by, abort_all, receivers, tell, indicate, hear_as, hear_modem}
 use Rattle.qmux_frame.proofs.Framed.{framed_long, responses_framed}
 use Rattle.qmi_proxy.proofs.Answered.{found_is}
-use Rattle.qmi_solo.specs.Solo.{number_at, numbered, answer_alone, names_nobody, heard_alone}
-use Rattle.qmi_solo.specs.Part.{as_sent, part, sent_by}
-use Rattle.qmi_solo.proofs.Fit.{IsFit, Fit}
+use Rattle.proxy_solo.specs.Answers.{number_at, numbered, answer_alone}
+use Rattle.qmi_solo.specs.Solo.{names_nobody, heard_alone}
+use Rattle.proxy_solo.specs.Part.{as_sent, sent_by}
+use Rattle.qmi_solo.specs.Part.{part}
+use Rattle.qmi_solo.proofs.Fit.{Fit}
 use Rattle.qmi_solo.proofs.Queries.{in_use-part, is_pending-part}
 use Rattle.qmi_solo.proofs.Actions.{end_known, known_aborts, aborts-part}
 use Rattle.qmi_solo.proofs.Telling.{known_answer, answer-part, late-part, known_told, told-part, tell-part}
@@ -32,7 +37,8 @@ use Rattle.qmi_solo.proofs.Alone.{held_mine, nobody_else}
 use Rattle.qmi_solo.proofs.Fair.{AreFair, fair_end, fair_each}
 use Rattle.qmi_solo.proofs.EachKind.{by_kind}
 use Rattle.qmi_solo.proofs.Numbering.{renumbered}
-use Rattle.qmi_solo.proofs.Matching.{Twin, twin_of, twin_number, twin_answered}
+use Rattle.proxy_solo.proofs.Matching.{Twin, twin_of}
+use Rattle.qmi_solo.proofs.Matching.{twin_number, twin_answered}
 
 -- ---- what an answer does to the client ids ----
 
@@ -91,8 +97,8 @@ module _ (s : Setup) (c : ℕ) where
   abbrev pub known_tell : List ℕ → List Fact → List Fact
   known_tell m facts = if known_told s.device c m facts then end_known s.device c (Indicated m (c ∷ []) ∷ facts) else facts
 
-  pub tells-part : (alone : Bool) (m : List ℕ) (past : List Fact) → IsFit alone c past → part c (tell s.device m past) ≡ known_tell m (part c past)
-  tells-part alone m past fits = tell-part s.device c m past ∙ ap (λ (b : Bool). if b then end_known s.device c (Indicated m (c ∷ []) ∷ part c past) else part c past) (told-part s.device c alone m past fits)
+  pub tells-part : (m : List ℕ) (past : List Fact) → IsSound qmi_limits past → part c (tell s.device m past) ≡ known_tell m (part c past)
+  tells-part m past sound = tell-part s.device c m past ∙ ap (λ (b : Bool). if b then end_known s.device c (Indicated m (c ∷ []) ∷ part c past) else part c past) (told-part s.device c m past sound)
 
   fair_tell : (m : List ℕ) (facts : List Fact) → AreFair (known_tell m facts) → AreFair facts
   fair_tell m facts fair = elim (known_told s.device c m facts) as (λ b. AreFair (if b then end_known s.device c (Indicated m (c ∷ []) ∷ facts) else facts) → AreFair facts) [ true ↦ λ f. (fair_end s.device c (Indicated m (c ∷ []) ∷ facts) f).1 | false ↦ λ f. f ] fair
@@ -101,10 +107,10 @@ module _ (s : Setup) (c : ℕ) where
   known_sync m facts = known_tell m (Reset ∷ known_aborts s.device c facts)
 
   pub syncs-part : {alone : Bool} (m : List ℕ) (past : List Fact) → Fit alone c past → part c (tell s.device m (Reset ∷ abort_all s.device past)) ≡ known_sync m (part c past)
-  unfolding part
-  syncs-part {alone} m past F =
+  unfolding alone_part.part
+  syncs-part m past F =
       let all = aborts-part s.device c past F in
-      tells-part alone m (Reset ∷ abort_all s.device past) (tt, all.fit.fits) ∙ ap (λ (l : List Fact). known_tell m (Reset ∷ l)) all.same
+      tells-part m (Reset ∷ abort_all s.device past) (tt, all.fit.sound) ∙ ap (λ (l : List Fact). known_tell m (Reset ∷ l)) all.same
 
   fair_sync : (m : List ℕ) (facts : List Fact) → AreFair (known_sync m facts) → AreFair facts
   fair_sync m facts fair = fair_each s.device c false _ facts (fair_tell m (Reset ∷ known_aborts s.device c facts) fair).1
@@ -164,15 +170,15 @@ module _ (s : Setup) (c : ℕ) where
     message_too n m long is = let same = renumbered n m long in same.size ∙ is ∙ ap (λ (k : ℕ). Known k) (sym same.long)
 
     response_alike : (m : List ℕ) → IsMessage size_of m → framed_kind m ≡ Some kind.Response → (found : Option Request) → first_answered_by m (in_use past) ≡ found
-        → AreFair (part c (respond s.device found m past)) → part c (hear_modem s.device m past) ≡ part c (respond s.device found m past) → HeardAlike m (answer_alone c found m (in_use own))
-    unfolding part
+        → AreFair (part c (respond s.device found m past)) → part c (hear_modem s.device m past) ≡ part c (respond s.device found m past) → HeardAlike m (answer_alone with_number c found m (in_use own))
+    unfolding alone_part.part
     response_alike m message is_answer None is fair heard = heard
     response_alike m message is_answer (Some r) is fair heard =
         let found = found_is m (in_use past) r is in
         let at = found.0 in
         let long = framed_long m (responses_framed m is_answer) in
-        let step : (b : Bool) → (r.conn == c) ≡ b → HeardAlike m (if b then numbered (number_at r.place (in_use own)) m else None) =
-        λ b. elim b as (λ b. (r.conn == c) ≡ b → HeardAlike m (if b then numbered (number_at r.place (in_use own)) m else None)) [
+        let step : (b : Bool) → (r.conn == c) ≡ b → HeardAlike m (if b then numbered with_number (number_at c r.place (in_use own)) m else None) =
+        λ b. elim b as (λ b. (r.conn == c) ≡ b → HeardAlike m (if b then numbered with_number (number_at c r.place (in_use own)) m else None)) [
           | true ↦ λ mine.
               let T = twin_of c past own r sent_alike at mine in
               let later : List ℕ = with_number T.request.number m in
@@ -181,17 +187,17 @@ module _ (s : Setup) (c : ℕ) where
               ap (λ (h : Option MessageKind). hear_as h s.device later own) kind_later
               ∙ ap (λ (o : Option Request). respond s.device o later own) (twin_answered c own m r long G T found.1)
               in
-              subst (λ (o : Option ℕ). HeardAlike m (numbered o m)) (sym (twin_number c own r G T))
+              subst (λ (o : Option ℕ). HeardAlike m (numbered with_number o m)) (sym (twin_number c own r G T))
               (message_too T.request.number m long message, heard ∙ answered_alike m r long at mine T fair ∙ ap (part c) (sym there))
           | false ↦ λ theirs. heard ∙ answered_elsewhere (is_pending r past) r m past theirs
         ]
         in step (r.conn == c) refl
 
     indication_alike : (m : List ℕ) → IsMessage size_of m → framed_kind m ≡ Some kind.Indication → HeardAlike m (heard_alone (Some kind.Indication) s c m past own)
-    unfolding part
+    unfolding alone_part.part
     indication_alike m message is_indication =
         let heard : (facts : List Fact) → hear_modem s.device m facts ≡ indicate s.device m facts = λ facts. ap (λ (h : Option MessageKind). hear_as h s.device m facts) is_indication in
-        let same_told : contains c (receivers s.device m past) ≡ known_told s.device c m (part c past) = told-part s.device c false m past F.fits in
+        let same_told : contains c (receivers s.device m past) ≡ known_told s.device c m (part c past) = told-part s.device c m past F.sound in
         let two : (sync nobody told : Bool) → is_sync m ≡ sync → names_nobody m ≡ nobody → contains c (receivers s.device m past) ≡ told → HeardAlike m (if sync || (not nobody && told) then Some m else None) =
         λ sync nobody told. elim sync as (λ sync. is_sync m ≡ sync → names_nobody m ≡ nobody → contains c (receivers s.device m past) ≡ told → HeardAlike m (if sync || (not nobody && told) then Some m else None)) [
           | true ↦ λ is e f.
@@ -206,7 +212,7 @@ module _ (s : Setup) (c : ℕ) where
                 λ facts. heard facts ∙ ap (λ (b : Bool). if b then tell s.device m (Reset ∷ abort_all s.device facts) else if names_nobody m then Stray ∷ facts else tell s.device m facts) is ∙ ap (λ (b : Bool). if b then Stray ∷ facts else tell s.device m facts) e
                 in
                 elim told as (λ told. contains c (receivers s.device m past) ≡ told → HeardAlike m (if told then Some m else None)) [
-                  | true ↦ λ f. (message, ap (part c) (done past) ∙ tells-part false m past F.fits ∙ ap (known_tell m) alike ∙ sym (tells-part true m own G.fits) ∙ ap (part c) (sym (done own)))
+                  | true ↦ λ f. (message, ap (part c) (done past) ∙ tells-part m past F.sound ∙ ap (known_tell m) alike ∙ sym (tells-part m own G.sound) ∙ ap (part c) (sym (done own)))
                   | false ↦ λ f. ap (part c) (done past) ∙ tell-part s.device c m past ∙ ap (λ (b : Bool). if b then end_known s.device c (Indicated m (c ∷ []) ∷ part c past) else part c past) f
                 ]
           ]
@@ -214,7 +220,7 @@ module _ (s : Setup) (c : ℕ) where
         in two (is_sync m) (names_nobody m) (contains c (receivers s.device m past)) refl refl refl
 
     pub heard_alike : (m : List ℕ) → IsMessage size_of m → AreFair (part c (hear_modem s.device m past)) → HeardAlike m (heard_alone (framed_kind m) s c m past own)
-    unfolding part
+    unfolding alone_part.part
     heard_alike m message fair =
         by_kind (λ h. framed_kind m ≡ h → HeardAlike m (heard_alone h s c m past own))
         (λ is.
@@ -225,7 +231,7 @@ module _ (s : Setup) (c : ℕ) where
   -- ---- what was fair behind a message was so before it ----
 
   pub fair_heard : (m : List ℕ) (past : List Fact) → Fit false c past → AreFair (part c (hear_modem s.device m past)) → AreFair (part c past)
-  unfolding part
+  unfolding alone_part.part
   fair_heard m past F fair =
       let Was : Option MessageKind → Type 0 = λ (h : Option MessageKind). AreFair (part c (hear_as h s.device m past)) → AreFair (part c past) in
       let answers : (found : Option Request) → AreFair (part c (respond s.device found m past)) → AreFair (part c past) =
@@ -240,7 +246,7 @@ module _ (s : Setup) (c : ℕ) where
             in step (r.conn == c) refl
       ]
       in
-      let told : AreFair (part c (tell s.device m past)) → AreFair (part c past) = λ f. fair_tell m (part c past) (subst AreFair (tells-part false m past F.fits) f) in
+      let told : AreFair (part c (tell s.device m past)) → AreFair (part c past) = λ f. fair_tell m (part c past) (subst AreFair (tells-part m past F.sound) f) in
       let synced : AreFair (part c (tell s.device m (Reset ∷ abort_all s.device past))) → AreFair (part c past) = λ f. fair_sync m (part c past) (subst AreFair (syncs-part m past F) f) in
       by_kind Was (answers (first_answered_by m (in_use past)))
       (elim (is_sync m) as (λ b. AreFair (part c (if b then tell s.device m (Reset ∷ abort_all s.device past) else if names_nobody m then Stray ∷ past else tell s.device m past)) → AreFair (part c past)) [

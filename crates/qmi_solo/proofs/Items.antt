@@ -4,24 +4,34 @@ use Rattle.proxy_history.specs.History as proxy
 use Rattle.proxy_history.specs.Items.{Joins, Says, Garbles, Leaves, Takes, item_if}
 use Rattle.proxy_history.specs.Facts.{Fact, Admitted, Ended, NotAdmitted, BadStream, Closed, Drained}
 use Rattle.proxy_history.specs.Connections.{present, is_present}
+use Rattle.proxy_history.specs.Sound.{IsSound}
 use Rattle.proxy_history.specs.Requests.{in_use}
-use Rattle.proxy_history.specs.Modem.{modem_queue}
-use Rattle.qmi_proxy.specs.Limits.{connection_limit}
+use Rattle.proxy_history.specs.Modem.{now, modem_queue}
+use Rattle.proxy_solo.specs.Part as alone_part
+use Rattle.qmi_proxy.specs.Limits.{connection_limit, qmi_limits}
 use Rattle.qmi_proxy.specs.Setup.{Setup}
+use Rattle.qmux_frame.specs.Reply.{with_number}
 use Rattle.qmux_frame.specs.declared.kind.MessageKind.{MessageKind}
 use Rattle.qmux_frame.specs.declared.kind.MessageKind.TheVariants as kind
 use Rattle.qmi_proxy.specs.Clients.{wire, decision_on, hear_client}
 use Rattle.qmi_proxy.specs.FromModem.{first_answered_by}
-use Rattle.qmi_proxy.specs.History.{add, add_all}
-use Rattle.qmi_solo.specs.Solo.{answer_alone, heard_alone}
-use Rattle.qmi_solo.specs.Part.{fact_if, part}
+use Rattle.qmi_proxy.specs.History.{qmi_protocol, add, add_all}
+use Rattle.qmi_proxy.proofs.Walk.{Asks, orderly}
+use Rattle.proxy_solo.proofs.Time.{item_keeps_time}
+use Rattle.proxy_solo.specs.Answers.{answer_alone}
+use Rattle.qmi_solo.specs.Solo.{heard_alone}
+use Rattle.qmi_solo.proofs.Meets.{fact_if}
+use Rattle.qmi_solo.specs.Part.{part}
 use Rattle.qmi_solo.proofs.Fit.{ComesFrom, Fit}
 use Rattle.qmi_solo.proofs.Queries.{present-part}
-use Rattle.qmi_solo.proofs.Actions.{self}
+use Rattle.proxy_solo.proofs.Lists.{self}
 use Rattle.qmi_solo.proofs.Fair.{AreFair}
 use Rattle.qmi_solo.proofs.Fits.{fit_add}
 use Rattle.qmi_solo.proofs.Saying.{says_elsewhere, fair_said, says_alike, SaidAlike}
 use Rattle.qmi_solo.proofs.Room.{room_kept}
+
+said_time : (s : Setup) (c : ℕ) (m : List ℕ) (past : List Fact) → IsSound qmi_limits past → now (add s (Says c m) past) ≡ now past
+said_time s c m past sound = item_keeps_time (qmi_protocol s) (Asks s) (orderly s) (Says c m) past sound refl
 
 module _ (s : Setup) (c : ℕ) where
   either : (b : Bool) (one other past : List Fact) → part c one ≡ part c past → part c other ≡ part c past → part c (if b then one else other) ≡ part c past
@@ -35,19 +45,19 @@ module _ (s : Setup) (c : ℕ) where
     skipped fact past is = is ∙ ap (λ (b : Bool). fact_if b fact (part c past)) other
 
     pub joins_elsewhere : (past : List Fact) → part c (add s (Joins d) past) ≡ part c past
-    unfolding part
+    unfolding alone_part.part
     joins_elsewhere past = either (nat_lt (length (present past)) connection_limit) (Admitted d ∷ past) (Ended d NotAdmitted ∷ past) past (skipped (Admitted d) past refl) (skipped (Ended d NotAdmitted) past refl)
 
     pub leaves_elsewhere : (past : List Fact) → part c (add s (Leaves d) past) ≡ part c past
-    unfolding part
+    unfolding alone_part.part
     leaves_elsewhere past = either (is_present d past) (Ended d Closed ∷ past) past past (skipped (Ended d Closed) past refl) refl
 
     pub takes_elsewhere : (count : ℕ) (past : List Fact) → part c (add s (Takes d count) past) ≡ part c past
-    unfolding part
+    unfolding alone_part.part
     takes_elsewhere count past = either (is_present d past) (Drained d count ∷ past) past past (skipped (Drained d count) past refl) refl
 
     garbles_elsewhere : (past : List Fact) → part c (add s (Garbles d) past) ≡ part c past
-    unfolding part
+    unfolding alone_part.part
     garbles_elsewhere past = either (is_present d past) (Ended d BadStream ∷ past) past past (skipped (Ended d BadStream) past refl) refl
 
     pub piece_elsewhere : (messages : List (List ℕ)) (bad : Bool) (past : List Fact) → part c (add_all s (map (λ m. Says d m) messages ++ item_if bad (Garbles d)) past) ≡ part c past
@@ -71,6 +81,7 @@ module _ (s : Setup) (c : ℕ) where
     pub same : part c past ≡ part c own
     pub fit : Fit false c past
     pub alone : Fit true c own
+    pub time : now past ≡ now own
     pub room : length (modem_queue wire own) ≤ length (modem_queue wire past)
 
   there_alike : (past own : List Fact) → part c past ≡ part c own → is_present c past ≡ is_present c own
@@ -87,22 +98,22 @@ module _ (s : Setup) (c : ℕ) where
   fact_both fact past own one two same = one ∙ ap (fact_if (c == c) fact) same ∙ sym two
 
   pub leaves_both : (past own : List Fact) → part c past ≡ part c own → part c (add s (Leaves c) past) ≡ part c (add s (Leaves c) own)
-  unfolding part
+  unfolding alone_part.part
   leaves_both past own same = both (is_present c past) (is_present c own) past own (Ended c Closed ∷ past) (Ended c Closed ∷ own) (there_alike past own same) same (fact_both (Ended c Closed) past own refl refl same)
 
   pub takes_both : (count : ℕ) (past own : List Fact) → part c past ≡ part c own → part c (add s (Takes c count) past) ≡ part c (add s (Takes c count) own)
-  unfolding part
+  unfolding alone_part.part
   takes_both count past own same = both (is_present c past) (is_present c own) past own (Drained c count ∷ past) (Drained c count ∷ own) (there_alike past own same) same (fact_both (Drained c count) past own refl refl same)
 
   garbles_both : (past own : List Fact) → part c past ≡ part c own → part c (add s (Garbles c) past) ≡ part c (add s (Garbles c) own)
-  unfolding part
+  unfolding alone_part.part
   garbles_both past own same = both (is_present c past) (is_present c own) past own (Ended c BadStream ∷ past) (Ended c BadStream ∷ own) (there_alike past own same) same (fact_both (Ended c BadStream) past own refl refl same)
 
   fair_says : (m : List ℕ) (past : List Fact) → AreFair (part c (add s (Says c m) past)) → AreFair (part c past)
   fair_says m past fair = elim (is_present c past) as (λ b. AreFair (part c (if b then hear_client s c m past else past)) → AreFair (part c past)) [ true ↦ fair_said s c m past | false ↦ λ f. f ] fair
 
   fair_garbles : (past : List Fact) → AreFair (part c (add s (Garbles c) past)) → AreFair (part c past)
-  unfolding part
+  unfolding alone_part.part
   fair_garbles past fair =
       elim (is_present c past) as (λ b. AreFair (part c (if b then Ended c BadStream ∷ past else past)) → AreFair (part c past)) [
         | true ↦ λ f. elim (c == c) as (λ b. AreFair (fact_if b (Ended c BadStream) (part c past)) → AreFair (part c past)) [ true ↦ λ g. g.1 | false ↦ λ g. g ] f
@@ -120,14 +131,15 @@ module _ (s : Setup) (c : ℕ) where
     same = same_by (is_present c past) (is_present c own) (there_alike past own P.same) refl;
     fit = fit_add false c s (Says c m) past P.fit tt;
     alone = fit_add true c s (Says c m) own P.alone (self c);
+    time = said_time s c m past P.fit.sound ∙ P.time ∙ sym (said_time s c m own P.alone.sound);
     room = room_by (is_present c past) (is_present c own) (there_alike past own P.same) refl;
   }
     where
       fair_if : (b : Bool) → is_present c past ≡ b → AreFair (part c (if b then hear_client s c m past else past))
       fair_if b is = subst (λ (t : Bool). AreFair (part c (if t then hear_client s c m past else past))) is fair
 
-      said : is_present c past ≡ true → SaidAlike s c m past own P.fit P.alone P.same P.room
-      said is = says_alike s c m past own P.fit P.alone P.same P.room (fair_if true is)
+      said : is_present c past ≡ true → SaidAlike s c m past own P.fit P.alone P.same P.time P.room
+      said is = says_alike s c m past own P.fit P.alone P.same P.time P.room (fair_if true is)
 
       same_by : (b b' : Bool) → b ≡ b' → is_present c past ≡ b → part c (if b then hear_client s c m past else past) ≡ part c (if b' then hear_client s c m own else own)
       same_by true true e is = (said is).part_same
@@ -153,7 +165,7 @@ module _ (s : Setup) (c : ℕ) where
   -- ---- what the modem says ----
 
   pub heard_by : (heard : Option MessageKind) (m : List ℕ) (past one two : List Fact) → in_use one ≡ in_use two → heard_alone heard s c m past one ≡ heard_alone heard s c m past two
-  heard_by (Some kind.Response) m past one two same = ap (answer_alone c (first_answered_by m (in_use past)) m) same
+  heard_by (Some kind.Response) m past one two same = ap (answer_alone with_number c (first_answered_by m (in_use past)) m) same
   heard_by (Some kind.Indication) m past one two same = refl
   heard_by (Some kind.Request) m past one two same = refl
   heard_by None m past one two same = refl

@@ -1,5 +1,4 @@
-pub mod Lists
-pub mod Grants
+pub mod Meets
 pub mod Fit
 pub mod Queries
 pub mod Actions
@@ -13,7 +12,6 @@ pub mod EachKind
 pub mod Numbering
 pub mod Matching
 pub mod Hearing
-pub mod Pieces
 pub mod Meeting
 pub mod Items
 pub mod General
@@ -21,6 +19,5 @@ pub mod Modem
 pub mod Events
 pub mod AlikeEvents
 pub mod Undisturbed
-pub mod Coming
 pub mod Law
 pub mod Cores

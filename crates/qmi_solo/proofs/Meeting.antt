@@ -11,16 +11,20 @@ use Rattle.proxy_history.specs.Items.{ModemSays, ModemFails, item_if, modem_item
 use Rattle.proxy_history.specs.Facts.{Fact, EventBegan}
 use Rattle.proxy_history.specs.Requests.{in_use}
 use Rattle.proxy_history.specs.Modem.{to_modem, modem_drained, modem_queue}
+use Rattle.proxy_solo.specs.Part as alone_part
+use Rattle.proxy_solo.specs.Solo as alone
+use Rattle.qmux_frame.specs.Framing.{size_of-kept, size_of-positive}
+use Rattle.proxy_solo.proofs.Pieces as pieces
 use Rattle.qmi_proxy.specs.Setup.{Setup}
 use Rattle.qmi_proxy.specs.Clients.{wire}
 use Rattle.qmi_proxy.specs.FromModem.{hear_modem}
 use Rattle.qmi_proxy.specs.History.{add_all, history, qmi_protocol}
 use Rattle.proxy_state.specs.Stands.{rest_in}
-use Rattle.qmi_solo.specs.Solo.{take_all, meet, piece_limit, pieces_of, meet_pieces}
+use Rattle.proxy_solo.specs.Solo.{take_all, piece_limit, pieces_of}
+use Rattle.qmi_solo.proofs.Meets.{meet, meet_pieces}
 use Rattle.qmi_solo.specs.Part.{part}
 use Rattle.qmi_solo.proofs.Fit.{Fit}
 use Rattle.qmi_solo.proofs.Fits.{fit_add}
-use Rattle.qmi_solo.proofs.Pieces.{ends_message, goes_on}
 
 module _ (s : Setup) (c : ℕ) where
   abbrev pub modem_bytes : List Event → Option (List ℕ)
@@ -41,7 +45,7 @@ module _ (s : Setup) (c : ℕ) where
   -- the modem takes all that waits
   takes_all : (past : List Fact) (solo : List Event) (bytes : List ℕ) → part c past ≡ part c (history s solo) → Fit false c past → Fit true c (history s solo) → stream c solo ≡ bytes → rest_in size_of (modem_bytes solo) ≡ []
       → (count : ℕ) → length (modem_queue wire (history s solo)) ≡ count → Alike past (take_all count solo) bytes
-  unfolding proxy.history proxy.add_all part stream modem_stream to_modem modem_drained
+  unfolding proxy.history proxy.add_all alone_part.part stream modem_stream to_modem modem_drained
   takes_all past solo bytes same F G sent whole zero is = record { same = same; fit = F; alone = G; sent = sent; whole = whole; empty = is }
   takes_all past solo bytes same F G sent whole (suc count) is = record {
     same = same;
@@ -88,9 +92,9 @@ module _ (s : Setup) (c : ℕ) where
 
   last_piece : (first after : List Fact) (x : List ℕ) (solo : List Event) (bytes front piece : List ℕ) → Comes first after x → Fit false c after → IsMessage size_of x → Begun first solo bytes front → front ++ piece ≡ x
       → Alike after (meet s (ModemPiece piece) solo) bytes
-  unfolding proxy.add_all part in_use stream
+  unfolding proxy.add_all alone_part.part in_use stream
   last_piece first after x solo bytes front piece comes F message B whole =
-      let ends = ends_message B.before piece front x B.rest whole message in
+      let ends = pieces.ends_message size_of size_of-kept size_of-positive refl B.before piece front x B.rest whole message in
       let own : List Fact = EventBegan ∷ history s solo in
       let is : history s (ModemPiece piece ∷ solo) ≡ hear_modem s.device x own = piece_history solo B.before piece (x ∷ []) B.stream_is ends.messages ends.good in
       let G : Fit true c own = begun_fit (history s solo) B.alone in
@@ -103,9 +107,9 @@ module _ (s : Setup) (c : ℕ) where
 
   first_piece : (first : List Fact) (x : List ℕ) (solo : List Event) (bytes front piece later : List ℕ) → IsMessage size_of x → Begun first solo bytes front → (front ++ piece) ++ later ≡ x → 0 < length later
       → Begun first (meet s (ModemPiece piece) solo) bytes (front ++ piece)
-  unfolding proxy.add_all part in_use stream to_modem modem_drained
+  unfolding proxy.add_all alone_part.part in_use stream to_modem modem_drained
   first_piece first x solo bytes front piece later message B whole some =
-      let goes = goes_on B.before piece front later B.rest (subst (IsMessage size_of) (sym whole) message) some in
+      let goes = pieces.goes_on size_of size_of-kept size_of-positive refl B.before piece front later B.rest (subst (IsMessage size_of) (sym whole) message) some in
       let is : history s (ModemPiece piece ∷ solo) ≡ EventBegan ∷ history s solo = piece_history solo B.before piece [] B.stream_is goes.messages goes.good in
       let none : length (modem_queue wire (history s (ModemPiece piece ∷ solo))) ≡ 0 = ap (λ (l : List Fact). length (modem_queue wire l)) is ∙ B.empty in
       subst (λ (l : List Event). Begun first l bytes (front ++ piece)) (sym (none_waits solo (ModemPiece piece) none)) (record {
@@ -124,7 +128,7 @@ module _ (s : Setup) (c : ℕ) where
 
   in_pieces : (first after : List Fact) (x : List ℕ) (bytes : List ℕ) → Comes first after x → Fit false c after → IsMessage size_of x
       → (count : ℕ) (solo : List Event) (front tail : List ℕ) → Begun first solo bytes front → front ++ tail ≡ x → Alike after (meet_pieces s (pieces_of count tail) solo) bytes
-  unfolding meet_pieces pieces_of
+  unfolding alone.meet_pieces alone.pieces_of
   in_pieces first after x bytes comes F message zero solo front tail B whole = last_piece first after x solo bytes front tail comes F message B whole
   in_pieces first after x bytes comes F message (suc count) solo front tail B whole =
       let step : (b : Bool) → nat_le (length tail) piece_limit ≡ b → Alike after (meet_pieces s (elim b [ true ↦ tail ∷ [] | false ↦ take piece_limit tail ∷ pieces_of count (drop piece_limit tail) ]) solo) bytes =

@@ -10,13 +10,17 @@ use Rattle.proxy_history.specs.Streams.{stream, modem_stream}
 use Rattle.proxy_history.specs.Items.{Item, ModemSays, ModemFails, item_if, fails_once}
 use Rattle.proxy_history.specs.Facts.{Fact, EventBegan, ModemLost}
 use Rattle.proxy_history.specs.Modem.{is_away}
+use Rattle.proxy_solo.specs.Part as alone_part
+use Rattle.proxy_solo.specs.Solo as alone
 use Rattle.qmi_proxy.specs.Setup.{Setup}
 use Rattle.qmi_proxy.specs.FromModem.{hear_modem, lose}
 use Rattle.qmi_proxy.specs.History.{add_all, history}
 use Rattle.qmi_proxy.proofs.Away.{away_agrees, same_heard}
-use Rattle.qmi_solo.specs.Solo.{meet, meet_message, meet_items, heard_alone}
+use Rattle.qmi_solo.proofs.Meets.{meet, meet_message, meet_items}
+use Rattle.qmi_solo.specs.Solo.{heard_alone}
 use Rattle.qmi_solo.specs.Part.{part}
-use Rattle.qmi_solo.proofs.Fit.{AreGeneral, Fit}
+use Rattle.proxy_solo.proofs.Reading.{AreGeneral}
+use Rattle.qmi_solo.proofs.Fit.{Fit}
 use Rattle.qmi_solo.proofs.Queries.{away-part}
 use Rattle.qmi_solo.proofs.Actions.{loses-part, known_aborts}
 use Rattle.qmi_solo.proofs.Fair.{AreFair, fair_each}
@@ -36,7 +40,7 @@ module _ (s : Setup) (c : ℕ) where
   away_alike past solo bytes A = sym (away_agrees s solo) ∙ sym (away-part c s.starts_away (history s solo)) ∙ ap (is_away s.starts_away) (sym A.same) ∙ away-part c s.starts_away past
 
   pub fails_alike : (past : List Fact) (solo : List Event) (bytes : List ℕ) → Alike s c past solo bytes → is_away s.starts_away past ≡ false → Alike s c (lose s.device past) (meet s ModemGone solo) bytes
-  unfolding proxy.history proxy.add_all part stream modem_stream
+  unfolding proxy.history proxy.add_all alone_part.part stream modem_stream
   fails_alike past solo bytes A there =
       let some = some_if (modem_bytes s c solo) (away_alike past solo bytes A ∙ there) in
       let own : List Fact = EventBegan ∷ history s solo in
@@ -79,7 +83,7 @@ module _ (s : Setup) (c : ℕ) where
 
   pub piece_alike : (messages : List (List ℕ)) (bad : Bool) (past : List Fact) (solo : List Event) (bytes : List ℕ) → Alike s c past solo bytes → is_away s.starts_away past ≡ false → AllByRecursion (IsMessage size_of) messages
       → AreFair (part c (add_all s (modem_brings messages bad) past)) → Alike s c (add_all s (modem_brings messages bad) past) (meet_items s c (modem_brings messages bad) past solo) bytes
-  unfolding proxy.add_all meet_items
+  unfolding proxy.add_all alone.hear_all
   piece_alike [] true past solo bytes A there whole fair = fails_alike past solo bytes A there
   piece_alike [] false past solo bytes A there whole fair = A
   piece_alike (m ∷ messages) bad past solo bytes A there whole fair =

@@ -4,15 +4,20 @@ use Rattle.qmux_frame.specs.Head.{is_control, client_of, service_of}
 use Rattle.proxy_history.specs.Facts.{Fact, Request, Answered, IdHeld, Late, Indicated, Granted, Freed}
 use Rattle.proxy_history.specs.Connections.{contains, present, is_present}
 use Rattle.proxy_history.specs.ClientIds.{held, holder_in, is_holder, holds_some}
+use Rattle.proxy_solo.specs.Part as alone_part
+use Rattle.proxy_history.specs.Sound.{IsSound}
+use Rattle.qmi_proxy.specs.Limits.{qmi_limits}
 use Rattle.qmi_proxy.specs.OwnReplies.{is_open}
 use Rattle.qmi_proxy.specs.Text.{blank, view_of}
 use Rattle.qmi_proxy.specs.FromModem.{IdChange, NoChange, Grants, Collides, Frees, answer, open_ones, receivers, tell}
-use Rattle.qmi_solo.specs.Part.{as_sent, fact_if, part}
-use Rattle.qmi_solo.proofs.Lists.{contains-filter}
-use Rattle.qmi_solo.proofs.Grants.{held_once, holder_by, some_by}
-use Rattle.qmi_solo.proofs.Fit.{IsFit}
+use Rattle.proxy_solo.specs.Part.{as_sent}
+use Rattle.qmi_solo.proofs.Meets.{fact_if}
+use Rattle.qmi_solo.specs.Part.{part}
+use Rattle.proxy_solo.proofs.Lists.{contains-filter}
+use Rattle.proxy_solo.proofs.Grants.{held_once, holder_by, some_by}
 use Rattle.qmi_solo.proofs.Queries.{known_view, view-part, present-part, held-part}
-use Rattle.qmi_solo.proofs.Actions.{end_known, noted, only}
+use Rattle.proxy_solo.proofs.Noting.{only}
+use Rattle.qmi_solo.proofs.Actions.{end_known, noted}
 
 module _ (device : List ℕ) (c : ℕ) where
   -- ---- answers ----
@@ -24,18 +29,18 @@ module _ (device : List ℕ) (c : ℕ) where
   known_answer r m (Frees service client) facts = end_known device c (Answered r m ∷ Freed r.conn service client ∷ facts)
 
   pub answer-part : (r : Request) (m : List ℕ) (change : IdChange) (past : List Fact) → part c (answer device r m change past) ≡ (if r.conn == c then known_answer (as_sent r) (blank m) change (part c past) else part c past)
-  unfolding part
-  answer-part r m NoChange past = noted device c (Answered r m) past (only device c r.conn)
+  unfolding alone_part.part
+  answer-part r m NoChange past = noted device c (Answered r m) past (only c r.conn)
   answer-part r m (Grants service client) past =
-      noted device c (Answered r m) (Granted r.conn service client ∷ past) (only device c r.conn)
+      noted device c (Answered r m) (Granted r.conn service client ∷ past) (only c r.conn)
       ∙ elim (r.conn == c) as (λ b. (if b then end_known device c (Answered (as_sent r) (blank m) ∷ fact_if b (Granted r.conn service client) (part c past)) else fact_if b (Granted r.conn service client) (part c past)) ≡ (if b then known_answer (as_sent r) (blank m) (Grants service client) (part c past) else part c past)) [ true ↦ refl | false ↦ refl ]
-  answer-part r m Collides past = noted device c (IdHeld r) past (only device c r.conn)
+  answer-part r m Collides past = noted device c (IdHeld r) past (only c r.conn)
   answer-part r m (Frees service client) past =
-      noted device c (Answered r m) (Freed r.conn service client ∷ past) (only device c r.conn)
+      noted device c (Answered r m) (Freed r.conn service client ∷ past) (only c r.conn)
       ∙ elim (r.conn == c) as (λ b. (if b then end_known device c (Answered (as_sent r) (blank m) ∷ fact_if b (Freed r.conn service client) (part c past)) else fact_if b (Freed r.conn service client) (part c past)) ≡ (if b then known_answer (as_sent r) (blank m) (Frees service client) (part c past) else part c past)) [ true ↦ refl | false ↦ refl ]
 
   pub late-part : (r : Request) (past : List Fact) → part c (Late r ∷ past) ≡ (if r.conn == c then Late (as_sent r) ∷ part c past else part c past)
-  unfolding part
+  unfolding alone_part.part
   late-part r past = elim (r.conn == c) as (λ b. fact_if b (Late (as_sent r)) (part c past) ≡ (if b then Late (as_sent r) ∷ part c past else part c past)) [ true ↦ refl | false ↦ refl ]
 
   -- ---- indications ----
@@ -49,15 +54,15 @@ module _ (device : List ℕ) (c : ℕ) where
       else if client_of m == 255 then holds_some c (service_of m) (held facts)
       else is_holder c (holder_in (service_of m) (client_of m) (held facts)))
 
-  pub told-part : (alone : Bool) (m : List ℕ) (past : List Fact) → IsFit alone c past → contains c (receivers device m past) ≡ known_told m (part c past)
-  told-part alone m past fits =
+  pub told-part : (m : List ℕ) (past : List Fact) → IsSound qmi_limits past → contains c (receivers device m past) ≡ known_told m (part c past)
+  told-part m past sound =
       choose (is_control m) (client_of m == 255)
       ∙ ap (λ (b : Bool). b && (if is_control m then is_open device (view_of c past) else if client_of m == 255 then holds_some c (service_of m) (held past) else is_holder c (holder_in (service_of m) (client_of m) (held past)))) (sym (present-part c past))
       ∙ ap (λ (b : Bool). is_present c (part c past) && b)
       (three (is_control m) (client_of m == 255)
       (ap (is_open device) (sym (view-part c past)))
-      (some_by c (service_of m) (held past) ∙ ap (holds_some c (service_of m)) (sym (held-part c alone past fits)))
-      (holder_by c (service_of m) (client_of m) (held past) (held_once past) ∙ ap (λ l. is_holder c (holder_in (service_of m) (client_of m) l)) (sym (held-part c alone past fits))))
+      (some_by c (service_of m) (held past) ∙ ap (holds_some c (service_of m)) (sym (held-part c past sound)))
+      (holder_by c (service_of m) (client_of m) (held past) (held_once past) ∙ ap (λ l. is_holder c (holder_in (service_of m) (client_of m) l)) (sym (held-part c past sound))))
     where
       choose : (a b : Bool) → contains c (if a then open_ones device past else if b then filter (λ c. holds_some c (service_of m) (held past)) (present past) else filter (λ c. is_holder c (holder_in (service_of m) (client_of m) (held past))) (present past))
           ≡ (is_present c past && (if a then is_open device (view_of c past) else if b then holds_some c (service_of m) (held past) else is_holder c (holder_in (service_of m) (client_of m) (held past))))

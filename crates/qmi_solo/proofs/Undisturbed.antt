@@ -1,13 +1,17 @@
 -- A view that tells of nobody else is one of a fair history.
 use Rattle.std.proofs.Common.{◌≡◌, ℕ, Bool, true, false, ◌==◌, if◌then◌else◌, List, [], ◌∷◌, refl}
 use Rattle.std.specs.List.{AllByRecursion}
-use Rattle.proxy_history.specs.Facts.{Fact, Verdict, Own, Foreign, Away, Full, Forward, Ready, Waits, NotAdmitted, BadStream, Closed, Admitted, Ended, Judged, Drained, Answered, IdHeld, Expired, Aborted, Indicated, OpeningEnded, SessionsClosed, Reset, ModemLost, ModemReturned, TimeIs}
+use Rattle.proxy_history.specs.Facts.{Fact, Verdict, Own, Foreign, Away, Full, Forward, Ready, Waits, NotAdmitted, BadStream, Closed, Admitted, Ended, Judged, Drained, Answered, IdHeld, Expired, Aborted, Indicated, OpeningEnded, SessionsClosed, Freed, Reset, ModemLost, ModemReturned}
 use Rattle.proxy_history.specs.Connections.{contains}
 use Rattle.proxy_history.specs.View.{Entry, Sent, Response, Refused, Indication, OpenedWith, Shut, Collected, End, HeldId, NoAnswer, view, entry_if}
+use Rattle.proxy_solo.specs.Part as alone_part
 use Rattle.qmi_proxy.specs.Text.{blank, view_of}
-use Rattle.qmi_solo.specs.Part.{concerns, as_known, fact_if, part}
-use Rattle.qmi_solo.specs.Law.{tells_of_others}
-use Rattle.qmi_solo.proofs.Fit.{AreGeneral, IsFit}
+use Rattle.proxy_solo.specs.Part.{concerns}
+use Rattle.qmi_solo.proofs.Meets.{as_known, fact_if}
+use Rattle.qmi_solo.specs.Part.{part}
+use Rattle.proxy_solo.specs.Law.{tells_of_others}
+use Rattle.proxy_solo.proofs.Reading.{AreGeneral}
+use Rattle.qmi_solo.proofs.Fit.{IsFit}
 use Rattle.qmi_solo.proofs.Fair.{refuses, AreFair}
 
 module _ (c : ℕ) where
@@ -23,7 +27,7 @@ module _ (c : ℕ) where
   general_is_fair (Reset ∷ facts) general = (refl, general_is_fair facts general.1)
   general_is_fair (ModemLost ∷ facts) general = (refl, general_is_fair facts general.1)
   general_is_fair (ModemReturned ∷ facts) general = (refl, general_is_fair facts general.1)
-  general_is_fair (TimeIs time ∷ facts) general = (refl, general_is_fair facts general.1)
+  general_is_fair (Freed d service client ∷ facts) general = (refl, general_is_fair facts general.1)
   general_is_fair (_ ∷ facts) general = absurd (let clash : false ≡ true = general.0 in cc)
 
   fair_verdict : (d place : ℕ) (m : List ℕ) (verdict : Verdict) → tells_of_others (Sent m verdict) ≡ false → refuses (Judged d place m verdict) ≡ false
@@ -40,7 +44,7 @@ module _ (c : ℕ) where
   other_fact false fact facts here rest = rest
 
   pub fair_from_view : (past : List Fact) → IsFit false c past → AreUndisturbed (view_of c past) → AreFair (part c past)
-  unfolding view part
+  unfolding view alone_part.part
   fair_from_view [] fits is = tt
   fair_from_view (Admitted d ∷ past) fits is =
       let step : (b : Bool) → (d == c) ≡ b → AreUndisturbed (if b then [] else view_of c past) → AreFair (fact_if b (Admitted d) (part c past)) =

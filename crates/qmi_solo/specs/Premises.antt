@@ -5,7 +5,8 @@ use Rattle.proxy_examples.specs.Story.{setup, open_device, opened, get_version, 
 use Rattle.proxy_examples.specs.ClientIds.{uses_foreign_id, one_id_twice}
 use Rattle.proxy_examples.specs.Connections.{joined}
 use Rattle.proxy_examples.specs.FullSpace.{full, asks_too_much}
-use Rattle.qmi_solo.specs.Solo.{pieces_of, solo}
+use Rattle.proxy_solo.specs.Solo.{pieces_of}
+use Rattle.qmi_solo.specs.Solo.{solo}
 use Rattle.qmi_solo.specs.Law.{IsLetAlone}
 use Rattle.qmi_solo.specs.Stories.{out_of_order, version_to_3}
 

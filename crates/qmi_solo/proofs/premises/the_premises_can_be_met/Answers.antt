@@ -2,9 +2,10 @@ use Rattle.std.proofs.Common.{◌≡◌, false, refl, arith}
 use Rattle.proxy_history.specs.Wording.{told_by}
 use Rattle.proxy_history.specs.History as proxy
 use Rattle.proxy_history.specs.View.{Entry}
+use Rattle.proxy_solo.specs.Solo as alone
 use Rattle.qmi_proxy.specs.Text.{view_of}
 use Rattle.proxy_examples.specs.Story.{setup}
-use Rattle.qmi_solo.specs.Law.{tells_of_others}
+use Rattle.proxy_solo.specs.Law.{tells_of_others}
 use Rattle.qmi_solo.specs.Stories.{out_of_order}
 use Rattle.std.proofs.lemmas.List.Elements.{All-from_recursion}
 use Rattle.framing.specs.Cutting.{cut_from}
@@ -17,11 +18,11 @@ use Rattle.proxy_history.specs.View.{view}
 use Rattle.proxy_history.specs.Rendering.{render}
 use Rattle.proxy_history.specs.Noting.{end_overfull, each_pending}
 use Rattle.qmi_proxy.specs.History.{history}
-use Rattle.qmi_solo.specs.Solo.{pieces_of, meet_pieces, meet_items, solo}
+use Rattle.proxy_solo.specs.Solo.{pieces_of}
 use Rattle.qmi_solo.proofs.premises.the_premises_can_be_met.Goals as goal
 
 pub returns : goal.returns
-unfolding cut_from stream modem_stream present dropped message_count in_use pending forward_count last_number free_from held now is_away to_modem modem_drained view render end_overfull each_pending told_by proxy.add_all proxy.history pieces_of meet_pieces meet_items solo
+unfolding cut_from stream modem_stream present dropped message_count in_use pending forward_count last_number free_from held now is_away to_modem modem_drained view render end_overfull each_pending told_by proxy.add_all proxy.history alone.pieces_of alone.meet_pieces alone.hear_all alone.meet_parts alone.solo
 returns c = record {
   sound = (omega arith, (omega arith, (omega arith, (omega arith, (omega arith, (omega arith, (omega arith, (omega arith, (omega arith, (omega arith, (omega arith, (omega arith, tt))))))))))));
   undisturbed = All-from_recursion (λ (entry : Entry). tells_of_others entry ≡ false) (view_of 2 (history setup out_of_order)) (refl, (refl, (refl, (refl, (refl, (refl, (refl, tt)))))));

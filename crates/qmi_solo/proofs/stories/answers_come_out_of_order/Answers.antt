@@ -10,11 +10,12 @@ use Rattle.proxy_history.specs.Modem.{now, is_away, to_modem, modem_drained}
 use Rattle.proxy_history.specs.View.{view}
 use Rattle.proxy_history.specs.Rendering.{render}
 use Rattle.proxy_history.specs.Noting.{end_overfull, each_pending}
-use Rattle.qmi_solo.specs.Solo.{pieces_of, meet_pieces, meet_items, solo}
+use Rattle.proxy_solo.specs.Solo.{pieces_of}
+use Rattle.proxy_solo.specs.Solo as alone
 use Rattle.qmi_solo.proofs.stories.answers_come_out_of_order.Goals as goal
 
 pub returns : goal.returns
-unfolding cut_from stream modem_stream present dropped message_count in_use pending forward_count last_number free_from held now is_away to_modem modem_drained view render end_overfull each_pending told_by proxy.add_all proxy.history pieces_of meet_pieces meet_items solo
+unfolding cut_from stream modem_stream present dropped message_count in_use pending forward_count last_number free_from held now is_away to_modem modem_drained view render end_overfull each_pending told_by proxy.add_all proxy.history alone.pieces_of alone.meet_pieces alone.hear_all alone.meet_parts alone.solo
 returns c = record {
   first = record { met = refl; beside = refl; alone = refl };
   second = record { met = refl; beside = refl; alone = refl };

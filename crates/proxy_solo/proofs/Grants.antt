@@ -5,8 +5,8 @@ use Rattle.std.proofs.lemmas.Bool.Decides.{nat_tests}
 use Rattle.std.proofs.lemmas.Bool.{eqb-true}
 use Rattle.proxy_history.specs.Facts.{Fact, Ended, Granted, Freed, Reset, ModemLost}
 use Rattle.proxy_history.specs.ClientIds.{Grant, is_of, held, holder_in, is_other, is_holder, holds_some}
-use Rattle.qmi_solo.specs.Part.{held_by}
-use Rattle.qmi_solo.proofs.Lists.{turned, grant_if}
+use Rattle.proxy_solo.specs.Part.{held_by}
+use Rattle.proxy_solo.proofs.Lists.{turned, grant_if}
 
 abbrev pub IsApart : Grant → Grant → Type 0
 IsApart g h = is_of g.service g.client h ≡ false

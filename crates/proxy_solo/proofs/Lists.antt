@@ -10,7 +10,7 @@ use Rattle.proxy_history.specs.ClientIds.{Grant, is_of}
 use Rattle.proxy_history.proofs.Sound.{contains-without_self}
 use Rattle.proxy_history.proofs.Numbers.{contains_other}
 use Rattle.proxy_history.proofs.Lists.{filter-all, filter-none}
-use Rattle.qmi_solo.specs.Part.{as_sent, request_if, sent_by, held_by}
+use Rattle.proxy_solo.specs.Part.{as_sent, request_if, sent_by, held_by}
 
 pub turned : (m n : ℕ) → (m == n) ≡ (n == m)
 turned m n =
@@ -20,6 +20,9 @@ turned m n =
       | false ↦ λ e. let other : (n == m) ≡ false = grind (arith, nat_tests, e) in sym other
     ]
     in step (m == n) refl
+
+pub self : (c : ℕ) → (c == c) ≡ true
+self c = eq-eqb c c refl
 
 -- ---- names ----
 

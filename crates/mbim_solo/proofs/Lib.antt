@@ -1,0 +1,12 @@
+pub mod Reading
+pub mod Views
+pub mod Places
+pub mod Once
+pub mod Noted
+pub mod Saying
+pub mod Hearing
+pub mod Histories
+pub mod Parts
+pub mod Openings
+pub mod Orders
+pub mod Endings

@@ -1,0 +1,6 @@
+pub mod Solo
+pub mod Part
+pub mod Law
+pub mod Openings
+pub mod Stories
+pub mod Premises

@@ -1,0 +1,16 @@
+pub mod Lists
+pub mod Grants
+pub mod Reading
+pub mod Placed
+pub mod Queries
+pub mod Noting
+pub mod Elsewhere
+pub mod Histories
+pub mod Matching
+pub mod Refusing
+pub mod Fronts
+pub mod Pieces
+pub mod Undisturbed
+pub mod Coming
+pub mod Time
+pub mod Cores
