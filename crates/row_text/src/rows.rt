@@ -38,7 +38,8 @@ pub struct Rows<'a> {
 ///
 /// A line is `KEY: VALUE`, and one that begins with a space goes on with the value before it behind
 /// a line's end, without that space. A line that begins with `#` says nothing. An empty line stands
-/// between rows. `message NAME: BYTES` belongs to no row: the bytes go by that name from there on.
+/// between rows. `message NAME: BYTES` belongs to no row: the bytes go by that name from there on, and
+/// those of the text by that of `text NAME: TEXT`.
 pub fn read_rows<'a>(alloc: Global, file: &str, text: &'a str) -> Result<Rows<'a>> {
     let mut rows = Rows {
         alloc,
@@ -97,6 +98,9 @@ impl<'a> Rows<'a> {
     fn add(&mut self, line: Line<'a>) -> Result<()> {
         if let Some(name) = line.key.strip_prefix("message ") {
             let bytes = self.bytes_of(&line.value)?;
+            self.messages.push(Message { name, bytes })?;
+        } else if let Some(name) = line.key.strip_prefix("text ") {
+            let bytes = Vec::from_slice(self.alloc, line.value.as_bytes())?;
             self.messages.push(Message { name, bytes })?;
         } else if line.begins {
             let rest = Vec::new(self.alloc);

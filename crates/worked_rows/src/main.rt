@@ -1,6 +1,6 @@
 //! Runs worked rows, which are text in the files that its words name, and tells each difference
-//! between what a row says and what is found. `tool.rt`, `story.rt`, `format.rt` and `tables.rt` say what
-//! lines each kind of a row has.
+//! between what a row says and what is found. `tool.rt`, `story.rt`, `modem.rt`, `format.rt` and `tables.rt`
+//! say what lines each kind of a row has.
 #![tactic(auto)]
 
 mod asked;
@@ -8,6 +8,7 @@ mod calls;
 mod files;
 mod format;
 mod found;
+mod modem;
 mod proxy;
 mod ran;
 mod story;
@@ -18,6 +19,8 @@ use crate::found::Place;
 use crate::proxy::{mbim_proxy, qmi_proxy};
 use anyhow::{Context, Result, bail};
 use row_text::{Row, Rows, read_rows};
+use sim_mbim::MbimSim;
+use sim_qmi::QmiSim;
 use std::process::ExitCode;
 use std::{env, fs};
 
@@ -62,6 +65,8 @@ fn run_row(rt: &HostRuntime, file: &str, rows: &Rows<'_>, row: &Row<'_>) -> Resu
         "mbim-story" => {
             Ok(mbim_story(rt, file, rows, row, true)? && mbim_story(rt, file, rows, row, false)?)
         }
+        "qmi-modem" => qmi_modem(rt, file, rows, row),
+        "mbim-modem" => mbim_modem(rt, file, rows, row),
         "format" => format::is_as_told(rt, rt.alloc(), place, rows, row),
         "tables" => tables::is_as_told(rt, rt.alloc(), file, row),
         _ => bail!("{place}: no kind of a row"),
@@ -90,4 +95,18 @@ fn mbim_story(
 ) -> Result<bool> {
     let proxy = mbim_proxy(rt.alloc())?;
     story::is_as_told(rt, rt.alloc(), file, rows, row, proxy, whole)
+}
+
+// Whether a simulated QMI modem says what a row tells.
+fn qmi_modem(rt: &HostRuntime, file: &str, rows: &Rows<'_>, row: &Row<'_>) -> Result<bool> {
+    let profile = modem::profile_of(rt.alloc(), rows, row).context(format_args!("{file}"))?;
+    let sim = QmiSim::open(rt.alloc(), &profile)?;
+    modem::is_as_told(rt, rt.alloc(), file, rows, row, sim)
+}
+
+// And an MBIM modem.
+fn mbim_modem(rt: &HostRuntime, file: &str, rows: &Rows<'_>, row: &Row<'_>) -> Result<bool> {
+    let profile = modem::profile_of(rt.alloc(), rows, row).context(format_args!("{file}"))?;
+    let sim = MbimSim::open(rt.alloc(), &profile)?;
+    modem::is_as_told(rt, rt.alloc(), file, rows, row, sim)
 }
