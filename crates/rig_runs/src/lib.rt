@@ -1,0 +1,5 @@
+//! What the rig runs: a large input for a proxy that is drawn from a number, its summary, and small
+//! ones byte for byte.
+#![tactic(auto)]
+
+pub mod examples;
