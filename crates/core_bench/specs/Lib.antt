@@ -1,0 +1,4 @@
+pub mod Runs
+pub mod Nobody
+pub mod Held
+pub mod Notes

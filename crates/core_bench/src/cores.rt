@@ -1,0 +1,81 @@
+ghost use Rattle.std.specs.Prelude.{◌≡◌, false, None};
+ghost use Rattle.core_bench.specs.Held.{face_of, is_held, Keeps, shows_of, nobody_of};
+
+use crate::Bench;
+use crate::held::{Held, step};
+use hub_io::{Event, Limits};
+use kit_bytes::Kind;
+use proxy_serving::ProxyCore;
+use std::alloc::{AllocError, Global};
+
+/// A bench that runs cores and tells of no run.
+#[derive(Drop)]
+pub struct Cores {
+    held: Held,
+}
+
+impl Cores {
+    /// One that holds no core yet.
+    pub fn none() -> Self
+        ensures { is_held result.held ≡ false }
+    {
+        Cores { held: Held::None }
+    }
+}
+
+impl Bench for Cores {
+    ghost face = { λ s. face_of s.held };
+
+    ghost is_held = { λ s. is_held s.held };
+
+    ghost keeps = { λ p past s. Keeps p past s.held };
+
+    ghost runs = { λ s. None };
+
+    fn open(
+        &mut self,
+        alloc: Global,
+        kind: Kind,
+        limits: &Limits,
+        device: &str,
+    ) -> Result<(), AllocError> {
+        self.held = Held::open(alloc, kind, limits, device)?;
+        Ok(())
+    }
+
+    fn step(&mut self, event: Event<'_>) {
+        match &mut self.held {
+            Held::None => {}
+            Held::Qmi(core) => step(core, event),
+            Held::Mbim(core) => step(core, event),
+        }
+    }
+
+    fn queued(&mut self, conn: u64) -> &[u8] {
+        match &mut self.held {
+            Held::None => &[],
+            Held::Qmi(core) => ProxyCore::queued(core, conn),
+            Held::Mbim(core) => ProxyCore::queued(core, conn),
+        }
+    }
+
+    fn queued_modem(&mut self) -> &[u8] {
+        match &mut self.held {
+            Held::None => &[],
+            Held::Qmi(core) => ProxyCore::queued_modem(core),
+            Held::Mbim(core) => ProxyCore::queued_modem(core),
+        }
+    }
+
+    fn next_dropped(&mut self) -> Option<u64> {
+        match &mut self.held {
+            Held::None => None,
+            Held::Qmi(core) => ProxyCore::next_dropped(core),
+            Held::Mbim(core) => ProxyCore::next_dropped(core),
+        }
+    }
+
+    ghost shows = { λ p past s. shows_of p past s.held };
+
+    ghost nobody = { λ s conn absent none. nobody_of s.held conn absent none };
+}

@@ -1,0 +1,12 @@
+//! A bench on which a proxy's core of either protocol runs alone: it is opened, steps, and is asked
+//! what waits for whom. In memory it also keeps what was run.
+#![tactic(auto)]
+
+mod bench;
+mod cores;
+mod held;
+mod memory;
+
+pub use bench::Bench;
+pub use cores::Cores;
+pub use memory::{BenchNote, MemBench};
