@@ -26,6 +26,7 @@ static size_t put_head(unsigned char *to, uint32_t kind, uint32_t length, uint32
 }
 
 /* Writes a message with one number in it, as OPEN_DONE with its status. */
+__attribute__((unused))
 static size_t put_short(unsigned char *to, uint32_t kind, uint32_t transaction, uint32_t number)
 {
     put_head(to, kind, 16, transaction);

@@ -20,23 +20,25 @@ def wait_for(path):
 
 
 class Proxy:
-    """A proxy with its modem, both started anew. Of ours each answer must be right."""
+    """A proxy with its modem, both started anew: ours, the real one ("theirs"), or a bare forwarder in C ("bare"), to which no device
+    is named. Of ours and of the forwarder each answer must be right."""
     wrong = 0
 
-    def __init__(self, ours, under=()):
-        self.ours = ours
-        where = f"{folder}/{'modem.sock' if ours else 'modem.tty'}"
+    def __init__(self, whose, under=()):
+        self.strict = whose != "theirs"
+        where = f"{folder}/{'modem.sock' if self.strict else 'modem.tty'}"
         if os.path.lexists(where):
             os.unlink(where)
-        self.modem = subprocess.Popen([f"{folder}/{kind}_modem", "unix" if ours else "pty", where])
+        self.modem = subprocess.Popen([f"{folder}/{kind}_modem", "unix" if self.strict else "pty", where])
         wait_for(where)
-        self.device = where if ours else os.readlink(where)
-        self.socket = f"{folder}/proxy.sock" if ours else f"@{kind}-proxy"
-        if ours and os.path.exists(self.socket):
+        self.device = {"ours": where, "bare": ""}.get(whose) if self.strict else os.readlink(where)
+        self.socket = f"{folder}/proxy.sock" if self.strict else f"@{kind}-proxy"
+        if self.strict and os.path.exists(self.socket):
             os.unlink(self.socket)
-        words = [program, f"{kind}-proxy", "-d", where, "--socket", self.socket, "--turns", "1000000000000"] if ours else [peer, "--no-exit"]
+        words = {"ours": [program, f"{kind}-proxy", "-d", where, "--socket", self.socket, "--turns", "1000000000000"],
+                 "bare": [f"{folder}/{kind}_forwarder", where, self.socket], "theirs": [peer, "--no-exit"]}[whose]
         self.process = subprocess.Popen([*under, *words], stderr=subprocess.DEVNULL, stdout=subprocess.DEVNULL)
-        if ours:
+        if self.strict:
             wait_for(self.socket)
         else:
             time.sleep(0.5 if not under else 2)
@@ -48,7 +50,7 @@ class Proxy:
 
     def load(self, clients, in_flight, count, silent=0):
         words = [f"{folder}/{kind}_load", self.socket, self.device, str(clients), str(in_flight), str(count), str(silent)]
-        lenient = {} if self.ours else {"LENIENT": "1"}
+        lenient = {} if self.strict else {"LENIENT": "1"}
         done = subprocess.run(words, capture_output=True, text=True, timeout=600, env={**os.environ, **lenient})
         if done.returncode:
             sys.exit(f"the load fails: {done.stderr}")
@@ -71,11 +73,11 @@ class Proxy:
         self.modem.wait()
 
 
-def rate(ours, clients, in_flight, silent=0):
+def rate(whose, clients, in_flight, silent=0):
     """The best of three: requests a second, and processor time a request in microseconds."""
     best = None
     for _ in range(3):
-        proxy = Proxy(ours)
+        proxy = Proxy(whose)
         before = proxy.times()
         speed = proxy.load(clients, in_flight, requests, silent)
         after = proxy.times()
@@ -86,12 +88,12 @@ def rate(ours, clients, in_flight, silent=0):
     return best
 
 
-def calls(ours, clients, in_flight):
+def calls(whose, clients, in_flight):
     """System calls a request."""
     counts = []
     for count in (1000, 1000 + 10000):
         table = f"{folder}/calls"
-        proxy = Proxy(ours, ["strace", "-f", "-c", "-o", table])
+        proxy = Proxy(whose, ["strace", "-f", "-c", "-o", table])
         proxy.load(clients, in_flight, count)
         proxy.end()
         counts.append(int(re.search(r"(\d+)\s+(?:\d+\s+)?total", open(table).read())[1]))
@@ -103,7 +105,7 @@ def instructions(clients, in_flight):
     counts = []
     for count in (1600, 1600 + 16000):
         out = f"{folder}/grind"
-        proxy = Proxy(True, ["valgrind", "--tool=callgrind", f"--callgrind-out-file={out}"])
+        proxy = Proxy("ours", ["valgrind", "--tool=callgrind", f"--callgrind-out-file={out}"])
         proxy.load(clients, in_flight, count)
         proxy.end()
         counts.append(int(re.search(r"^(?:summary|totals): (\d+)", open(out).read(), re.M)[1]))
@@ -111,13 +113,14 @@ def instructions(clients, in_flight):
 
 
 theirs_name = f"{NAMES[kind]}'s"
-print(f"clients, in flight | ours: a second, us, MB | {theirs_name}: a second, us, MB | rate, processor time")
+print(f"clients, in flight | ours: a second, us, MB | a bare forwarder in C: a second, us | {theirs_name}: a second, us, MB | rate, processor time beside {theirs_name}, beside the forwarder")
 for clients, in_flight in ((1, 1), (16, 8), (64, 1)):
-    ours, theirs = rate(True, clients, in_flight), rate(False, clients, in_flight)
-    print(f"{clients:2}, {in_flight} | {ours[0]:9,.0f} {ours[1]:6.2f} {ours[3]:5.1f} | {theirs[0]:9,.0f} {theirs[1]:6.2f} {theirs[3]:5.1f} | "
-          f"{ours[0] / theirs[0]:.2f}, {ours[1] / theirs[1]:.2f} (of ours {100 * ours[2]:.0f} % in user mode)", flush=True)
-print(f"system calls a request at 1, 1: ours {calls(True, 1, 1):.2f}, {theirs_name} {calls(False, 1, 1):.2f}", flush=True)
+    ours, bare, theirs = (rate(whose, clients, in_flight) for whose in ("ours", "bare", "theirs"))
+    print(f"{clients:2}, {in_flight} | {ours[0]:9,.0f} {ours[1]:6.2f} {ours[3]:5.1f} | {bare[0]:9,.0f} {bare[1]:6.2f} | {theirs[0]:9,.0f} {theirs[1]:6.2f} {theirs[3]:5.1f} | "
+          f"{ours[0] / theirs[0]:.2f}, {ours[1] / theirs[1]:.2f}, {ours[0] / bare[0]:.2f}, {ours[1] / bare[1]:.2f} (of ours {100 * ours[2]:.0f} % in user mode)", flush=True)
+counted = ", ".join(f"{name} {calls(whose, 1, 1):.2f}" for name, whose in (("ours", "ours"), ("the forwarder", "bare"), (theirs_name, "theirs")))
+print(f"system calls a request at 1, 1: {counted}", flush=True)
 print(f"user instructions a request: {instructions(1, 1):,.0f} at 1, 1; {instructions(16, 8):,.0f} at 16, 8; {instructions(64, 1):,.0f} at 64, 1", flush=True)
-quiet, crowded = rate(True, 1, 8), rate(True, 1, 8, 48)
+quiet, crowded = rate("ours", 1, 8), rate("ours", 1, 8, 48)
 print(f"beside 48 clients that say nothing: {crowded[1]:.2f} us a request, alone {quiet[1]:.2f}")
 print(f"answers of {theirs_name} to another request than the client's next: {Proxy.wrong}")

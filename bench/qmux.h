@@ -4,6 +4,7 @@
 enum { CTL = 0, DMS = 2, ALLOCATE = 0x0022, RELEASE = 0x0023, GET_MODEL = 0x0022, PROXY_OPEN = 0xFF00 };
 
 /* Writes a message, and gives its length. */
+__attribute__((unused))
 static size_t put_message(unsigned char *to, int service, int client, int flags, unsigned number, unsigned name, const unsigned char *tlvs, size_t count)
 {
     size_t head = service == CTL ? 12 : 13, at = 6;
