@@ -11,6 +11,7 @@ use Rattle.proxy_history.specs.Protocol.{Protocol}
 use Rattle.proxy_history.specs.History.{add, add_all, history, modem_queue}
 use Rattle.proxy_history.specs.Coming.{greatest_name, piece_limit, queued_for, MayCome, AreSound}
 use Rattle.proxy_solo.specs.Alone.{Alone}
+use Rattle.proxy_solo.proofs.Telling.{meet_told, hear_told, parts_told}
 use Rattle.proxy_solo.specs.Solo.{take_all, taken, answered, meet, meet_if, pieces_of, meet_pieces, meet_bytes, hear_all, meet_parts, fails, hear_event, meet_event, solo}
 
 -- a client's parts are no longer than its piece, and what answers the proxy itself is short
@@ -73,38 +74,14 @@ module _ {Known : Type 0} (p : Protocol Known) (a : Alone) (short : IsShort a) (
 
   -- ---- the names alone ----
 
-  take_names : (count : ℕ) (events : List Event) → greatest_name (take_all count events) ≡ greatest_name events
-  take_names zero events = refl
-  take_names (suc count) events = refl
-
-  answered_names : (o : Option (List ℕ)) (events : List Event) → greatest_name (answered p o events) ≡ greatest_name events
-  answered_names None events = refl
-  answered_names (Some m) events = take_names (length (modem_queue p (ModemPiece m ∷ events))) (ModemPiece m ∷ events)
-
   meet_names : (event : Event) (events : List Event) → greatest_name (meet p a event events) ≡ greatest_name (event ∷ events)
-  meet_names event events = answered_names (a.answers (history p (taken p (event ∷ events)))) (taken p (event ∷ events)) ∙ take_names (length (modem_queue p (event ∷ events))) (event ∷ events)
-
-  pieces_names : (pieces : List (List ℕ)) (events : List Event) → greatest_name (meet_pieces p a pieces events) ≡ greatest_name events
-  unfolding meet_pieces
-  pieces_names [] events = refl
-  pieces_names (piece ∷ pieces) events = pieces_names pieces (meet p a (ModemPiece piece) events) ∙ meet_names (ModemPiece piece) events
-
-  bytes_names : (o : Option (List ℕ)) (events : List Event) → greatest_name (meet_bytes p a o events) ≡ greatest_name events
-  bytes_names None events = refl
-  bytes_names (Some m) events = pieces_names (pieces_of (length m) m) events
+  meet_names = meet_told p greatest_name (λ count events. refl) (λ bytes events. refl) a c
 
   hear_names : (items : List Item) (past : List Fact) (events : List Event) → greatest_name (hear_all p a c items past events) ≡ greatest_name events
-  unfolding hear_all
-  hear_names [] past events = refl
-  hear_names (item ∷ items) past events = hear_names items (add p item past) _ ∙ bytes_names (a.hears c item past (history p events)) events
+  hear_names = hear_told p greatest_name (λ count events. refl) (λ bytes events. refl) a c
 
   parts_names : (before : List ℕ) (parts : List (List ℕ)) (past : List Fact) (events : List Event) → greatest_name (meet_parts p a c before parts past events) ≡ greatest_name events
-  unfolding meet_parts
-  parts_names before [] past events = refl
-  parts_names before (part ∷ parts) past events =
-      parts_names (before ++ part) parts (add_all p (client_items p.size c before part) past) _
-      ∙ hear_names (client_items p.size c before part) past (meet p a (Piece c part) events)
-      ∙ meet_names (Piece c part) events
+  parts_names = parts_told p greatest_name (λ count events. refl) (λ bytes events. refl) a c (λ bytes events. refl)
 
   no_less : (event : Event) (events : List Event) → greatest_name events ≤ greatest_name (event ∷ events)
   no_less (Joined d) events = omega arith

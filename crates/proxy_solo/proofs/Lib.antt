@@ -11,6 +11,7 @@ pub mod Refusing
 pub mod Fronts
 pub mod Pieces
 pub mod Undisturbed
+pub mod Telling
 pub mod Coming
 pub mod Time
 pub mod Cores

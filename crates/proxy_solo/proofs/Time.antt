@@ -1,20 +1,21 @@
 -- A client that is alone meets what it meets at the same time.
-use Rattle.std.proofs.Common.{◌≡◌, ℕ, zero, suc, max, Bool, true, false, ◌==◌, if◌then◌else◌, List, [], ◌∷◌, ◌++◌, refl, ap, sym, ◌∙◌, Option, Some, None, length}
+use Rattle.std.proofs.Common.{◌≡◌, ℕ, max, Bool, true, false, ◌==◌, if◌then◌else◌, List, [], ◌∷◌, refl, ap, sym, ◌∙◌}
 use Rattle.proxy_history.specs.Events.{Event, Joined, Piece, Left, ModemPiece, ModemGone, ModemBack, Now, Took, ModemTook}
 use Rattle.proxy_history.specs.Streams.{stream}
 use Rattle.proxy_history.specs.Facts.{Fact, Request, EventBegan}
-use Rattle.proxy_history.specs.Items.{Item, client_items, items_of}
+use Rattle.proxy_history.specs.Items.{Item, items_of}
 use Rattle.proxy_history.specs.Modem.{now}
 use Rattle.proxy_history.specs.Sound.{IsSound}
 use Rattle.proxy_history.specs.Protocol.{Protocol}
-use Rattle.proxy_history.specs.History.{add, add_all, history, modem_queue}
+use Rattle.proxy_history.specs.History.{add, add_all, history}
 use Rattle.proxy_history.specs.Adding.{IsOrderly}
 use Rattle.proxy_history.specs.Orderly.{time_then}
 use Rattle.proxy_history.proofs.Touching.{is_clock, same_time, clock_alone}
 use Rattle.proxy_history.proofs.Walk.{kept_by_items}
 use Rattle.proxy_history.proofs.Folds.{time_agrees}
 use Rattle.proxy_solo.specs.Alone.{Alone}
-use Rattle.proxy_solo.specs.Solo.{take_all, taken, answered, meet, meet_if, pieces_of, meet_pieces, meet_bytes, hear_all, meet_parts, fails, hear_event, meet_event, solo}
+use Rattle.proxy_solo.proofs.Telling.{meet_told, hear_told, parts_told}
+use Rattle.proxy_solo.specs.Solo.{meet, meet_if, hear_all, meet_parts, fails, hear_event, meet_event, solo}
 
 module _ {Known : Type 0} (p : Protocol Known) (Asks : Request → List Fact → Type 0) (O : IsOrderly p Asks) where
   -- only the clock sets the time
@@ -27,42 +28,16 @@ module _ {Known : Type 0} (p : Protocol Known) (Asks : Request → List Fact →
   abbrev time_of : List Event → ℕ
   time_of events = now (history p events)
 
-  take_time : (count : ℕ) (events : List Event) → time_of (take_all count events) ≡ time_of events
-  take_time zero events = refl
-  take_time (suc count) events = time_agrees p Asks O (ModemTook (suc count)) events
-
-  taken_time : (events : List Event) → time_of (taken p events) ≡ time_of events
-  taken_time events = take_time (length (modem_queue p events)) events
-
-  answered_time : (o : Option (List ℕ)) (events : List Event) → time_of (answered p o events) ≡ time_of events
-  answered_time None events = refl
-  answered_time (Some m) events = taken_time (ModemPiece m ∷ events) ∙ time_agrees p Asks O (ModemPiece m) events
-
   module _ (a : Alone) (c : ℕ) where
     meet_time : (event : Event) (events : List Event) → time_of (meet p a event events) ≡ time_then event (time_of events)
-    meet_time event events = answered_time (a.answers (history p (taken p (event ∷ events)))) (taken p (event ∷ events)) ∙ taken_time (event ∷ events) ∙ time_agrees p Asks O event events
-
-    pieces_time : (pieces : List (List ℕ)) (events : List Event) → time_of (meet_pieces p a pieces events) ≡ time_of events
-    unfolding meet_pieces
-    pieces_time [] events = refl
-    pieces_time (piece ∷ pieces) events = pieces_time pieces (meet p a (ModemPiece piece) events) ∙ meet_time (ModemPiece piece) events
-
-    bytes_time : (o : Option (List ℕ)) (events : List Event) → time_of (meet_bytes p a o events) ≡ time_of events
-    bytes_time None events = refl
-    bytes_time (Some m) events = pieces_time (pieces_of (length m) m) events
+    meet_time event events = meet_told p time_of (λ count events. time_agrees p Asks O (ModemTook count) events) (λ bytes events. time_agrees p Asks O (ModemPiece bytes) events) a c event events ∙ time_agrees p Asks O event events
 
     hear_time : (items : List Item) (past : List Fact) (events : List Event) → time_of (hear_all p a c items past events) ≡ time_of events
-    unfolding hear_all
-    hear_time [] past events = refl
-    hear_time (item ∷ items) past events = hear_time items (add p item past) _ ∙ bytes_time (a.hears c item past (history p events)) events
+    hear_time = hear_told p time_of (λ count events. time_agrees p Asks O (ModemTook count) events) (λ bytes events. time_agrees p Asks O (ModemPiece bytes) events) a c
 
     parts_time : (before : List ℕ) (parts : List (List ℕ)) (past : List Fact) (events : List Event) → time_of (meet_parts p a c before parts past events) ≡ time_of events
-    unfolding meet_parts
-    parts_time before [] past events = refl
-    parts_time before (part ∷ parts) past events =
-        parts_time (before ++ part) parts (add_all p (client_items p.size c before part) past) _
-        ∙ hear_time (client_items p.size c before part) past (meet p a (Piece c part) events)
-        ∙ meet_time (Piece c part) events
+    parts_time =
+        parts_told p time_of (λ count events. time_agrees p Asks O (ModemTook count) events) (λ bytes events. time_agrees p Asks O (ModemPiece bytes) events) a c (λ bytes events. time_agrees p Asks O (Piece c bytes) events)
 
     own_time : (b : Bool) (before : List ℕ) (parts : List (List ℕ)) (past : List Fact) (events : List Event) → time_of (if b then meet_parts p a c before parts past events else events) ≡ time_of events
     own_time true before parts past events = parts_time before parts past events
