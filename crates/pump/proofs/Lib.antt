@@ -1,0 +1,4 @@
+pub mod Growing
+pub mod Sending
+pub mod Passing
+pub mod GoesOn

@@ -1,0 +1,14 @@
+//! The two ways between a device node and a socket, one for each direction: what a node gives is
+//! sent, and what comes is written to the node.
+#![tactic(auto)]
+
+mod begin;
+mod ending;
+mod laws;
+mod reading;
+mod writing;
+
+pub use ending::PumpEnd;
+pub use laws::{what_was_read_is_sent, what_was_taken_is_written};
+pub use reading::pump_read;
+pub use writing::pump_write;
