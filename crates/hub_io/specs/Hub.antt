@@ -1,7 +1,7 @@
 -- What a hub answers, and the entry that a call on it has in the record.
 use Rattle.std.specs.Prelude.{◌≡◌, ℕ, ◌<◌, ◌≤◌, Bool, true, false, ◌||◌, ◌==◌, List, take, Option, Some, Result, Ok, Err}
 use Rattle.std.specs.Option.{option_map}
-use Rattle.link_io.specs.Target.{path_of}
+use Rattle.link_io.specs.Target.{address_of}
 use Rattle.link_io.specs.declared.link.Target.{Target}
 use Rattle.proxy_history.specs.Events as history
 use Rattle.hub_io.specs.Record.{Call, Opened, Told, ToldRoom, ToldModemRoom, ToldStop, NextFailed, Sent, SendFailed, SentModem, SendModemFailed, Reopened, ReopenFailed}
@@ -39,10 +39,10 @@ NoneFell old new = (conn : ℕ) → old conn ≤ new conn
 
 -- ---- what is recorded ----
 
--- an opening, by the path of its socket and that of its device
+-- an opening, by the path of its socket and the address of its device
 abbrev pub opened_call : {T E : Type 0} → Result T E → List ℕ → Option Target → Call
-opened_call (Ok t) socket device = Opened socket (option_map path_of device) true
-opened_call (Err e) socket device = Opened socket (option_map path_of device) false
+opened_call (Ok t) socket device = Opened socket (option_map address_of device) true
+opened_call (Err e) socket device = Opened socket (option_map address_of device) false
 
 -- an event, which left these bytes in the buffer
 abbrev pub event_call : HubEvent → List ℕ → Call

@@ -1,5 +1,6 @@
 -- What a hub recorded of the calls that were made on it, and the events in it. A record of calls has the newest first, as a list of events has.
 use Rattle.std.specs.Prelude.{◌≡◌, ℕ, zero, suc, Bool, List, [], ◌∷◌, ◌++◌, Option, Some, None}
+use Rattle.link_io.specs.Target.{Address}
 use Rattle.proxy_history.specs.Events.{Event, Left, ModemGone, ModemBack, Took, ModemTook}
 
 pub data Call : Type 0 where
@@ -16,8 +17,10 @@ pub data Call : Type 0 where
   SentModem : (bytes : List ℕ) → (taken : ℕ) → Call
   SendModemFailed : (bytes : List ℕ) → Call
   -- ---- what else was asked of the hub ----
-  -- to listen on this socket and to open this device, and whether it answered Ok; the device's path is None where none was named
-  Opened : (socket : List ℕ) (device : Option (List ℕ)) (ok : Bool) → Call
+  -- to listen on this socket and to open this device, and whether it answered Ok; the device's address is None where none was named
+  Opened : (socket : List ℕ) (device : Option Address) (ok : Bool) → Call
+  -- to wait for the pumps of the device, and whether it answered Ok
+  Paired : (ok : Bool) → Call
   Reopened : Call
   ReopenFailed : Call
   HungUp : (conn : ℕ) → Call

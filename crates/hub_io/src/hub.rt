@@ -1,4 +1,4 @@
-ghost use Rattle.std.specs.Prelude.{◌≡◌, ◌<◌, ◌≤◌, ℕ, Bool, false, List, Option, length, IfOk};
+ghost use Rattle.std.specs.Prelude.{◌≡◌, ◌<◌, ◌≤◌, ℕ, Bool, false, List, Option, length, is_ok, IfOk};
 ghost use Rattle.std.specs.Option.{option_copied};
 ghost use Rattle.std.specs.Result.{result_ok};
 ghost use Rattle.kit_io.specs.Causes.{HasCause};
@@ -33,7 +33,7 @@ pub enum HubEvent {
 
 /// The clients of a server, and its modem. A client goes by the name with which it joined.
 pub trait Hub {
-    ghost use Rattle.hub_io.specs.Record.{Call, HungUp, Records};
+    ghost use Rattle.hub_io.specs.Record.{Call, HungUp, Paired, Records};
     ghost use Rattle.hub_io.specs.Hub.{FitsBuffer, NamesRise, NobodyCame, ToldOfThose, NoneFell, opened_call, next_call, send_call, send_modem_call, reopen_call};
 
     /// The calls so far, where told, the newest first.
@@ -54,9 +54,18 @@ pub trait Hub {
     /// Whether a client is there: it joined, and since then it didn't leave and wasn't hung up.
     ghost is_connected: { Self → ℕ → Bool };
 
-    /// Listens on a socket, and opens the device where one is named.
+    /// Listens on a socket, and opens the device where one is named. A bridge has to be paired then.
     fn open(&mut self, socket: &str, device: Option<&Target>) -> Result<(), Failed>
         ensures calls { Records (calls self.old) (opened_call result socket.now (option_copied device.entry)) (calls self.new) }
+        ensures cause { HasCause (faults self.old) (faults self.new) result }
+        ensures conns { NoneFell (conn_faults self.old) (conn_faults self.new) }
+        ensures modem { modem_faults self.old ≤ modem_faults self.new }
+        ensures names { greatest self.new ≡ greatest self.old }
+        ensures clients { NobodyCame (is_connected self.old) (is_connected self.new) };
+
+    /// Waits for both pumps of the device.
+    fn pair(&mut self) -> Result<(), Failed>
+        ensures calls { Records (calls self.old) (Paired (is_ok result)) (calls self.new) }
         ensures cause { HasCause (faults self.old) (faults self.new) result }
         ensures conns { NoneFell (conn_faults self.old) (conn_faults self.new) }
         ensures modem { modem_faults self.old ≤ modem_faults self.new }
@@ -98,7 +107,7 @@ pub trait Hub {
         ensures names { greatest self.new ≡ greatest self.old }
         ensures clients { NobodyCame (is_connected self.old) (is_connected self.new) };
 
-    /// Opens the device of the opening again.
+    /// Opens the device of the opening again. One that is reached over a bridge stays away.
     fn reopen_modem(&mut self) -> Result<(), Failed>
         ensures calls { Records (calls self.old) (reopen_call result) (calls self.new) }
         ensures cause { HasCause (modem_faults self.old) (modem_faults self.new) result }

@@ -6,12 +6,12 @@ mod clients;
 mod event;
 mod hub;
 mod laws;
+mod line;
 mod memory;
 mod mio_hub;
 mod modem;
 mod peer;
 mod settings;
-mod socket_file;
 mod sockets;
 mod ticker;
 

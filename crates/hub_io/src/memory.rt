@@ -1,7 +1,7 @@
 ghost use Rattle.std.specs.Prelude.{◌≡◌, ℕ, ◌<◌, ◌≤◌, [], Some, length, IfSome, IfOk};
 ghost use Rattle.std.specs.Option.{option_copied, option_map};
 ghost use Rattle.kit_io.specs.Record.{Notes};
-ghost use Rattle.link_io.specs.Target.{path_of};
+ghost use Rattle.link_io.specs.Target.{address_of};
 ghost use Rattle.hub_io.specs.Record.{Records, Opened};
 ghost use Rattle.hub_io.specs.Clients.{fault_of, is_there, TellsOf};
 ghost use Rattle.hub_io.specs.Hub.{FitsBuffer, event_call};
@@ -26,7 +26,7 @@ pub enum HubTurn {
     Fails,
 }
 
-/// What a hub in memory answers to one opening, send or reopening.
+/// What a hub in memory answers to one opening, pairing, send or reopening.
 #[derive(Clone, Copy, Debug, PartialEq, Eq)]
 pub enum HubAnswer {
     /// The call does what it is to do; a send takes at most so many bytes.
@@ -40,8 +40,11 @@ pub enum HubAnswer {
 #[derive(Clone, Copy, Debug, PartialEq, Eq)]
 pub enum HubCall {
     Opened { ok: bool },
-    /// No call of its own: the path of the device that the opening before it named.
-    ToDevice,
+    /// No call of its own: the path of the socket of the device that the opening before it named.
+    ToSocket,
+    /// The same of a bridge.
+    ToBridge,
+    Paired { ok: bool },
     Told(HubEvent),
     NextFailed,
     Sent { conn: u64, taken: usize },
@@ -54,7 +57,7 @@ pub enum HubCall {
 }
 
 /// A hub in memory. It follows two scripts, one of what `next` answers and one of what the openings,
-/// sends and reopenings answer, in the order of the calls. Behind the end of the first it tells
+/// pairings, sends and reopenings answer, in the order of the calls. Behind the end of the first it tells
 /// `Stop`, and behind the end of the second each call does all that it is to do.
 ///
 /// A `next` also fails where its turn can't be told: the name of who joins doesn't rise, a client that
@@ -188,11 +191,13 @@ fn note_event(log: &mut Log<HubCall>, event: HubEvent, buf: &[u8])
 
 // Notes an opening, and the device that it named.
 fn note_opening(log: &mut Log<HubCall>, socket: &str, device: Option<&Target>, ok: bool)
-    ensures { Records (calls_of log.old.told) (Opened socket.now (option_map path_of (option_copied device.entry)) ok) (calls_of log.new.told) }
+    ensures { Records (calls_of log.old.told) (Opened socket.now (option_map address_of (option_copied device.entry)) ok) (calls_of log.new.told) }
 {
     note(log, HubCall::Opened { ok }, socket.as_bytes());
-    if let Some(Target::Socket(path)) = device {
-        note(log, HubCall::ToDevice, path.as_str().as_bytes());
+    match device {
+        Some(Target::Socket(path)) => note(log, HubCall::ToSocket, path.as_str().as_bytes()),
+        Some(Target::Bridge(path)) => note(log, HubCall::ToBridge, path.as_str().as_bytes()),
+        None => {}
     }
 }
 
@@ -217,6 +222,19 @@ impl Hub for MemHub {
             }
             HubAnswer::Fails => {
                 note_opening(&mut self.log, socket, device, false);
+                Err(self.faults.fail())
+            }
+        }
+    }
+
+    fn pair(&mut self) -> Result<(), Failed> {
+        match next_answer(&mut self.answers) {
+            HubAnswer::Takes(_) => {
+                note(&mut self.log, HubCall::Paired { ok: true }, &[]);
+                Ok(())
+            }
+            HubAnswer::Fails => {
+                note(&mut self.log, HubCall::Paired { ok: false }, &[]);
                 Err(self.faults.fail())
             }
         }

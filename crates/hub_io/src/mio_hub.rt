@@ -19,6 +19,8 @@ use std::rt::Clock;
 /// path, or where the path leads to the device. At most 128 clients are there at a time, and others
 /// wait. `next` tells the time at least every 100 ms, and never `Stop`.
 ///
+/// A device behind a bridge is away from the loss of a pump on.
+///
 /// What `send_modem` took is written at the last of the events that one wait found. A modem that is
 /// lost before then is told by `next`.
 #[derive(Drop)]
@@ -56,6 +58,13 @@ impl<R: Net + Clock + Files> Hub for MioHub<'_, R> {
 
     fn open(&mut self, socket: &str, device: Option<&Target>) -> Result<(), Failed> {
         match self.sockets.open(socket, device) {
+            Ok(()) => Ok(()),
+            Err(_) => Err(self.faults.fail()),
+        }
+    }
+
+    fn pair(&mut self) -> Result<(), Failed> {
+        match self.sockets.pair() {
             Ok(()) => Ok(()),
             Err(_) => Err(self.faults.fail()),
         }

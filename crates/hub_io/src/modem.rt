@@ -2,7 +2,8 @@
 ghost use Rattle.std.specs.Prelude.{◌≡◌, ◌<◌, ◌≤◌, length, IfOk};
 ghost use Rattle.hub_io.specs.Reading.{GaveFits};
 
-use crate::peer::{Peer, Reading};
+use crate::line::Line;
+use crate::peer::Reading;
 use mio::Registry;
 use mio::event::Event;
 use std::alloc::{AllocError, Global};
@@ -11,10 +12,10 @@ use std::io;
 /// How many bytes may be gathered until the events at hand are served.
 const GATHERED: usize = 65_536;
 
-/// A modem's socket. What is sent while events are at hand is gathered, so that one writing serves
-/// many clients; it is written at the last of these events, and before the socket closes.
+/// A modem's line. What is sent while events are at hand is gathered, so that one writing serves
+/// many clients; it is written at the last of these events, and before the line closes.
 pub(crate) struct Modem {
-    peer: Peer,
+    line: Line,
     /// Taken, and not yet written.
     gathered: Vec<u8>,
     /// A sending took nothing, and no room was told since.
@@ -23,9 +24,9 @@ pub(crate) struct Modem {
 
 impl Modem {
     /// It takes the memory for what it gathers here.
-    pub(crate) fn new(alloc: Global, peer: Peer) -> Result<Self, AllocError> {
+    pub(crate) fn new(alloc: Global, line: Line) -> Result<Self, AllocError> {
         Ok(Modem {
-            peer,
+            line,
             gathered: Vec::with_capacity(alloc, GATHERED)?,
             owes_room: false,
         })
@@ -33,10 +34,10 @@ impl Modem {
 
     /// Whether an event says that there is room again after a sending that took nothing.
     pub(crate) fn finds_room(&mut self, event: &Event) -> io::Result<bool> {
-        if self.peer.finds_room(event) {
+        if self.line.finds_room(event) {
             self.write_gathered()?;
         }
-        let finds = self.owes_room && !self.peer.is_full();
+        let finds = self.owes_room && !self.line.is_full();
         if finds {
             self.owes_room = false;
         }
@@ -48,15 +49,15 @@ impl Modem {
         ensures fits { GaveFits result.gave (length buf.new) }
         ensures len { length buf.new ≡ length buf.old }
     {
-        self.peer.read(registry, event, buf)
+        self.line.read(registry, event, buf)
     }
 
     /// Takes what there is room for.
     pub(crate) fn take(&mut self, bytes: &[u8], is_last: bool) -> io::Result<usize>
         ensures within { IfOk result (λ count. count ≤ length bytes.now) }
     {
-        let count = if is_last && self.gathered.is_empty() && !self.peer.is_full() {
-            self.peer.write(bytes)?
+        let count = if is_last && self.gathered.is_empty() && !self.line.is_full() {
+            self.line.write(bytes)?
         } else {
             self.gather(bytes, is_last)?
         };
@@ -84,10 +85,10 @@ impl Modem {
         GATHERED.saturating_sub(self.gathered.len())
     }
 
-    /// Writes what was gathered, as far as the socket takes it.
+    /// Writes what was gathered, as far as the line takes it.
     pub(crate) fn write_gathered(&mut self) -> io::Result<()> {
-        while !self.gathered.is_empty() && !self.peer.is_full() {
-            let count = self.peer.write(&self.gathered)?;
+        while !self.gathered.is_empty() && !self.line.is_full() {
+            let count = self.line.write(&self.gathered)?;
             if count == 0 {
                 break;
             }
@@ -103,11 +104,11 @@ impl Drop for Modem {
     fn drop(mut self) {
         let _ = self.write_gathered();
         let Modem {
-            peer,
+            line,
             gathered,
             owes_room: _,
         } = self;
-        drop(peer);
+        drop(line);
         drop(gathered);
     }
 }

@@ -64,9 +64,14 @@ impl Peer {
         self.is_full
     }
 
+    /// Whether an event is about this socket.
+    pub(crate) fn is_of(&self, event: &Event) -> bool {
+        event.token() == self.token
+    }
+
     /// Whether an event says that a full socket has room again.
     pub(crate) fn finds_room(&mut self, event: &Event) -> bool {
-        let finds = self.is_full && event.is_writable();
+        let finds = self.is_full && self.is_of(event) && event.is_writable();
         if finds {
             self.is_full = false;
         }

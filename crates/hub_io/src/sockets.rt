@@ -7,15 +7,16 @@ ghost use Rattle.hub_io.specs.Hub.{FitsBuffer, NamesRise, NobodyCame, ToldOfThos
 ghost use Rattle.hub_io.specs.declared.hub.HubEvent.TheVariants.{Joined};
 
 use crate::clients::{Names, PLACES, place_of};
+use crate::line::Line;
 use crate::modem::Modem;
 use crate::peer::{Gave, Peer};
-use crate::socket_file::{Listening, are_same, left_over};
 use crate::ticker::Ticker;
 use crate::{HubEvent, NEXT_ROOM};
 use kit_bytes::Text;
-use link_io::Target;
+use link_io::{Bridge, Listening, Target, are_same, left_over};
 use mio::event::Event;
 use mio::net::UnixStream;
+use mio::unix::SourceFd;
 use mio::{Events, Interest, Poll, Token};
 use slab::Slab;
 use std::alloc::Global;
@@ -23,11 +24,16 @@ use std::fs::Files;
 use std::io;
 use std::io::ErrorKind;
 use std::net::Net;
+use std::os::fd::AsRawFd;
+use std::os::unix::net;
 use std::rt::Clock;
 
 const LISTENER: Token = Token(0);
 
 const MODEM: Token = Token(usize::MAX);
+
+/// Where bytes go out to the modem, where that is a socket of its own.
+const MODEM_OUTPUT: Token = Token(usize::MAX - 1);
 
 /// The sockets of a hub. One wait finds many events, which are then told one by one.
 #[derive(Drop)]
@@ -46,7 +52,10 @@ pub(crate) struct Sockets<'a, R: Files> {
     clients: Slab<Peer>,
     /// Who is there.
     pub(crate) names: Names,
+    /// The path of the modem's socket.
     device: Option<Text>,
+    /// Where the modem's pumps connect.
+    bridge: Option<Bridge<'a, R>>,
     modem: Option<Modem>,
     /// The modem was lost, which isn't told yet.
     lost_modem: bool,
@@ -67,6 +76,7 @@ impl<'a, R: Net + Clock + Files> Sockets<'a, R> {
             clients: Slab::with_capacity(alloc, PLACES)?,
             names: Names::none(alloc)?,
             device: None,
+            bridge: None,
             modem: None,
             lost_modem: false,
         })
@@ -78,13 +88,20 @@ impl<'a, R: Net + Clock + Files> Sockets<'a, R> {
         ensures names { self.new.names ≡ self.old.names }
     {
         self.look(socket, device)?;
-        if let Some(Target::Socket(path)) = device {
-            self.device = Some(Text::from_str(self.alloc, path.as_str())?);
-            self.open_device()?;
+        match device {
+            Some(Target::Socket(path)) => {
+                self.device = Some(Text::from_str(self.alloc, path.as_str())?);
+                self.open_device()?;
+            }
+            Some(Target::Bridge(path)) => {
+                self.bridge = Some(Bridge::listen(self.rt, self.alloc, path.as_str())?);
+            }
+            None => {}
         }
-        let mut listening = Listening::start(self.rt, self.alloc, socket)?;
+        let listening = Listening::start(self.rt, self.alloc, socket)?;
         let registry = self.poll.registry();
-        registry.register(&mut listening.listener, LISTENER, Interest::READABLE)?;
+        let mut source = SourceFd(&listening.as_raw_fd());
+        registry.register(&mut source, LISTENER, Interest::READABLE)?;
         self.listening = Some(listening);
         self.ticker = Ticker::start(self.rt)?;
         Ok(())
@@ -111,8 +128,23 @@ impl<'a, R: Net + Clock + Files> Sockets<'a, R> {
         };
         let stream = UnixStream::connect(self.rt, path.as_str())?;
         let peer = Peer::new(self.poll.registry(), stream, MODEM)?;
-        self.modem = Some(Modem::new(self.alloc, peer)?);
+        self.modem = Some(Modem::new(self.alloc, Line::of_socket(peer))?);
         self.lost_modem = false;
+        Ok(())
+    }
+
+    /// Waits for the pumps of the bridge that was named at the opening.
+    pub(crate) fn pair(&mut self) -> io::Result<()>
+        ensures names { self.new.names ≡ self.old.names }
+    {
+        let Some(bridge) = &self.bridge else {
+            return Err(ErrorKind::NotFound.into());
+        };
+        let pumps = bridge.pair()?;
+        let registry = self.poll.registry();
+        let input = Peer::new(registry, without_waiting(pumps.read)?, MODEM)?;
+        let output = Peer::new(registry, without_waiting(pumps.write)?, MODEM_OUTPUT)?;
+        self.modem = Some(Modem::new(self.alloc, Line::of_pumps(input, output))?);
         Ok(())
     }
 
@@ -168,7 +200,7 @@ impl<'a, R: Net + Clock + Files> Sockets<'a, R> {
     {
         match event.token() {
             LISTENER => self.accept().map(HubEvent::Joined),
-            MODEM => self.tell_modem(event, buf),
+            MODEM | MODEM_OUTPUT => self.tell_modem(event, buf),
             Token(name) => self.tell_client(name as u64, event, buf),
         }
     }
@@ -205,8 +237,8 @@ impl<'a, R: Net + Clock + Files> Sockets<'a, R> {
     fn take_waiting(&mut self) -> Option<UnixStream>
         ensures names { self.new.names ≡ self.old.names }
     {
-        match self.listening.as_ref()?.listener.accept() {
-            Ok((stream, _)) => Some(stream),
+        match self.listening.as_ref()?.accept().and_then(without_waiting) {
+            Ok(stream) => Some(stream),
             Err(error) => {
                 // out of descriptors, for one
                 self.is_crowded = self.is_crowded || error.kind() != ErrorKind::WouldBlock;
@@ -324,14 +356,21 @@ impl<'a, R: Net + Clock + Files> Sockets<'a, R> {
         }
         self.names.leave(name);
         self.clients.try_remove(place_of(name));
-        if let Some(listening) = &mut self.listening
+        if let Some(listening) = &self.listening
             && self.is_crowded
         {
             self.is_crowded = false;
             let registry = self.poll.registry();
-            let _ = registry.reregister(&mut listening.listener, LISTENER, Interest::READABLE);
+            let mut source = SourceFd(&listening.as_raw_fd());
+            let _ = registry.reregister(&mut source, LISTENER, Interest::READABLE);
         }
     }
+}
+
+/// A stream that is read and written without waiting.
+fn without_waiting(stream: net::UnixStream) -> io::Result<UnixStream> {
+    stream.set_nonblocking(true)?;
+    Ok(UnixStream::from_std(stream))
 }
 
 /// The socket of the client of this name, where it is there.

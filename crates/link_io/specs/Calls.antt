@@ -1,12 +1,15 @@
 -- The calls on a link, with their answers.
 use Rattle.std.specs.Prelude.{◌≡◌, ℕ, Bool, true, false, List, [], ◌∷◌, ◌++◌, take, Option, Result, Ok, Err}
 use Rattle.kit_io.specs.Told.{Grows}
+use Rattle.link_io.specs.Target.{Address}
 use Rattle.link_io.specs.declared.link.Taken.{Taken}
 use Rattle.link_io.specs.declared.link.Taken.TheVariants.{Bytes, Quiet, End}
 
 pub data Call : Type 0 where
-  -- `open`, with the path and whether it answered Ok
-  Opened : (path : List ℕ) (ok : Bool) → Call
+  -- `open`, with the address and whether it answered Ok
+  Opened : (address : Address) (ok : Bool) → Call
+  -- `pair`, with whether it answered Ok
+  Paired : (ok : Bool) → Call
   -- `send`, with the bytes that were sent and whether it answered Ok
   Sent : (bytes : List ℕ) (ok : Bool) → Call
   -- `take`, with what it gave

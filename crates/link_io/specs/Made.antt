@@ -4,10 +4,13 @@ use Rattle.std.specs.Option.{option_map}
 use Rattle.kit_io.specs.Record.{Noted}
 use Rattle.link_io.specs.declared.memory.Made.{Made}
 use Rattle.link_io.specs.declared.memory.Made.TheVariants as made
-use Rattle.link_io.specs.Calls.{Call, Opened, Sent, Took, WasQuiet, WasEnd, TakeFailed, Closed}
+use Rattle.link_io.specs.Target.{AtSocket, AtBridge}
+use Rattle.link_io.specs.Calls.{Call, Opened, Paired, Sent, Took, WasQuiet, WasEnd, TakeFailed, Closed}
 
 abbrev pub call_as : Made → List ℕ → Call
-call_as (made.Opened ok) bytes = Opened bytes ok
+call_as (made.Opened ok) bytes = Opened (AtSocket bytes) ok
+call_as (made.OpenedBridge ok) bytes = Opened (AtBridge bytes) ok
+call_as (made.Paired ok) bytes = Paired ok
 call_as (made.Sent ok) bytes = Sent bytes ok
 call_as made.Took bytes = Took bytes
 call_as made.WasQuiet bytes = WasQuiet

@@ -13,6 +13,9 @@ pub const TAKE_ROOM: usize = 16_384;
 pub enum Target {
     /// A Unix socket, by its path.
     Socket(Text),
+    /// A device node behind two pumps, which meet the link at a socket of this path: what the first
+    /// reads of the node comes in, and what goes out the second writes to it.
+    Bridge(Text),
 }
 
 /// What a take gives.
@@ -28,8 +31,8 @@ pub enum Taken {
 
 /// A way to one modem or proxy.
 pub trait Link {
-    ghost use Rattle.link_io.specs.Calls.{Call, Opened, Closed, take_call, Sends, EndsForGood};
-    ghost use Rattle.link_io.specs.Target.{path_of, IsWithin};
+    ghost use Rattle.link_io.specs.Calls.{Call, Opened, Paired, Closed, take_call, Sends, EndsForGood};
+    ghost use Rattle.link_io.specs.Target.{address_of, IsWithin};
 
     /// The calls so far, where told.
     ghost calls: { Self → Option (List Call) };
@@ -43,12 +46,19 @@ pub trait Link {
     /// How many other calls have failed.
     ghost faults: { Self → ℕ };
 
-    /// Opens the link.
+    /// Opens the link. A bridge listens then, and has to be paired before anything is sent or taken.
     fn open(&mut self, target: &Target) -> Result<(), Failed>
-        ensures calls { Grows (calls self.old) (Opened (path_of target.now) (is_ok result) ∷ []) (calls self.new) }
+        ensures calls { Grows (calls self.old) (Opened (address_of target.now) (is_ok result) ∷ []) (calls self.new) }
         ensures ended { ended self.old ≡ true → ended self.new ≡ true }
         ensures cause { HasCause (open_faults self.old) (open_faults self.new) result }
         ensures later { faults self.old ≤ faults self.new };
+
+    /// Waits for both pumps of a bridge.
+    fn pair(&mut self) -> Result<(), Failed>
+        ensures calls { Grows (calls self.old) (Paired (is_ok result) ∷ []) (calls self.new) }
+        ensures ended { ended self.old ≡ true → ended self.new ≡ true }
+        ensures cause { HasCause (faults self.old) (faults self.new) result }
+        ensures later { open_faults self.old ≤ open_faults self.new };
 
     /// Sends all the bytes, or a front of them where it fails.
     fn send(&mut self, bytes: &[u8]) -> Result<(), Failed>

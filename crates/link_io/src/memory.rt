@@ -1,4 +1,7 @@
-ghost use Rattle.std.specs.Prelude.{◌≡◌, ◌≤◌, [], Some, IfOk};
+ghost use Rattle.std.specs.Prelude.{◌≡◌, ◌≤◌, [], ◌∷◌, Some, IfOk};
+ghost use Rattle.kit_io.specs.Told.{Grows};
+ghost use Rattle.link_io.specs.Calls.{Opened};
+ghost use Rattle.link_io.specs.Target.{address_of};
 ghost use Rattle.link_io.specs.Made.{calls_of};
 
 use crate::{Link, Taken, Target};
@@ -22,7 +25,10 @@ pub enum LinkAnswer {
 /// or given.
 #[derive(Clone, Copy, Debug, PartialEq, Eq)]
 pub enum Made {
+    /// A socket was opened.
     Opened { ok: bool },
+    OpenedBridge { ok: bool },
+    Paired { ok: bool },
     Sent { ok: bool },
     Took,
     WasQuiet,
@@ -73,6 +79,17 @@ impl MemLink {
     }
 }
 
+// Notes an opening of this target.
+#[tactic(auto, using(kit_io::proofs::Told::growing))]
+fn note_opening(log: &mut Log<Made>, target: &Target, ok: bool)
+    ensures { Grows (calls_of log.old.told) (Opened (address_of target.now) ok ∷ []) (calls_of log.new.told) }
+{
+    match target {
+        Target::Socket(path) => log.note(Made::Opened { ok }, path.as_str().as_bytes()),
+        Target::Bridge(path) => log.note(Made::OpenedBridge { ok }, path.as_str().as_bytes()),
+    }
+}
+
 impl Link for MemLink {
     ghost calls = { λ s. calls_of s.log.told };
 
@@ -84,13 +101,21 @@ impl Link for MemLink {
 
     #[tactic(auto, using(kit_io::proofs::Told::growing))]
     fn open(&mut self, target: &Target) -> Result<(), Failed> {
-        let Target::Socket(path) = target;
-        let path = path.as_str().as_bytes();
         if let Some(LinkAnswer::Fails) = self.script.pop() {
-            self.log.note(Made::Opened { ok: false }, path);
+            note_opening(&mut self.log, target, false);
             return Err(self.open_faults.fail());
         }
-        self.log.note(Made::Opened { ok: true }, path);
+        note_opening(&mut self.log, target, true);
+        Ok(())
+    }
+
+    #[tactic(auto, using(kit_io::proofs::Told::growing))]
+    fn pair(&mut self) -> Result<(), Failed> {
+        if let Some(LinkAnswer::Fails) = self.script.pop() {
+            self.log.note(Made::Paired { ok: false }, &[]);
+            return Err(self.faults.fail());
+        }
+        self.log.note(Made::Paired { ok: true }, &[]);
         Ok(())
     }
 

@@ -1,36 +1,100 @@
 ghost use Rattle.std.specs.Prelude.{◌≡◌, None};
 
+use crate::bridge::{Bridge, Pumps};
 use crate::{Link, Taken, Target};
 use kit_io::{Failed, Faults};
-use std::io::{ErrorKind, Read, Write};
+use std::alloc::Global;
+use std::fs::Files;
+use std::io::{self, ErrorKind, Read, Write};
 use std::net::Net;
 use std::os::unix::net::UnixStream;
 use std::rt::Clock;
 use std::thread;
 use std::time::Duration;
 
-/// A link over a Unix socket. It tells no content.
-///
-/// A tick is 100 ms, and `open` waits for one before it fails.
+/// The streams of a link that may be sent to.
 #[derive(Drop)]
-pub struct UnixLink<'a, R> {
+enum Streams {
+    OfSocket(UnixStream),
+    OfBridge(Pumps),
+}
+
+impl Streams {
+    // What comes in.
+    fn input(&mut self) -> &mut UnixStream {
+        match self {
+            Streams::OfSocket(stream) => stream,
+            Streams::OfBridge(pumps) => &mut pumps.read,
+        }
+    }
+
+    // What goes out.
+    fn output(&mut self) -> &mut UnixStream {
+        match self {
+            Streams::OfSocket(stream) => stream,
+            Streams::OfBridge(pumps) => &mut pumps.write,
+        }
+    }
+}
+
+/// A link over a Unix socket, or over a bridge. It tells no content.
+///
+/// A tick is 100 ms, and `open` waits for one before it fails. A bridge is a socket of its owner
+/// alone, whose file goes when the link is closed; its opening fails where something stands at the
+/// path, unless that is a socket to which nobody listens, and `pair` waits for at most 300 ticks.
+#[derive(Drop)]
+pub struct UnixLink<'a, R: Files> {
     rt: &'a R,
-    stream: Option<UnixStream>,
+    alloc: Global,
+    bridge: Option<Bridge<'a, R>>,
+    streams: Option<Streams>,
     ended: bool,
     open_faults: Faults,
     faults: Faults,
 }
 
-impl<'a, R> UnixLink<'a, R> {
+impl<'a, R: Net + Clock + Files> UnixLink<'a, R> {
     /// A link that isn't open.
-    pub fn new(rt: &'a R) -> Self {
+    pub fn new(rt: &'a R, alloc: Global) -> Self {
         UnixLink {
             rt,
-            stream: None,
+            alloc,
+            bridge: None,
+            streams: None,
             ended: false,
             open_faults: Faults::none(),
             faults: Faults::none(),
         }
+    }
+
+    fn reach(&mut self, target: &Target) -> io::Result<()>
+        ensures ended { self.new.ended ≡ self.old.ended }
+        ensures open_faults { self.new.open_faults ≡ self.old.open_faults }
+        ensures faults { self.new.faults ≡ self.old.faults }
+    {
+        match target {
+            Target::Socket(path) => {
+                let stream = UnixStream::connect(self.rt, path.as_str())?;
+                stream.set_read_timeout(Some(tick()))?;
+                self.streams = Some(Streams::OfSocket(stream));
+            }
+            Target::Bridge(path) => {
+                self.bridge = Some(Bridge::listen(self.rt, self.alloc, path.as_str())?);
+            }
+        }
+        Ok(())
+    }
+
+    fn meet(&mut self) -> io::Result<()>
+        ensures ended { self.new.ended ≡ self.old.ended }
+        ensures open_faults { self.new.open_faults ≡ self.old.open_faults }
+        ensures faults { self.new.faults ≡ self.old.faults }
+    {
+        let Some(bridge) = &self.bridge else {
+            return Err(ErrorKind::NotConnected.into());
+        };
+        self.streams = Some(Streams::OfBridge(bridge.pair()?));
+        Ok(())
     }
 }
 
@@ -38,13 +102,7 @@ fn tick() -> Duration {
     Duration::from_millis(100)
 }
 
-fn connect<R: Net>(rt: &R, path: &str) -> Option<UnixStream> {
-    let stream = UnixStream::connect(rt, path).ok()?;
-    stream.set_read_timeout(Some(tick())).ok()?;
-    Some(stream)
-}
-
-impl<R: Net + Clock> Link for UnixLink<'_, R> {
+impl<R: Net + Clock + Files> Link for UnixLink<'_, R> {
     ghost calls = { λ _. None };
 
     ghost ended = { λ s. s.ended };
@@ -54,18 +112,23 @@ impl<R: Net + Clock> Link for UnixLink<'_, R> {
     ghost faults = { λ s. s.faults };
 
     fn open(&mut self, target: &Target) -> Result<(), Failed> {
-        let Target::Socket(path) = target;
-        self.stream = connect(self.rt, path.as_str());
-        if self.stream.is_some() {
+        if self.reach(target).is_ok() {
             return Ok(());
         }
-        let _ = thread::sleep(self.rt, tick());
+        thread::sleep(self.rt, tick());
         Err(self.open_faults.fail())
     }
 
+    fn pair(&mut self) -> Result<(), Failed> {
+        match self.meet() {
+            Ok(()) => Ok(()),
+            Err(_) => Err(self.faults.fail()),
+        }
+    }
+
     fn send(&mut self, bytes: &[u8]) -> Result<(), Failed> {
-        if let Some(stream) = &mut self.stream
-            && stream.write_all(bytes).is_ok()
+        if let Some(streams) = &mut self.streams
+            && streams.output().write_all(bytes).is_ok()
         {
             return Ok(());
         }
@@ -76,10 +139,10 @@ impl<R: Net + Clock> Link for UnixLink<'_, R> {
         if self.ended {
             return Ok(Taken::End);
         }
-        let Some(stream) = &mut self.stream else {
+        let Some(streams) = &mut self.streams else {
             return Err(self.faults.fail());
         };
-        match stream.read(buffer) {
+        match streams.input().read(buffer) {
             Ok(0) => {
                 self.ended = true;
                 Ok(Taken::End)
@@ -95,6 +158,7 @@ impl<R: Net + Clock> Link for UnixLink<'_, R> {
     }
 
     fn close(&mut self) {
-        self.stream = None;
+        self.streams = None;
+        self.bridge = None;
     }
 }

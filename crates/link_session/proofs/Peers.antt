@@ -4,7 +4,7 @@ use Rattle.std.proofs.Math.Seq.{take-append_seam}
 use Rattle.std.proofs.lemmas.List.{append-nil, nil_from_length}
 use Rattle.std.proofs.lemmas.List.Elements.{All-nil, All-cons, All-head, All-tail, All-take}
 use Rattle.framing.specs.declared.framing.Size.{Size}
-use Rattle.link_io.specs.Calls.{Call, Opened, Sent, Took, WasQuiet, WasEnd, TakeFailed, Closed}
+use Rattle.link_io.specs.Calls.{Call, Opened, Paired, Sent, Took, WasQuiet, WasEnd, TakeFailed, Closed}
 use Rattle.link_session.specs.declared.fault.SessionFault.{SessionFault}
 use Rattle.link_session.specs.declared.fault.SessionFault.TheVariants as fault
 use Rattle.link_session.specs.Marks.{Placed, Mark, Message, Bad, Quiet, End, Failed, IsTake, piece_marks, take_marks, bytes_in}
@@ -28,7 +28,8 @@ takes_send_nothing (WasQuiet ∷ takes) each = takes_send_nothing takes (All-tai
 takes_send_nothing (WasEnd ∷ takes) each = takes_send_nothing takes (All-tail IsTake _ takes each)
 takes_send_nothing (TakeFailed ∷ takes) each = takes_send_nothing takes (All-tail IsTake _ takes each)
 takes_send_nothing (Sent bytes ok ∷ takes) each = absurd (All-head IsTake (Sent bytes ok) takes each)
-takes_send_nothing (Opened path ok ∷ takes) each = absurd (All-head IsTake (Opened path ok) takes each)
+takes_send_nothing (Opened address ok ∷ takes) each = absurd (All-head IsTake (Opened address ok) takes each)
+takes_send_nothing (Paired ok ∷ takes) each = absurd (All-head IsTake (Paired ok) takes each)
 takes_send_nothing (Closed ∷ takes) each = absurd (All-head IsTake Closed takes each)
 
 texts_in-append : (xs ys : List Call) → texts_in (xs ++ ys) ≡ texts_in xs ++ texts_in ys
@@ -40,7 +41,8 @@ texts_in-append (Took piece ∷ xs) ys = texts_in-append xs ys
 texts_in-append (WasQuiet ∷ xs) ys = texts_in-append xs ys
 texts_in-append (WasEnd ∷ xs) ys = texts_in-append xs ys
 texts_in-append (TakeFailed ∷ xs) ys = texts_in-append xs ys
-texts_in-append (Opened path ok ∷ xs) ys = texts_in-append xs ys
+texts_in-append (Opened address ok ∷ xs) ys = texts_in-append xs ys
+texts_in-append (Paired ok ∷ xs) ys = texts_in-append xs ys
 texts_in-append (Closed ∷ xs) ys = texts_in-append xs ys
 
 -- behind calls that sent one text
@@ -82,7 +84,8 @@ module _ (size : List ℕ → Size) where
   of_one_take stream WasQuiet more mark left are = inr (at_most_one (Quiet ∷ []) more mark left (omega arith) are)
   of_one_take stream WasEnd more mark left are = inr (at_most_one (End ∷ []) more mark left (omega arith) are)
   of_one_take stream TakeFailed more mark left are = inr (at_most_one (Failed ∷ []) more mark left (omega arith) are)
-  of_one_take stream (Opened path ok) more mark left are = inr (at_most_one [] more mark left (omega arith) are)
+  of_one_take stream (Opened address ok) more mark left are = inr (at_most_one [] more mark left (omega arith) are)
+  of_one_take stream (Paired ok) more mark left are = inr (at_most_one [] more mark left (omega arith) are)
   of_one_take stream (Sent bytes ok) more mark left are = inr (at_most_one [] more mark left (omega arith) are)
   of_one_take stream Closed more mark left are = inr (at_most_one [] more mark left (omega arith) are)
 

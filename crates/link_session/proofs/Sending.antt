@@ -3,7 +3,7 @@ use Rattle.std.proofs.Common.{◌≡◌, ℕ, suc, true, false, List, [], ◌∷
 use Rattle.std.proofs.lemmas.List.{append-nil}
 use Rattle.std.proofs.lemmas.List.Elements.{All-nil, All-cons, All-append, All-head, All-tail, All-weaker}
 use Rattle.std.specs.List.{concat}
-use Rattle.link_io.specs.Calls.{Call, Opened, Sent, Took, WasQuiet, WasEnd, TakeFailed, Closed}
+use Rattle.link_io.specs.Calls.{Call, Opened, Paired, Sent, Took, WasQuiet, WasEnd, TakeFailed, Closed}
 use Rattle.link_session.specs.declared.fault.SessionFault.{SessionFault}
 use Rattle.link_session.specs.Marks.{Placed, IsTake}
 use Rattle.link_session.specs.Waiting.{Heard, Outcome, Answered, Fails}
@@ -18,7 +18,8 @@ take_is WasQuiet is = tt
 take_is WasEnd is = tt
 take_is TakeFailed is = tt
 take_is (Sent bytes ok) is = tt
-take_is (Opened path ok) is = absurd is
+take_is (Opened address ok) is = absurd is
+take_is (Paired ok) is = absurd is
 take_is Closed is = absurd is
 
 one_sent : (call : Call) (calls : List Call) → IsTake call → sent_in (call ∷ calls) ≡ sent_in calls
@@ -28,7 +29,8 @@ one_sent WasQuiet calls is = refl
 one_sent WasEnd calls is = refl
 one_sent TakeFailed calls is = refl
 one_sent (Sent bytes ok) calls is = absurd is
-one_sent (Opened path ok) calls is = absurd is
+one_sent (Opened address ok) calls is = absurd is
+one_sent (Paired ok) calls is = absurd is
 one_sent Closed calls is = absurd is
 
 takes_send : (takes : List Call) → All IsTake takes → sent_in takes ≡ []
@@ -44,7 +46,8 @@ sent_in-append (Took piece ∷ xs) ys = sent_in-append xs ys
 sent_in-append (WasQuiet ∷ xs) ys = sent_in-append xs ys
 sent_in-append (WasEnd ∷ xs) ys = sent_in-append xs ys
 sent_in-append (TakeFailed ∷ xs) ys = sent_in-append xs ys
-sent_in-append (Opened path ok ∷ xs) ys = sent_in-append xs ys
+sent_in-append (Opened address ok ∷ xs) ys = sent_in-append xs ys
+sent_in-append (Paired ok ∷ xs) ys = sent_in-append xs ys
 sent_in-append (Closed ∷ xs) ys = sent_in-append xs ys
 
 one_before : (so_far : List ℕ) (call : Call) (calls : List Call) → IsTake call → sent_before_takes so_far (call ∷ calls) ≡ so_far ∷ sent_before_takes so_far calls
@@ -54,7 +57,8 @@ one_before so_far WasQuiet calls is = refl
 one_before so_far WasEnd calls is = refl
 one_before so_far TakeFailed calls is = refl
 one_before so_far (Sent bytes ok) calls is = absurd is
-one_before so_far (Opened path ok) calls is = absurd is
+one_before so_far (Opened address ok) calls is = absurd is
+one_before so_far (Paired ok) calls is = absurd is
 one_before so_far Closed calls is = absurd is
 
 before_takes : (so_far : List ℕ) (takes : List Call) → All IsTake takes → All (λ (bytes : List ℕ). bytes ≡ so_far) (sent_before_takes so_far takes)
@@ -73,7 +77,8 @@ before-append so_far (Took piece ∷ xs) ys = ap (λ (l : List (List ℕ)). so_f
 before-append so_far (WasQuiet ∷ xs) ys = ap (λ (l : List (List ℕ)). so_far ∷ l) (before-append so_far xs ys)
 before-append so_far (WasEnd ∷ xs) ys = ap (λ (l : List (List ℕ)). so_far ∷ l) (before-append so_far xs ys)
 before-append so_far (TakeFailed ∷ xs) ys = ap (λ (l : List (List ℕ)). so_far ∷ l) (before-append so_far xs ys)
-before-append so_far (Opened path ok ∷ xs) ys = before-append so_far xs ys
+before-append so_far (Opened address ok ∷ xs) ys = before-append so_far xs ys
+before-append so_far (Paired ok ∷ xs) ys = before-append so_far xs ys
 before-append so_far (Closed ∷ xs) ys = before-append so_far xs ys
 
 -- ---- one request ----

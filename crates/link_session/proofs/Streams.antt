@@ -8,7 +8,7 @@ use Rattle.framing.specs.declared.framing.Size.{Size}
 use Rattle.framing.specs.declared.framing.Size.TheVariants.{Unknown, Known, Invalid}
 use Rattle.framing.specs.Cutting.{Cutting, cut}
 use Rattle.framing.proofs.Cuts.{cut-append}
-use Rattle.link_io.specs.Calls.{Call, Opened, Sent, Took, WasQuiet, WasEnd, TakeFailed, Closed}
+use Rattle.link_io.specs.Calls.{Call, Opened, Paired, Sent, Took, WasQuiet, WasEnd, TakeFailed, Closed}
 use Rattle.link_session.specs.Marks.{Mark, messages_from, bad_at, marks_of, marks_from, piece_marks, take_marks, bytes_in}
 use Rattle.link_session.specs.Peer.{Keeps, is_of_bytes}
 use Rattle.link_session.proofs.Places.{marks_of-behind, marks_from-bad}
@@ -112,6 +112,7 @@ module _ (size : List ℕ → Size) where
     take_marks-of_bytes stream (WasQuiet ∷ takes) = take_marks-of_bytes stream takes
     take_marks-of_bytes stream (WasEnd ∷ takes) = take_marks-of_bytes stream takes
     take_marks-of_bytes stream (TakeFailed ∷ takes) = take_marks-of_bytes stream takes
-    take_marks-of_bytes stream (Opened path ok ∷ takes) = take_marks-of_bytes stream takes
+    take_marks-of_bytes stream (Opened address ok ∷ takes) = take_marks-of_bytes stream takes
+    take_marks-of_bytes stream (Paired ok ∷ takes) = take_marks-of_bytes stream takes
     take_marks-of_bytes stream (Sent bytes ok ∷ takes) = take_marks-of_bytes stream takes
     take_marks-of_bytes stream (Closed ∷ takes) = take_marks-of_bytes stream takes

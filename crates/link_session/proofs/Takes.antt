@@ -3,7 +3,7 @@ use Rattle.std.proofs.Common.{◌≡◌, inl, inr, ℕ, List, [], ◌∷◌, ◌
 use Rattle.std.proofs.lemmas.List.{append-nil}
 use Rattle.std.proofs.lemmas.List.Elements.{All-nil, All-append}
 use Rattle.framing.specs.declared.framing.Size.{Size}
-use Rattle.link_io.specs.Calls.{Call, Opened, Sent, Took, WasQuiet, WasEnd, TakeFailed, Closed}
+use Rattle.link_io.specs.Calls.{Call, Opened, Paired, Sent, Took, WasQuiet, WasEnd, TakeFailed, Closed}
 use Rattle.link_session.specs.Marks.{Mark, Quiet, End, Failed, IsTake, piece_marks, take_marks, bytes_in}
 use Rattle.link_session.specs.Waiting.{Heard, Brings, AreNeeded, marks_with}
 
@@ -14,7 +14,8 @@ bytes_in-append (Took piece ∷ xs) ys = ap (λ (l : List ℕ). piece ++ l) (byt
 bytes_in-append (WasQuiet ∷ xs) ys = bytes_in-append xs ys
 bytes_in-append (WasEnd ∷ xs) ys = bytes_in-append xs ys
 bytes_in-append (TakeFailed ∷ xs) ys = bytes_in-append xs ys
-bytes_in-append (Opened path ok ∷ xs) ys = bytes_in-append xs ys
+bytes_in-append (Opened address ok ∷ xs) ys = bytes_in-append xs ys
+bytes_in-append (Paired ok ∷ xs) ys = bytes_in-append xs ys
 bytes_in-append (Sent bytes ok ∷ xs) ys = bytes_in-append xs ys
 bytes_in-append (Closed ∷ xs) ys = bytes_in-append xs ys
 
@@ -29,7 +30,8 @@ module _ (size : List ℕ → Size) where
   take_marks-append stream (WasQuiet ∷ xs) ys = ap (λ (l : List Mark). Quiet ∷ l) (take_marks-append stream xs ys)
   take_marks-append stream (WasEnd ∷ xs) ys = ap (λ (l : List Mark). End ∷ l) (take_marks-append stream xs ys)
   take_marks-append stream (TakeFailed ∷ xs) ys = ap (λ (l : List Mark). Failed ∷ l) (take_marks-append stream xs ys)
-  take_marks-append stream (Opened path ok ∷ xs) ys = take_marks-append stream xs ys
+  take_marks-append stream (Opened address ok ∷ xs) ys = take_marks-append stream xs ys
+  take_marks-append stream (Paired ok ∷ xs) ys = take_marks-append stream xs ys
   take_marks-append stream (Sent bytes ok ∷ xs) ys = take_marks-append stream xs ys
   take_marks-append stream (Closed ∷ xs) ys = take_marks-append stream xs ys
 

@@ -1,7 +1,7 @@
 -- What a session does in all: it sends the texts of its requests, one after another, and takes.
 use Rattle.std.specs.Prelude.{◌≡◌, ℕ, List, [], ◌∷◌, ◌++◌, take, All, Result, Ok, Err}
 use Rattle.std.specs.List.{concat}
-use Rattle.link_io.specs.Calls.{Call, Opened, Sent, Closed}
+use Rattle.link_io.specs.Calls.{Call, Opened, Paired, Sent, Closed}
 use Rattle.link_session.specs.declared.fault.SessionFault.{SessionFault}
 use Rattle.link_session.specs.Marks.{IsTake}
 
@@ -20,7 +20,8 @@ sent_in (_ ∷ calls) = sent_in calls
 unfoldable pub sent_before_takes : List ℕ → List Call → List (List ℕ)
 sent_before_takes sent [] = []
 sent_before_takes sent (Sent bytes ok ∷ calls) = sent_before_takes (sent ++ bytes) calls
-sent_before_takes sent (Opened path ok ∷ calls) = sent_before_takes sent calls
+sent_before_takes sent (Opened address ok ∷ calls) = sent_before_takes sent calls
+sent_before_takes sent (Paired ok ∷ calls) = sent_before_takes sent calls
 sent_before_takes sent (Closed ∷ calls) = sent_before_takes sent calls
 sent_before_takes sent (_ ∷ calls) = sent ∷ sent_before_takes sent calls
 

@@ -18,7 +18,7 @@ fn main(rt: HostRuntime) -> ExitCode {
     let Ok(_kept) = stand_ins(&rt) else {
         return ExitCode::from(give_up(&mut err).code());
     };
-    let mut link = UnixLink::new(&rt);
+    let mut link = UnixLink::new(&rt, rt.alloc());
     let mut files = StdFiles::new(&rt);
     let Ok(mut hub) = MioHub::new(&rt, rt.alloc()) else {
         return ExitCode::from(give_up(&mut err).code());

@@ -114,7 +114,7 @@ fn ask<H: Hub, R: Abort>(rt: &R, hub: &mut H, device: &Target) {
 /// The calls that its record tells then.
 static ASKED: [(HubCall, &[u8]); 8] = [
     (HubCall::Opened { ok: true }, b"h.sock"),
-    (HubCall::ToDevice, b"m.sock"),
+    (HubCall::ToSocket, b"m.sock"),
     (HubCall::Sent { conn: 1, taken: 2 }, &[1, 2, 3]),
     (HubCall::SendFailed { conn: 1 }, &[3]),
     (HubCall::SentModem { taken: 0 }, &[6]),

@@ -135,7 +135,7 @@ fn end<L: Link, R: Abort>(rt: &R, link: &mut L) {
 #[test]
 fn bytes_go_both_ways_over_a_socket(rt: HostRuntime) -> Result<(), Fail> {
     let target = target(rt.alloc(), "link.sock")?;
-    let mut link = UnixLink::new(&rt);
+    let mut link = UnixLink::new(&rt, rt.alloc());
     let mut modem = listen(&rt, &mut link, &target)?;
     exchange(&rt, &mut link, rt.alloc(), &mut modem)?;
     drop(modem);

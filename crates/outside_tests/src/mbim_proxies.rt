@@ -50,7 +50,7 @@ fn opening_turns(alloc: Global) -> Result<Vec<HubTurn>, AllocError> {
 fn a_client_of_an_mbim_modem_is_served(rt: HostRuntime) -> Result<(), Fail> {
     let calls: [(HubCall, &[u8]); 9] = [
         (HubCall::Opened { ok: true }, b"p.sock"),
-        (HubCall::ToDevice, b"m.sock"),
+        (HubCall::ToSocket, b"m.sock"),
         (HubCall::Told(HubEvent::Joined(1)), &[]),
         (HubCall::Told(HubEvent::Piece(1, 72)), &NAMES),
         (HubCall::Sent { conn: 1, taken: 48 }, &NAMED),

@@ -145,7 +145,7 @@ fn served_turns(alloc: Global) -> Result<Vec<HubTurn>, AllocError> {
 fn clients_are_served_and_hung_up(rt: HostRuntime) -> Result<(), Fail> {
     let calls: [(HubCall, &[u8]); 12] = [
         (HubCall::Opened { ok: true }, b"p.sock"),
-        (HubCall::ToDevice, b"m.sock"),
+        (HubCall::ToSocket, b"m.sock"),
         (HubCall::Told(HubEvent::Joined(1)), &[]),
         (HubCall::Told(HubEvent::Piece(1, 20)), &OPENS[..20]),
         (HubCall::Told(HubEvent::Piece(1, 1)), &OPENS[20..]),
@@ -182,7 +182,7 @@ fn lost_turns(alloc: Global) -> Result<Vec<HubTurn>, AllocError> {
 fn a_lost_modem_is_told_of_and_opened_again(rt: HostRuntime) -> Result<(), Fail> {
     let calls: [(HubCall, &[u8]); 13] = [
         (HubCall::Opened { ok: true }, b"p.sock"),
-        (HubCall::ToDevice, b"m.sock"),
+        (HubCall::ToSocket, b"m.sock"),
         (HubCall::Told(HubEvent::Joined(1)), &[]),
         (HubCall::Told(HubEvent::Piece(1, 21)), &OPENS),
         (HubCall::Sent { conn: 1, taken: 19 }, &OPENED),

@@ -1,6 +1,7 @@
 -- What the program does as a proxy, read off its hub's record. Lists of calls have the newest first.
 use Rattle.std.specs.Prelude.{◌≡◌, ◌⊎◌, ℕ, Bool, true, false, List, [], ◌∷◌, ◌++◌, Option, Some}
 use Rattle.std.specs.Str.{encode_utf8_all}
+use Rattle.link_io.specs.Target.{AtSocket}
 use Rattle.hub_io.specs.Record.{Call, Opened}
 use Rattle.kit_bytes.specs.declared.Kind.{Kind}
 use Rattle.kit_bytes.specs.declared.Kind.TheVariants as kind
@@ -39,7 +40,7 @@ proxy_for kind.Qmi device time_limit = qmi.proxy_of (record { device = encode_ut
 proxy_for kind.Mbim device time_limit = mbim.proxy_of (mbim_setup device time_limit false)
 
 abbrev pub opening : Asked → Bool → Call
-opening asked ok = Opened (encode_utf8_all asked.socket) (Some (encode_utf8_all asked.device)) ok
+opening asked ok = Opened (encode_utf8_all asked.socket) (Some (AtSocket (encode_utf8_all asked.device))) ok
 
 -- the hub was opened once, at the socket and for the device of the words, and then served
 pub record ServesOpened (kind : Kind) (asked : Asked) (result : Status) (calls : List Call) : Type 0 where

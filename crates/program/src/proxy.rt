@@ -1,7 +1,7 @@
 ghost use Rattle.std.specs.Prelude.{◌≡◌, ◌≤◌, ℕ, List, IfOk};
 ghost use Rattle.std.specs.Str.{encode_utf8_all};
 ghost use Rattle.kit_io.specs.Causes.{Rose};
-ghost use Rattle.link_io.specs.Target.{path_of};
+ghost use Rattle.link_io.specs.Target.{AtSocket, address_of};
 ghost use Rattle.hub_io.specs.Record.{Since};
 ghost use Rattle.proxy_serving.specs.Ends.{EndsSo};
 ghost use Rattle.program.specs.Serving.{ServesProxy, asked_in, asked_with, proxy_for};
@@ -36,7 +36,7 @@ fn settings_of(
 
 // The modem's socket.
 fn target_of(alloc: Global, settings: &Settings) -> Result<Target, AllocError>
-    ensures { IfOk result (λ target. path_of target ≡ encode_utf8_all settings.now.device) }
+    ensures { IfOk result (λ target. address_of target ≡ AtSocket (encode_utf8_all settings.now.device)) }
 {
     Ok(Target::Socket(Text::from_str(alloc, settings.device.as_str())?))
 }
@@ -88,7 +88,7 @@ fn serve_at<H: Hub>(
     settings: &Settings,
     hub: &mut H,
 ) -> Status
-    requires { path_of target.now ≡ encode_utf8_all settings.now.device }
+    requires { address_of target.now ≡ AtSocket (encode_utf8_all settings.now.device) }
     ensures serves { Since (H.calls hub.old) (H.calls hub.new) (ServesProxy kind (asked_with socket.now settings.now) result) }
     ensures own { IsOfProxy result }
     ensures hub_fault { result ≡ Status.HubFault → Rose (H.faults hub.old) (H.faults hub.new) }

@@ -3,7 +3,7 @@ use Rattle.std.specs.Prelude.{◌≡◌, ◌⊎◌, ℕ, zero, suc, ◌+◌, ◌
 use Rattle.std.specs.List.{AllByRecursion}
 use Rattle.proxy_history.specs.Events.{Event, Joined, ModemGone, ModemBack, Now}
 use Rattle.proxy_history.specs.Proxy.{Proxy}
-use Rattle.hub_io.specs.Record.{Call, Told, ToldRoom, ToldModemRoom, ToldStop, NextFailed, Sent, SendFailed, SentModem, SendModemFailed, Opened, Reopened, ReopenFailed, HungUp, events}
+use Rattle.hub_io.specs.Record.{Call, Told, ToldRoom, ToldModemRoom, ToldStop, NextFailed, Sent, SendFailed, SentModem, SendModemFailed, Opened, Paired, Reopened, ReopenFailed, HungUp, events}
 
 -- ---- bytes ----
 
@@ -88,9 +88,10 @@ hanging_up (c ∷ names) = HungUp c ∷ hanging_up names
 
 -- ---- opening and reopening ----
 
--- the hub wasn't opened by this call
+-- the hub wasn't opened or paired by this call
 abbrev pub IsNoOpening : Call → Type 0
 IsNoOpening (Opened socket device ok) = ⊥
+IsNoOpening (Paired ok) = ⊥
 IsNoOpening _ = Unit {0}
 
 -- how often the modem was opened again, or tried to be, since the hub was last asked for what comes next

@@ -4,6 +4,7 @@ use Rattle.std.proofs.lemmas.List.{append-nil, same_from_push}
 use Rattle.std.proofs.lemmas.List.Elements.{filter_map-append, recursion_from_All}
 use Rattle.std.specs.List.{concat, AllByRecursion}
 use Rattle.kit_bytes.proofs.Lists.{concat-push}
+use Rattle.link_io.specs.Target.{Address}
 use Rattle.link_io.specs.Calls as link
 use Rattle.file_io.specs.Calls as file
 use Rattle.file_io.specs.declared.files.Side.{Side}
@@ -54,14 +55,14 @@ not_ended : (result : Result (Unit {0}) PumpEnd) (end fault : PumpEnd) → resul
 not_ended result end fault gives is other ended = other (cc)
 
 -- it sent a front of the letter
-letter_only : {bridge node : List ℕ} {side : Side} (letter : List ℕ) (end : PumpEnd) {on_link : List link.Call} {on_files : List file.Call} → Begins bridge node side letter (Err end) on_link on_files → GoesOn letter [] end (sent on_link)
+letter_only : {bridge : Address} {node : List ℕ} {side : Side} (letter : List ℕ) (end : PumpEnd) {on_link : List link.Call} {on_files : List file.Call} → Begins bridge node side letter (Err end) on_link on_files → GoesOn letter [] end (sent on_link)
 letter_only letter end (no_bridge is l f) = rw l (none_came letter end [] letter refl (not_ended (Err end) end LinkFault refl is (λ e. (cc))))
 letter_only letter end (no_node is l f) = rw l (none_came letter end [] letter refl (not_ended (Err end) end ReadFault refl is (λ e. (cc))))
 letter_only letter end (no_letter front rest whole is l f) = rw (l, append-nil front) (none_came letter end front rest whole (not_ended (Err end) end LinkFault refl is (λ e. (cc))))
 letter_only letter end (begun is l f) = absurd (cc)
 
 -- nothing was read, written or taken
-nothing_read : {bridge node : List ℕ} {side : Side} {letter : List ℕ} {end : PumpEnd} {on_link : List link.Call} {on_files : List file.Call} → Begins bridge node side letter (Err end) on_link on_files → filter_map piece_read on_files ≡ []
+nothing_read : {bridge : Address} {node : List ℕ} {side : Side} {letter : List ℕ} {end : PumpEnd} {on_link : List link.Call} {on_files : List file.Call} → Begins bridge node side letter (Err end) on_link on_files → filter_map piece_read on_files ≡ []
 nothing_read (no_bridge is l f) = ap (filter_map piece_read) f
 nothing_read (no_node is l f) = ap (filter_map piece_read) f
 nothing_read (no_letter front rest whole is l f) = ap (filter_map piece_read) f
@@ -105,13 +106,13 @@ read_is_sent bridge node turns end on_link on_files (went_on first_link more_lin
 
 -- ---- a pump that writes ----
 
-nothing_taken : {bridge node : List ℕ} {side : Side} {letter : List ℕ} {end : PumpEnd} {on_link : List link.Call} {on_files : List file.Call} → Begins bridge node side letter (Err end) on_link on_files → filter_map piece_taken on_link ≡ []
+nothing_taken : {bridge : Address} {node : List ℕ} {side : Side} {letter : List ℕ} {end : PumpEnd} {on_link : List link.Call} {on_files : List file.Call} → Begins bridge node side letter (Err end) on_link on_files → filter_map piece_taken on_link ≡ []
 nothing_taken (no_bridge is l f) = ap (filter_map piece_taken) l
 nothing_taken (no_node is l f) = ap (filter_map piece_taken) l
 nothing_taken (no_letter front rest whole is l f) = ap (filter_map piece_taken) l
 nothing_taken (begun is l f) = absurd (cc)
 
-nothing_written : {bridge node : List ℕ} {side : Side} {letter : List ℕ} (end : PumpEnd) {on_link : List link.Call} {on_files : List file.Call} → Begins bridge node side letter (Err end) on_link on_files → (written on_files ≡ []) × (end ≡ Ended → ⊥)
+nothing_written : {bridge : Address} {node : List ℕ} {side : Side} {letter : List ℕ} (end : PumpEnd) {on_link : List link.Call} {on_files : List file.Call} → Begins bridge node side letter (Err end) on_link on_files → (written on_files ≡ []) × (end ≡ Ended → ⊥)
 nothing_written end (no_bridge is l f) = (ap written f, not_ended (Err end) end LinkFault refl is (λ e. (cc)))
 nothing_written end (no_node is l f) = (ap written f, not_ended (Err end) end ReadFault refl is (λ e. (cc)))
 nothing_written end (no_letter front rest whole is l f) = (ap written f, not_ended (Err end) end LinkFault refl is (λ e. (cc)))
@@ -125,7 +126,8 @@ concat_taken : (takes : List link.Call) → AllByRecursion IsPassed takes → co
 concat_taken [] each = refl
 concat_taken (link.Took bytes ∷ takes) each = ap (λ (l : List ℕ). bytes ++ l) (concat_taken takes each.1)
 concat_taken (link.WasQuiet ∷ takes) each = concat_taken takes each.1
-concat_taken (link.Opened path ok ∷ takes) each = absurd each.0
+concat_taken (link.Opened address ok ∷ takes) each = absurd each.0
+concat_taken (link.Paired ok ∷ takes) each = absurd each.0
 concat_taken (link.Sent bytes ok ∷ takes) each = absurd each.0
 concat_taken (link.WasEnd ∷ takes) each = absurd each.0
 concat_taken (link.TakeFailed ∷ takes) each = absurd each.0
@@ -135,7 +137,8 @@ none_sent : (takes more : List link.Call) → AllByRecursion IsPassed takes → 
 none_sent [] more each none = none
 none_sent (link.Took bytes ∷ takes) more each none = none_sent takes more each.1 none
 none_sent (link.WasQuiet ∷ takes) more each none = none_sent takes more each.1 none
-none_sent (link.Opened path ok ∷ takes) more each none = absurd each.0
+none_sent (link.Opened address ok ∷ takes) more each none = absurd each.0
+none_sent (link.Paired ok ∷ takes) more each none = absurd each.0
 none_sent (link.Sent bytes ok ∷ takes) more each none = absurd each.0
 none_sent (link.WasEnd ∷ takes) more each none = absurd each.0
 none_sent (link.TakeFailed ∷ takes) more each none = absurd each.0

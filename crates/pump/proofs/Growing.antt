@@ -1,13 +1,14 @@
 -- A pump that begins and goes on.
 use Rattle.std.proofs.Common.{ℕ, List, ◌++◌, Option, Ok, Err, refl}
 use Rattle.kit_io.proofs.Told.{Grows-append}
+use Rattle.link_io.specs.Target.{Address}
 use Rattle.link_io.specs.Calls as link
 use Rattle.file_io.specs.Calls as file
 use Rattle.file_io.specs.declared.files.Side.{Side}
 use Rattle.pump.specs.declared.ending.PumpEnd.{PumpEnd}
 use Rattle.pump.specs.Beginning.{Begins, Pumps, GrowBy, not_begun, went_on}
 
-module _ {bridge node : List ℕ} {side : Side} {letter : List ℕ} {GoesOn : List link.Call → List file.Call → Type 0} {end : PumpEnd} {link_old link_new : Option (List link.Call)} {files_old files_new : Option (List file.Call)} where
+module _ {bridge : Address} {node : List ℕ} {side : Side} {letter : List ℕ} {GoesOn : List link.Call → List file.Call → Type 0} {end : PumpEnd} {link_old link_new : Option (List link.Call)} {files_old files_new : Option (List file.Call)} where
   pub pumps_not : GrowBy (Begins bridge node side letter (Err end)) link_old files_old link_new files_new → GrowBy (Pumps bridge node side letter GoesOn end) link_old files_old link_new files_new
   pumps_not first = record { on_link = first.on_link; on_files = first.on_files; are = not_begun first.are; link_grows = first.link_grows; files_grow = first.files_grow }
 

@@ -1,6 +1,7 @@
 -- How a pump begins: the calls that it makes on the link and on the files, the oldest first.
 use Rattle.std.specs.Prelude.{◌≡◌, ℕ, true, false, List, [], ◌∷◌, ◌++◌, Option, Result, Ok, Err}
 use Rattle.kit_io.specs.Told.{Grows}
+use Rattle.link_io.specs.Target.{Address}
 use Rattle.link_io.specs.Calls as link
 use Rattle.file_io.specs.Calls as file
 use Rattle.file_io.specs.declared.files.Side.{Side}
@@ -8,7 +9,7 @@ use Rattle.pump.specs.declared.ending.PumpEnd.{PumpEnd}
 use Rattle.pump.specs.declared.ending.PumpEnd.TheVariants.{LinkFault, ReadFault}
 
 -- the bridge is opened, then the node, and then a letter is sent, of which a front where the sending failed
-pub data Begins (bridge node : List ℕ) (side : Side) (letter : List ℕ) (result : Result (Unit {0}) PumpEnd) (on_link : List link.Call) (on_files : List file.Call) : Type 0 where
+pub data Begins (bridge : Address) (node : List ℕ) (side : Side) (letter : List ℕ) (result : Result (Unit {0}) PumpEnd) (on_link : List link.Call) (on_files : List file.Call) : Type 0 where
   no_bridge : result ≡ Err LinkFault → on_link ≡ link.Opened bridge false ∷ [] → on_files ≡ [] → Begins bridge node side letter result on_link on_files
   no_node : result ≡ Err ReadFault → on_link ≡ link.Opened bridge true ∷ [] → on_files ≡ file.Opened node side false ∷ [] → Begins bridge node side letter result on_link on_files
   no_letter : (front rest : List ℕ) → letter ≡ front ++ rest → result ≡ Err LinkFault
@@ -16,7 +17,7 @@ pub data Begins (bridge node : List ℕ) (side : Side) (letter : List ℕ) (resu
   begun : result ≡ Ok tt → on_link ≡ link.Opened bridge true ∷ link.Sent letter true ∷ [] → on_files ≡ file.Opened node side true ∷ [] → Begins bridge node side letter result on_link on_files
 
 -- a pump that begins, and goes on like this where it could begin
-pub data Pumps (bridge node : List ℕ) (side : Side) (letter : List ℕ) (GoesOn : List link.Call → List file.Call → Type 0) (end : PumpEnd) (on_link : List link.Call) (on_files : List file.Call) : Type 0 where
+pub data Pumps (bridge : Address) (node : List ℕ) (side : Side) (letter : List ℕ) (GoesOn : List link.Call → List file.Call → Type 0) (end : PumpEnd) (on_link : List link.Call) (on_files : List file.Call) : Type 0 where
   not_begun : Begins bridge node side letter (Err end) on_link on_files → Pumps bridge node side letter GoesOn end on_link on_files
   went_on : (first_link more_link : List link.Call) (first_files more_files : List file.Call) → Begins bridge node side letter (Ok tt) first_link first_files → GoesOn more_link more_files
       → on_link ≡ first_link ++ more_link → on_files ≡ first_files ++ more_files → Pumps bridge node side letter GoesOn end on_link on_files

@@ -1,6 +1,7 @@
 -- What a pump's calls come to: the bytes that came, and those that went on.
 use Rattle.std.specs.Prelude.{◌≡◌, ℕ, List, [], ◌∷◌, ◌++◌, map, filter_map, Option, Some, None, codes}
 use Rattle.std.specs.List.{concat}
+use Rattle.link_io.specs.Target.{Address}
 use Rattle.link_io.specs.Calls as link
 use Rattle.file_io.specs.Calls as file
 use Rattle.file_io.specs.declared.files.Side.TheVariants.{Read, Write}
@@ -46,7 +47,7 @@ pub record GoesOn (first : List ℕ) (came : List (List ℕ)) (end : PumpEnd) (b
 
 -- what was sent is a front of the letter and of what was read behind it
 abbrev pub WhatWasReadIsSent : Type 0
-WhatWasReadIsSent = (bridge node : List ℕ) (turns : ℕ) (end : PumpEnd) (on_link : List link.Call) (on_files : List file.Call)
+WhatWasReadIsSent = (bridge : Address) (node : List ℕ) (turns : ℕ) (end : PumpEnd) (on_link : List link.Call) (on_files : List file.Call)
     → Pumps bridge node Read (codes "r") (SendsReads turns end) end on_link on_files
     → GoesOn (codes "r") (filter_map piece_read on_files) end (sent on_link)
 
@@ -56,6 +57,6 @@ pub record SendsLetterAndWrites (end : PumpEnd) (on_link : List link.Call) (on_f
   pub written : GoesOn [] (filter_map piece_taken on_link) end (written on_files)
 
 abbrev pub WhatWasTakenIsWritten : Type 0
-WhatWasTakenIsWritten = (bridge node : List ℕ) (turns : ℕ) (end : PumpEnd) (on_link : List link.Call) (on_files : List file.Call)
+WhatWasTakenIsWritten = (bridge : Address) (node : List ℕ) (turns : ℕ) (end : PumpEnd) (on_link : List link.Call) (on_files : List file.Call)
     → Pumps bridge node Write (codes "w") (WritesTakes turns end) end on_link on_files
     → SendsLetterAndWrites end on_link on_files

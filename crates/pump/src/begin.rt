@@ -1,6 +1,6 @@
 ghost use Rattle.std.specs.Prelude.{◌≡◌, ◌≢◌, ◌⊎◌, ◌≤◌, Err};
 ghost use Rattle.kit_io.specs.Causes.{Rose};
-ghost use Rattle.link_io.specs.Target.{path_of};
+ghost use Rattle.link_io.specs.Target.{address_of};
 ghost use Rattle.pump.specs.Beginning.{Begins, GrowBy};
 
 use crate::PumpEnd;
@@ -17,7 +17,7 @@ pub(crate) fn begin<L: Link, F: Files>(
     side: Side,
     letter: &[u8],
 ) -> Result<(), PumpEnd>
-    ensures calls { GrowBy (Begins (path_of bridge.now) node.now side letter.now result) (L.calls link.old) (F.calls files.old) (L.calls link.new) (F.calls files.new) }
+    ensures calls { GrowBy (Begins (address_of bridge.now) node.now side letter.now result) (L.calls link.old) (F.calls files.old) (L.calls link.new) (F.calls files.new) }
     ensures link_fault { result ≡ Err PumpEnd.LinkFault → Rose (L.open_faults link.old) (L.open_faults link.new) ⊎ Rose (L.faults link.old) (L.faults link.new) }
     ensures read_fault { result ≡ Err PumpEnd.ReadFault → Rose (F.read_faults files.old) (F.read_faults files.new) }
     ensures no_write_fault { result ≢ Err PumpEnd.WriteFault }

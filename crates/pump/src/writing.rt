@@ -1,7 +1,7 @@
 ghost use Rattle.std.specs.Prelude.{◌≡◌, ◌≢◌, ◌⊎◌, codes};
 ghost use Rattle.kit_io.specs.Causes.{Rose, HasCause};
 ghost use Rattle.file_io.specs.declared.files.Side.TheVariants.{Write};
-ghost use Rattle.link_io.specs.Target.{path_of};
+ghost use Rattle.link_io.specs.Target.{address_of};
 ghost use Rattle.pump.specs.Beginning.{GrowBy, Pumps};
 ghost use Rattle.pump.specs.Writing.{WritesAll, WritesTakes};
 
@@ -20,7 +20,7 @@ pub fn pump_write<L: Link, F: Files>(
     node: &str,
     turns: u64,
 ) -> PumpEnd
-    ensures calls { GrowBy (Pumps (path_of bridge.now) node.now Write (codes "w") (WritesTakes turns result) result) (L.calls link.old) (F.calls files.old) (L.calls link.new) (F.calls files.new) }
+    ensures calls { GrowBy (Pumps (address_of bridge.now) node.now Write (codes "w") (WritesTakes turns result) result) (L.calls link.old) (F.calls files.old) (L.calls link.new) (F.calls files.new) }
     ensures link_fault { result ≡ PumpEnd.LinkFault → Rose (L.open_faults link.old) (L.open_faults link.new) ⊎ Rose (L.faults link.old) (L.faults link.new) }
     ensures read_fault { result ≡ PumpEnd.ReadFault → Rose (F.read_faults files.old) (F.read_faults files.new) }
     ensures write_fault { result ≡ PumpEnd.WriteFault → Rose (F.write_faults files.old) (F.write_faults files.new) }

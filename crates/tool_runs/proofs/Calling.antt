@@ -4,7 +4,8 @@ use Rattle.std.proofs.lemmas.List.{append-nil}
 use Rattle.std.proofs.lemmas.List.Elements.{All-nil, All-head, All-tail}
 use Rattle.std.proofs.lemmas.List.Sums.{sum_by-append}
 use Rattle.std.specs.List.{concat}
-use Rattle.link_io.specs.Calls.{Call, Opened, Sent, Took, WasQuiet, WasEnd, TakeFailed, Closed}
+use Rattle.link_io.specs.Target.{Address}
+use Rattle.link_io.specs.Calls.{Call, Opened, Paired, Sent, Took, WasQuiet, WasEnd, TakeFailed, Closed}
 use Rattle.link_session.specs.declared.fault.SessionFault.{SessionFault}
 use Rattle.link_session.specs.Sending.{AreFirst, EndsWell, IsSendOrTake, SendsInOrder, sent_before_takes, sent_in}
 use Rattle.link_session.proofs.Sending.{Sends, before-append, sent_in-append}
@@ -29,7 +30,8 @@ neither (Took piece) is = (refl, refl)
 neither WasQuiet is = (refl, refl)
 neither WasEnd is = (refl, refl)
 neither TakeFailed is = (refl, refl)
-neither (Opened path ok) is = absurd is
+neither (Opened address ok) is = absurd is
+neither (Paired ok) is = absurd is
 neither Closed is = absurd is
 
 count-append : (is : Call → Bool) (xs ys : List Call) → count_by is (xs ++ ys) ≡ count_by is xs + count_by is ys
@@ -42,9 +44,9 @@ none_among is none (call ∷ calls) each =
     let rest : count_by is calls ≡ 0 = none_among is none calls (All-tail IsSendOrTake call calls each) in
     count-append is (call ∷ []) calls ∙ ap (λ (n : ℕ). n + count_by is calls) here ∙ ap (λ (n : ℕ). 0 + n) rest
 
-module _ {End : Type 0} (path : List ℕ) (Session : List Call → Result End SessionFault → Type 0) (calls : List Call) (result : Result End SessionFault) where
+module _ {End : Type 0} (address : Address) (Session : List Call → Result End SessionFault → Type 0) (calls : List Call) (result : Result End SessionFault) where
   -- a session that only sends and takes is one visit
-  pub Exchange-visits : ((own : List Call) → Session own result → All IsSendOrTake own) → Exchange path Session calls result → IsOneVisit path calls
+  pub Exchange-visits : ((own : List Call) → Session own result → All IsSendOrTake own) → Exchange address Session calls result → IsOneVisit address calls
   Exchange-visits only (not_opened are is) =
       rw are (record { ok = false; later = []; first = refl; openings = refl; closings = refl; last = λ ok. absurd (cc) })
   Exchange-visits only (opened own session are) =
@@ -57,14 +59,14 @@ module _ {End : Type 0} (path : List ℕ) (Session : List Call → Result End Se
         ok = true;
         later = own ++ Closed ∷ [];
         first = refl;
-        openings = count-append is_opening (Opened path true ∷ []) (own ++ Closed ∷ []) ∙ ap (λ (n : ℕ). 1 + n) then_none;
-        closings = count-append is_closing (Opened path true ∷ []) (own ++ Closed ∷ []) ∙ ap (λ (n : ℕ). 0 + n) then_one;
-        last = λ ok. (Opened path true ∷ own, refl);
+        openings = count-append is_opening (Opened address true ∷ []) (own ++ Closed ∷ []) ∙ ap (λ (n : ℕ). 1 + n) then_none;
+        closings = count-append is_closing (Opened address true ∷ []) (own ++ Closed ∷ []) ∙ ap (λ (n : ℕ). 0 + n) then_one;
+        last = λ ok. (Opened address true ∷ own, refl);
       })
 
   -- and what a session sends is sent
   pub Exchange-sends : (IsGood : End → Type 0) (texts : ℕ → List (List ℕ)) → ((own : List Call) → Session own result → Sends IsGood texts own result)
-      → Exchange path Session calls result → (choice : ℕ) × SendsInOrder (texts choice) calls (EndsWell IsGood result)
+      → Exchange address Session calls result → (choice : ℕ) × SendsInOrder (texts choice) calls (EndsWell IsGood result)
   unfolding sent_in sent_before_takes
   Exchange-sends IsGood texts sends (not_opened are is) =
       rw (are, is) (0, record { before_takes = All-nil (AreFirst (texts 0)); unsent = concat (texts 0); in_all = refl; ends = λ ends. absurd ends })
@@ -85,16 +87,16 @@ module _ {End : Type 0} (path : List ℕ) (Session : List Call → Result End Se
 
 -- ---- of each tool ----
 
-pub qmi_visits : (path : List ℕ) (plan : QmiPlan) (calls : List Call) (result : Result QmiEnd SessionFault) → Exchange path (qmi.Session plan) calls result → IsOneVisit path calls
-qmi_visits path plan calls result = Exchange-visits path (qmi.Session plan) calls result (λ own session. (qmi_sends plan own result session).each)
+pub qmi_visits : (address : Address) (plan : QmiPlan) (calls : List Call) (result : Result QmiEnd SessionFault) → Exchange address (qmi.Session plan) calls result → IsOneVisit address calls
+qmi_visits address plan calls result = Exchange-visits address (qmi.Session plan) calls result (λ own session. (qmi_sends plan own result session).each)
 
-pub qmi_requests_sent : (path : List ℕ) (plan : QmiPlan) (calls : List Call) (result : Result QmiEnd SessionFault) → Exchange path (qmi.Session plan) calls result
+pub qmi_requests_sent : (address : Address) (plan : QmiPlan) (calls : List Call) (result : Result QmiEnd SessionFault) → Exchange address (qmi.Session plan) calls result
     → (allocated : ℕ) × SendsRequests (requests_of plan allocated) calls result
-qmi_requests_sent path plan calls result = Exchange-sends path (qmi.Session plan) calls result qmi_sending.IsGood (λ n. qmi_sending.messages_of (requests_of plan n)) (λ own session. qmi_sends plan own result session)
+qmi_requests_sent address plan calls result = Exchange-sends address (qmi.Session plan) calls result qmi_sending.IsGood (λ n. qmi_sending.messages_of (requests_of plan n)) (λ own session. qmi_sends plan own result session)
 
-pub mbim_visits : (path : List ℕ) (plan : MbimPlan) (calls : List Call) (result : Result MbimEnd SessionFault) → Exchange path (mbim.Session plan) calls result → IsOneVisit path calls
-mbim_visits path plan calls result = Exchange-visits path (mbim.Session plan) calls result (λ own session. (mbim_sends plan own result session).each)
+pub mbim_visits : (address : Address) (plan : MbimPlan) (calls : List Call) (result : Result MbimEnd SessionFault) → Exchange address (mbim.Session plan) calls result → IsOneVisit address calls
+mbim_visits address plan calls result = Exchange-visits address (mbim.Session plan) calls result (λ own session. (mbim_sends plan own result session).each)
 
-pub mbim_messages_sent : (path : List ℕ) (plan : MbimPlan) (calls : List Call) (result : Result MbimEnd SessionFault) → Exchange path (mbim.Session plan) calls result
+pub mbim_messages_sent : (address : Address) (plan : MbimPlan) (calls : List Call) (result : Result MbimEnd SessionFault) → Exchange address (mbim.Session plan) calls result
     → SendsInOrder (mbim_sending.messages_of plan) calls (EndsWell mbim_sending.IsGood result)
-mbim_messages_sent path plan calls result exchange = (Exchange-sends path (mbim.Session plan) calls result mbim_sending.IsGood (λ n. mbim_sending.messages_of plan) (λ own session. mbim_sends plan own result session) exchange).1
+mbim_messages_sent address plan calls result exchange = (Exchange-sends address (mbim.Session plan) calls result mbim_sending.IsGood (λ n. mbim_sending.messages_of plan) (λ own session. mbim_sends plan own result session) exchange).1

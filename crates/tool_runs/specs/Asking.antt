@@ -2,6 +2,7 @@
 use Rattle.std.specs.Prelude.{◌≡◌, ◌⊎◌, ℕ, Bool, List, [], ◌∷◌, ◌++◌, true, false, Option, Some, None, Result, Ok, Err}
 use Rattle.kit_io.specs.Causes.{Rose}
 use Rattle.kit_io.specs.Told.{Grows, GrowsByFront}
+use Rattle.link_io.specs.Target.{Address, AtSocket}
 use Rattle.link_io.specs.Calls.{Call, Opened, Closed}
 use Rattle.link_session.specs.declared.fault.SessionFault.{SessionFault}
 use Rattle.link_session.specs.declared.fault.SessionFault.TheVariants as fault
@@ -11,15 +12,15 @@ use Rattle.tool_runs.specs.declared.session.Refusal.{Refusal}
 
 -- ---- the link ----
 
--- The calls on a link to this path over which such a session was had. A link that opened is closed once, as the last call.
-pub data Exchange {End : Type 0} (path : List ℕ) (Session : List Call → Result End SessionFault → Type 0) (calls : List Call) (result : Result End SessionFault) : Type 0 where
-  not_opened : calls ≡ Opened path false ∷ [] → result ≡ Err fault.LinkFault → Exchange path Session calls result
-  opened : (own : List Call) → Session own result → calls ≡ (Opened path true ∷ own) ++ Closed ∷ [] → Exchange path Session calls result
+-- The calls on a link to this address over which such a session was had. A link that opened is closed once, as the last call.
+pub data Exchange {End : Type 0} (address : Address) (Session : List Call → Result End SessionFault → Type 0) (calls : List Call) (result : Result End SessionFault) : Type 0 where
+  not_opened : calls ≡ Opened address false ∷ [] → result ≡ Err fault.LinkFault → Exchange address Session calls result
+  opened : (own : List Call) → Session own result → calls ≡ (Opened address true ∷ own) ++ Closed ∷ [] → Exchange address Session calls result
 
 -- a link's calls have grown by such an exchange
-pub record Exchanges {End : Type 0} (path : List ℕ) (Session : List Call → Result End SessionFault → Type 0) (before : Option (List Call)) (result : Result End SessionFault) (after : Option (List Call)) : Type 0 where
+pub record Exchanges {End : Type 0} (address : Address) (Session : List Call → Result End SessionFault → Type 0) (before : Option (List Call)) (result : Result End SessionFault) (after : Option (List Call)) : Type 0 where
   pub calls : List Call
-  pub exchange : Exchange path Session calls result
+  pub exchange : Exchange address Session calls result
   pub grows : Grows before calls after
 
 -- a count of the link's faults has risen
@@ -66,10 +67,10 @@ pub record Asked (End : Type 0) : Type 1 where
 abbrev pub asked_of : {Plan End : Type 0} → (Plan → List Call → Result End SessionFault → Type 0) → (End → Option Refusal) → (End → List ℕ) → Plan → Asked End
 asked_of session refused printed plan = record { Session = session plan; refused = refused; printed = printed }
 
--- such a session was had over a link to this path, and its end was printed
+-- such a session was had over a link to the socket of this path, and its end was printed
 pub record AsksModem {End : Type 0} (path : List ℕ) (asked : Asked End) (before after : Option (List Call)) (out : Option (List ℕ)) (ends : RunEnd) (printed : Option (List ℕ)) : Type 0 where
   pub result : Result End SessionFault
-  pub exchanges : Exchanges path asked.Session before result after
+  pub exchanges : Exchanges (AtSocket path) asked.Session before result after
   pub says : Says asked.refused asked.printed result out ends printed
 
 -- or there was no memory for the first call

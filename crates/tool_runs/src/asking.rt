@@ -1,7 +1,7 @@
 ghost use Rattle.std.specs.Prelude.{◌≡◌, Err};
 ghost use Rattle.std.specs.Str.{encode_utf8_all};
 ghost use Rattle.kit_io.specs.Causes.{Rose};
-ghost use Rattle.link_io.specs.Target.{path_of};
+ghost use Rattle.link_io.specs.Target.{address_of};
 ghost use Rattle.tool_runs.specs.Asking.{Asks, asked_of, Exchanges, HasFailed, Prints, PrintsText};
 
 use crate::run_end::RunEnd;
@@ -41,7 +41,7 @@ fn exchange<S: Session, L: Link>(
     plan: &S,
     link: &mut L,
 ) -> Result<S::End, SessionFault>
-    ensures exchanges { Exchanges (path_of target.now) (S.session plan.now) (L.calls link.old) result (L.calls link.new) }
+    ensures exchanges { Exchanges (address_of target.now) (S.session plan.now) (L.calls link.old) result (L.calls link.new) }
     ensures link_fault { result ≡ Err SessionFault.LinkFault → HasFailed L.faults L.open_faults link.old link.new }
 {
     if let Err(Failed) = link.open(target) {

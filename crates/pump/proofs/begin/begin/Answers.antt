@@ -1,7 +1,7 @@
 use Rattle.std.proofs.Common.{not, true, false, [], ◌∷◌, refl, ap, ◌∙◌}
 use Rattle.kit_io.proofs.Told.{Grows-append}
 use Rattle.link_io.specs.Calls as link
-use Rattle.link_io.specs.Target.{path_of}
+use Rattle.link_io.specs.Target.{address_of}
 use Rattle.file_io.specs.Calls as file
 use Rattle.pump.specs.Beginning.{no_letter, begun}
 use Rattle.pump.proofs.begin.begin.Goals as goal
@@ -13,7 +13,7 @@ returns-in-Ok-clause-calls g c =
     record {
       on_link = _;
       on_files = _;
-      are = begun refl (ap (λ ok. link.Opened (path_of c.args.bridge.now) ok ∷ link.Sent c.args.letter.now true ∷ []) on_link) (ap (λ ok. file.Opened c.args.node.now c.args.side ok ∷ []) on_files);
+      are = begun refl (ap (λ ok. link.Opened (address_of c.args.bridge.now) ok ∷ link.Sent c.args.letter.now true ∷ []) on_link) (ap (λ ok. file.Opened c.args.node.now c.args.side ok ∷ []) on_files);
       link_grows = Grows-append c.open.ensures.calls c.in-Ok.ensures.calls;
       files_grow = c.open-2.ensures.calls;
     }
@@ -26,7 +26,7 @@ returns-in-Err-clause-calls g c =
     record {
       on_link = _;
       on_files = _;
-      are = no_letter sent.front sent.rest sent.whole refl (ap (λ ok. link.Opened (path_of c.args.bridge.now) ok ∷ link.Sent sent.front false ∷ []) on_link) (ap (λ ok. file.Opened c.args.node.now c.args.side ok ∷ []) on_files);
+      are = no_letter sent.front sent.rest sent.whole refl (ap (λ ok. link.Opened (address_of c.args.bridge.now) ok ∷ link.Sent sent.front false ∷ []) on_link) (ap (λ ok. file.Opened c.args.node.now c.args.side ok ∷ []) on_files);
       link_grows = Grows-append c.open.ensures.calls sent.grows;
       files_grow = c.open-2.ensures.calls;
     }

@@ -1,10 +1,11 @@
-//! The file of a hub's socket: what may stand there before, how it comes about, and its end.
-use mio::net::{UnixListener, UnixStream};
+//! The file of a socket that listens: what may stand there before, how it comes about, and its end.
 use std::alloc::{AllocError, Global};
 use std::fs::{Files, Metadata, Permissions};
 use std::io::ErrorKind;
 use std::net::Net;
+use std::os::fd::{AsRawFd, RawFd};
 use std::os::unix::fs::{FileTypeExt, MetadataExt, PermissionsExt};
+use std::os::unix::net::{UnixListener, UnixStream};
 use std::{fs, io};
 
 /// How many names are tried for the folder in which a socket is made. Each has one digit.
@@ -12,7 +13,7 @@ const NAMES: u8 = 10;
 
 /// Which file stands at a path: its file system, and its number there.
 #[derive(Clone, Copy, PartialEq, Eq)]
-pub(crate) struct FileId {
+pub struct FileId {
     device: u64,
     number: u64,
 }
@@ -37,7 +38,7 @@ impl FileId {
 }
 
 /// Whether two paths are one, or lead to one file.
-pub(crate) fn are_same<R: Files>(rt: &R, path: &str, other: &str) -> bool {
+pub fn are_same<R: Files>(rt: &R, path: &str, other: &str) -> bool {
     if path == other {
         return true;
     }
@@ -49,7 +50,7 @@ pub(crate) fn are_same<R: Files>(rt: &R, path: &str, other: &str) -> bool {
 
 /// The socket at the path to which nobody listens, if there is one. Anything else that stands there
 /// is a fault.
-pub(crate) fn left_over<R: Net + Files>(rt: &R, path: &str) -> io::Result<Option<FileId>> {
+pub fn left_over<R: Net + Files>(rt: &R, path: &str) -> io::Result<Option<FileId>> {
     let found = match fs::symlink_metadata(rt, path) {
         Ok(found) => found,
         Err(error) if error.kind() == ErrorKind::NotFound => return Ok(None),
@@ -71,21 +72,22 @@ fn is_deserted<R: Net>(rt: &R, path: &str) -> bool {
 }
 
 /// A socket that listens at a path. Its file goes with it, where no other has taken its place.
-pub(crate) struct Listening<'a, R: Files> {
+pub struct Listening<'a, R: Files> {
     rt: &'a R,
     path: String,
     file: FileId,
-    pub(crate) listener: UnixListener,
+    listener: UnixListener,
 }
 
 impl<'a, R: Net + Files> Listening<'a, R> {
     /// Has a socket of its owner alone stand at the path, in place of one that was left. It is made
     /// elsewhere, so that it listens and has its rights before anybody finds it.
-    pub(crate) fn start(rt: &'a R, alloc: Global, path: &str) -> io::Result<Self> {
+    pub fn start(rt: &'a R, alloc: Global, path: &str) -> io::Result<Self> {
         let text = String::from_str(alloc, path)?;
         let folder = OwnFolder::beside(rt, alloc, path)?;
         let made = folder.socket.as_str();
         let listener = UnixListener::bind(rt, made)?;
+        listener.set_nonblocking(true)?;
         fs::set_permissions(rt, made, Permissions::from_mode(0o600))?;
         let file = FileId::at(rt, made)?;
         if let Some(left) = left_over(rt, path)? {
@@ -99,6 +101,18 @@ impl<'a, R: Net + Files> Listening<'a, R> {
             file,
             listener,
         })
+    }
+
+    /// The stream of whoever waits first, or `WouldBlock` where nobody does.
+    pub fn accept(&self) -> io::Result<UnixStream> {
+        let (stream, _) = self.listener.accept()?;
+        Ok(stream)
+    }
+}
+
+impl<R: Files> AsRawFd for Listening<'_, R> {
+    fn as_raw_fd(&self) -> RawFd {
+        self.listener.as_raw_fd()
     }
 }
 

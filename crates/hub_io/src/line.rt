@@ -1,0 +1,84 @@
+//! The sockets over which a hub's modem is reached.
+ghost use Rattle.std.specs.Prelude.{◌≡◌, ℕ, ◌<◌, ◌≤◌, length, IfOk};
+ghost use Rattle.hub_io.specs.Reading.{GaveFits};
+
+use crate::peer::{Gave, Peer, Reading};
+use mio::Registry;
+use mio::event::Event;
+use std::io;
+
+/// One socket both ways, or two of them where a node is reached through its pumps.
+#[derive(Drop)]
+pub(crate) struct Line {
+    input: Peer,
+    /// What goes out, where that is a socket of its own.
+    output: Option<Peer>,
+}
+
+impl Line {
+    pub(crate) fn of_socket(socket: Peer) -> Self {
+        Line {
+            input: socket,
+            output: None,
+        }
+    }
+
+    pub(crate) fn of_pumps(input: Peer, output: Peer) -> Self {
+        Line {
+            input,
+            output: Some(output),
+        }
+    }
+
+    /// The last writing took nothing, and no room was found since.
+    pub(crate) fn is_full(&self) -> bool {
+        match &self.output {
+            Some(output) => output.is_full(),
+            None => self.input.is_full(),
+        }
+    }
+
+    /// Whether an event says that a full line has room again.
+    pub(crate) fn finds_room(&mut self, event: &Event) -> bool {
+        self.output().finds_room(event)
+    }
+
+    /// Reads once for an event. What comes in where bytes only go out is passed over.
+    pub(crate) fn read(&mut self, registry: &Registry, event: &Event, buf: &mut [u8]) -> Reading
+        requires { 0 < length buf.old }
+        ensures fits { GaveFits result.gave (length buf.new) }
+        ensures len { length buf.new ≡ length buf.old }
+    {
+        match &mut self.output {
+            Some(output) if output.is_of(event) => without_bytes(output.read(registry, event, buf)),
+            _ => self.input.read(registry, event, buf),
+        }
+    }
+
+    /// Writes once. A line that takes nothing now is full.
+    pub(crate) fn write(&mut self, bytes: &[u8]) -> io::Result<usize>
+        ensures within { IfOk result (λ count. count ≤ length bytes.now) }
+    {
+        self.output().write(bytes)
+    }
+
+    fn output(&mut self) -> &mut Peer {
+        match &mut self.output {
+            Some(output) => output,
+            None => &mut self.input,
+        }
+    }
+}
+
+// The same reading, but that it gave no bytes.
+fn without_bytes(reading: Reading) -> Reading
+    ensures { (room : ℕ) → GaveFits result.gave room }
+{
+    match reading.gave {
+        Gave::Bytes(_) => Reading {
+            gave: Gave::Nothing,
+            is_last: reading.is_last,
+        },
+        Gave::Nothing | Gave::End => reading,
+    }
+}
