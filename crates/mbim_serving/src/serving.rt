@@ -24,7 +24,7 @@ pub fn serve_mbim<H: Hub>(alloc: Global, hub: &mut H, settings: &Settings) -> Se
     ensures fault { result ≡ ServeEnd.HubFault → Rose (H.faults hub.old) (H.faults hub.new) }
 {
     match open(alloc, settings) {
-        Ok(core) => serve(alloc, hub, core, settings.empty, settings.turns),
+        Ok(core) => serve(hub, core, settings.empty, settings.turns),
         Err(AllocError) => ServeEnd::OutOfMemory,
     }
 }

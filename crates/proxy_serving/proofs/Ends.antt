@@ -1,9 +1,11 @@
 -- A serving that ends within some turns ends within more of them.
-use Rattle.std.proofs.Common.{ℕ, ◌≤◌, List, Option, inl, inr, arith}
+use Rattle.std.proofs.Common.{ℕ, ◌≤◌, List, Option, Some, None, inl, inr, arith}
 use Rattle.proxy_history.specs.Events.{Event}
-use Rattle.hub_io.specs.Record.{Call}
+use Rattle.hub_io.specs.Record.{Call, Since}
+use Rattle.hub_io.specs.declared.settings.ServeEnd.{ServeEnd}
+use Rattle.hub_io.specs.declared.settings.ServeEnd.TheVariants as end
 use Rattle.proxy_history.specs.Proxy.{Proxy}
-use Rattle.proxy_serving.specs.Ends.{GoesOn, EndsWith, EndsIdle, RanOut}
+use Rattle.proxy_serving.specs.Ends.{GoesOn, EndsWith, EndsIdle, EndsFor, EndsSo, RanOut}
 
 module _ {p : Proxy} {limit : Option ℕ} {calls : List Call} (turns more : ℕ) (within : turns ≤ more) where
   pub goes_on_further : GoesOn p limit turns calls → GoesOn p limit more calls
@@ -27,8 +29,7 @@ module _ {p : Proxy} {limit : Option ℕ} {calls : List Call} (turns more : ℕ)
 
   pub ran_out_further : {lacks : Event → Type 0} → RanOut lacks p limit turns calls → RanOut lacks p limit more calls
   ran_out_further (inl none) = inl none
-  ran_out_further (inr (inl unnoted)) = inr (inl (record { conn = unnoted.conn; bytes = unnoted.bytes; earlier = unnoted.earlier; whole = unnoted.whole; goes_on = goes_on_further turns more within unnoted.goes_on }))
-  ran_out_further (inr (inr early)) = inr (inr (record {
+  ran_out_further (inr early) = inr (record {
     event = early.event;
     lacking = early.lacking;
     earlier = early.earlier;
@@ -36,4 +37,19 @@ module _ {p : Proxy} {limit : Option ℕ} {calls : List Call} (turns more : ℕ)
     goes_on = goes_on_further turns more within early.goes_on;
     done = early.done;
     counted = omega (arith, early.counted);
-  }))
+  })
+
+-- a proxy that takes memory for no event runs out before any call alone
+module _ (p : Proxy) (limit : Option ℕ) (turns : ℕ) where
+  ends_so : (why : ServeEnd) (calls : List Call) → EndsFor (λ event. ⊥) p limit turns why calls → EndsSo p limit turns why calls
+  ends_so end.Stopped calls ends = ends
+  ends_so end.HubFault calls ends = ends
+  ends_so end.TurnsSpent calls ends = ends
+  ends_so end.Empty calls ends = ends
+  ends_so end.OutOfMemory calls (inl none) = none
+  ends_so end.OutOfMemory calls (inr early) = absurd early.lacking
+
+  pub served_so : (start now : Option (List Call)) (why : ServeEnd) → Since start now (EndsFor (λ event. ⊥) p limit turns why) → Since start now (EndsSo p limit turns why)
+  served_so start None why since = tt
+  served_so None (Some now) why since = absurd since
+  served_so (Some start) (Some now) why since = (since.0, since.1, ends_so why since.0 since.2)

@@ -1,6 +1,6 @@
 -- How serving goes on from call to call. Lists of calls and of events have the newest first.
 use Rattle.std.proofs.lemmas.Bool.{false≢true}
-use Rattle.std.proofs.Common.{true, ◌≡◌, ℕ, ◌+◌, false, ◌==◌, List, [], ◌∷◌, ◌++◌, reverse, sym, ◌∙◌, ap, subst, append_assoc, Option, ◌≤◌, length, arith, refl}
+use Rattle.std.proofs.Common.{true, ◌≡◌, ℕ, ◌+◌, false, ◌==◌, nat_lt, if◌then◌else◌, List, [], ◌∷◌, ◌++◌, reverse, sym, ◌∙◌, ap, subst, append_assoc, Option, ◌≤◌, length, arith, refl}
 use Rattle.std.proofs.lemmas.List.{reverse-append}
 use Rattle.kit_bytes.proofs.Lists.{all_weaker}
 use Rattle.proxy_history.specs.Events.{Event, Took, Left, ModemTook, ModemGone, ModemBack}
@@ -10,6 +10,7 @@ use Rattle.proxy_history.specs.Proxy.{Proxy}
 use Rattle.proxy_serving.specs.Serving.{IsFront, AllIsOffered, AllIsDone, taken_by, is_blocked, hang_ups, due_hang_ups, turns_in, NeverIdle, emptied_at, is_modem_blocked, reopenings, due_reopenings}
 use Rattle.proxy_serving.proofs.Offering.{AreBlocked, differs_from_all, blocked-sent_none, blocked-sent_none_on, blocked_but, blocked_others, all_joined}
 use Rattle.proxy_serving.specs.Ends.{Serves, GoesOn}
+use Rattle.proxy_serving.specs.Server.{remembering}
 use Rattle.proxy_serving.specs.Progress.{IsServing, MayBeTold}
 use Rattle.proxy_serving.specs.Face.{Face}
 use Rattle.proxy_serving.specs.Cores.{Stands}
@@ -65,7 +66,7 @@ module _ {C : Type 0} {keeps : Proxy → List Event → C → Type 0} {face : C 
   }
 
   -- a sending took nothing
-  pub serving-sent_none : (c : ℕ) (bytes : List ℕ) (now : Server C) → IsFront bytes (p.waiting c (events calls)) → now.core ≡ server.core → now.blocked ≡ server.blocked ++ c ∷ [] → now.modem_blocked ≡ server.modem_blocked → now.emptied ≡ server.emptied
+  pub serving-sent_none : (c : ℕ) (bytes : List ℕ) (now : Server C) → IsFront bytes (p.waiting c (events calls)) → now.core ≡ server.core → now.blocked ≡ remembering c server.blocked → now.modem_blocked ≡ server.modem_blocked → now.emptied ≡ server.emptied
       → IsServing keeps face p turns now (Sent c bytes 0 ∷ calls)
   unfolding hang_ups due_hang_ups turns_in is_modem_blocked reopenings due_reopenings
   serving-sent_none c bytes now front core blocked modem emptied = record {
@@ -78,8 +79,14 @@ module _ {C : Type 0} {keeps : Proxy → List Event → C → Type 0} {face : C 
     no_opening = (tt, going.no_opening);
     no_end = (tt, going.no_end);
     counted = going.counted;
-    blocked = subst (AreBlocked (Sent c bytes 0 ∷ calls)) (sym blocked)
-        (all_joined _ server.blocked (c ∷ []) (all_weaker _ _ (λ d is. blocked-sent_none_on c d bytes calls is) server.blocked going.blocked) (blocked-sent_none c bytes calls, tt));
+    blocked =
+        let Blocked : List ℕ → Type 0 = AreBlocked (Sent c bytes 0 ∷ calls) in
+        let still : Blocked server.blocked = all_weaker _ _ (λ d is. blocked-sent_none_on c d bytes calls is) server.blocked going.blocked in
+        subst Blocked (sym blocked)
+        (elim (nat_lt (length server.blocked) 64) as (λ b. Blocked (if b then server.blocked ++ c ∷ [] else server.blocked)) [
+          | true ↦ all_joined _ server.blocked (c ∷ []) still (blocked-sent_none c bytes calls, tt)
+          | false ↦ still
+        ]);
     modem_blocked = λ is. going.modem_blocked (sym modem ∙ is);
     emptied = emptied ∙ going.emptied ∙ ap (emptied_at p) (sym (events-sent_none c bytes calls));
   }

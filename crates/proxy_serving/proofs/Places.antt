@@ -10,14 +10,13 @@ use Rattle.hub_io.specs.Record.{Call, Sent, SendFailed, HungUp, events}
 use Rattle.proxy_history.specs.Proxy.{Proxy}
 use Rattle.proxy_serving.specs.Serving.{IsFront, IsOffered, is_blocked, NeverIdle, reopenings, due_reopenings}
 use Rattle.proxy_serving.proofs.Offering.{AreBlocked, is_among, both_on, all_joined, blocked-sent_none}
-use Rattle.proxy_serving.specs.Ends.{EndsUnnoted}
-use Rattle.proxy_serving.specs.Server.{emptied_after}
+use Rattle.proxy_serving.specs.Server.{emptied_after, remembering}
 use Rattle.proxy_serving.specs.Progress.{IsServing, HasOffered, IsAt, OffersClients}
 use Rattle.proxy_serving.specs.Face.{Face, first_waiting}
 use Rattle.proxy_serving.specs.Cores.{StandsAfter}
 use Rattle.proxy_serving.specs.declared.server.Server.{Server}
 use Rattle.proxy_serving.proofs.Offers.{events-sent, events-sent_none, events-send_failed, events-hung_up, offered-sent_none, offered-sent, offered-send_failed, offered-hung_up, earlier_differ, without-at}
-use Rattle.proxy_serving.proofs.Going.{serving-sent_none, serving-sent, serving-failed, goes_on}
+use Rattle.proxy_serving.proofs.Going.{serving-sent_none, serving-sent, serving-failed}
 use Rattle.proxy_serving.proofs.Faces.{contains-middle, slice_get-at, emptied_is, first_is, none_is}
 
 -- a whole queue is a front of itself
@@ -60,7 +59,7 @@ module _ {C : Type 0} {keeps : Proxy → List Event → C → Type 0} {face : C 
   pub at-empty : (face server.core).queue c ≡ [] → HasOffered keeps face p limit turns (count + 1) server calls
   at-empty none = offered_here (inl (sym queue ∙ none))
 
-  pub at-sent_none : (bytes : List ℕ) (now : Server C) → 0 < length bytes → bytes ≡ (face server.core).queue c → now.core ≡ server.core → now.blocked ≡ server.blocked ++ c ∷ [] → now.modem_blocked ≡ server.modem_blocked → now.emptied ≡ server.emptied
+  pub at-sent_none : (bytes : List ℕ) (now : Server C) → 0 < length bytes → bytes ≡ (face server.core).queue c → now.core ≡ server.core → now.blocked ≡ remembering c server.blocked → now.modem_blocked ≡ server.modem_blocked → now.emptied ≡ server.emptied
       → HasOffered keeps face p limit turns (count + 1) now (Sent c bytes 0 ∷ calls)
   unfolding reopenings due_reopenings
   at-sent_none bytes now waits whole core blocked modem emptied = record {
@@ -79,13 +78,6 @@ module _ {C : Type 0} {keeps : Proxy → List Event → C → Type 0} {face : C 
         (both_on at.done (λ d other is. offered-sent_none at.serving.stands.shows.lawful c d bytes calls other is) differ at.offered)
         (inr (blocked-sent_none c bytes calls), tt);
   }
-
-  -- memory ran out for noting that it took nothing
-  pub at-sent_none_unnoted : (bytes : List ℕ) → 0 < length bytes → bytes ≡ (face server.core).queue c → (face server.core).dropped ≡ [] → EndsUnnoted p limit turns (Sent c bytes 0 ∷ calls)
-  at-sent_none_unnoted bytes waits whole none =
-      let now : Server C = record { core = server.core; blocked = server.blocked ++ c ∷ []; modem_blocked = server.modem_blocked; emptied = server.emptied } in
-      let serving = serving-sent_none at.serving c bytes now (front_of_waiting bytes waits whole) refl refl refl refl in
-      record { conn = c; bytes = bytes; earlier = calls; whole = refl; goes_on = goes_on serving none at.awake }
 
   pub at-sent : (bytes : List ℕ) (taken : ℕ) (now : Server C) → (taken == 0) ≡ false → taken ≤ length bytes → 0 < length bytes → bytes ≡ (face server.core).queue c → contains c server.blocked ≡ false → (face server.core).dropped ≡ []
       → StandsAfter keeps face p (Took c taken ∷ events calls) now.core → now.blocked ≡ server.blocked → now.modem_blocked ≡ server.modem_blocked → now.emptied ≡ emptied_after (face server.core) server.emptied (face now.core)

@@ -139,7 +139,7 @@ module _ {C : Type 0} {keeps : Proxy → List Event → C → Type 0} {face : C 
   unfolding turns_in
   told-unmet none lacking =
       let Counted : List Call → Type 0 = λ calls. turns_in calls ≤ turns + 1 in
-      inr (inr (record {
+      inr (record {
         event = event;
         lacking = lacking;
         earlier = has.earlier;
@@ -147,7 +147,7 @@ module _ {C : Type 0} {keeps : Proxy → List Event → C → Type 0} {face : C 
         goes_on = goes_on_further turns (turns + 1) (omega arith) (goes_on has.ready.serving none has.ready.awake);
         done = all_done has.ready.serving has.ready.in_time has.ready.offered none;
         counted = subst Counted (sym has.whole) (omega (arith, has.ready.serving.counted));
-      }))
+      })
 
   module _ {now : Server C} (names : List ℕ) (none_before : (face server.core).dropped ≡ []) (serving : IsServing keeps face p (turns + 1) now (hanging_up names ++ told)) (none : (face now.core).dropped ≡ []) where
     events_are : events (hanging_up names ++ told) ≡ event ∷ events has.earlier

@@ -2,7 +2,7 @@
 use Rattle.std.specs.Prelude.{◌≡◌, ◌⊎◌, ℕ, ◌≤◌, [], ◌∷◌, ◌++◌, true, Option, List}
 use Rattle.std.specs.List.{AllByRecursion}
 use Rattle.proxy_history.specs.Events.{Event, Now}
-use Rattle.hub_io.specs.Record.{Call, ToldStop, NextFailed, Told, Sent, events}
+use Rattle.hub_io.specs.Record.{Call, ToldStop, NextFailed, Told, events}
 use Rattle.hub_io.specs.declared.settings.ServeEnd.{ServeEnd}
 use Rattle.hub_io.specs.declared.settings.ServeEnd.TheVariants as end
 use Rattle.proxy_history.specs.Proxy.{Proxy}
@@ -43,14 +43,6 @@ pub record EndsIdle (p : Proxy) (limit : Option ℕ) (turns : ℕ) (calls : List
   pub serves : Serves p calls
   pub counted : turns_in calls ≤ turns
 
--- it went on, and its last call was a sending of which nothing was taken; there was no memory to note that
-pub record EndsUnnoted (p : Proxy) (limit : Option ℕ) (turns : ℕ) (calls : List Call) : Type 0 where
-  pub conn : ℕ
-  pub bytes : List ℕ
-  pub earlier : List Call
-  pub whole : calls ≡ Sent conn bytes 0 ∷ earlier
-  pub goes_on : GoesOn p limit turns calls
-
 -- it went on until its last call, which told an event for which there was no memory; `lacks` says at which that may be
 pub record EndsEarly (lacks : Event → Type 0) (p : Proxy) (limit : Option ℕ) (turns : ℕ) (calls : List Call) : Type 0 where
   pub event : Event
@@ -61,9 +53,9 @@ pub record EndsEarly (lacks : Event → Type 0) (p : Proxy) (limit : Option ℕ)
   pub done : AllIsDone p earlier
   pub counted : turns_in calls ≤ turns
 
--- memory ran out before any call, or at one of these
+-- memory ran out before any call, or at that one
 abbrev pub RanOut : (Event → Type 0) → Proxy → Option ℕ → ℕ → List Call → Type 0
-RanOut lacks p limit turns calls = (calls ≡ []) ⊎ EndsUnnoted p limit turns calls ⊎ EndsEarly lacks p limit turns calls
+RanOut lacks p limit turns calls = (calls ≡ []) ⊎ EndsEarly lacks p limit turns calls
 
 -- all turns were taken, and all that waits was offered
 pub record EndsSpent (p : Proxy) (limit : Option ℕ) (turns : ℕ) (calls : List Call) : Type 0 where
@@ -79,6 +71,7 @@ EndsFor lacks p limit turns end.TurnsSpent calls = EndsSpent p limit turns calls
 EndsFor lacks p limit turns end.Empty calls = EndsIdle p limit turns calls
 EndsFor lacks p limit turns end.OutOfMemory calls = RanOut lacks p limit turns calls
 
--- the same of a proxy that takes memory for no event
+-- the same of a proxy that takes memory for no event: none runs out once there was a call
 abbrev pub EndsSo : Proxy → Option ℕ → ℕ → ServeEnd → List Call → Type 0
+EndsSo p limit turns end.OutOfMemory calls = calls ≡ []
 EndsSo p limit turns why calls = EndsFor (λ event. ⊥) p limit turns why calls

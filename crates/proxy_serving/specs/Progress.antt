@@ -10,7 +10,7 @@ use Rattle.hub_io.specs.declared.settings.ServeEnd.TheVariants as end
 use Rattle.proxy_history.specs.Coming.{piece_limit}
 use Rattle.proxy_history.specs.Proxy.{Proxy}
 use Rattle.proxy_serving.specs.Serving.{SendsWhatWaits, TakesTheFirst, DoesAllBeforeEachNext, AllIsOffered, IsOffered, is_blocked, is_modem_blocked, hang_ups, due_hang_ups, reopenings, hanging_up, IsNoOpening, due_reopenings, turns_in, IsNoEnd, NeverIdle, emptied_at}
-use Rattle.proxy_serving.specs.Ends.{EndsUnnoted, RanOut, EndsWith, EndsIdle, EndsFor}
+use Rattle.proxy_serving.specs.Ends.{RanOut, EndsWith, EndsIdle, EndsFor}
 use Rattle.proxy_serving.specs.Face.{Face}
 use Rattle.proxy_serving.specs.Cores.{Stands}
 use Rattle.proxy_serving.specs.declared.next.Next.{Next}
@@ -44,9 +44,8 @@ TellsNext before _ after = after ≡ before
 -- ---- what an offering comes to ----
 
 -- from the next place on as many are there as were behind this one
-abbrev pub OneIsDone : ℕ → Result ℕ AllocError → Face → Face → Type 0
-OneIsDone place (Ok next) old new = length new.present + (place + 1) ≡ length old.present + next
-OneIsDone place (Err e) old new = Unit {0}
+abbrev pub OneIsDone : (place next : ℕ) → Face → Face → Type 0
+OneIsDone place next old new = length new.present + (place + 1) ≡ length old.present + next
 
 -- ---- what a turn comes to ----
 
@@ -132,32 +131,10 @@ module _ {C : Type 0} (keeps : Proxy → List Event → C → Type 0) (face : C 
 
   -- ---- what an offering comes to ----
 
-  -- all before the next place were offered what waits for them, or memory ran out
-  abbrev pub AfterOffer : Result ℕ AllocError → Proxy → Option ℕ → ℕ → Server C → List Call → Type 0
-  AfterOffer (Ok next) p limit turns server calls = HasOffered p limit turns next server calls
-  AfterOffer (Err e) p limit turns server calls = EndsUnnoted p limit turns calls
-
-  -- all clients were, or memory ran out
-  abbrev pub AfterOffers : {T : Type 0} → Result T AllocError → Proxy → Option ℕ → ℕ → Server C → List Call → Type 0
-  AfterOffers (Ok t) p limit turns server calls = OffersClients p limit turns server calls
-  AfterOffers (Err e) p limit turns server calls = EndsUnnoted p limit turns calls
-
-  -- ---- the modem ----
-
-  -- the modem was offered all, or is gone, or memory ran out
-  abbrev pub AfterModem : Result Bool AllocError → Proxy → Option ℕ → ℕ → Server C → List Call → Type 0
-  AfterModem (Ok true) p limit turns server calls = IsReady p limit turns server calls
-  AfterModem (Ok false) p limit turns server calls = HasOffered p limit turns 0 server calls
-  AfterModem (Err e) p limit turns server calls = EndsUnnoted p limit turns calls
-
-  -- everybody was offered all, or memory ran out
-  abbrev pub AfterAll : {T : Type 0} → Result T AllocError → Proxy → Option ℕ → ℕ → Server C → List Call → Type 0
-  AfterAll (Ok t) p limit turns server calls = IsReady p limit turns server calls
-  AfterAll (Err e) p limit turns server calls = EndsUnnoted p limit turns calls
-
-  abbrev pub AfterReopening : {T : Type 0} → Result T AllocError → Proxy → Option ℕ → ℕ → Server C → List Call → Type 0
-  AfterReopening (Ok t) p limit turns server calls = HasOffered p limit turns 0 server calls
-  AfterReopening (Err e) p limit turns server calls = ⊥
+  -- the modem was offered all, or is gone
+  abbrev pub AfterModem : Bool → Proxy → Option ℕ → ℕ → Server C → List Call → Type 0
+  AfterModem true p limit turns server calls = IsReady p limit turns server calls
+  AfterModem false p limit turns server calls = HasOffered p limit turns 0 server calls
 
   -- ---- what a turn comes to ----
 

@@ -1,5 +1,5 @@
 -- What serving has to remember beside a core.
-use Rattle.std.specs.Prelude.{ℕ, ◌+◌, ◌==◌, ◌&&◌, nat_le, if◌then◌else◌, Bool, false, Option, Some, None, length}
+use Rattle.std.specs.Prelude.{ℕ, ◌+◌, ◌==◌, ◌&&◌, nat_le, nat_lt, if◌then◌else◌, Bool, false, List, [], ◌∷◌, ◌++◌, Option, Some, None, length}
 use Rattle.proxy_history.specs.Events.{Event, Now}
 use Rattle.hub_io.specs.declared.settings.ServeEnd.{ServeEnd}
 use Rattle.hub_io.specs.declared.settings.ServeEnd.TheVariants as end
@@ -23,3 +23,7 @@ end_at _ limit face emptied = None
 abbrev pub misses_modem : Event → Face → Bool
 misses_modem (Now time) face = face.away
 misses_modem _ face = false
+
+-- a client more whose socket takes nothing now, where it is one of the first 64
+abbrev pub remembering : ℕ → List ℕ → List ℕ
+remembering c blocked = if nat_lt (length blocked) 64 then blocked ++ c ∷ [] else blocked

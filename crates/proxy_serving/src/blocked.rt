@@ -1,14 +1,19 @@
-ghost use Rattle.std.specs.Prelude.{◌≡◌, ◌==◌, [], ◌∷◌, ◌++◌, OnOk, OnErr};
+ghost use Rattle.std.specs.Prelude.{◌≡◌, ◌==◌, []};
 ghost use Rattle.std.specs.List.{list_any};
 ghost use Rattle.proxy_history.specs.Connections.{without};
+ghost use Rattle.proxy_serving.specs.Server.{remembering};
 
-use std::alloc::{AllocError, Global};
+use arrayvec::ArrayVec;
 use std::marker::Model;
 
-/// The clients whose sockets take nothing now.
+/// So many clients are remembered at most.
+pub const MOST_BLOCKED: usize = 64;
+
+/// Clients whose sockets take nothing now: all of them, unless they are more than are remembered. This
+/// takes no memory.
 #[derive(Debug, Drop)]
 pub struct Blocked {
-    names: Vec<u64>,
+    names: ArrayVec<u64, MOST_BLOCKED>,
 }
 
 impl Model for Blocked {
@@ -21,11 +26,11 @@ impl Model for Blocked {
 
 impl Blocked {
     /// No client.
-    pub fn none(alloc: Global) -> Self
+    pub fn none() -> Self
         ensures { result ≡ [] }
     {
         Blocked {
-            names: Vec::new(alloc),
+            names: ArrayVec::new(),
         }
     }
 
@@ -36,13 +41,11 @@ impl Blocked {
         self.names.iter().any(|other| name == *other)
     }
 
-    /// Adds a client.
-    pub fn add(&mut self, name: u64) -> Result<(), AllocError>
-        ensures ok { OnOk result (self.new ≡ self.old ++ name ∷ []) }
-        ensures err { OnErr result (self.new ≡ self.old) }
+    /// Adds a client. One too many isn't remembered, and so is offered again what waits for it.
+    pub fn add(&mut self, name: u64)
+        ensures { self.new ≡ remembering name self.old }
     {
-        self.names.push(name)?;
-        Ok(())
+        let _ = self.names.try_push(name);
     }
 
     /// Takes a client out.

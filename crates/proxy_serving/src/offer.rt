@@ -1,16 +1,15 @@
-ghost use Rattle.std.specs.Prelude.{◌≡◌, ◌≤◌, ◌<◌, ℕ, List, Option, [], true, false, length, OnOk, Ok};
+ghost use Rattle.std.specs.Prelude.{◌≡◌, ◌≤◌, ◌<◌, ℕ, List, Option, [], true, false, length};
 ghost use Rattle.proxy_history.specs.Connections.{contains};
 ghost use Rattle.hub_io.specs.Record.{Since};
 ghost use Rattle.proxy_serving.specs.Carrying.{Carries};
 ghost use Rattle.proxy_history.specs.Proxy.{Proxy};
 ghost use Rattle.proxy_serving.specs.Cores.{IsKnown};
-ghost use Rattle.proxy_serving.specs.Progress.{IsServing, HasOffered, OffersClients, IsAt, AfterOffer, AfterOffers, AfterModem, AfterAll, OneIsDone, AreHangUps};
+ghost use Rattle.proxy_serving.specs.Progress.{IsServing, HasOffered, OffersClients, IsAt, IsReady, AfterModem, OneIsDone, AreHangUps};
 
 use crate::proxy_core::ProxyCore;
 use crate::server::Server;
 use hub_io::{Event, Hub};
 use kit_io::Failed;
-use std::alloc::AllocError;
 
 /// Hangs up the connections that the proxy dropped.
 pub fn hang_up_dropped<C: ProxyCore, H: Hub>(hub: &mut H, server: &mut Server<C>)
@@ -38,14 +37,14 @@ fn offer<C: ProxyCore, H: Hub>(
     server: &mut Server<C>,
     conn: u64,
     place: usize,
-) -> Result<usize, AllocError>
+) -> usize
     requires known { IsKnown C.keeps server.old.core }
     requires asked { (C.face server.old.core).dropped ≡ [] }
     requires there { contains conn (C.face server.old.core).present ≡ true }
     requires place { place < length (C.face server.old.core).present }
     requires fits { place < usize.MAX }
     ensures carries { (p : Proxy) (limit : Option ℕ) (turns : ℕ) →
-        Carries (H.calls hub.old) (IsAt C.keeps C.face p limit turns place conn server.old) (H.calls hub.new) (AfterOffer C.keeps C.face result p limit turns server.new) }
+        Carries (H.calls hub.old) (IsAt C.keeps C.face p limit turns place conn server.old) (H.calls hub.new) (HasOffered C.keeps C.face p limit turns result server.new) }
     ensures asked { (C.face server.new.core).dropped ≡ [] }
     ensures done { OneIsDone place result (C.face server.old.core) (C.face server.new.core) }
     ensures away { (C.face server.new.core).away ≡ (C.face server.old.core).away }
@@ -56,37 +55,34 @@ fn offer<C: ProxyCore, H: Hub>(
 {
     loop {
         if server.blocked.contains(conn) {
-            return Ok(place + 1);
+            return place + 1;
         }
         let queue = server.core.queued(conn);
         if queue.is_empty() {
-            return Ok(place + 1);
+            return place + 1;
         }
         match hub.send(conn, queue) {
             Ok(0) => {
-                server.blocked.add(conn)?;
-                return Ok(place + 1);
+                server.blocked.add(conn);
+                return place + 1;
             }
-            Ok(count) => server.meet(Event::Took(conn, count))?,
+            Ok(count) => server.note(Event::Took(conn, count)),
             Err(Failed) => {
-                server.meet(Event::Left(conn))?;
+                server.note(Event::Left(conn));
                 server.blocked.remove(conn);
                 hub.hang_up(conn);
-                return Ok(place);
+                return place;
             }
         }
     }
 }
 
 // Offers to each client what waits for it.
-fn offer_clients<C: ProxyCore, H: Hub>(
-    hub: &mut H,
-    server: &mut Server<C>,
-) -> Result<(), AllocError>
+fn offer_clients<C: ProxyCore, H: Hub>(hub: &mut H, server: &mut Server<C>)
     requires known { IsKnown C.keeps server.old.core }
     requires asked { (C.face server.old.core).dropped ≡ [] }
     ensures carries { (p : Proxy) (limit : Option ℕ) (turns : ℕ) →
-        Carries (H.calls hub.old) (HasOffered C.keeps C.face p limit turns 0 server.old) (H.calls hub.new) (AfterOffers C.keeps C.face result p limit turns server.new) }
+        Carries (H.calls hub.old) (HasOffered C.keeps C.face p limit turns 0 server.old) (H.calls hub.new) (OffersClients C.keeps C.face p limit turns server.new) }
     ensures asked { (C.face server.new.core).dropped ≡ [] }
     ensures away { (C.face server.new.core).away ≡ (C.face server.old.core).away }
     ensures known { IsKnown C.keeps server.new.core }
@@ -97,23 +93,19 @@ fn offer_clients<C: ProxyCore, H: Hub>(
     let mut from = 0;
     while let Some(place) = server.core.waiting_from(from) {
         let conn = server.core.conn_at(place);
-        from = offer(hub, server, conn, place)?;
+        from = offer(hub, server, conn, place);
     }
-    Ok(())
 }
 
 // Offers to the modem what waits for it, until nothing waits or it takes nothing. It tells whether
 // the modem is there as before; one that fails is gone.
-fn offer_modem<C: ProxyCore, H: Hub>(
-    hub: &mut H,
-    server: &mut Server<C>,
-) -> Result<bool, AllocError>
+fn offer_modem<C: ProxyCore, H: Hub>(hub: &mut H, server: &mut Server<C>) -> bool
     requires known { IsKnown C.keeps server.old.core }
     requires asked { (C.face server.old.core).dropped ≡ [] }
     ensures carries { (p : Proxy) (limit : Option ℕ) (turns : ℕ) →
         Carries (H.calls hub.old) (OffersClients C.keeps C.face p limit turns server.old) (H.calls hub.new) (AfterModem C.keeps C.face result p limit turns server.new) }
-    ensures asked { result ≡ Ok true → (C.face server.new.core).dropped ≡ [] }
-    ensures away { result ≡ Ok false → (C.face server.new.core).away ≡ true }
+    ensures asked { result ≡ true → (C.face server.new.core).dropped ≡ [] }
+    ensures away { result ≡ false → (C.face server.new.core).away ≡ true }
     ensures known { IsKnown C.keeps server.new.core }
     ensures greatest { (C.face server.new.core).greatest ≡ (C.face server.old.core).greatest }
     ensures later { H.faults hub.old ≤ H.faults hub.new }
@@ -121,24 +113,24 @@ fn offer_modem<C: ProxyCore, H: Hub>(
 {
     loop {
         if server.modem_blocked {
-            return Ok(true);
+            return true;
         }
         if server.core.away() {
-            return Ok(true);
+            return true;
         }
         let queue = server.core.queued_modem();
         if queue.is_empty() {
-            return Ok(true);
+            return true;
         }
         match hub.send_modem(queue) {
             Ok(0) => {
                 server.modem_blocked = true;
-                return Ok(true);
+                return true;
             }
-            Ok(count) => server.meet(Event::ModemTook(count))?,
+            Ok(count) => server.note(Event::ModemTook(count)),
             Err(Failed) => {
-                server.meet(Event::ModemGone)?;
-                return Ok(false);
+                server.note(Event::ModemGone);
+                return false;
             }
         }
     }
@@ -146,25 +138,21 @@ fn offer_modem<C: ProxyCore, H: Hub>(
 
 /// Offers to each client, and then to the modem, what waits for it. Where the modem fails, the
 /// clients are offered once more: each that waited for an answer is told.
-pub fn offer_all<C: ProxyCore, H: Hub>(
-    hub: &mut H,
-    server: &mut Server<C>,
-) -> Result<(), AllocError>
+pub fn offer_all<C: ProxyCore, H: Hub>(hub: &mut H, server: &mut Server<C>)
     requires known { IsKnown C.keeps server.old.core }
     requires asked { (C.face server.old.core).dropped ≡ [] }
     ensures carries { (p : Proxy) (limit : Option ℕ) (turns : ℕ) →
-        Carries (H.calls hub.old) (HasOffered C.keeps C.face p limit turns 0 server.old) (H.calls hub.new) (AfterAll C.keeps C.face result p limit turns server.new) }
-    ensures asked { OnOk result ((C.face server.new.core).dropped ≡ []) }
+        Carries (H.calls hub.old) (HasOffered C.keeps C.face p limit turns 0 server.old) (H.calls hub.new) (IsReady C.keeps C.face p limit turns server.new) }
+    ensures asked { (C.face server.new.core).dropped ≡ [] }
     ensures known { IsKnown C.keeps server.new.core }
     ensures greatest { (C.face server.new.core).greatest ≡ (C.face server.old.core).greatest }
     ensures later { H.faults hub.old ≤ H.faults hub.new }
     ensures names { H.greatest hub.new ≡ H.greatest hub.old }
 {
-    offer_clients(hub, server)?;
-    if offer_modem(hub, server)? {
-        return Ok(());
+    offer_clients(hub, server);
+    if offer_modem(hub, server) {
+        return;
     }
     hang_up_dropped(hub, server);
-    offer_clients(hub, server)?;
-    Ok(())
+    offer_clients(hub, server);
 }

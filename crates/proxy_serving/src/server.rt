@@ -10,7 +10,7 @@ ghost use Rattle.proxy_serving.specs.Server.{emptied_after, is_idle_at, end_at, 
 use crate::blocked::Blocked;
 use crate::proxy_core::ProxyCore;
 use hub_io::{Event, ServeEnd};
-use std::alloc::{AllocError, Global};
+use std::alloc::AllocError;
 
 /// A proxy, and what serving it has to remember.
 #[derive(Drop)]
@@ -25,12 +25,12 @@ pub struct Server<C> {
 
 impl<C: ProxyCore> Server<C> {
     /// A proxy that nothing has happened to yet.
-    pub fn open(alloc: Global, core: C) -> Self
+    pub fn open(core: C) -> Self
         ensures { result ≡ record { core = core; blocked = []; modem_blocked = false; emptied = 0 } }
     {
         Server {
             core,
-            blocked: Blocked::none(alloc),
+            blocked: Blocked::none(),
             modem_blocked: false,
             emptied: 0,
         }
@@ -56,6 +56,25 @@ impl<C: ProxyCore> Server<C> {
             self.emptied = self.core.time();
         }
         Ok(())
+    }
+
+    /// Has the proxy meet an event that brings nothing in.
+    pub fn note(&mut self, event: Event<'_>)
+        requires can { CanMeet (event_of event) (C.face self.old.core) }
+        requires known { IsKnown C.keeps self.old.core }
+        requires quiet { BringsIn (event_of event) → ⊥ }
+        ensures stands { (p : Proxy) (past : List history.Event) → Stands C.keeps C.face p past self.old.core → StandsAfter C.keeps C.face p (event_of event.entry ∷ past) self.new.core }
+        ensures known { IsKnown C.keeps self.new.core }
+        ensures makes { Makes (event_of event.entry) (C.face self.old.core) (C.face self.new.core) }
+        ensures greatest { (C.face self.new.core).greatest ≡ greatest_after (event_of event.entry) (C.face self.old.core).greatest }
+        ensures emptied { self.new.emptied ≡ emptied_after (C.face self.old.core) self.old.emptied (C.face self.new.core) }
+        ensures blocked { self.new.blocked ≡ self.old.blocked }
+        ensures modem_blocked { self.new.modem_blocked ≡ self.old.modem_blocked }
+    {
+        match self.meet(event) {
+            Ok(()) => {}
+            Err(_) => unreachable!(),
+        }
     }
 
     /// Whether nobody has been there for so many milliseconds.

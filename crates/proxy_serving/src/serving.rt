@@ -8,7 +8,7 @@ ghost use Rattle.proxy_history.specs.Proxy.{Proxy};
 ghost use Rattle.proxy_serving.specs.Cores.{IsKnown};
 ghost use Rattle.proxy_history.specs.Events.{greatest_after};
 ghost use Rattle.proxy_serving.specs.Server.{misses_modem};
-ghost use Rattle.proxy_serving.specs.Progress.{IsReady, HasTold, MayReopen, AfterReopening, MayBeTold, TellsNext, call_of, AfterMeeting, AfterTurn, IsHubFault, EndsServing};
+ghost use Rattle.proxy_serving.specs.Progress.{IsReady, HasTold, MayReopen, HasOffered, MayBeTold, TellsNext, call_of, AfterMeeting, AfterTurn, IsHubFault, EndsServing};
 
 use crate::next::Next;
 use crate::offer::{hang_up_dropped, offer_all};
@@ -16,34 +16,29 @@ use crate::proxy_core::ProxyCore;
 use crate::server::Server;
 use hub_io::{Event, Hub, NEXT_ROOM, ServeEnd};
 use kit_io::Failed;
-use std::alloc::{AllocError, Global};
+use std::alloc::AllocError;
 
 // Opens the modem again, where an event is the clock and it is away.
-fn reopen_at<C: ProxyCore, H: Hub>(
-    hub: &mut H,
-    server: &mut Server<C>,
-    event: Event<'_>,
-) -> Result<(), AllocError>
+fn reopen_at<C: ProxyCore, H: Hub>(hub: &mut H, server: &mut Server<C>, event: Event<'_>)
     requires known { IsKnown C.keeps server.old.core }
     requires asked { (C.face server.old.core).dropped ≡ [] }
     ensures carries { (p : Proxy) (limit : Option ℕ) (turns : ℕ) →
-        Carries (H.calls hub.old) (MayReopen C.keeps C.face p limit turns (misses_modem (event_of event.entry) (C.face server.old.core)) server.old) (H.calls hub.new) (AfterReopening C.keeps C.face result p limit turns server.new) }
-    ensures known { OnOk result (IsKnown C.keeps server.new.core) }
-    ensures asked { OnOk result ((C.face server.new.core).dropped ≡ []) }
+        Carries (H.calls hub.old) (MayReopen C.keeps C.face p limit turns (misses_modem (event_of event.entry) (C.face server.old.core)) server.old) (H.calls hub.new) (HasOffered C.keeps C.face p limit turns 0 server.new) }
+    ensures known { IsKnown C.keeps server.new.core }
+    ensures asked { (C.face server.new.core).dropped ≡ [] }
     ensures greatest { (C.face server.new.core).greatest ≡ (C.face server.old.core).greatest }
     ensures later { H.faults hub.old ≤ H.faults hub.new }
     ensures names { H.greatest hub.new ≡ H.greatest hub.old }
 {
     if !server.misses_modem(event) {
-        return Ok(());
+        return;
     }
     match hub.reopen_modem() {
         Ok(()) => {
             server.modem_blocked = false;
-            server.meet(Event::ModemBack)?;
-            Ok(())
+            server.note(Event::ModemBack);
         }
-        Err(Failed) => Ok(()),
+        Err(Failed) => {}
     }
 }
 
@@ -71,7 +66,7 @@ fn meet_event<C: ProxyCore, H: Hub>(
     if let Some(end) = server.end_at(event, limit) {
         return Ok(Some(end));
     }
-    reopen_at(hub, server, event)?;
+    reopen_at(hub, server, event);
     Ok(None)
 }
 
@@ -135,7 +130,7 @@ fn turn<C: ProxyCore, H: Hub>(
     if let Some(end) = meet_next(hub, server, limit, next)? {
         return Ok(Some(end));
     }
-    offer_all(hub, server)?;
+    offer_all(hub, server);
     Ok(None)
 }
 
@@ -171,20 +166,14 @@ fn take_turns<C: ProxyCore, H: Hub>(
 /// definitions have waiting for that client. Each time before the hub was asked for more, all that
 /// waited was offered, and just those connections were hung up that the proxy ended or whose sending
 /// failed. The serving ended at once where the hub said so or failed, and never opened it.
-pub fn serve<C: ProxyCore, H: Hub>(
-    alloc: Global,
-    hub: &mut H,
-    core: C,
-    limit: Option<u64>,
-    turns: u64,
-) -> ServeEnd
+pub fn serve<C: ProxyCore, H: Hub>(hub: &mut H, core: C, limit: Option<u64>, turns: u64) -> ServeEnd
     requires opened { (p : Proxy) × C.keeps p [] core }
     requires greatest { (C.face core).greatest ≤ H.greatest hub.old }
     ensures served { (p : Proxy) → C.keeps p [] core → Since (H.calls hub.old) (H.calls hub.new) (EndsFor C.lacks_memory p limit turns result) }
     ensures later { H.faults hub.old ≤ H.faults hub.new }
     ensures fault { result ≡ ServeEnd.HubFault → Rose (H.faults hub.old) (H.faults hub.new) }
 {
-    let mut server = Server::open(alloc, core);
+    let mut server = Server::open(core);
     match take_turns(hub, &mut server, limit, turns) {
         Ok(end) => end,
         Err(_) => ServeEnd::OutOfMemory,

@@ -25,7 +25,7 @@ pub fn serve_qmi<H: Hub>(alloc: Global, hub: &mut H, settings: &Settings) -> Ser
         time: settings.time,
     };
     match QmiCore::open(alloc, &limits, settings.device.as_str()) {
-        Ok(core) => serve(alloc, hub, core, settings.empty, settings.turns),
+        Ok(core) => serve(hub, core, settings.empty, settings.turns),
         Err(AllocError) => ServeEnd::OutOfMemory,
     }
 }

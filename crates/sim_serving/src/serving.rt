@@ -75,5 +75,5 @@ pub fn serve_sim<H: Hub, S: Sim>(alloc: Global, hub: &mut H, sim: S, turns: u64)
     ensures later { H.faults hub.old ≤ H.faults hub.new }
     ensures fault { result ≡ ServeEnd.HubFault → Rose (H.faults hub.old) (H.faults hub.new) }
 {
-    serve(alloc, hub, SimCore::open(alloc, sim), None, turns)
+    serve(hub, SimCore::open(alloc, sim), None, turns)
 }

@@ -1,7 +1,5 @@
 use Rattle.proxy_history.specs.Proxy.{Proxy}
-use Rattle.std.proofs.Common.{◌≡◌, ℕ, List, ◌++◌, Bool, true, false, Result, Ok, ap, sym, subst, ◌∙◌, Option}
-use Rattle.std.specs.declared.alloc.AllocError.{AllocError}
-use Rattle.std.proofs.lemmas.Result.{err_from_is_err_and}
+use Rattle.std.proofs.Common.{◌≡◌, ℕ, List, ◌++◌, Bool, true, false, ap, sym, subst, ◌∙◌, Option}
 use Rattle.hub_io.specs.Record.{Call, Since}
 use Rattle.proxy_serving.specs.Carrying.{Carries}
 use Rattle.proxy_history.specs.Events.{Event}
@@ -16,9 +14,9 @@ use Rattle.proxy_serving.proofs.offer.offer_all.Goals as goal
 
 -- the modem is there as before, or it isn't
 modem_as : {C : Type 0} (keeps : Proxy → List Event → C → Type 0) (face : C → Face) {before : List Call → Type 0} {old new : Option (List Call)} (p : Proxy) (limit : Option ℕ) (turns : ℕ) (now : Server C) (b came : Bool) → b ≡ came
-    → Carries old before new (AfterModem keeps face (Ok b) p limit turns now) → Carries old before new (AfterModem keeps face (Ok came) p limit turns now)
+    → Carries old before new (AfterModem keeps face b p limit turns now) → Carries old before new (AfterModem keeps face came p limit turns now)
 modem_as keeps face {before = before} {old = old} {new = new} p limit turns now b came is carries =
-    let P : Bool → Type 0 = λ o. Carries old before new (AfterModem keeps face (Ok o) p limit turns now) in subst P is carries
+    let P : Bool → Type 0 = λ o. Carries old before new (AfterModem keeps face o p limit turns now) in subst P is carries
 
 -- those that were dropped with the modem are hung up
 hung_up_then : {C : Type 0} (keeps : Proxy → List Event → C → Type 0) (face : C → Face) (p : Proxy) (limit : Option ℕ) (turns : ℕ) (server now : Server C) (calls : List Call)
@@ -32,7 +30,7 @@ hung_up_then keeps face p limit turns server now calls all =
 
 -- the modem is gone, and those that were dropped with it are hung up
 gone : {C : Type 0} (keeps : Proxy → List Event → C → Type 0) (face : C → Face) {start mid new : Option (List Call)} {before : List Call → Type 0} (p : Proxy) (limit : Option ℕ) (turns : ℕ) (server now : Server C) (there : Bool) → there ≡ false
-    → Carries start before mid (AfterModem keeps face (Ok there) p limit turns server) → Since mid new AreHangUps → Carries mid (IsServing keeps face p turns server) new (IsServing keeps face p turns now)
+    → Carries start before mid (AfterModem keeps face there p limit turns server) → Since mid new AreHangUps → Carries mid (IsServing keeps face p turns server) new (IsServing keeps face p turns now)
     → Carries start before new (HasOffered keeps face p limit turns 0 now)
 gone keeps face p limit turns server now there is first only hangs =
     let Gone : List Call → Type 0 = HasOffered keeps face p limit turns 0 server in
@@ -41,38 +39,19 @@ gone keeps face p limit turns server now there is first only hangs =
     (Carries-then (Carries-with AreHangUps _ _ only (Carries-then (Carries-none Gone Serving _ (λ calls so. so.serving)) hangs))
     (Carries-none _ _ _ (λ calls all. hung_up_then keeps face p limit turns server now calls all)))
 
-pub returns-in_err-offer_clients-clause-carries : goal.returns-in_err-offer_clients-clause-carries
-returns-in_err-offer_clients-clause-carries g c = λ p limit turns.
-    let e = err_from_is_err_and c.from_residual.result c.from_residual.ensures.1 in
-    rw (e.1, e.2) (c.in_err-offer_clients.ensures.carries p limit turns)
-
-pub returns-in_err-offer_modem-clause-carries : goal.returns-in_err-offer_modem-clause-carries
-returns-in_err-offer_modem-clause-carries g c = λ p limit turns.
-    let e = err_from_is_err_and c.from_residual-in_err-offer_modem.result c.from_residual-in_err-offer_modem.ensures.1 in
-    rw (e.1, e.2) (Carries-then (c.in_ok-offer_clients.ensures.carries p limit turns) (c.in_err-offer_modem.ensures.carries p limit turns))
-
-pub returns-then-branch-clause-carries : goal.returns-then-branch-clause-carries
-returns-then-branch-clause-carries g c = λ p limit turns.
-    Carries-then (c.in_ok-offer_clients.ensures.carries p limit turns)
-    (modem_as g.C.ProxyCore.keeps g.C.ProxyCore.face p limit turns c.offer_modem.new.server c.in_ok-offer_modem.field-0 true c.if-branch.true (c.in_ok-offer_modem.ensures.carries p limit turns))
-
-pub returns-in_err-offer_clients-2-clause-carries : goal.returns-in_err-offer_clients-2-clause-carries
-returns-in_err-offer_clients-2-clause-carries g c = λ p limit turns.
-    let e = err_from_is_err_and c.from_residual-in_err-offer_clients-2.result c.from_residual-in_err-offer_clients-2.ensures.1 in
-    rw (e.1, e.2)
-    (Carries-then
-    (gone g.C.ProxyCore.keeps g.C.ProxyCore.face p limit turns c.offer_modem.new.server c.hang_up_dropped.new.server c.in_ok-offer_modem.field-0 c.if-branch.false
-    (Carries-then (c.in_ok-offer_clients.ensures.carries p limit turns) (c.in_ok-offer_modem.ensures.carries p limit turns)) c.hang_up_dropped.ensures.only (c.hang_up_dropped.ensures.carries p turns))
-    (c.in_err-offer_clients-2.ensures.carries p limit turns))
+pub returns-then-offer_modem-clause-carries : goal.returns-then-offer_modem-clause-carries
+returns-then-offer_modem-clause-carries g c = λ p limit turns.
+    Carries-then (c.offer_clients.ensures.carries p limit turns)
+    (modem_as g.C.ProxyCore.keeps g.C.ProxyCore.face p limit turns c.offer_modem.new.server c.offer_modem.result true c.if-offer_modem.true (c.offer_modem.ensures.carries p limit turns))
 
 pub returns-clause-carries : goal.returns-clause-carries
 returns-clause-carries g c = λ p limit turns.
-    let away = c.offer_clients-2.ensures.away ∙ c.hang_up_dropped.ensures.away ∙ c.in_ok-offer_modem.ensures.away (ap (λ (b : Bool). let o : Result Bool AllocError = Ok b in o) c.if-branch.false) in
+    let away = c.offer_clients-2.ensures.away ∙ c.hang_up_dropped.ensures.away ∙ c.offer_modem.ensures.away c.if-offer_modem.false in
     let Clients : List Call → Type 0 = OffersClients g.C.ProxyCore.keeps g.C.ProxyCore.face p limit turns c.offer_clients-2.new.server in
     let Ready : List Call → Type 0 = IsReady g.C.ProxyCore.keeps g.C.ProxyCore.face p limit turns c.offer_clients-2.new.server in
     Carries-then
     (Carries-then
-    (gone g.C.ProxyCore.keeps g.C.ProxyCore.face p limit turns c.offer_modem.new.server c.hang_up_dropped.new.server c.in_ok-offer_modem.field-0 c.if-branch.false
-    (Carries-then (c.in_ok-offer_clients.ensures.carries p limit turns) (c.in_ok-offer_modem.ensures.carries p limit turns)) c.hang_up_dropped.ensures.only (c.hang_up_dropped.ensures.carries p turns))
-    (c.in_ok-offer_clients-2.ensures.carries p limit turns))
+    (gone g.C.ProxyCore.keeps g.C.ProxyCore.face p limit turns c.offer_modem.new.server c.hang_up_dropped.new.server c.offer_modem.result c.if-offer_modem.false
+    (Carries-then (c.offer_clients.ensures.carries p limit turns) (c.offer_modem.ensures.carries p limit turns)) c.hang_up_dropped.ensures.only (c.hang_up_dropped.ensures.carries p turns))
+    (c.offer_clients-2.ensures.carries p limit turns))
     (Carries-none Clients Ready _ (λ calls all. modem-away all away))

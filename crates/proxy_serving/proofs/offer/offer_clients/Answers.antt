@@ -1,21 +1,12 @@
 use Rattle.std.proofs.Common.{sym, ◌∙◌, arith}
-use Rattle.std.proofs.lemmas.Result.{err_from_is_err_and}
 use Rattle.hub_io.specs.Record.{events}
 use Rattle.proxy_serving.proofs.Carrying.{Carries-none, Carries-then}
 use Rattle.proxy_serving.proofs.Faces.{contains-at}
 use Rattle.proxy_serving.proofs.Places.{at_next, all_offered}
 use Rattle.proxy_serving.proofs.offer.offer_clients.Goals as goal
 
-pub offer-requires-clause-there : goal.offer-requires-clause-there
-offer-requires-clause-there g c = contains-at (g.C.ProxyCore.face c.loop-place.server.core).present c.in-Some.place c.conn_at-conn.result c.conn_at-conn.ensures
-
-pub returns-in_err-from-clause-carries : goal.returns-in_err-from-clause-carries
-returns-in_err-from-clause-carries g c = λ p limit turns.
-    let e = err_from_is_err_and c.from_residual.result c.from_residual.ensures.1 in
-    rw (e.1, e.2)
-    (Carries-then (Carries-then (c.loop-place.invariant.carried p limit turns)
-    (Carries-none _ _ _ (λ calls so. at_next so c.in-Some.place c.conn_at-conn.result (sym (c.in-Some.ensures.place p (events calls) so.serving.stands.kept)) c.conn_at-conn.ensures)))
-    (c.in_err-from.ensures.carries p limit turns))
+pub offer-from-requires-clause-there : goal.offer-from-requires-clause-there
+offer-from-requires-clause-there g c = contains-at (g.C.ProxyCore.face c.loop-place.server.core).present c.in-Some.place c.conn_at-conn.result c.conn_at-conn.ensures
 
 pub loop-place-preserved : goal.loop-place-preserved
 loop-place-preserved g c =
@@ -24,14 +15,14 @@ loop-place-preserved g c =
       carried = λ p limit turns.
           Carries-then (Carries-then (i.carried p limit turns)
           (Carries-none _ _ _ (λ calls so. at_next so c.in-Some.place c.conn_at-conn.result (sym (c.in-Some.ensures.place p (events calls) so.serving.stands.kept)) c.conn_at-conn.ensures)))
-          (c.in_ok-from.ensures.carries p limit turns);
-      asked = c.offer.ensures.asked;
-      within = omega (arith, c.in_ok-from.ensures.done, c.in-Some.ensures.within.1);
-      known = c.offer.ensures.known;
-      away = c.offer.ensures.away ∙ i.away;
-      greatest = c.offer.ensures.greatest ∙ i.greatest;
-      later = omega (arith, c.offer.ensures.later, i.later);
-      names = c.offer.ensures.names ∙ i.names;
+          (c.offer-from.ensures.carries p limit turns);
+      asked = c.offer-from.ensures.asked;
+      within = omega (arith, c.offer-from.ensures.done, c.in-Some.ensures.within.1);
+      known = c.offer-from.ensures.known;
+      away = c.offer-from.ensures.away ∙ i.away;
+      greatest = c.offer-from.ensures.greatest ∙ i.greatest;
+      later = omega (arith, c.offer-from.ensures.later, i.later);
+      names = c.offer-from.ensures.names ∙ i.names;
     }
 
 pub returns-clause-carries : goal.returns-clause-carries

@@ -38,10 +38,10 @@ returns-in-Ok-eq0-clause-carries g c = λ p limit turns.
     (Carries-call _ _ _ _ _ c.in-Ok-eq0.ensures.calls (λ calls all. subst (λ (n : ℕ). After n calls) (sym none) (modem-sent_none all bytes now some c.queued_modem-queue.ensures.queue c.queued_modem-queue.follows.holds-at-none refl refl)))
 
 -- the modem took some of what waited
-taking : (g : Over) (c : goal.In_ok-meet-in-Ok g) → IsModemTaken c.in-Ok.count (g.C.ProxyCore.face c.loop-server.server.core) (g.C.ProxyCore.face c.meet.new.self.core)
+taking : (g : Over) (c : goal.After-note g) → IsModemTaken c.in-Ok.count (g.C.ProxyCore.face c.loop-server.server.core) (g.C.ProxyCore.face c.note.new.self.core)
 taking g c =
-    let From : g.row.C.Denot → Type 0 = λ core. IsModemTaken c.in-Ok.count (g.C.ProxyCore.face core) (g.C.ProxyCore.face c.meet.new.self.core) in
-    subst From c.queued_modem-queue.follows.holds-at-none c.in_ok-meet-in-Ok.ensures.makes
+    let From : g.row.C.Denot → Type 0 = λ core. IsModemTaken c.in-Ok.count (g.C.ProxyCore.face core) (g.C.ProxyCore.face c.note.new.self.core) in
+    subst From c.queued_modem-queue.follows.holds-at-none c.note.ensures.makes
 
 pub loop-server-smaller : goal.loop-server-smaller
 loop-server-smaller g c =
@@ -62,13 +62,13 @@ loop-server-preserved g c =
       carried = λ p limit turns.
           Carries-then (i.carried p limit turns)
           (Carries-call _ _ _ _ _ c.in-Ok.ensures.calls (λ calls all.
-          modem-sent all bytes c.in-Ok.count c.meet.new.self taken some c.queued_modem-queue.ensures.queue no_names c.if-server.false
-          (c.in_ok-meet-in-Ok.ensures.stands p (events calls) (subst (Stands g.C.ProxyCore.keeps g.C.ProxyCore.face p (events calls)) (sym as_it_was) all.serving.stands))
-          c.in_ok-meet-in-Ok.ensures.blocked c.in_ok-meet-in-Ok.ensures.modem_blocked
-          (c.in_ok-meet-in-Ok.ensures.emptied ∙ ap (λ (core : g.row.C.Denot). emptied_after (g.C.ProxyCore.face core) c.loop-server.server.emptied (g.C.ProxyCore.face c.meet.new.self.core)) as_it_was)));
+          modem-sent all bytes c.in-Ok.count c.note.new.self taken some c.queued_modem-queue.ensures.queue no_names c.if-server.false
+          (c.note.ensures.stands p (events calls) (subst (Stands g.C.ProxyCore.keeps g.C.ProxyCore.face p (events calls)) (sym as_it_was) all.serving.stands))
+          c.note.ensures.blocked c.note.ensures.modem_blocked
+          (c.note.ensures.emptied ∙ ap (λ (core : g.row.C.Denot). emptied_after (g.C.ProxyCore.face core) c.loop-server.server.emptied (g.C.ProxyCore.face c.note.new.self.core)) as_it_was)));
       asked = (taking g c).dropped ∙ i.asked;
-      known = c.in_ok-meet-in-Ok.ensures.known;
-      greatest = c.in_ok-meet-in-Ok.ensures.greatest ∙ ap (λ (core : g.row.C.Denot). (g.C.ProxyCore.face core).greatest) as_it_was ∙ i.greatest;
+      known = c.note.ensures.known;
+      greatest = c.note.ensures.greatest ∙ ap (λ (core : g.row.C.Denot). (g.C.ProxyCore.face core).greatest) as_it_was ∙ i.greatest;
       later = omega (arith, i.later, c.send_modem.ensures.own);
       names = c.send_modem.ensures.names ∙ i.names;
     }
@@ -83,10 +83,10 @@ returns-in-Err-clause-carries g c = λ p limit turns.
     let no_names = i.asked in
     Carries-then (i.carried p limit turns)
     (Carries-call _ _ _ _ _ c.in-Err.ensures.calls (λ calls all.
-    modem-failed all bytes c.meet-in-Err.new.self some c.queued_modem-queue.ensures.queue no_names c.if-server.false
-    (c.in_ok-meet-in-Err.ensures.stands p (events calls) (subst (Stands g.C.ProxyCore.keeps g.C.ProxyCore.face p (events calls)) (sym as_it_was) all.serving.stands))
-    c.in_ok-meet-in-Err.ensures.blocked c.in_ok-meet-in-Err.ensures.modem_blocked
-    (c.in_ok-meet-in-Err.ensures.emptied ∙ ap (λ (core : g.row.C.Denot). emptied_after (g.C.ProxyCore.face core) c.loop-server.server.emptied (g.C.ProxyCore.face c.meet-in-Err.new.self.core)) as_it_was)))
+    modem-failed all bytes c.note-in-Err.new.self some c.queued_modem-queue.ensures.queue no_names c.if-server.false
+    (c.note-in-Err.ensures.stands p (events calls) (subst (Stands g.C.ProxyCore.keeps g.C.ProxyCore.face p (events calls)) (sym as_it_was) all.serving.stands))
+    c.note-in-Err.ensures.blocked c.note-in-Err.ensures.modem_blocked
+    (c.note-in-Err.ensures.emptied ∙ ap (λ (core : g.row.C.Denot). emptied_after (g.C.ProxyCore.face core) c.loop-server.server.emptied (g.C.ProxyCore.face c.note-in-Err.new.self.core)) as_it_was)))
 
 pub returns-in-Err-clause-away : goal.returns-in-Err-clause-away
 returns-in-Err-clause-away g c = λ _.
@@ -94,4 +94,4 @@ returns-in-Err-clause-away g c = λ _.
     let some : 0 < length bytes = search rules in
     let Waits : List ℕ → Type 0 = λ l. 0 < length l in
     let Waited : g.row.C.Denot → Type 0 = λ core. 0 < length (g.C.ProxyCore.face core).modem_queue in
-    c.in_ok-meet-in-Err.ensures.makes (subst Waited (sym c.queued_modem-queue.follows.holds-at-none) (subst Waits c.queued_modem-queue.ensures.queue some))
+    c.note-in-Err.ensures.makes (subst Waited (sym c.queued_modem-queue.follows.holds-at-none) (subst Waits c.queued_modem-queue.ensures.queue some))

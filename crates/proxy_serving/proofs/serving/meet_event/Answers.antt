@@ -41,17 +41,6 @@ returns-in-Some-clause-carries g c = λ p turns.
     met c.requires.told.0 c.hang_up_dropped.new.server (Some c.in-Some.end) c.requires.told.2 c.requires.asked (meet.stands p) meet.blocked meet.modem_blocked meet.emptied hangs.only (hangs.carries p (turns + 1)) hangs.asked
     (sym c.end_at.ensures ∙ c.in-Some.is)
 
-pub returns-in_err-reopen_at-clause-carries : goal.returns-in_err-reopen_at-clause-carries
-returns-in_err-reopen_at-clause-carries g c = λ p turns.
-    let meet = c.in_ok-meet.ensures in
-    let hangs = c.hang_up_dropped.ensures in
-    let e = err_from_is_err_and c.from_residual-in_err-reopen_at.result c.from_residual-in_err-reopen_at.ensures.1 in
-    rw (e.1, e.2)
-    (Carries-then
-    (met c.requires.told.0 c.hang_up_dropped.new.server None c.requires.told.2 c.requires.asked (meet.stands p) meet.blocked meet.modem_blocked meet.emptied hangs.only (hangs.carries p (turns + 1)) hangs.asked
-    (sym c.end_at.ensures ∙ c.in_default.is))
-    (Carries-then (c.in_err-reopen_at.ensures.carries p c.args.limit (turns + 1)) (Carries-none _ _ _ (λ calls no. absurd no))))
-
 pub returns-clause-carries : goal.returns-clause-carries
 returns-clause-carries g c = λ p turns.
     let meet = c.in_ok-meet.ensures in
@@ -59,7 +48,7 @@ returns-clause-carries g c = λ p turns.
     Carries-then
     (met c.requires.told.0 c.hang_up_dropped.new.server None c.requires.told.2 c.requires.asked (meet.stands p) meet.blocked meet.modem_blocked meet.emptied hangs.only (hangs.carries p (turns + 1)) hangs.asked
     (sym c.end_at.ensures ∙ c.in_default.is))
-    (c.in_ok-reopen_at.ensures.carries p c.args.limit (turns + 1))
+    (c.reopen_at.ensures.carries p c.args.limit (turns + 1))
 
 pub returns-in_err-meet-clause-carries : goal.returns-in_err-meet-clause-carries
 returns-in_err-meet-clause-carries g c = λ p turns.

@@ -22,15 +22,15 @@ returns-then-not-misses_modem-clause-carries g c = λ p limit turns.
     let is : misses ≡ false = sym c.misses_modem.ensures ∙ c.if-not-misses_modem.true in
     Carries-none _ _ _ (λ calls may. not_missed (may_as misses false is may))
 
-pub returns-in_ok-meet-in-Ok-clause-carries : goal.returns-in_ok-meet-in-Ok-clause-carries
-returns-in_ok-meet-in-Ok-clause-carries g c = λ p limit turns.
+pub returns-in-Ok-clause-carries : goal.returns-in-Ok-clause-carries
+returns-in-Ok-clause-carries g c = λ p limit turns.
     let misses = misses_modem (event_of c.args.event) (g.C.ProxyCore.face c.args.server.now.core) in
     let is : misses ≡ true = sym c.misses_modem.ensures ∙ c.if-not-misses_modem.false in
     let none = c.requires.asked in
     Carries-call _ _ _ _ _ c.in-Ok.ensures.calls (λ calls may.
-    reopened c.meet.new.self (may_as misses true is may) none
-    (c.in_ok-meet-in-Ok.ensures.stands p (events calls) may.serving.stands)
-    c.in_ok-meet-in-Ok.ensures.blocked c.in_ok-meet-in-Ok.ensures.modem_blocked c.in_ok-meet-in-Ok.ensures.emptied)
+    reopened c.note.new.self (may_as misses true is may) none
+    (c.note.ensures.stands p (events calls) may.serving.stands)
+    c.note.ensures.blocked c.note.ensures.modem_blocked c.note.ensures.emptied)
 
 pub returns-in-Err-clause-carries : goal.returns-in-Err-clause-carries
 returns-in-Err-clause-carries g c = λ p limit turns.

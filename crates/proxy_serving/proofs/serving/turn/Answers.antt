@@ -1,9 +1,7 @@
-use Rattle.std.proofs.Common.{List, Some, None, ◌+◌, refl, inl, inr}
+use Rattle.std.proofs.Common.{Some, None, ◌+◌, refl}
 use Rattle.std.proofs.lemmas.Result.{err_from_is_err_and}
-use Rattle.hub_io.specs.Record.{Call}
-use Rattle.proxy_serving.proofs.Carrying.{Carries-none, Carries-call, Carries-then}
+use Rattle.proxy_serving.proofs.Carrying.{Carries-call, Carries-then}
 use Rattle.proxy_serving.specs.Progress.{call_of}
-use Rattle.proxy_serving.specs.Ends.{EndsUnnoted, RanOut}
 use Rattle.proxy_serving.proofs.Turns.{told-failed, tells, meets}
 use Rattle.proxy_serving.proofs.serving.turn.Goals as goal
 
@@ -24,20 +22,9 @@ returns-in-Some-clause-carries g c = λ p turns.
     Carries-then (tells g.C.ProxyCore.keeps g.C.ProxyCore.face p c.args.limit turns c.args.server.now (call_of c.read-next.result) _ _ _ c.read-next.ensures.call c.in-Ok.ensures.calls)
     (meets g.C.ProxyCore.keeps g.C.ProxyCore.face g.C.ProxyCore.lacks_memory p c.args.limit turns _ c.meet_next.new.server _ _ c.in_ok-end.field-0 (Some c.in-Some.end) c.in-Some.is (c.in_ok-end.ensures.carries p turns))
 
-pub returns-in_err-offer_all-clause-carries : goal.returns-in_err-offer_all-clause-carries
-returns-in_err-offer_all-clause-carries g c = λ p turns.
-    let limit = c.args.limit in
-    let e = err_from_is_err_and c.from_residual-in_err-offer_all.result c.from_residual-in_err-offer_all.ensures.1 in
-    let RunsOut : List Call → Type 0 = RanOut g.C.ProxyCore.lacks_memory p limit (turns + 1) in
-    rw (e.1, e.2)
-    (Carries-then
-    (Carries-then (tells g.C.ProxyCore.keeps g.C.ProxyCore.face p limit turns c.args.server.now (call_of c.read-next.result) _ _ _ c.read-next.ensures.call c.in-Ok.ensures.calls)
-    (meets g.C.ProxyCore.keeps g.C.ProxyCore.face g.C.ProxyCore.lacks_memory p limit turns _ c.meet_next.new.server _ _ c.in_ok-end.field-0 None c.in_default.is (c.in_ok-end.ensures.carries p turns)))
-    (Carries-then (c.in_err-offer_all.ensures.carries p limit (turns + 1)) (Carries-none (EndsUnnoted p limit (turns + 1)) RunsOut _ (λ calls unnoted. inr (inl unnoted)))))
-
 pub returns-clause-carries : goal.returns-clause-carries
 returns-clause-carries g c = λ p turns.
     Carries-then
     (Carries-then (tells g.C.ProxyCore.keeps g.C.ProxyCore.face p c.args.limit turns c.args.server.now (call_of c.read-next.result) _ _ _ c.read-next.ensures.call c.in-Ok.ensures.calls)
     (meets g.C.ProxyCore.keeps g.C.ProxyCore.face g.C.ProxyCore.lacks_memory p c.args.limit turns _ c.meet_next.new.server _ _ c.in_ok-end.field-0 None c.in_default.is (c.in_ok-end.ensures.carries p turns)))
-    (c.in_ok-offer_all.ensures.carries p c.args.limit (turns + 1))
+    (c.offer_all.ensures.carries p c.args.limit (turns + 1))

@@ -1,7 +1,7 @@
-use Rattle.std.proofs.Common.{ℕ, List, [], false, refl, subst, inl}
+use Rattle.std.proofs.Common.{◌≡◌, ℕ, List, [], false, refl, subst}
 use Rattle.hub_io.specs.Record.{Call}
 use Rattle.hub_io.proofs.Record.{since-starts}
-use Rattle.proxy_serving.specs.Ends.{RanOut}
+use Rattle.proxy_serving.proofs.Ends.{served_so}
 use Rattle.qmi_proxy.specs.Proxy.{proxy_of}
 use Rattle.qmi_state.specs.Core.{Stands}
 use Rattle.qmi_serving.specs.Serving.{setup_for}
@@ -14,9 +14,10 @@ pub returns-in-Ok-clause-served : goal.returns-in-Ok-clause-served
 returns-in-Ok-clause-served g c =
     let settings = c.args.settings.now in
     let Opened : List ℕ → Type 0 = λ device. Stands (record { device = device; time_limit = settings.time; starts_away = false }) [] c.in-Ok.core in
-    c.serve.ensures.served (proxy_of (setup_for settings)) (record { setup = setup_for settings; same = refl; stands = subst Opened c.as_str.ensures c.in-Ok.ensures })
+    served_so (proxy_of (setup_for settings)) settings.empty settings.turns _ _ c.serve.result
+    (c.serve.ensures.served (proxy_of (setup_for settings)) (record { setup = setup_for settings; same = refl; stands = subst Opened c.as_str.ensures c.in-Ok.ensures }))
 
 pub returns-in-Err-clause-served : goal.returns-in-Err-clause-served
 returns-in-Err-clause-served g c =
-    let Out : List Call → Type 0 = RanOut (λ event. ⊥) (proxy_of (setup_for c.args.settings.now)) c.args.settings.now.empty c.args.settings.now.turns in
-    since-starts _ Out (inl refl)
+    let None : List Call → Type 0 = λ calls. calls ≡ [] in
+    since-starts _ None refl
