@@ -141,7 +141,7 @@ module _ (s : Setup) (c : ℕ) (client : c ≢ 0) where
       ]
       ∙ sym (ap (λ (l : List Request). if list_any is_own_open (filter p l) then opens_with FAILURE (part c past) else each_pending (refuse_known flag) (sent_by c (filter p l)) (part c past)) one.only)
   by_state flag p past F I IsReady is none =
-      let others : opens_in p past ≡ false = any_filter p (pending past) none in
+      let others : opens_in p past ≡ false = any_filter is_own_open p (pending past) none in
       commands-part flag (filter p (pending past)) past F (all_forwarded p past) others
       ∙ sym (ap (λ (b : Bool). if b then opens_with FAILURE (part c past) else each_pending (refuse_known flag) (sent_by c (filter p (pending past))) (part c past)) others)
 

@@ -48,7 +48,7 @@ pub renumbered : (n : ℕ) (m : List ℕ) → n < 2 ^ 32 → 12 ≤ length m →
 renumbered n (a ∷ b ∷ c ∷ d ∷ e ∷ f ∷ g ∷ h ∷ i ∷ j ∷ k ∷ l ∷ rest) below long = record { number_is = omega (arith, below); heard = refl; blank_is = refl }
 renumbered n _ below long = absurd (omega arith)
 
-number_written : (kind n : ℕ) (body : List ℕ) → n < 2 ^ 32 → number_of (unsplit kind n body) ≡ n
+pub number_written : (kind n : ℕ) (body : List ℕ) → n < 2 ^ 32 → number_of (unsplit kind n body) ≡ n
 number_written kind n body below =
     let behind : List ℕ = (u32_bytes 1 ++ u32_bytes 0) ++ body in
     u32_at-behind (u32_bytes kind ++ u32_bytes (12 + (8 + length body))) (u32_bytes n ++ behind) 8 0 refl ∙ u32_at-bytes n behind below
@@ -71,11 +71,11 @@ is_answer IsError = true
 is_answer _ = false
 
 module _ (s : Setup) (within : (space : ℕ) → s.limits.in_use space ≤ s.limits.top space) (c : ℕ) (client : c ≢ 0) where
-  in_space : (past : List Fact) → Fit s c past → (r : Request) → Contains (in_use past) r → r.space ≡ the_space
+  pub in_space : (past : List Fact) → Fit s c past → (r : Request) → Contains (in_use past) r → r.space ≡ the_space
   in_space past F r at = (was_asked (mbim_protocol s) (Asks s) past r F.asked (forwarded_from_in_use past r at)).1.space
 
   -- a command of the client opens nothing
-  is_command : (past : List Fact) → Fit s c past → (r : Request) → Contains past (Forwarded r) → (r.conn == c) ≡ true → is_own_open r ≡ false
+  pub is_command : (past : List Fact) → Fit s c past → (r : Request) → Contains past (Forwarded r) → (r.conn == c) ≡ true → is_own_open r ≡ false
   is_command past F r at mine =
       let asked = (was_asked (mbim_protocol s) (Asks s) past r F.asked at).1 in
       let is : r.conn ≡ c = eqb-true r.conn c mine in
@@ -87,10 +87,10 @@ module _ (s : Setup) (within : (space : ℕ) → s.limits.in_use space ≤ s.lim
       let number_r : r.number ≡ number_of m = eqb-true r.number (number_of m) (and_parts (r.number == number_of m) (is_for heard r) answers_r).0 in
       same_number (in_use past) q r (in_use_differ s.limits within past F.placed.sound) at_q at_r (in_space past F q at_q ∙ sym (in_space past F r at_r)) (number_q ∙ sym number_r)
 
-  found_for : (past : List Fact) → Fit s c past → (heard : Heard) (m : List ℕ) (r : Request) → Contains (in_use past) r → is_answered_by heard m r ≡ true → first_answered_by heard m (in_use past) ≡ Some r
+  pub found_for : (past : List Fact) → Fit s c past → (heard : Heard) (m : List ℕ) (r : Request) → Contains (in_use past) r → is_answered_by heard m r ≡ true → first_answered_by heard m (in_use past) ≡ Some r
   found_for past F heard m r at answers = first_is (is_answered_by heard m) (in_use past) r (λ q at_q is. one_is_answered past F heard m q r at_q at is answers) at answers
 
-  responds : (heard : Heard) (m : List ℕ) (past : List Fact) → is_answer heard ≡ true → hear_as s heard m past ≡ respond s (first_answered_by heard m (in_use past)) m past
+  pub responds : (heard : Heard) (m : List ℕ) (past : List Fact) → is_answer heard ≡ true → hear_as s heard m past ≡ respond s (first_answered_by heard m (in_use past)) m past
   responds IsDone m past answer = refl
   responds IsError m past answer = refl
   responds IsOpenDone m past answer = absurd (cc)

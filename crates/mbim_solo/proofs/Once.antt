@@ -34,7 +34,7 @@ first_of_both true y none e = refl
 first_of_both false true none e = absurd (cc)
 first_of_both false false none e = absurd (cc)
 
-none_is : (o : Option ℕ) → is_none o ≡ true → o ≡ None
+pub none_is : (o : Option ℕ) → is_none o ≡ true → o ≡ None
 none_is None e = refl
 none_is (Some n) e = absurd (cc)
 

@@ -31,26 +31,26 @@ use Rattle.mbim_solo.specs.Openings.{WaitFor, MayBeOpen, is_absent, IsInOrder}
 
 -- ---- requests ----
 
-pub any_filter : (p : Request → Bool) (requests : List Request) → list_any is_own_open requests ≡ false → list_any is_own_open (filter p requests) ≡ false
-any_filter p [] none = refl
-any_filter p (r ∷ requests) none =
-    let step : (b : Bool) → is_own_open r ≡ b → (b || list_any is_own_open requests) ≡ false → list_any is_own_open (cond (p r) (r ∷ filter p requests) (filter p requests)) ≡ false =
-    λ b. elim b as (λ b. is_own_open r ≡ b → (b || list_any is_own_open requests) ≡ false → list_any is_own_open (cond (p r) (r ∷ filter p requests) (filter p requests)) ≡ false) [
+pub any_filter : (test p : Request → Bool) (requests : List Request) → list_any test requests ≡ false → list_any test (filter p requests) ≡ false
+any_filter test p [] none = refl
+any_filter test p (r ∷ requests) none =
+    let step : (b : Bool) → test r ≡ b → (b || list_any test requests) ≡ false → list_any test (cond (p r) (r ∷ filter p requests) (filter p requests)) ≡ false =
+    λ b. elim b as (λ b. test r ≡ b → (b || list_any test requests) ≡ false → list_any test (cond (p r) (r ∷ filter p requests) (filter p requests)) ≡ false) [
       | true ↦ λ is h. absurd (cc)
-      | false ↦ λ is h. elim (p r) as (λ t. list_any is_own_open (cond t (r ∷ filter p requests) (filter p requests)) ≡ false) [
-        | true ↦ ap (λ (b : Bool). b || list_any is_own_open (filter p requests)) is ∙ any_filter p requests h
-        | false ↦ any_filter p requests h
+      | false ↦ λ is h. elim (p r) as (λ t. list_any test (cond t (r ∷ filter p requests) (filter p requests)) ≡ false) [
+        | true ↦ ap (λ (b : Bool). b || list_any test (filter p requests)) is ∙ any_filter test p requests h
+        | false ↦ any_filter test p requests h
       ]
     ]
-    in step (is_own_open r) refl none
+    in step (test r) refl none
 
-any_push : (requests : List Request) (r : Request) → list_any is_own_open requests ≡ false → is_own_open r ≡ false → list_any is_own_open (requests ++ r ∷ []) ≡ false
-any_push [] r none other = ap (λ (b : Bool). b || false) other
-any_push (q ∷ requests) r none other =
-    elim (is_own_open q) as (λ b. (b || list_any is_own_open requests) ≡ false → (b || list_any is_own_open (requests ++ r ∷ [])) ≡ false) [ true ↦ λ e. e | false ↦ λ e. any_push requests r e other ] none
+pub any_push : (test : Request → Bool) (requests : List Request) (r : Request) → list_any test requests ≡ false → test r ≡ false → list_any test (requests ++ r ∷ []) ≡ false
+any_push test [] r none other = ap (λ (b : Bool). b || false) other
+any_push test (q ∷ requests) r none other =
+    elim (test q) as (λ b. (b || list_any test requests) ≡ false → (b || list_any test (requests ++ r ∷ [])) ≡ false) [ true ↦ λ e. e | false ↦ λ e. any_push test requests r e other ] none
 
 -- a request that isn't among them goes from none of them
-none_goes : (r : Request) (requests : List Request) → has_request r requests ≡ false → without_request r requests ≡ requests
+pub none_goes : (r : Request) (requests : List Request) → has_request r requests ≡ false → without_request r requests ≡ requests
 none_goes r [] none = refl
 none_goes r (q ∷ requests) none =
     elim (r.serial == q.serial) as (λ b. (b || has_request r requests) ≡ false → cond (not b) (q ∷ without_request r requests) (without_request r requests) ≡ q ∷ requests) [
@@ -59,7 +59,7 @@ none_goes r (q ∷ requests) none =
     ] none
 
 -- the only one goes
-only_goes : (r q : Request) → has_request r (q ∷ []) ≡ true → without_request r (q ∷ []) ≡ []
+pub only_goes : (r q : Request) → has_request r (q ∷ []) ≡ true → without_request r (q ∷ []) ≡ []
 only_goes r q has =
     elim (r.serial == q.serial) as (λ b. (b || false) ≡ true → cond (not b) (q ∷ []) [] ≡ []) [ true ↦ λ e. refl | false ↦ λ e. absurd (let clash : false ≡ true = e in cc) ] has
 
@@ -124,7 +124,7 @@ module _ (s : Setup) where
       waits IsAway requests none = ap (filter (λ q. not (d == q.conn))) none
       waits IsShut requests none = ap (filter (λ q. not (d == q.conn))) none
       waits IsOpening requests one = record { request = one.request; only = ap (filter (λ q. not (d == q.conn))) one.only ∙ kept_own one.request one.own; opens = one.opens; own = one.own }
-      waits IsReady requests none = any_filter (λ q. not (d == q.conn)) requests none
+      waits IsReady requests none = any_filter is_own_open (λ q. not (d == q.conn)) requests none
 
       stays : (c : ℕ) → contains c (present (Ended d why ∷ past)) ≡ true → ((d == c) ≡ false) × (is_present c past ≡ true)
       stays c is =
@@ -216,7 +216,7 @@ module _ (s : Setup) where
       let modem : now_in (Forwarded r ∷ past) ≡ now_in past = ap (λ (b : Bool). if b then IsOpening else now_in past) command in
       let none : list_any is_own_open (pending past) ≡ false = subst (λ (x : ModemState). WaitFor x (pending past)) ready I.requests in
       record {
-        requests = subst (λ (x : ModemState). WaitFor x (pending past ++ r ∷ [])) (sym (modem ∙ ready)) (any_push (pending past) r none command);
+        requests = subst (λ (x : ModemState). WaitFor x (pending past ++ r ∷ [])) (sym (modem ∙ ready)) (any_push is_own_open (pending past) r none command);
         clients = λ c is. subst (λ (x : ModemState). MayBeOpen x (known_now s c past)) (sym modem) (I.clients c is);
         away = I.away ∙ ap is_absent (sym modem);
         nobody = I.nobody;
@@ -264,7 +264,7 @@ module _ (s : Setup) where
   command_goes fact r past G ready I =
       let none : list_any is_own_open (pending past) ≡ false = subst (λ (x : ModemState). WaitFor x (pending past)) ready I.requests in
       record {
-        requests = subst (λ (x : ModemState). WaitFor x (pending (fact ∷ past))) (sym (G.modem ∙ ready)) (ap (list_any is_own_open) G.requests ∙ any_filter (λ q. not (r.serial == q.serial)) (pending past) none);
+        requests = subst (λ (x : ModemState). WaitFor x (pending (fact ∷ past))) (sym (G.modem ∙ ready)) (ap (list_any is_own_open) G.requests ∙ any_filter is_own_open (λ q. not (r.serial == q.serial)) (pending past) none);
         clients =
             λ c is.
             subst (λ (m : ModemState). MayBeOpen m (known_now s c (fact ∷ past))) (sym G.modem)
@@ -345,12 +345,12 @@ module _ (s : Setup) where
   one_there : (requests : List Request) (q r : Request) → requests ≡ q ∷ [] → Contains requests r → q ≡ r
   one_there requests q r only at = ⊎_elim (λ (is : q ≡ r). is) (λ (old : Contains [] r). absurd (Contains-nil r old)) (Contains-cons_cases r q [] (subst (λ (l : List Request). Contains l r) only at))
 
-  record OpensFor (r : Request) (past : List Fact) : Type 0 where
-    modem : now_in past ≡ IsOpening
-    only : pending past ≡ r ∷ []
-    own : r.conn ≡ 0
+  pub record OpensFor (r : Request) (past : List Fact) : Type 0 where
+    pub modem : now_in past ≡ IsOpening
+    pub only : pending past ≡ r ∷ []
+    pub own : r.conn ≡ 0
 
-  open_waits : (modem : ModemState) (r : Request) (past : List Fact) → now_in past ≡ modem → WaitFor modem (pending past) → Contains (pending past) r → is_own_open r ≡ true → OpensFor r past
+  pub open_waits : (modem : ModemState) (r : Request) (past : List Fact) → now_in past ≡ modem → WaitFor modem (pending past) → Contains (pending past) r → is_own_open r ≡ true → OpensFor r past
   open_waits IsAway r past is none at opens = absurd (none_there (pending past) r none at)
   open_waits IsShut r past is none at opens = absurd (none_there (pending past) r none at)
   open_waits IsOpening r past is one at opens =

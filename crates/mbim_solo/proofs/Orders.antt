@@ -51,19 +51,19 @@ use Rattle.mbim_solo.proofs.Openings.{entry_as_open, may_be_shut, any_filter, st
 
 -- ---- what is decided ----
 
-shut_is : (modem : ModemState) → is_shut modem ≡ true → modem ≡ IsShut
+pub shut_is : (modem : ModemState) → is_shut modem ≡ true → modem ≡ IsShut
 shut_is IsAway e = absurd (let clash : false ≡ true = e in cc)
 shut_is IsShut e = refl
 shut_is IsOpening e = absurd (let clash : false ≡ true = e in cc)
 shut_is IsReady e = absurd (let clash : false ≡ true = e in cc)
 
-ready_is : (modem : ModemState) → is_ready modem ≡ true → modem ≡ IsReady
+pub ready_is : (modem : ModemState) → is_ready modem ≡ true → modem ≡ IsReady
 ready_is IsAway e = absurd (let clash : false ≡ true = e in cc)
 ready_is IsShut e = absurd (let clash : false ≡ true = e in cc)
 ready_is IsOpening e = absurd (let clash : false ≡ true = e in cc)
 ready_is IsReady e = refl
 
-absent_is : (modem : ModemState) → is_absent modem ≡ true → modem ≡ IsAway
+pub absent_is : (modem : ModemState) → is_absent modem ≡ true → modem ≡ IsAway
 absent_is IsAway e = refl
 absent_is IsShut e = absurd (let clash : false ≡ true = e in cc)
 absent_is IsOpening e = absurd (let clash : false ≡ true = e in cc)
@@ -119,7 +119,7 @@ module _ (s : Setup) where
   second_of_both true false none e = absurd (cc)
   second_of_both false false none e = absurd (cc)
 
-  shared_command : (known : Known) (m : List ℕ) → view_decides s known m ≡ false → is_kind Open m ≡ false → known.opened ≡ true
+  pub shared_command : (known : Known) (m : List ℕ) → view_decides s known m ≡ false → is_kind Open m ≡ false → known.opened ≡ true
   shared_command known m shared command =
       let none : (is_open_request m && may_open known) ≡ false = ap (λ (b : Bool). (b && (length m == 16)) && may_open known) command in
       let both : (is_command_fragment m && is_for_modem known (joining_behind s.longest_body known.begun m)) ≡ true = second_of_both (is_open_request m && may_open known) (is_command_fragment m && is_for_modem known (joining_behind s.longest_body known.begun m)) none shared in
@@ -129,7 +129,7 @@ module _ (s : Setup) where
   never_forwards true opens modem one other n e = absurd (cc)
   never_forwards false opens modem one other n e = refl
 
-  open_is_ready : (modem : ModemState) (known : Known) → MayBeOpen modem known → known.opened ≡ true → modem ≡ IsReady
+  pub open_is_ready : (modem : ModemState) (known : Known) → MayBeOpen modem known → known.opened ≡ true → modem ≡ IsReady
   open_is_ready IsAway known may opened = absurd (let clash : true ≡ false = sym opened ∙ may.0 in cc)
   open_is_ready IsShut known may opened = absurd (let clash : true ≡ false = sym opened ∙ may.0 in cc)
   open_is_ready IsOpening known may opened = absurd (let clash : true ≡ false = sym opened ∙ may in cc)
@@ -166,7 +166,7 @@ module _ (s : Setup) where
 
   -- ---- refusals ----
 
-  note_state : (modem : ModemState) (fact : Fact) (past : List Fact) → now_in (fact ∷ past) ≡ modem → now_in (note s fact past) ≡ modem
+  pub note_state : (modem : ModemState) (fact : Fact) (past : List Fact) → now_in (fact ∷ past) ≡ modem → now_in (note s fact past) ≡ modem
   unfolding state
   note_state modem fact past is = kept_by_note s.limits (mbim_wording s) (λ after. now_in after ≡ modem) (λ d before there same. same) fact past is
 
@@ -215,10 +215,10 @@ module _ (s : Setup) where
   abbrev refused_each : Bool → List Request → List Fact → List Fact
   refused_each flag requests past = each_pending (λ r before. refuse_it flag r before) requests past
 
-  commands_refused : (flag : Bool) (requests : List Request) (past : List Fact) → list_any is_own_open requests ≡ false → InReady past → InReady (refused_each flag requests past)
+  pub commands_refused : (flag : Bool) (requests : List Request) (past : List Fact) → list_any is_own_open requests ≡ false → InReady past → InReady (refused_each flag requests past)
   commands_refused flag requests past none I = kept_by_each InReady (λ r. is_own_open r ≡ false) (λ r before. refuse_it flag r before) (λ r before command held. refuse_command flag r before command held) requests past (all_commands requests none) I
 
-  only_refused : (flag : Bool) (r : Request) (past : List Fact) → is_own_open r ≡ true → r.conn ≡ 0 → now_in past ≡ IsOpening → pending past ≡ r ∷ [] → IsInOrder s past → InShut (refused_each flag (r ∷ []) past)
+  pub only_refused : (flag : Bool) (r : Request) (past : List Fact) → is_own_open r ≡ true → r.conn ≡ 0 → now_in past ≡ IsOpening → pending past ≡ r ∷ [] → IsInOrder s past → InShut (refused_each flag (r ∷ []) past)
   unfolding each_pending
   only_refused flag r past opens own opening only I =
       let waits : is_pending r past ≡ true = ap (has_request r) only ∙ ap (λ (b : Bool). b || false) (self r.serial) in
@@ -232,7 +232,7 @@ module _ (s : Setup) where
   some_refused flag p past I IsOpening is one =
       subst (λ (l : List Request). IsInOrder s (refused_each flag (filter p l) past)) (sym one.only)
       (elim (p one.request) as (λ b. IsInOrder s (refused_each flag (cond b (one.request ∷ []) []) past)) [ true ↦ (only_refused flag one.request past one.opens one.own is one.only I).0 | false ↦ I ])
-  some_refused flag p past I IsReady is none = (commands_refused flag (filter p (pending past)) past (any_filter p (pending past) none) (I, is)).0
+  some_refused flag p past I IsReady is none = (commands_refused flag (filter p (pending past)) past (any_filter is_own_open p (pending past) none) (I, is)).0
 
   -- all of them, and then no opening goes on
   pub record AllAborted (past : List Fact) : Type 0 where
@@ -362,7 +362,7 @@ module _ (s : Setup) where
 
   -- ---- every event ----
 
-  begun_in_order : (past : List Fact) → IsInOrder s past → IsInOrder s (EventBegan ∷ past)
+  pub begun_in_order : (past : List Fact) → IsInOrder s past → IsInOrder s (EventBegan ∷ past)
   unfolding state pending present is_away view
   begun_in_order past I = still s EventBegan past refl refl refl refl (λ c. (refl, refl)) I
 
@@ -370,12 +370,12 @@ module _ (s : Setup) where
   unfolding add_all
   soundly item past sound = sound_items (mbim_protocol s) (Asks s) (orderly s) (item ∷ []) past sound
 
-  always : Item → Bool
+  unfoldable pub always : Item → Bool
   always (Joins d) = false
   always ModemReturns = false
   always _ = true
 
-  may_always : (item : Item) (past : List Fact) → always item ≡ true → MayMeet item past
+  pub may_always : (item : Item) (past : List Fact) → always item ≡ true → MayMeet item past
   unfolding always
   may_always (Joins d) past e = absurd (let clash : false ≡ true = e in cc)
   may_always ModemReturns past e = absurd (let clash : false ≡ true = e in cc)
@@ -386,17 +386,17 @@ module _ (s : Setup) where
   items_in_order [] past all sound I = I
   items_in_order (item ∷ items) past all sound I = items_in_order items (add (mbim_protocol s) item past) all.1 (soundly item past sound) (item_in_order item past (may_always item past all.0) sound I)
 
-  clients_always : (d : ℕ) (messages : List (List ℕ)) (bad : Bool) → AllByRecursion (λ item. always item ≡ true) (map (λ m. Says d m) messages ++ item_if bad (Garbles d))
+  pub clients_always : (d : ℕ) (messages : List (List ℕ)) (bad : Bool) → AllByRecursion (λ item. always item ≡ true) (map (λ m. Says d m) messages ++ item_if bad (Garbles d))
   unfolding always
   clients_always d messages bad = behind_messages (λ item. always item ≡ true) (λ m. Says d m) messages (item_if bad (Garbles d)) (λ m. refl) (one_if (λ item. always item ≡ true) bad (Garbles d) refl)
 
-  modems_always : (piece : List ℕ) (before : Option (List ℕ)) → AllByRecursion (λ item. always item ≡ true) (modem_items (mbim_protocol s) piece before)
+  pub modems_always : (piece : List ℕ) (before : Option (List ℕ)) → AllByRecursion (λ item. always item ≡ true) (modem_items (mbim_protocol s) piece before)
   unfolding always
   modems_always piece None = tt
   modems_always piece (Some bytes) =
       behind_messages (λ item. always item ≡ true) (λ m. ModemSays m) (delivered_by_piece (mbim_protocol s) bytes piece) (item_if (is_bad size_of (bytes ++ piece)) ModemFails) (λ m. refl) (one_if (λ item. always item ≡ true) (is_bad size_of (bytes ++ piece)) ModemFails refl)
 
-  gone_always : (before : Option (List ℕ)) → AllByRecursion (λ item. always item ≡ true) (fails_once before)
+  pub gone_always : (before : Option (List ℕ)) → AllByRecursion (λ item. always item ≡ true) (fails_once before)
   unfolding always
   gone_always None = tt
   gone_always (Some bytes) = (refl, tt)
@@ -406,7 +406,7 @@ module _ (s : Setup) where
   event_in_order event events all I =
       finish_in_order _ (items_in_order (items_of (mbim_protocol s) events event) (EventBegan ∷ history s events) all (begun_is_sound (mbim_protocol s) (Asks s) (orderly s) events) (begun_in_order (history s events) I))
 
-  not_zero : (d greatest : ℕ) → greatest < d → (d == 0) ≡ false
+  pub not_zero : (d greatest : ℕ) → greatest < d → (d == 0) ≡ false
   not_zero d greatest rises = grind (arith, nat_tests, rises)
 
   pub histories_in_order : (events : List Event) → AreSound (mbim_protocol s) events → IsInOrder s (history s events)

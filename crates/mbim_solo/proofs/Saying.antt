@@ -1,9 +1,9 @@
--- What a client says, it says alone as well: the same is decided, but that a modem may be open for all before it is for the client.
-use Rattle.std.proofs.Common.{◌≡◌, ◌≢◌, ℕ, ◌+◌, Bool, true, false, ◌==◌, if◌then◌else◌, List, ◌∷◌, ◌++◌, refl, ap, sym, ◌∙◌, subst, Option, Some, None, is_some}
+-- What a client's message makes of its part, from what is decided on it; and the modem's states for all and alone where the client doesn't wait.
+use Rattle.std.proofs.Common.{◌≡◌, ◌≢◌, ℕ, ◌+◌, Bool, true, false, ◌==◌, if◌then◌else◌, List, ◌∷◌, ◌++◌, refl, ap, sym, ◌∙◌, None}
 use Rattle.mbim_frame.specs.declared.kind.MessageKind.TheVariants.{Open}
 use Rattle.mbim_frame.specs.Head.{is_kind}
-use Rattle.proxy_history.specs.Facts.{Fact, Request, Verdict, Own, Full, Forward, Ready, Waits, Judged, Forwarded}
-use Rattle.proxy_history.specs.Decision.{Decision, Replies, Forwards, forwards_under}
+use Rattle.proxy_history.specs.Facts.{Fact, Request, Verdict, Forward, Ready, Waits, Judged, Forwarded}
+use Rattle.proxy_history.specs.Decision.{Decision, Replies, Forwards}
 use Rattle.proxy_history.specs.Connections.{message_count}
 use Rattle.proxy_history.specs.Requests.{deadline_of}
 use Rattle.proxy_history.specs.Modem.{now}
@@ -15,12 +15,11 @@ use Rattle.proxy_solo.proofs.Noting.{only, own_fact, others_fact}
 use Rattle.proxy_solo.proofs.Elsewhere.{own_is_theirs}
 use Rattle.mbim_proxy.specs.Setup.{Setup, the_space}
 use Rattle.mbim_proxy.specs.Known.{Known}
-use Rattle.mbim_proxy.specs.OwnReplies.{view_decides}
 use Rattle.mbim_proxy.specs.Step.{blank, known_now}
 use Rattle.mbim_proxy.specs.Text.{mbim_wording}
-use Rattle.mbim_proxy.specs.ModemStates.{ModemState, IsAway, IsShut, IsOpening, IsReady, state}
-use Rattle.mbim_proxy.specs.Forwarding.{own_open, number_for, request_of}
-use Rattle.mbim_proxy.specs.Clients.{command_message, opening_decision, decision_on, forward_for, judge}
+use Rattle.mbim_proxy.specs.ModemStates.{ModemState, IsAway, IsShut, IsOpening, IsReady}
+use Rattle.mbim_proxy.specs.Forwarding.{own_open, request_of}
+use Rattle.mbim_proxy.specs.Clients.{command_message, forward_for, judge}
 use Rattle.mbim_solo.specs.Solo.{restated}
 use Rattle.mbim_solo.specs.Part.{part}
 use Rattle.mbim_solo.proofs.Reading.{reads}
@@ -28,10 +27,14 @@ use Rattle.mbim_solo.proofs.Views.{OpenOnce}
 use Rattle.mbim_solo.proofs.Noted.{end_known, noted-part}
 use Rattle.mbim_solo.proofs.Once.{once_verdict}
 
--- a decision without its number
-abbrev pub unnumbered : Decision → Decision
-unnumbered (Replies verdict) = Replies verdict
-unnumbered (Forwards number) = Forwards 0
+-- the modem's states for all and for a client that is alone, neither of whose requests to open waits
+abbrev pub OpenAlike : (all own : ModemState) → Type 0
+OpenAlike IsAway IsAway = Unit {0}
+OpenAlike IsShut IsShut = Unit {0}
+OpenAlike IsOpening IsShut = Unit {0}
+OpenAlike IsReady IsShut = Unit {0}
+OpenAlike IsReady IsReady = Unit {0}
+OpenAlike _ _ = ⊥
 
 module _ (s : Setup) (c : ℕ) (client : c ≢ 0) where
   module _ (known : Known) (m : List ℕ) where
@@ -42,7 +45,7 @@ module _ (s : Setup) (c : ℕ) (client : c ≢ 0) where
     abbrev pub known_request : (time : ℕ) → List Fact → Request
     known_request time facts = record { serial = message_count c facts; conn = c; place = message_count c facts; space = the_space; number = 0; message = command_message s known m; deadline = deadline_of time s.time_limit }
 
-    abbrev known_forward : (opens : Bool) → (time : ℕ) → List Fact → List Fact
+    abbrev pub known_forward : (opens : Bool) → (time : ℕ) → List Fact → List Fact
     known_forward true time facts = judged Waits facts
     known_forward false time facts = Forwarded (known_request time (judged Forward facts)) ∷ judged Forward facts
 
@@ -50,7 +53,7 @@ module _ (s : Setup) (c : ℕ) (client : c ≢ 0) where
     known_judge time (Replies verdict) facts = end_known s c (judged verdict facts)
     known_judge time (Forwards number) facts = known_forward (is_kind Open m) time facts
 
-    judged-part : (verdict : Verdict) (past : List Fact) → part c (Judged c (message_count c past + 1) m verdict ∷ past) ≡ judged verdict (part c past)
+    pub judged-part : (verdict : Verdict) (past : List Fact) → part c (Judged c (message_count c past + 1) m verdict ∷ past) ≡ judged verdict (part c past)
     unfolding alone_part.part
     judged-part verdict past =
         ap (λ (b : Bool). facts_if b (restated (Judged c (message_count c past + 1) m verdict)) (part c past)) (self c)
@@ -83,62 +86,3 @@ module _ (s : Setup) (c : ℕ) (client : c ≢ 0) where
     pub judge-part : (decision : Decision) (past : List Fact) → OpenOnce s c past → (decision ≡ Replies Ready → (known_now s c past).waits ≡ None) → part c (judge s known c m decision past) ≡ known_judge (now past) decision (part c past)
     judge-part (Replies verdict) past once none = noted_judged verdict past (once_verdict s c (message_count c past + 1) m past verdict (λ is. none (ap (λ (v : Verdict). Replies v) is)), once)
     judge-part (Forwards number) past once none = forwarded-part number past
-
-  -- ---- the two decisions ----
-
-  -- the modem's states for all and for a client that is alone, neither of whose requests to open waits
-  abbrev pub OpenAlike : (all own : ModemState) → Type 0
-  OpenAlike IsAway IsAway = Unit {0}
-  OpenAlike IsShut IsShut = Unit {0}
-  OpenAlike IsOpening IsShut = Unit {0}
-  OpenAlike IsReady IsShut = Unit {0}
-  OpenAlike IsReady IsReady = Unit {0}
-  OpenAlike _ _ = ⊥
-
-  -- the same is decided, but that the client alone has the proxy ask, where for all it asks or asked already
-  abbrev pub DecidedAlike : (all own : Decision) → Type 0
-  DecidedAlike (Replies Ready) (Forwards number) = Unit {0}
-  DecidedAlike (Replies Waits) (Forwards number) = Unit {0}
-  DecidedAlike all own = unnumbered all ≡ unnumbered own
-
-  forwards_alike : (number own_number : Option ℕ) → forwards_under number ≢ Replies Full → is_some own_number ≡ true → DecidedAlike (forwards_under number) (forwards_under own_number)
-  forwards_alike None own_number fair numbered = absurd (fair refl)
-  forwards_alike (Some n) None fair numbered = absurd (let clash : false ≡ true = numbered in cc)
-  forwards_alike (Some n) (Some k) fair numbered = refl
-
-  pub opens_alike : (all own : ModemState) (number own_number : Option ℕ) → OpenAlike all own → opening_decision all number ≢ Replies Full → is_some own_number ≡ true → DecidedAlike (opening_decision all number) (opening_decision own own_number)
-  opens_alike IsAway IsAway number own_number alike fair numbered = refl
-  opens_alike IsShut IsShut number own_number alike fair numbered = forwards_alike number own_number fair numbered
-  opens_alike IsOpening IsShut number None alike fair numbered = absurd (let clash : false ≡ true = numbered in cc)
-  opens_alike IsOpening IsShut number (Some k) alike fair numbered = tt
-  opens_alike IsReady IsShut number None alike fair numbered = absurd (let clash : false ≡ true = numbered in cc)
-  opens_alike IsReady IsShut number (Some k) alike fair numbered = tt
-  opens_alike IsReady IsReady number own_number alike fair numbered = refl
-  opens_alike _ _ number own_number alike fair numbered = absurd alike
-
-  abbrev decided_by : (decides kind : Bool) → Known → (m : List ℕ) → List Fact → Decision
-  decided_by decides kind known m facts = if decides then Replies Own else if kind then opening_decision (state s.starts_away facts) (number_for s (own_open s) facts) else forwards_under (number_for s (command_message s known m) facts)
-
-  module _ (m : List ℕ) (past own : List Fact) (known_same : known_now s c past ≡ known_now s c own) where
-    abbrev k : Known
-    k = known_now s c own
-
-    -- where all's decision isn't that all is full, and alone there is a number and room for what would go
-    pub decided_alike : decision_on s (known_now s c past) m past ≢ Replies Full
-        → (view_decides s (known_now s c own) m ≡ false → is_kind Open m ≡ true → OpenAlike (state s.starts_away past) (state s.starts_away own) × (is_some (number_for s (own_open s) own) ≡ true))
-        → (view_decides s (known_now s c own) m ≡ false → is_kind Open m ≡ false → is_some (number_for s (command_message s (known_now s c past) m) past) ≡ true → is_some (number_for s (command_message s (known_now s c own) m) own) ≡ true)
-        → DecidedAlike (decision_on s (known_now s c past) m past) (decision_on s (known_now s c own) m own)
-    decided_alike fair opens commands =
-        subst (λ (k : Known). DecidedAlike (decision_on s k m past) (decision_on s (known_now s c own) m own)) (sym known_same)
-        (by (view_decides s (known_now s c own) m) (is_kind Open m) refl refl (subst (λ (k : Known). decision_on s k m past ≢ Replies Full) known_same fair)
-        (λ own_shared command is. commands own_shared command (subst (λ (k : Known). is_some (number_for s (command_message s k m) past) ≡ true) (sym known_same) is)))
-      where
-        some_if : (o : Option ℕ) → forwards_under o ≢ Replies Full → is_some o ≡ true
-        some_if None fair = absurd (fair refl)
-        some_if (Some n) fair = refl
-
-        by : (decides kind : Bool) → view_decides s k m ≡ decides → is_kind Open m ≡ kind → decided_by decides kind k m past ≢ Replies Full → (decides ≡ false → kind ≡ false → is_some (number_for s (command_message s k m) past) ≡ true → is_some (number_for s (command_message s k m) own) ≡ true)
-            → DecidedAlike (decided_by decides kind k m past) (decided_by decides kind k m own)
-        by true kind is of fair commands = refl
-        by false true is of fair commands = let both = opens is of in opens_alike (state s.starts_away past) (state s.starts_away own) (number_for s (own_open s) past) (number_for s (own_open s) own) both.0 fair both.1
-        by false false is of fair commands = forwards_alike (number_for s (command_message s k m) past) (number_for s (command_message s k m) own) fair (commands refl refl (some_if (number_for s (command_message s k m) past) fair))
