@@ -1,5 +1,5 @@
 -- The numbers in rising order, and the rows that their keys lead to.
-use Rattle.std.proofs.Common.{◌≡◌, ◌⊎◌, ⊎_elim, ℕ, zero, suc, ◌+◌, ◌<◌, ◌≤◌, Bool, true, false, ◌||◌, ◌==◌, List, [], ◌∷◌, ◌++◌, length, map, get_or, set, Some, None, is_some, refl, ap, sym, ◌∙◌, subst, arith, length-append}
+use Rattle.std.proofs.Common.{◌≡◌, ◌⊎◌, ⊎_elim, ℕ, zero, suc, ◌+◌, ◌<◌, ◌≤◌, Bool, true, false, ◌||◌, ◌==◌, List, [], ◌∷◌, ◌++◌, length, map, get_or, set, Some, None, is_some, refl, ap, sym, ◌∙◌, subst, arith, length-append, Contains}
 use Rattle.std.specs.List.{IsDistinct, insert, remove}
 use Rattle.std.specs.List.Sorted.{IsPartitionedBy}
 use Rattle.std.proofs.Math.Nat.{eq-or-lt_of_le}
@@ -12,13 +12,13 @@ use Rattle.kit_bytes.proofs.Lists.{all_weaker, all_map, find_first}
 use Rattle.kit_bytes.proofs.Sorted.{partitioned, in_order_at, in_order_insert, in_order_remove, in_order_none}
 use Rattle.proxy_history.specs.Connections.{contains}
 use Rattle.proxy_history.specs.Requests.{free_from, following}
-use Rattle.number_space.specs.declared.by_number.Numbered.{Numbered}
 use Rattle.number_space.specs.declared.space.Row.{Row}
 use Rattle.number_space.specs.Chain.{KeyAt, values}
-use Rattle.number_space.specs.Table.{numbers, row_of, StandsAt}
-use Rattle.number_space.specs.Index.{key_of, key_in, AreRising, numbers_of, is_below, IsBelowAt, IsPlaceOf, NumberAt, IsIndexOf, on_row}
+use Rattle.number_space.specs.Table.{numbers, row_of, IsRisingListOf, StandsAt}
+use Rattle.number_space.specs.Index.{Numbered, key_of, key_in, AreRising, numbers_of, is_below, IsBelowAt, IsPlaceOf, NumberAt, IsIndexOf, on_row}
 use Rattle.number_space.proofs.InUse.{position_at}
 use Rattle.number_space.proofs.Walks.{row_read}
+use Rattle.number_space.proofs.Beside.{rising_numbers, contained_same}
 use Rattle.number_space.proofs.Keyed.{key-insert_other, key-insert_same, key-push_other, key-push_same, key-remove_other, key-remove_same, key-at, key-set, key-map, key-contains, key-none, Found, found}
 
 abbrev Ahead : Numbered → Numbered → Type 0
@@ -168,6 +168,9 @@ module _ {T : Type 0} where
       sym (key-contains (λ e. e.number) (λ e. e.key) number index) ∙ ap is_some (of.keyed number)
       ∙ key-contains (λ (e : ℕ × Row T). e.1.number) (λ e. e.0) number entries ∙ ap (contains number) (numbers_values entries)
 
+  pub listed_index : (index : List Numbered) (entries : List (ℕ × Row T)) → IsIndexOf index entries → IsRisingListOf (Contains (numbers (values entries))) (numbers_of index)
+  listed_index index entries of = record { rising = rising_numbers index of.rising; same = contained_same (numbers_of index) (numbers (values entries)) (same_numbers index entries of) }
+
   same_free : (top number : ℕ) (index : List Numbered) (entries : List (ℕ × Row T)) → IsIndexOf index entries
       → free_from (length index) top (numbers_of index) number ≡ free_from (length (values entries)) top (numbers (values entries)) number
   same_free top number index entries of =
@@ -207,12 +210,13 @@ module _ {T : Type 0} where
     pub there : KeyAt key entries place
     pub stands : StandsAt number (values entries) place
 
-  pub row_at : (index : List Numbered) (entries : List (ℕ × Row T)) (number place : ℕ) (entry : Numbered) → IsIndexOf index entries → NumberAt number index place → entry ≡ get_or index place entry → RowAt number entry.key entries
-  row_at index entries number place entry of at is =
-      let keyed : key_of number index ≡ Some entry.key =
-      key-at (λ e. e.number) (λ e. e.key) number place index entry at.within at.named (distinct_rising index of.rising) ∙ ap (λ (e : Numbered). Some e.key) (sym is)
+  pub row_at : (index : List Numbered) (entries : List (ℕ × Row T)) (number place key : ℕ) → IsIndexOf index entries → NumberAt number index place → ((d : Numbered) → key ≡ (get_or index place d).key) → RowAt number key entries
+  row_at index entries number place key of at is =
+      let any : Numbered = record { number = number; key = key } in
+      let keyed : key_of number index ≡ Some key =
+      key-at (λ e. e.number) (λ e. e.key) number place index any at.within at.named (distinct_rising index of.rising) ∙ ap Some (sym (is any))
       in
-      let where_found : Found (λ (e : ℕ × Row T). e.1.number) (λ e. e.0) number entry.key entries = found (λ (e : ℕ × Row T). e.1.number) (λ e. e.0) number entry.key entries (sym (of.keyed number) ∙ keyed) in
+      let where_found : Found (λ (e : ℕ × Row T). e.1.number) (λ e. e.0) number key entries = found (λ (e : ℕ × Row T). e.1.number) (λ e. e.0) number key entries (sym (of.keyed number) ∙ keyed) in
       record {
         place = where_found.at;
         there = record { within = where_found.within; named = where_found.keyed };

@@ -1,5 +1,6 @@
 pub mod Links
 pub mod Keyed
+pub mod Beside
 pub mod Index
 pub mod Walks
 pub mod InUse

@@ -5,7 +5,7 @@ use Rattle.std.proofs.lemmas.Bool.Decides.{nat_tests}
 use Rattle.std.proofs.lemmas.Bool.{eqb-true, eq-eqb, true≢false}
 use Rattle.proxy_history.proofs.Lists.{Contains-nil, Contains-cons, Contains-cons_cases}
 use Rattle.number_space.specs.declared.space.Row.{Row}
-use Rattle.number_space.specs.Table.{Table, numbers, without, next_number, gives_number, expires_row, first_due}
+use Rattle.number_space.specs.Table.{Table, numbers, IsRisingListOf, without, next_number, gives_number, expires_row, first_due}
 use Rattle.number_space.specs.Calls.{Call, Give, Answer, Expire, Orphan, Reset, after}
 use Rattle.number_space.specs.Laws.{frees, IsGivenAndNotFreed}
 use Rattle.number_space.proofs.InUse.{numbers_settled}
@@ -145,3 +145,11 @@ module _ {T : Type 0} where
     in_use_since limit top calls number,
     λ since. subst (λ (l : List (Call T)). Contains (numbers (after limit top l).rows) number) (sym since.whole) (since_in_use limit top number since.later since.earlier since.conn since.note since.deadline since.given since.none),
   )
+
+  pub listed_since : (limit top : ℕ) (calls : List (Call T)) (table : Table T) (listed : List ℕ) → table ≡ after limit top calls → IsRisingListOf (Contains (numbers table.rows)) listed → IsRisingListOf (λ number. IsGivenAndNotFreed limit top number calls) listed
+  listed_since limit top calls table listed stands is = record {
+    rising = is.rising;
+    same = λ number.
+        let whole : Contains (numbers table.rows) number ↔ IsGivenAndNotFreed limit top number calls = subst (λ (t : Table T). Contains (numbers t.rows) number ↔ IsGivenAndNotFreed limit top number calls) (sym stands) (in_use_exactly limit top calls number) in
+        (λ at. whole.0 ((is.same number).0 at), λ given. (is.same number).1 (whole.1 given));
+  }

@@ -2,10 +2,30 @@
 use Rattle.std.specs.Prelude.{◌≡◌, ℕ, ◌<◌, ◌≤◌, Bool, true, false, ◌==◌, nat_lt, if◌then◌else◌, List, [], ◌∷◌, length, map, Option, Some, None, slice_index_or}
 use Rattle.std.specs.List.{AllWithin, position}
 use Rattle.kit_bytes.specs.Sorted.{IsInOrder}
-use Rattle.number_space.specs.declared.by_number.Numbered.{Numbered}
 use Rattle.number_space.specs.declared.space.Row.{Row}
 use Rattle.number_space.specs.Chain.{KeyAt, values}
 use Rattle.number_space.specs.Table.{is_due}
+
+-- a number in use, and the key of its row
+pub record Numbered : Type 0 where
+  pub number : ℕ
+  pub key : ℕ
+
+-- a list of numbers, and how many fit
+pub record Listed : Type 0 where
+  pub items : List ℕ
+  pub capacity : ℕ
+
+-- the numbers in use with the keys of their rows, and how many fit
+pub record Indexed : Type 0 where
+  pub entries : List Numbered
+  pub capacity : ℕ
+
+-- each number with the key that stands beside it
+abbrev pub beside : List ℕ → List ℕ → List Numbered
+beside [] keys = []
+beside (number ∷ numbers) [] = []
+beside (number ∷ numbers) (key ∷ keys) = record { number = number; key = key } ∷ beside numbers keys
 
 -- the key of the first of this number
 abbrev pub key_by : {X : Type 0} → (X → ℕ) → (X → ℕ) → ℕ → List X → Option ℕ

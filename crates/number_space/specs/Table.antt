@@ -1,6 +1,7 @@
 -- What a number space keeps, and what each call makes of it.
-use Rattle.std.specs.Prelude.{◌≡◌, ℕ, ◌<◌, ◌≤◌, Bool, true, not, ◌&&◌, ◌==◌, nat_le, if◌then◌else◌, List, [], ◌∷◌, ◌++◌, length, map, filter, find, Option, Some, None, slice_index_or, All}
+use Rattle.std.specs.Prelude.{◌≡◌, ◌↔◌, ℕ, ◌<◌, ◌≤◌, Bool, true, not, ◌&&◌, ◌==◌, nat_le, if◌then◌else◌, List, [], ◌∷◌, ◌++◌, length, map, filter, find, Option, Some, None, slice_index_or, All, Contains}
 use Rattle.std.specs.List.{IsDistinct}
+use Rattle.kit_bytes.specs.Sorted.{IsInOrder}
 use Rattle.proxy_history.specs.Requests.{number_after}
 use Rattle.number_space.specs.declared.space.Row.{Row}
 use Rattle.number_space.specs.declared.space.Found.{Found}
@@ -25,6 +26,11 @@ numbers rows = map (λ r. r.number) rows
 
 abbrev pub row_of : {T : Type 0} → ℕ → List (Row T) → Option (Row T)
 row_of number rows = find (λ r. number == r.number) rows
+
+-- these are listed in rising order, each once
+pub record IsRisingListOf (IsListed : ℕ → Type 0) (listed : List ℕ) : Type 0 where
+  pub rising : IsInOrder (λ m n. m < n) listed
+  pub same : (number : ℕ) → Contains listed number ↔ IsListed number
 
 -- the row of this number stands there
 pub record StandsAt {T : Type 0} (number : ℕ) (rows : List (Row T)) (place : ℕ) : Type 0 where

@@ -1,19 +1,229 @@
-//! The numbers in use in rising order, each with the key of its row. One is found by halves.
-ghost use Rattle.std.specs.Prelude.{◌≡◌, ◌<◌, ◌≤◌, ◌==◌, false, length, slice_index_or, IfSome, IfNone, OnSome, IsNone};
+//! The numbers in use in rising order, and beside each the key of its row. One is found by halves.
+ghost use Rattle.std.specs.Prelude.{◌≡◌, ◌<◌, ◌≤◌, [], false, length, slice_index_or, IfOk, IfSome, IsNone};
 ghost use Rattle.std.specs.List.{insert, remove};
 ghost use Rattle.std.specs.Bool.{OnTrue, OnFalse};
-ghost use Rattle.std.specs.VecDeque.{deque_capacity};
 ghost use Rattle.proxy_history.specs.Connections.{contains};
 ghost use Rattle.proxy_history.specs.Requests as history;
-ghost use Rattle.number_space.specs.Index.{AreRising, IsBelowAt, IsPlaceOf, NumberAt, numbers_of};
+ghost use Rattle.number_space.specs.Index.{Numbered, AreRising, IsBelowAt, IsPlaceOf, NumberAt, numbers_of};
 
+use crate::numbers::{Numbers, put_at, take_at};
+use std::alloc::{AllocError, Global};
 use std::collections::VecDeque;
+use std::marker::Model;
 
-/// A number in use, and the key of its row.
-#[derive(Clone, Copy)]
-pub struct Numbered {
-    pub number: u32,
-    pub key: usize,
+/// The numbers in use in rising order, and the keys of their rows.
+#[derive(Drop)]
+pub(crate) struct Index {
+    numbers: Numbers,
+    // the key at a place is that of the number there
+    keys: VecDeque<usize>,
+}
+
+impl Model for Index {
+    ghost use Rattle.std.specs.Prelude.{◌≡◌, length, min};
+    ghost use Rattle.std.specs.VecDeque.{deque_capacity};
+    ghost use Rattle.number_space.specs.Index.{Indexed, beside};
+
+    ghost Value = { Indexed };
+
+    ghost view = { λ i. record { entries = beside i.numbers.items i.keys.items; capacity = min i.numbers.capacity (deque_capacity i.keys) } };
+
+    ghost invariant = { λ i. length i.keys.items ≡ length i.numbers.items };
+}
+
+impl Index {
+    /// An index of nothing, with room for so many.
+    pub(crate) fn open(alloc: Global, limit: usize) -> Result<Self, AllocError>
+        ensures entries { IfOk result (λ index. index.entries ≡ []) }
+        ensures room { IfOk result (λ index. limit ≤ index.capacity) }
+    {
+        Ok(Index {
+            numbers: Numbers::open(alloc, limit)?,
+            keys: VecDeque::with_capacity(alloc, limit)?,
+        })
+    }
+
+    fn len(&self) -> usize
+        ensures { result ≡ length self.now.entries }
+    {
+        self.numbers.len()
+    }
+
+    /// The numbers alone.
+    pub(crate) fn numbers(&self) -> &Numbers
+        ensures { result.now.items ≡ numbers_of self.now.entries }
+    {
+        &self.numbers
+    }
+
+    /// The key that stands there.
+    pub(crate) fn key_at(&self, place: usize) -> usize
+        requires { place < length self.now.entries }
+        ensures { (d : Numbered) → result ≡ (slice_index_or self.now.entries place d).key }
+    {
+        self.keys[place]
+    }
+
+    fn is_below_at(&self, place: usize, number: u32) -> bool
+        ensures there { OnTrue result (IsBelowAt number self.now.entries place) }
+        ensures other { OnFalse result (¬ IsBelowAt number self.now.entries place) }
+    {
+        match self.numbers.get(place) {
+            Some(other) => other < number,
+            None => false,
+        }
+    }
+
+    fn is_at(&self, place: usize, number: u32) -> bool
+        ensures there { OnTrue result (NumberAt number self.now.entries place) }
+        ensures other { OnFalse result (¬ NumberAt number self.now.entries place) }
+    {
+        match self.numbers.get(place) {
+            Some(other) => number == other,
+            None => false,
+        }
+    }
+
+    fn place_by_halves(&self, number: u32) -> usize
+        requires { AreRising self.now.entries }
+        ensures { IsPlaceOf number self.now.entries result }
+    {
+        self.numbers.count_below(number)
+    }
+
+    // Where the number stands, or else where it would stand. The ends are tried first.
+    fn place_of(&self, number: u32) -> usize
+        requires { AreRising self.now.entries }
+        ensures { IsPlaceOf number self.now.entries result }
+    {
+        let len = self.len();
+        if self.is_below_at(len.saturating_sub(1), number) {
+            return len;
+        }
+        if !self.is_below_at(0, number) {
+            return 0;
+        }
+        self.place_by_halves(number)
+    }
+
+    /// Where the number stands.
+    #[inline(always)]
+    pub(crate) fn find(&self, number: u32) -> Option<usize>
+        requires { AreRising self.now.entries }
+        ensures found { IfSome result (NumberAt number self.now.entries) }
+        ensures absent { IsNone result → contains number (numbers_of self.now.entries) ≡ false }
+    {
+        // most are answered in the order in which they were given
+        if self.is_at(0, number) {
+            return Some(0);
+        }
+        self.find_by_halves(number)
+    }
+
+    #[inline(never)]
+    fn find_by_halves(&self, number: u32) -> Option<usize>
+        requires { AreRising self.now.entries }
+        ensures found { IfSome result (NumberAt number self.now.entries) }
+        ensures absent { IsNone result → contains number (numbers_of self.now.entries) ≡ false }
+    {
+        let place = self.place_by_halves(number);
+        if self.is_at(place, number) {
+            Some(place)
+        } else {
+            None
+        }
+    }
+
+    // Whether the number is seen to be greater than all.
+    fn is_above_all(&self, number: u32) -> bool
+        requires { AreRising self.now.entries }
+        ensures { OnTrue result (IsPlaceOf number self.now.entries (length self.now.entries)) }
+    {
+        let len = self.len();
+        if len == 0 {
+            return true;
+        }
+        self.is_below_at(len - 1, number)
+    }
+
+    /// The first number after the last one that isn't in use, and where it would stand.
+    pub(crate) fn next_free(&self, top: u32, last: u32) -> (u32, usize)
+        requires { AreRising self.now.entries }
+        ensures number { result.0 ≡ history.free_from (length self.now.entries) top (numbers_of self.now.entries) (history.following top last) }
+        ensures place { IsPlaceOf result.0 self.now.entries result.1 }
+    {
+        let number = following(top, last);
+        if self.is_above_all(number) {
+            return (number, self.len());
+        }
+        self.free_from(top, number)
+    }
+
+    // The first number from this one on that isn't in use, and where it would stand. Only numbers in use
+    // that follow it are passed over.
+    #[inline(never)]
+    fn free_from(&self, top: u32, first: u32) -> (u32, usize)
+        requires { AreRising self.now.entries }
+        ensures number { result.0 ≡ history.free_from (length self.now.entries) top (numbers_of self.now.entries) first }
+        ensures place { IsPlaceOf result.0 self.now.entries result.1 }
+    {
+        let mut number = first;
+        let mut place = self.place_of(number);
+        for _ in 0..self.len() {
+            if !self.is_at(place, number) {
+                return (number, place);
+            }
+            let next = following(top, number);
+            let behind = place + 1;
+            place = self.next_place(behind, number, next);
+            number = next;
+        }
+        (number, place)
+    }
+
+    // Where the next number would stand: right behind the one before it, unless it starts anew.
+    fn next_place(&self, behind: usize, number: u32, next: u32) -> usize
+        requires rising { AreRising self.now.entries }
+        requires behind { number < next → IsPlaceOf next self.now.entries behind }
+        ensures { IsPlaceOf next self.now.entries result }
+    {
+        if number < next {
+            behind
+        } else {
+            self.place_of(next)
+        }
+    }
+
+    /// Puts a number and its key at their place. This takes no memory.
+    pub(crate) fn put(&mut self, place: usize, number: u32, key: usize)
+        requires place { place ≤ length self.old.entries }
+        requires room { length self.old.entries < self.old.capacity }
+        ensures entries { self.new.entries ≡ insert self.old.entries place (record { number = number; key = key }) }
+        ensures capacity { self.old.capacity ≤ self.new.capacity }
+    {
+        self.numbers.put(place, number);
+        put_at(&mut self.keys, place, key);
+    }
+
+    /// Takes the number out that stands there, and gives its key.
+    pub(crate) fn take(&mut self, place: usize) -> usize
+        requires { place < length self.old.entries }
+        ensures key { (d : Numbered) → result ≡ (slice_index_or self.old.entries place d).key }
+        ensures entries { self.new.entries ≡ remove self.old.entries place }
+        ensures capacity { self.new.capacity ≡ self.old.capacity }
+    {
+        self.numbers.remove(place);
+        take_at(&mut self.keys, place)
+    }
+
+    /// Takes all entries out.
+    pub(crate) fn clear(&mut self)
+        ensures entries { self.new.entries ≡ [] }
+        ensures capacity { self.new.capacity ≡ self.old.capacity }
+    {
+        self.numbers.clear();
+        self.keys.clear();
+    }
 }
 
 // The number after this one, cyclic from 1 to the top.
@@ -21,129 +231,4 @@ fn following(top: u32, number: u32) -> u32
     ensures { result ≡ history.following top number }
 {
     if number < top { number + 1 } else { 1 }
-}
-
-fn is_below_at(index: &VecDeque<Numbered>, place: usize, number: u32) -> bool
-    ensures there { OnTrue result (IsBelowAt number index.now.items place) }
-    ensures other { OnFalse result (¬ IsBelowAt number index.now.items place) }
-{
-    match index.get(place) {
-        Some(entry) => entry.number < number,
-        None => false,
-    }
-}
-
-fn place_by_halves(index: &VecDeque<Numbered>, number: u32) -> usize
-    requires { AreRising index.now.items }
-    ensures { IsPlaceOf number index.now.items result }
-{
-    index.partition_point(|entry| entry.number < number)
-}
-
-// Where the number stands, or else where it would stand. The ends are tried first: numbers are mostly
-// given in rising order, and answered in the order in which they were given.
-fn place_of(index: &VecDeque<Numbered>, number: u32) -> usize
-    requires { AreRising index.now.items }
-    ensures { IsPlaceOf number index.now.items result }
-{
-    let len = index.len();
-    if is_below_at(index, len.saturating_sub(1), number) {
-        return len;
-    }
-    if !is_below_at(index, 0, number) {
-        return 0;
-    }
-    place_by_halves(index, number)
-}
-
-fn is_at(index: &VecDeque<Numbered>, place: usize, number: u32) -> bool
-    ensures there { OnTrue result (NumberAt number index.now.items place) }
-    ensures other { OnFalse result (¬ NumberAt number index.now.items place) }
-{
-    match index.get(place) {
-        Some(entry) => number == entry.number,
-        None => false,
-    }
-}
-
-/// Where the number stands.
-pub fn find(index: &VecDeque<Numbered>, number: u32) -> Option<usize>
-    requires { AreRising index.now.items }
-    ensures found { IfSome result (NumberAt number index.now.items) }
-    ensures absent { IsNone result → contains number (numbers_of index.now.items) ≡ false }
-{
-    let place = place_of(index, number);
-    if is_at(index, place, number) {
-        Some(place)
-    } else {
-        None
-    }
-}
-
-/// The first number after the last one that isn't in use, and where it would stand. Only numbers in
-/// use that follow the last one are passed over.
-pub fn next_free(index: &VecDeque<Numbered>, top: u32, last: u32) -> (u32, usize)
-    requires { AreRising index.now.items }
-    ensures number { result.0 ≡ history.free_from (length index.now.items) top (numbers_of index.now.items) (history.following top last) }
-    ensures place { IsPlaceOf result.0 index.now.items result.1 }
-{
-    let mut number = following(top, last);
-    let mut place = place_of(index, number);
-    for _ in 0..index.len() {
-        if !is_at(index, place, number) {
-            return (number, place);
-        }
-        let next = following(top, number);
-        let behind = place + 1;
-        place = next_place(index, behind, number, next);
-        number = next;
-    }
-    (number, place)
-}
-
-// Where the next number would stand: right behind the one before it, unless it starts anew.
-fn next_place(index: &VecDeque<Numbered>, behind: usize, number: u32, next: u32) -> usize
-    requires rising { AreRising index.now.items }
-    requires behind { number < next → IsPlaceOf next index.now.items behind }
-    ensures { IsPlaceOf next index.now.items result }
-{
-    if number < next {
-        behind
-    } else {
-        place_of(index, next)
-    }
-}
-
-/// Puts a number at its place. This takes no memory.
-pub fn put(index: &mut VecDeque<Numbered>, place: usize, entry: Numbered)
-    requires place { place ≤ length index.old.items }
-    requires room { length index.old.items < deque_capacity index.old }
-    ensures items { index.new.items ≡ insert index.old.items place entry }
-    ensures capacity { deque_capacity index.old ≤ deque_capacity index.new }
-{
-    if is_end(index, place) {
-        index.push_back_reserved(entry);
-        return;
-    }
-    let _ = index.insert(place, entry);
-}
-
-fn is_end(index: &VecDeque<Numbered>, place: usize) -> bool
-    ensures { result ≡ (place == length index.now.items) }
-{
-    place == index.len()
-}
-
-/// Takes the entry out that stands there.
-pub fn take(index: &mut VecDeque<Numbered>, place: usize) -> Option<Numbered>
-    ensures value { IfSome result (λ entry. entry ≡ slice_index_or index.old.items place entry) }
-    ensures items { OnSome result (index.new.items ≡ remove index.old.items place) }
-    ensures none { IsNone result → length index.old.items ≤ place }
-    ensures unchanged { IfNone result (index.new.items ≡ index.old.items) }
-    ensures capacity { deque_capacity index.new ≡ deque_capacity index.old }
-{
-    if place == 0 {
-        return index.pop_front();
-    }
-    index.remove(place)
 }

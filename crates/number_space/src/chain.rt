@@ -83,8 +83,7 @@ impl<V: Copy> Chain<V> {
             before: self.last,
             after: None,
         });
-        set_after(&mut self.links, self.last, Some(key));
-        self.first = end_by(self.last, Some(key), self.first);
+        self.first = set_after(&mut self.links, self.last, Some(key), self.first);
         self.last = Some(key);
         key
     }
@@ -106,10 +105,8 @@ impl<V: Copy> Chain<V> {
         ensures capacity { self.new.capacity ≡ self.old.capacity }
     {
         let link = self.links.remove(key);
-        set_after(&mut self.links, link.before, link.after);
-        set_before(&mut self.links, link.after, link.before);
-        self.first = end_by(link.before, link.after, self.first);
-        self.last = end_by(link.after, link.before, self.last);
+        self.first = set_after(&mut self.links, link.before, link.after, self.first);
+        self.last = set_before(&mut self.links, link.after, link.before, self.last);
         link.value
     }
 
@@ -124,13 +121,6 @@ impl<V: Copy> Chain<V> {
     }
 }
 
-// An end of the chain: a new one where the value has no neighbour on that side.
-fn end_by(neighbour: Option<usize>, new: Option<usize>, end: Option<usize>) -> Option<usize>
-    ensures { result ≡ (if is_none neighbour then new else end) }
-{
-    if neighbour.is_none() { new } else { end }
-}
-
 fn set_value<V: Copy>(links: &mut Slab<Link<V>>, key: usize, value: V)
     ensures here { get links.new key ≡ option_map (with_value value) (get links.old key) }
     ensures others { (other : ℕ) → other ≢ key → get links.new other ≡ get links.old other }
@@ -142,28 +132,44 @@ fn set_value<V: Copy>(links: &mut Slab<Link<V>>, key: usize, value: V)
     }
 }
 
-// Behind this one, if there is one, comes that one.
-fn set_after<V: Copy>(links: &mut Slab<Link<V>>, at: Option<usize>, after: Option<usize>)
+// Behind this one comes that one, which is the first where there is none to stand behind. Gives the first.
+fn set_after<V: Copy>(
+    links: &mut Slab<Link<V>>,
+    at: Option<usize>,
+    after: Option<usize>,
+    first: Option<usize>,
+) -> Option<usize>
+    ensures first { result ≡ (if is_none at then after else first) }
     ensures links { (key : ℕ) → get links.new key ≡ after_at at after (get links.old) key }
     ensures len { slab_len links.new ≡ slab_len links.old }
     ensures capacity { links.new.capacity ≡ links.old.capacity }
 {
-    if let Some(key) = at
-        && let Some(link) = links.get_mut(key)
-    {
+    let Some(key) = at else {
+        return after;
+    };
+    if let Some(link) = links.get_mut(key) {
         link.after = after;
     }
+    first
 }
 
-// Before this one, if there is one, comes that one.
-fn set_before<V: Copy>(links: &mut Slab<Link<V>>, at: Option<usize>, before: Option<usize>)
+// Before this one comes that one, which is the last where there is none to stand before. Gives the last.
+fn set_before<V: Copy>(
+    links: &mut Slab<Link<V>>,
+    at: Option<usize>,
+    before: Option<usize>,
+    last: Option<usize>,
+) -> Option<usize>
+    ensures last { result ≡ (if is_none at then before else last) }
     ensures links { (key : ℕ) → get links.new key ≡ before_at at before (get links.old) key }
     ensures len { slab_len links.new ≡ slab_len links.old }
     ensures capacity { links.new.capacity ≡ links.old.capacity }
 {
-    if let Some(key) = at
-        && let Some(link) = links.get_mut(key)
-    {
+    let Some(key) = at else {
+        return before;
+    };
+    if let Some(link) = links.get_mut(key) {
         link.before = before;
     }
+    last
 }

@@ -4,8 +4,10 @@
 mod by_number;
 mod chain;
 mod laws;
+mod numbers;
 mod rows;
 mod space;
 
 pub use laws::{numbers_are_in_use_until_freed, numbers_are_pending_until_ended};
+pub use numbers::Numbers;
 pub use space::{Found, Row, Space};

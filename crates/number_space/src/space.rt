@@ -1,15 +1,16 @@
-ghost use Rattle.std.specs.Prelude.{◌≡◌, ◌↔◌, ◌≤◌, ◌&&◌, ◌==◌, ℕ, List, ◌∷◌, length, option_map, IfOk, IfSome, IsNone};
+ghost use Rattle.std.specs.Prelude.{◌≡◌, ◌↔◌, ◌≤◌, ◌&&◌, ◌==◌, ℕ, List, ◌∷◌, length, option_map, Contains, IfOk, IfSome, IsNone};
 ghost use Rattle.std.specs.List.{list_any};
 ghost use Rattle.proxy_history.specs.Requests.{following};
 ghost use Rattle.proxy_history.specs.Laws.{IsFirstFree};
-ghost use Rattle.number_space.specs.Table.{opened, numbers, row_of, next_number, gives, found, answers, first_due, expires, orphans, resets, IsSound};
+ghost use Rattle.number_space.specs.Table.{opened, numbers, row_of, next_number, gives, found, answers, first_due, expires, orphans, resets, IsSound, IsRisingListOf};
 ghost use Rattle.number_space.specs.Calls.{Call, Give, Answer, Expire, Orphan, Reset, StandsFor};
+ghost use Rattle.number_space.specs.Laws.{IsGivenAndNotFreed};
 
-use crate::by_number::Numbered;
+use crate::by_number::Index;
 use crate::chain::Chain;
-use crate::{by_number, rows};
+use crate::numbers::Numbers;
+use crate::rows;
 use std::alloc::{AllocError, Global};
-use std::collections::VecDeque;
 use std::marker::Model;
 
 /// A number in use.
@@ -46,7 +47,7 @@ pub struct Space<T> {
     // in order of giving
     rows: Chain<Row<T>>,
     // in rising order
-    index: VecDeque<Numbered>,
+    index: Index,
     last: u32,
     limit: u32,
     top: u32,
@@ -56,7 +57,6 @@ pub struct Space<T> {
 
 impl<T> Model for Space<T> {
     ghost use Rattle.std.specs.Prelude.{◌≤◌};
-    ghost use Rattle.std.specs.VecDeque.{deque_capacity};
     ghost use Rattle.number_space.specs.Table.{Table, IsSound, NoneIsDueBefore};
     ghost use Rattle.number_space.specs.Chain.{values};
     ghost use Rattle.number_space.specs.Index.{IsIndexOf};
@@ -68,8 +68,8 @@ impl<T> Model for Space<T> {
     ghost invariant = { λ s. record {
       sound : IsSound (record { rows = values s.rows.entries; last = s.last; limit = s.limit; top = s.top });
       room : s.limit ≤ s.rows.capacity;
-      index_room : s.limit ≤ deque_capacity s.index;
-      indexed : IsIndexOf s.index.items s.rows.entries;
+      index_room : s.limit ≤ s.index.capacity;
+      indexed : IsIndexOf s.index.entries s.rows.entries;
       none_due : NoneIsDueBefore s.earliest (values s.rows.entries);
     } };
 }
@@ -83,7 +83,7 @@ impl<T: Copy> Space<T> {
     {
         Ok(Space {
             rows: Chain::open(alloc, limit as usize)?,
-            index: VecDeque::with_capacity(alloc, limit as usize)?,
+            index: Index::open(alloc, limit as usize)?,
             last: 0,
             limit,
             top,
@@ -104,7 +104,7 @@ impl<T: Copy> Space<T> {
         if self.rows.len() >= self.limit as usize {
             return None;
         }
-        let (number, place) = by_number::next_free(&self.index, self.top, self.last);
+        let (number, place) = self.index.next_free(self.top, self.last);
         let key = self.rows.push(Row {
             number,
             conn,
@@ -112,7 +112,7 @@ impl<T: Copy> Space<T> {
             deadline,
             pending: true,
         });
-        by_number::put(&mut self.index, place, Numbered { number, key });
+        self.index.put(place, number, key);
         self.last = number;
         self.earliest = self.earliest.min(deadline);
         Some(number)
@@ -123,10 +123,17 @@ impl<T: Copy> Space<T> {
         ensures row { result ≡ option_map (λ r. (r.conn, r.note, r.pending)) (row_of number self.now.rows) }
         ensures sound { IsSound self.now }
     {
-        let place = by_number::find(&self.index, number)?;
-        let entry = &self.index[place];
-        let (row, _) = self.rows.at(entry.key);
+        let place = self.index.find(number)?;
+        let (row, _) = self.rows.at(self.index.key_at(place));
         Some((row.conn, row.note, row.pending))
+    }
+
+    /// The numbers in use in rising order, each once.
+    pub fn numbers(&self) -> &Numbers
+        ensures rising { IsRisingListOf (Contains (numbers self.now.rows)) result.now.items }
+        ensures stands { (limit top : ℕ) (calls : List (Call T)) → StandsFor limit top calls self.now → IsRisingListOf (λ number. IsGivenAndNotFreed limit top number calls) result.now.items }
+    {
+        self.index.numbers()
     }
 
     /// Whether this connection waits for an answer.
@@ -142,13 +149,10 @@ impl<T: Copy> Space<T> {
         ensures table { self.new ≡ answers number self.old }
         ensures stands { (limit top : ℕ) (calls : List (Call T)) → StandsFor limit top calls self.old → StandsFor limit top (Answer number ∷ calls) self.new }
     {
-        let Some(place) = by_number::find(&self.index, number) else {
+        let Some(place) = self.index.find(number) else {
             return Found::Stray;
         };
-        let Some(entry) = by_number::take(&mut self.index, place) else {
-            return Found::Stray;
-        };
-        let row = self.rows.remove(entry.key);
+        let row = self.rows.remove(self.index.take(place));
         if row.pending {
             Found::Pending(row.conn, row.note)
         } else {

@@ -24,17 +24,28 @@ fn assert_expires(rt: &impl Abort, space: &mut Space<char>, time: u64, next: Opt
     assert_eq!(rt; space.expire(time), next);
 }
 
+// The numbers in use are these, in this order.
+fn assert_lists(rt: &impl Abort, space: &Space<char>, listed: &[u32]) {
+    let numbers = space.numbers();
+    assert_eq!(rt; numbers.len(), listed.len());
+    for place in 0..listed.len() {
+        assert_eq!(rt; numbers.get(place), listed.get(place).copied());
+    }
+}
+
 #[test]
 fn numbers_are_given_in_turn(rt: HostRuntime) -> Result<(), Fail> {
     let mut space = Space::open(rt.alloc(), 2, 3)?;
     assert_gives(&rt, &mut space, 7, 'a', 100, Some(1));
     assert_gives(&rt, &mut space, 8, 'b', 200, Some(2));
     assert_gives(&rt, &mut space, 7, 'c', 300, None);
+    assert_lists(&rt, &space, &[1, 2]);
     assert_answers(&rt, &mut space, 1, Found::Pending(7, 'a'));
     assert_gives(&rt, &mut space, 7, 'c', 300, Some(3));
     assert_answers(&rt, &mut space, 2, Found::Pending(8, 'b'));
     assert_gives(&rt, &mut space, 9, 'd', 400, Some(1));
     assert_answers(&rt, &mut space, 2, Found::Stray);
+    assert_lists(&rt, &space, &[1, 3]);
     Ok(())
 }
 

@@ -12,11 +12,11 @@ remove-link-requires g c =
 
 pub invariant_of-self : goal.invariant_of-self
 invariant_of-self g c =
-    met_kept (get c.set_before.new.links) (slab_len c.set_before.new.links) c.end_by-self-inside.result c.end_by-self-inside-2.result _
+    met_kept (get c.set_before-self-inside.new.links) (slab_len c.set_before-self-inside.new.links) c.set_after-self-inside.result c.set_before-self-inside.result _
     (removed_at (get c.self.inside.links) (slab_len c.self.inside.links) c.self.inside.first c.self.inside.last c.args.self.now.entries c.args.key c.requires.place
     (subst (λ (e : Entries g.row.V.Denot). AreLinksOf (get c.self.inside.links) (slab_len c.self.inside.links) c.self.inside.first c.self.inside.last e.entries) c.self.view_is c.self.invariant)
-    c.requires.there (get c.remove-link.new.self) (get c.set_after.new.links) (get c.set_before.new.links) (slab_len c.set_before.new.links) c.remove-link.result _ _ c.remove-link.ensures.value c.end_by-self-inside.ensures c.end_by-self-inside-2.ensures
-    (omega (arith, c.set_before.ensures.len, c.set_after.ensures.len, c.remove-link.ensures.len)) c.remove-link.ensures.updates.others c.set_after.ensures.links c.set_before.ensures.links)
+    c.requires.there (get c.remove-link.new.self) (get c.set_after-self-inside.new.links) (get c.set_before-self-inside.new.links) (slab_len c.set_before-self-inside.new.links) c.remove-link.result _ _ c.remove-link.ensures.value c.set_after-self-inside.ensures.first c.set_before-self-inside.ensures.last
+    (omega (arith, c.set_before-self-inside.ensures.len, c.set_after-self-inside.ensures.len, c.remove-link.ensures.len)) c.remove-link.ensures.updates.others c.set_after-self-inside.ensures.links c.set_before-self-inside.ensures.links)
 
 pub returns-clause-value : goal.returns-clause-value
 returns-clause-value g c = λ place d at.
@@ -26,8 +26,8 @@ returns-clause-value g c = λ place d at.
 
 pub returns-clause-entries : goal.returns-clause-entries
 returns-clause-entries g c = λ place at.
-    met_is (get c.set_before.new.links) (slab_len c.set_before.new.links) c.end_by-self-inside.result c.end_by-self-inside-2.result _
+    met_is (get c.set_before-self-inside.new.links) (slab_len c.set_before-self-inside.new.links) c.set_after-self-inside.result c.set_before-self-inside.result _
     (removed_at (get c.self.inside.links) (slab_len c.self.inside.links) c.self.inside.first c.self.inside.last c.args.self.now.entries c.args.key place
     (subst (λ (e : Entries g.row.V.Denot). AreLinksOf (get c.self.inside.links) (slab_len c.self.inside.links) c.self.inside.first c.self.inside.last e.entries) c.self.view_is c.self.invariant)
-    at (get c.remove-link.new.self) (get c.set_after.new.links) (get c.set_before.new.links) (slab_len c.set_before.new.links) c.remove-link.result _ _ c.remove-link.ensures.value c.end_by-self-inside.ensures c.end_by-self-inside-2.ensures
-    (omega (arith, c.set_before.ensures.len, c.set_after.ensures.len, c.remove-link.ensures.len)) c.remove-link.ensures.updates.others c.set_after.ensures.links c.set_before.ensures.links)
+    at (get c.remove-link.new.self) (get c.set_after-self-inside.new.links) (get c.set_before-self-inside.new.links) (slab_len c.set_before-self-inside.new.links) c.remove-link.result _ _ c.remove-link.ensures.value c.set_after-self-inside.ensures.first c.set_before-self-inside.ensures.last
+    (omega (arith, c.set_before-self-inside.ensures.len, c.set_after-self-inside.ensures.len, c.remove-link.ensures.len)) c.remove-link.ensures.updates.others c.set_after-self-inside.ensures.links c.set_before-self-inside.ensures.links)

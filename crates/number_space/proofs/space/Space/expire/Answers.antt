@@ -55,7 +55,7 @@ invariant_of-self-2 g c =
       index_room = c.self.invariant.index_room;
       indexed =
           rw (c.set.ensures.entries due.place due.there)
-          (index_set c.self.inside.index.items c.self.inside.rows.entries c.in-Some.key due.place (record c.at.result.0 { pending = false }) c.at.result.0 due.there (c.at.ensures.value due.place (c.in-Some.key, c.at.result.0) due.there) refl c.self.invariant.indexed);
+          (index_set c.self.inside.index.entries c.self.inside.rows.entries c.in-Some.key due.place (record c.at.result.0 { pending = false }) c.at.result.0 due.there (c.at.ensures.value due.place (c.in-Some.key, c.at.result.0) due.there) refl c.self.invariant.indexed);
       none_due = subst (λ (l : List (Row g.row.T.Denot)). NoneIsDueBefore c.self.inside.earliest l) kept (none_due_expires c.args.now due.place c.self.inside.earliest _ c.at.result.0 c.self.invariant.sound due.due read c.self.invariant.none_due);
     }
 

@@ -21,14 +21,14 @@ put-requires-clause-room g c = omega (arith, c.self.invariant.indexed.counted, c
 pub returns-clause-number : goal.returns-clause-number
 returns-clause-number g c =
     next_given _ c.next_free-number.result.0 (omega (arith, length-map c.self.inside.rows.entries (λ e. e.1)))
-    (free_is c.next_free-number.result.0 c.self.inside.top (following c.self.inside.top c.self.inside.last) c.self.inside.index.items c.self.inside.rows.entries c.self.invariant.indexed c.next_free-number.ensures.number)
+    (free_is c.next_free-number.result.0 c.self.inside.top (following c.self.inside.top c.self.inside.last) c.self.inside.index.entries c.self.inside.rows.entries c.self.invariant.indexed c.next_free-number.ensures.number)
     ∙ ap next_number c.self.view_is
 
 pub returns-clause-table : goal.returns-clause-table
 returns-clause-table g c =
     gives_is _ c.next_free-number.result.0 c.args.conn c.args.note c.args.deadline (values c.push-key.new.self.entries)
     (next_given _ c.next_free-number.result.0 (omega (arith, length-map c.self.inside.rows.entries (λ e. e.1)))
-    (free_is c.next_free-number.result.0 c.self.inside.top (following c.self.inside.top c.self.inside.last) c.self.inside.index.items c.self.inside.rows.entries c.self.invariant.indexed c.next_free-number.ensures.number))
+    (free_is c.next_free-number.result.0 c.self.inside.top (following c.self.inside.top c.self.inside.last) c.self.inside.index.entries c.self.inside.rows.entries c.self.invariant.indexed c.next_free-number.ensures.number))
     (ap values c.push-key.ensures.entries ∙ values_push c.self.inside.rows.entries c.push-key.result (record { number = c.next_free-number.result.0; conn = c.args.conn; note = c.args.note; deadline = c.args.deadline; pending = true }))
     ∙ ap (gives c.args.conn c.args.note c.args.deadline) c.self.view_is
 
@@ -36,7 +36,7 @@ pub returns-clause-first_free : goal.returns-clause-first_free
 returns-clause-first_free g c =
     let few : length (values c.self.inside.rows.entries) < c.self.inside.limit = omega (arith, length-map c.self.inside.rows.entries (λ e. e.1)) in
     let given : c.next_free-number.result.0 ≡ free_from (length (values c.self.inside.rows.entries)) c.self.inside.top (numbers (values c.self.inside.rows.entries)) (following c.self.inside.top c.self.inside.last) =
-    free_is c.next_free-number.result.0 c.self.inside.top (following c.self.inside.top c.self.inside.last) c.self.inside.index.items c.self.inside.rows.entries c.self.invariant.indexed c.next_free-number.ensures.number
+    free_is c.next_free-number.result.0 c.self.inside.top (following c.self.inside.top c.self.inside.last) c.self.inside.index.entries c.self.inside.rows.entries c.self.invariant.indexed c.next_free-number.ensures.number
     in
     let here : IsFirstFree c.self.inside.top (following c.self.inside.top c.self.inside.last) (numbers (values c.self.inside.rows.entries)) c.next_free-number.result.0 =
     subst (λ (n : ℕ). IsFirstFree c.self.inside.top (following c.self.inside.top c.self.inside.last) (numbers (values c.self.inside.rows.entries)) n) (sym given) (given_is_first_free _ c.self.invariant.sound few)
@@ -58,7 +58,7 @@ invariant_of-self g c =
       sound = returns-clause-sound g c;
       room = omega (arith, c.self.invariant.room, c.push-key.ensures.capacity);
       index_room = omega (arith, c.self.invariant.index_room, c.put.ensures.capacity);
-      indexed = rw (c.put.ensures.items, c.push-key.ensures.entries) (index_put c.self.inside.index.items c.self.inside.rows.entries c.push-key.result c.next_free-number.result.1 (record { number = c.next_free-number.result.0; conn = c.args.conn; note = c.args.note; deadline = c.args.deadline; pending = true }) c.self.invariant.indexed c.next_free-number.ensures.place free.unused);
+      indexed = rw (c.put.ensures.entries, c.push-key.ensures.entries) (index_put c.self.inside.index.entries c.self.inside.rows.entries c.push-key.result c.next_free-number.result.1 (record { number = c.next_free-number.result.0; conn = c.args.conn; note = c.args.note; deadline = c.args.deadline; pending = true }) c.self.invariant.indexed c.next_free-number.ensures.place free.unused);
       none_due =
           rw (c.min-self-inside.ensures, c.push-key.ensures.entries, values_push)
           (none_due_push c.self.inside.earliest (values c.self.inside.rows.entries) (record { number = c.next_free-number.result.0; conn = c.args.conn; note = c.args.note; deadline = c.args.deadline; pending = true }) c.self.invariant.none_due);

@@ -8,7 +8,7 @@ pub invariant_of-result : goal.invariant_of-result
 invariant_of-result g c = record {
   sound = sound_opened c.args.limit c.args.top (values c.in_ok-open.field-0.entries) c.requires.some c.requires.within (ap values c.in_ok-open.ensures.entries);
   room = c.in_ok-open.ensures.room;
-  index_room = c.in_ok-with_capacity.ensures.capacity;
-  indexed = index_none c.in_ok-with_capacity.field-0.items c.in_ok-open.field-0.entries c.in_ok-with_capacity.ensures.items c.in_ok-open.ensures.entries;
+  index_room = c.in_ok-open-2.ensures.room;
+  indexed = index_none c.in_ok-open-2.field-0.entries c.in_ok-open.field-0.entries c.in_ok-open-2.ensures.entries c.in_ok-open.ensures.entries;
   none_due = none_due_none _ (values c.in_ok-open.field-0.entries) (ap values c.in_ok-open.ensures.entries);
 }

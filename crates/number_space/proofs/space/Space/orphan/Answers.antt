@@ -16,7 +16,7 @@ invariant_of-self g c =
       sound = sound_settled (λ r. c.args.conn == r.conn) _ (values c.orphan.new.rows.entries) c.self.invariant.sound settled;
       room = omega (arith, c.self.invariant.room, c.orphan.ensures.capacity);
       index_room = c.self.invariant.index_room;
-      indexed = rw c.orphan.ensures.entries (index_map c.self.inside.index.items c.self.inside.rows.entries (settled_where (λ r. c.args.conn == r.conn)) (λ r. refl) c.self.invariant.indexed);
+      indexed = rw c.orphan.ensures.entries (index_map c.self.inside.index.entries c.self.inside.rows.entries (settled_where (λ r. c.args.conn == r.conn)) (λ r. refl) c.self.invariant.indexed);
       none_due = subst (λ (l : List (Row g.row.T.Denot)). NoneIsDueBefore c.self.inside.earliest l) (sym settled) (none_due_settled (λ r. c.args.conn == r.conn) c.self.inside.earliest (values c.self.inside.rows.entries) c.self.invariant.none_due);
     }
 

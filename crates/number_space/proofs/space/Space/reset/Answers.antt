@@ -9,6 +9,6 @@ invariant_of-self g c = record {
   sound = sound_none _ (values c.clear.new.self.entries) c.self.invariant.sound (ap values c.clear.ensures.entries);
   room = omega (arith, c.self.invariant.room, c.clear.ensures.capacity);
   index_room = omega (arith, c.self.invariant.index_room, c.clear-2.ensures.capacity);
-  indexed = index_none c.clear-2.new.self.items c.clear.new.self.entries c.clear-2.ensures.items c.clear.ensures.entries;
+  indexed = index_none c.clear-2.new.self.entries c.clear.new.self.entries c.clear-2.ensures.entries c.clear.ensures.entries;
   none_due = none_due_none _ (values c.clear.new.self.entries) (ap values c.clear.ensures.entries);
 }
