@@ -1,6 +1,6 @@
 use kit_bytes::services::{PHONEBOOK, SMS};
 use std::test::Fail;
-use subscriptions::{Merge, PairList, Subscriptions, TooMany};
+use subscriptions::{PairList, Subscriptions, TooMany};
 use uuid::Uuid;
 
 #[test]
@@ -21,19 +21,19 @@ fn a_list_counts_while_it_is_shown(rt: HostRuntime) -> Result<(), Fail> {
     let sms = Uuid::from_bytes(SMS);
     let mut table = Subscriptions::open(rt.alloc())?;
     let mut list = PairList::open(rt.alloc())?;
-    let mut merge = Merge::open(rt.alloc())?;
     table.joined(1);
     assert!(rt; list.push(sms, Some(2)));
     assert_eq!(rt; table.set(1, &list), Ok(()));
     assert!(rt; table.wants(1, sms, 2));
     assert!(rt; !table.wants(1, sms, 3));
-    table.merged(&mut merge, &mut list);
+    table.merged(&mut list);
     assert_eq!(rt; list.len(), 0);
     table.show(1, true);
-    table.merged(&mut merge, &mut list);
+    table.merged(&mut list);
     assert_eq!(rt; list.pairs(), [(sms, Some(2))].as_slice());
+    assert_eq!(rt; table.merged_list().pairs(), list.pairs());
     table.leave(1);
-    table.merged(&mut merge, &mut list);
+    table.merged(&mut list);
     assert_eq!(rt; list.len(), 0);
     Ok(())
 }

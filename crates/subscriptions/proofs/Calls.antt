@@ -7,10 +7,10 @@ use Rattle.std.proofs.lemmas.Bool.Decides.{nat_tests}
 use Rattle.std.proofs.lemmas.List.{length-append}
 use Rattle.std.proofs.lemmas.List.Elements.{filter-append}
 use Rattle.kit_bytes.specs.Subscriptions.{Pair, merge}
-use Rattle.subscriptions.specs.Clients.{Client, client_in, newcomer, joins, leaves, changed, with_shown, with_list, is_too_long, merged}
+use Rattle.subscriptions.specs.Clients.{Client, client_in, newcomer, joins, leaves, changed, with_shown, with_list, is_too_long, share, gathered, merged}
 use Rattle.subscriptions.specs.Calls.{Call, Joins, Leaves, Shows, Sets, clients_after, is_there, is_shown, last_list, client_of, client_if, is_coming, is_coming_or_going, tells_list, tells_shown, shown_by, list_by}
 use Rattle.subscriptions.proofs.NormalForms.{normal_shorter}
-use Rattle.subscriptions.proofs.Clients.{gathered, share, share_first}
+use Rattle.subscriptions.proofs.Clients.{share_first}
 
 -- ---- how many pairs a merge has ----
 
@@ -21,7 +21,7 @@ share_short client short = by client.shown
     by true = short
     by false = omega arith
 
-gathered_short : (clients : List Client) → AllByRecursion (λ client. length client.list ≤ 30) clients → length (gathered clients) ≤ 30 * length clients
+pub gathered_short : (clients : List Client) → AllByRecursion (λ client. length client.list ≤ 30) clients → length (gathered clients) ≤ 30 * length clients
 gathered_short [] all = omega arith
 gathered_short (x ∷ xs) all =
     let one = share_short x all.0 in
@@ -34,7 +34,7 @@ merged_short clients few all = let shorter = normal_shorter (gathered clients) i
 
 -- ---- who isn't shown ----
 
-hidden_gone : (xs : List Client) (client : Client) → client.shown ≡ false → filter (λ c. c.shown) (client ∷ xs) ≡ filter (λ c. c.shown) xs
+pub hidden_gone : (xs : List Client) (client : Client) → client.shown ≡ false → filter (λ c. c.shown) (client ∷ xs) ≡ filter (λ c. c.shown) xs
 hidden_gone xs client hidden = ap (λ (b : Bool). cond b (client ∷ filter (λ c. c.shown) xs) (filter (λ c. c.shown) xs)) hidden
 
 pub hidden_merged : (front behind : List Client) (client : Client) → client.shown ≡ false → merged (front ++ client ∷ behind) ≡ merged (front ++ behind)

@@ -1,11 +1,10 @@
 -- The client of a connection, by its place.
-use Rattle.std.proofs.Common.{◌≡◌, ℕ, zero, suc, ◌+◌, ◌<◌, Bool, true, false, cond, List, [], ◌∷◌, ◌++◌, length, take, get_or, set, map, filter, refl, ap, sym, ◌∙◌, arith, Some, None}
+use Rattle.std.proofs.Common.{◌≡◌, ℕ, zero, suc, ◌+◌, Bool, true, false, cond, List, [], ◌∷◌, ◌++◌, get_or, set, map, filter, refl, ap, sym, ◌∙◌, arith, Some, None}
 use Rattle.std.specs.List.{flat_map, position, position_from}
-use Rattle.std.proofs.lemmas.List.{append_assoc, append-nil}
 use Rattle.std.proofs.lemmas.Iterator.Adapters.{position_from-zero}
 use Rattle.kit_bytes.specs.Subscriptions.{Pair}
 use Rattle.kit_bytes.proofs.Lists.{find_first, find_none}
-use Rattle.subscriptions.specs.Clients.{Client, is_of, changed, list_in, list_of, is_too_long, with_list, sets, shown_lists}
+use Rattle.subscriptions.specs.Clients.{Client, is_of, changed, list_in, list_of, is_too_long, with_list, sets, share, gathered}
 
 module _ (conn : ℕ) (change : Client → Client) where
   -- the place of the client in what is left
@@ -67,9 +66,6 @@ sets_short conn list clients short = ap (λ (b : Bool). cond b clients (changed 
 
 -- ---- the pairs of the shown clients ----
 
-abbrev pub gathered : List Client → List Pair
-gathered clients = flat_map (λ list. list) (shown_lists clients)
-
 gathered_first : (x : Client) (xs : List Client) → gathered (x ∷ xs) ≡ cond x.shown (x.list ++ gathered xs) (gathered xs)
 gathered_first x xs = by x.shown
   where
@@ -77,29 +73,9 @@ gathered_first x xs = by x.shown
     by true = refl
     by false = refl
 
--- those of one client
-abbrev pub share : Client → List Pair
-share client = cond client.shown client.list []
-
 pub share_first : (x : Client) (xs : List Client) → gathered (x ∷ xs) ≡ share x ++ gathered xs
 share_first x xs = gathered_first x xs ∙ by x.shown
   where
     by : (b : Bool) → cond b (x.list ++ gathered xs) (gathered xs) ≡ cond b x.list [] ++ gathered xs
     by true = refl
     by false = refl
-
-gathered_next : (xs : List Client) (i : ℕ) (client : Client) → i < length xs → client ≡ get_or xs i client → gathered (take (suc i) xs) ≡ gathered (take i xs) ++ share client
-gathered_next [] i client within is = absurd (omega arith)
-gathered_next (x ∷ xs) zero client within is = share_first x [] ∙ append-nil (share x) ∙ ap share (sym is)
-gathered_next (x ∷ xs) (suc i) client within is =
-    share_first x (take (suc i) xs) ∙ ap (λ (l : List Pair). share x ++ l) (gathered_next xs i client (omega (arith, within)) is) ∙ sym (append_assoc (share x) (gathered (take i xs)) (share client))
-    ∙ ap (λ (l : List Pair). l ++ share client) (sym (share_first x (take i xs)))
-
-pub gathered_more : (xs : List Client) (i : ℕ) (client : Client) → i < length xs → client ≡ get_or xs i client → gathered (take (i + 1) xs) ≡ gathered (take i xs) ++ share client
-gathered_more xs i client within is = let next : i + 1 ≡ suc i = omega arith in ap (λ (n : ℕ). gathered (take n xs)) next ∙ gathered_next xs i client within is
-
-pub share_shown : (client : Client) → client.shown ≡ true → share client ≡ client.list
-share_shown client shown = ap (λ (b : Bool). cond b client.list []) shown
-
-pub share_hidden : (client : Client) → client.shown ≡ false → share client ≡ []
-share_hidden client hidden = ap (λ (b : Bool). cond b client.list []) hidden

@@ -3,7 +3,9 @@ pub mod NormalForms
 pub mod Wanting
 pub mod Pushing
 pub mod Sorting
+pub mod Counting
 pub mod Clients
 pub mod Calls
+pub mod Recounting
 pub mod Shown
 pub mod Covering

@@ -13,11 +13,11 @@ use Rattle.std.proofs.lemmas.List.Kept.{Contains-from_dedup}
 use Rattle.std.proofs.lemmas.List.Sorted.{Contains-permutation, IsPermutation-sym, ranks_by, sorted_far}
 use Rattle.kit_bytes.specs.Sorted.{IsInOrder}
 use Rattle.kit_bytes.specs.Subscriptions.{Pair, pair_cmp, normal_form}
-use Rattle.kit_bytes.proofs.Lists.{all_from}
+use Rattle.kit_bytes.proofs.Lists.{all_from, all_weaker}
 use Rattle.kit_bytes.proofs.Members.{Contains-cons, Contains-cons_cases, Contains-nil}
 use Rattle.kit_bytes.proofs.Pairs.{exact_pair, pair_cmp_total}
 use Rattle.subscriptions.specs.Lists.{AreInOrder, covers}
-use Rattle.subscriptions.proofs.Order.{greater_less, before_behind, all_of, one_of, first_of}
+use Rattle.subscriptions.proofs.Order.{greater_less, less_greater, before_behind, all_of, one_of, first_of}
 use Rattle.subscriptions.proofs.NormalForms.{IsFree, is_normal_form, normal_in_order, normal_from, normal_free, normal_has, covers_cases, covers_same, all_covers, all_is}
 
 -- ---- sorted lists ----
@@ -190,19 +190,18 @@ sorted_form : (xs : List Pair) → AreSorted xs → normal_form xs ≡ dedup (λ
 sorted_form [] sorted = refl
 sorted_form (k ∷ xs) sorted = is_normal_form (k ∷ xs) (kept_from k xs) (kept_in_order k xs sorted) (λ q at. kept_of k xs q at) (λ q at. kept_free k xs sorted q at) (λ q at free. kept_has k xs q at free)
 
--- a list and its permutation have one normal form
-moved_form : (ps xs : List Pair) → IsPermutation ps xs → normal_form xs ≡ normal_form ps
-moved_form ps xs moved =
-    is_normal_form xs (normal_form ps) (normal_in_order ps)
-    (λ q at. there q (normal_from ps q at))
-    (λ q at single all. normal_free ps q at single (back (q.0, None) all))
-    (λ q at free. normal_has ps q (back q at) (λ single all. free single (there (q.0, None) all)))
-  where
-    there : (q : Pair) → Contains ps q → Contains xs q
-    there q at = Contains-permutation ps xs q moved at
-
-    back : (q : Pair) → Contains xs q → Contains ps q
-    back q at = Contains-permutation xs ps q (IsPermutation-sym ps xs moved) at
+-- two lists with the same pairs have one normal form
+pub same_form : (ps xs : List Pair) → ((q : Pair) → Contains ps q → Contains xs q) → ((q : Pair) → Contains xs q → Contains ps q) → normal_form xs ≡ normal_form ps
+same_form ps xs there back =
+    is_normal_form xs (normal_form ps) (normal_in_order ps) (λ q at. there q (normal_from ps q at)) (λ q at single all. normal_free ps q at single (back (q.0, None) all)) (λ q at free. normal_has ps q (back q at) (λ single all. free single (there (q.0, None) all)))
 
 pub settled : (ps xs : List Pair) → IsPermutation ps xs → IsSorted pair_cmp xs → dedup (λ x last. covers last x) xs ≡ normal_form ps
-settled ps xs moved sorted = sym (sorted_form xs (are_sorted xs sorted)) ∙ moved_form ps xs moved
+settled ps xs moved sorted = sym (sorted_form xs (are_sorted xs sorted)) ∙ same_form ps xs (λ q at. Contains-permutation ps xs q moved at) (λ q at. Contains-permutation xs ps q (IsPermutation-sym ps xs moved) at)
+
+sorted_in_order : (xs : List Pair) → AreInOrder xs → AreSorted xs
+unfolding IsInOrder
+sorted_in_order [] ordered = tt
+sorted_in_order (x ∷ xs) ordered = (all_weaker (λ y. pair_cmp x y ≡ Less) (IsNotBehind x) (λ y less. ap is_lt (less_greater x y less)) xs ordered.0, sorted_in_order xs ordered.1)
+
+pub ordered_form : (xs : List Pair) → AreInOrder xs → dedup (λ x last. covers last x) xs ≡ normal_form xs
+ordered_form xs ordered = sym (sorted_form xs (sorted_in_order xs ordered))

@@ -1,5 +1,6 @@
 -- The clients that are there, in order of joining, and what each call makes of them.
 use Rattle.std.specs.Prelude.{ℕ, Bool, false, not, ◌==◌, nat_lt, List, [], ◌∷◌, ◌++◌, length, map, filter, find, Option, Some, None, if◌then◌else◌}
+use Rattle.std.specs.List.{flat_map}
 use Rattle.kit_bytes.specs.Subscriptions.{Pair, merge}
 use Rattle.kit_bytes.specs.Services.{starting_list}
 
@@ -63,6 +64,14 @@ list_of conn clients = list_in (client_in conn clients)
 
 abbrev pub shown_lists : List Client → List (List Pair)
 shown_lists clients = map (λ client. client.list) (filter (λ client. client.shown) clients)
+
+-- what a client has in the merge
+abbrev pub share : Client → List Pair
+share client = if client.shown then client.list else []
+
+-- the lists of the shown clients, one behind the other
+abbrev pub gathered : List Client → List Pair
+gathered clients = flat_map (λ list. list) (shown_lists clients)
 
 -- all that the shown clients subscribe to
 abbrev pub merged : List Client → List Pair

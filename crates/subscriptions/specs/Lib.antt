@@ -1,4 +1,5 @@
 pub mod Lists
 pub mod Clients
+pub mod Counts
 pub mod Calls
 pub mod Laws

@@ -1,9 +1,12 @@
-ghost use Rattle.std.specs.Prelude.{◌≡◌, ◌≤◌, length};
+ghost use Rattle.std.specs.Prelude.{◌≡◌, ◌+◌, ◌≤◌, length};
 ghost use Rattle.kit_bytes.specs.Indications.{wants};
-ghost use Rattle.subscriptions.specs.Clients.{is_of, newcomer, with_shown, with_list};
+ghost use Rattle.kit_bytes.specs.Subscriptions.{Pair as TablePair};
+ghost use Rattle.subscriptions.specs.Clients.{is_of, newcomer, share, with_shown, with_list};
+ghost use Rattle.subscriptions.specs.Counts.{AreRecounted, count_of, times_in, total};
 
 use crate::client_list::{ClientList, LONGEST_CLIENT_LIST};
-use crate::pair_list::PairList;
+use crate::counts::Counts;
+use crate::pair_list::{LONGEST_LIST, PairList};
 use std::marker::Model;
 use uuid::Uuid;
 
@@ -41,17 +44,38 @@ impl Client {
         conn == self.conn
     }
 
-    /// Whether its list counts in the merge.
-    pub fn is_shown(&self) -> bool
-        ensures { result ≡ self.now.shown }
+    /// Its list counts from now on, or no longer.
+    pub fn show(&mut self, shown: bool, counts: &mut Counts)
+        requires there { (pair : TablePair) → times_in pair (share self.old) ≤ count_of pair counts.old }
+        requires few { total counts.old + length (share (with_shown shown self.old)) ≤ LONGEST_LIST + length (share self.old) }
+        ensures client { self.new ≡ with_shown shown self.old }
+        ensures counts { AreRecounted self.old self.new counts.old counts.new }
     {
-        self.shown
+        self.uncount(counts);
+        self.shown = shown;
+        self.count(counts);
     }
 
-    pub fn show(&mut self, shown: bool)
-        ensures { self.new ≡ with_shown shown self.old }
+    // Counts its list, if it is shown.
+    fn count(&self, counts: &mut Counts)
+        requires { total counts.old + length (share self.now) ≤ LONGEST_LIST }
+        ensures counted { (pair : TablePair) → count_of pair counts.new ≡ count_of pair counts.old + times_in pair (share self.now) }
+        ensures total { total counts.new ≡ total counts.old + length (share self.now) }
     {
-        self.shown = shown;
+        if self.shown {
+            counts.add(&self.list);
+        }
+    }
+
+    /// Takes back that its list was counted, if it is shown.
+    pub fn uncount(&self, counts: &mut Counts)
+        requires { (pair : TablePair) → times_in pair (share self.now) ≤ count_of pair counts.old }
+        ensures counted { (pair : TablePair) → count_of pair counts.new + times_in pair (share self.now) ≡ count_of pair counts.old }
+        ensures total { total counts.new + length (share self.now) ≡ total counts.old }
+    {
+        if self.shown {
+            counts.remove(&self.list);
+        }
     }
 
     pub fn list(&self) -> &ClientList
@@ -60,11 +84,17 @@ impl Client {
         &self.list
     }
 
-    pub fn set(&mut self, list: &PairList)
-        requires { length list.now ≤ LONGEST_CLIENT_LIST }
-        ensures { self.new ≡ with_list list.now self.old }
+    /// It subscribes to this list from now on.
+    pub fn set(&mut self, list: &PairList, counts: &mut Counts)
+        requires short { length list.now ≤ LONGEST_CLIENT_LIST }
+        requires there { (pair : TablePair) → times_in pair (share self.old) ≤ count_of pair counts.old }
+        requires few { total counts.old + length (share (with_list list.now self.old)) ≤ LONGEST_LIST + length (share self.old) }
+        ensures client { self.new ≡ with_list list.now self.old }
+        ensures counts { AreRecounted self.old self.new counts.old counts.new }
     {
+        self.uncount(counts);
         self.list.set(list);
+        self.count(counts);
     }
 
     /// Whether it subscribes to the CID of the service of this UUID.

@@ -3,12 +3,14 @@
 
 mod client;
 mod client_list;
+mod counts;
 mod laws;
 mod merge;
 mod pair_list;
 mod subscriptions;
 
 pub use client_list::{ClientList, LONGEST_CLIENT_LIST};
+pub use counts::{Counted, Counts};
 pub use laws::{
     clients_are_what_calls_say, hidden_clients_dont_count, merges_are_of_the_shown,
     merges_are_short, merges_want_what_lists_want, normal_forms_want_the_same,

@@ -1,10 +1,12 @@
 ghost use Rattle.std.specs.Prelude.{◌≡◌, ◌+◌, ◌<◌, ◌≤◌, ◌||◌, ◌&&◌, bytes_eq, false, nat_lt, ◌∷◌, ◌++◌, [], not, filter, is_none, length, take, drop, slice_index_or, vec_len, vec_capacity, IfOk};
-ghost use Rattle.std.specs.List.{list_any};
+ghost use Rattle.std.specs.List.{dedup, list_any};
 ghost use Rattle.std.specs.Ordering.{is_lt};
 ghost use Rattle.kit_bytes.specs.Subscriptions.{has_all, normal_form, pair_cmp};
+ghost use Rattle.subscriptions.specs.Counts.{AreCounts, is_same, pairs_in};
 ghost use Rattle.subscriptions.specs.Lists.{IsNormal, covers, fits, pushed};
 
 use crate::client_list::ClientList;
+use crate::counts::Counted;
 use std::alloc::{AllocError, Global};
 use std::marker::Model;
 use uuid::Uuid;
@@ -88,6 +90,17 @@ impl PairList {
         self.pairs[index]
     }
 
+    // The normal form of the pairs that were counted.
+    pub(crate) fn gather(&mut self, counts: &[Counted])
+        requires counts { AreCounts counts.now }
+        requires few { length counts.now ≤ LONGEST_LIST }
+        ensures { self.new ≡ normal_form (pairs_in counts.now) }
+    {
+        self.pairs.clear();
+        append_counted(&mut self.pairs, counts);
+        drop_covered(&mut self.pairs);
+    }
+
     // The normal form of these pairs.
     pub(crate) fn merge(&mut self, pairs: &[Pair])
         requires { length pairs.now ≤ LONGEST_LIST }
@@ -146,7 +159,26 @@ pub fn normalize(pairs: &mut Vec<Pair>)
     ensures capacity { vec_capacity pairs.old ≤ vec_capacity pairs.new }
 {
     pairs.sort_unstable();
+    drop_covered(pairs);
+}
+
+// Drops each pair that the last one before it covers.
+fn drop_covered(pairs: &mut Vec<Pair>)
+    ensures items { pairs.new.items ≡ dedup (λ pair last. covers last pair) pairs.old.items }
+    ensures capacity { vec_capacity pairs.old ≤ vec_capacity pairs.new }
+{
     pairs.dedup_by(|pair, last| covers(last, pair));
+}
+
+// Adds the pairs that were counted behind those of a list that has the room for them.
+fn append_counted(pairs: &mut Vec<Pair>, counts: &[Counted])
+    requires { vec_len pairs.old + length counts.now ≤ vec_capacity pairs.old }
+    ensures items { pairs.new.items ≡ pairs.old.items ++ pairs_in counts.now }
+    ensures capacity { vec_capacity pairs.old ≤ vec_capacity pairs.new }
+{
+    for counted in counts {
+        pairs.push_reserved(counted.pair);
+    }
 }
 
 // Whether the pair stands for all CIDs of the service.
@@ -163,8 +195,14 @@ fn covers(pair: &Pair, other: &Pair) -> bool
     pair.0 == other.0 && (pair.1.is_none() || pair.1 == other.1)
 }
 
+pub(crate) fn is_same(pair: &Pair, other: &Pair) -> bool
+    ensures { result ≡ is_same pair.now other.now }
+{
+    pair.cmp(other).is_eq()
+}
+
 // Whether the pair stands before the other one.
-fn is_before(pair: &Pair, other: &Pair) -> bool
+pub(crate) fn is_before(pair: &Pair, other: &Pair) -> bool
     ensures { result ≡ is_lt (pair_cmp pair.now other.now) }
 {
     pair.cmp(other).is_lt()
@@ -210,12 +248,12 @@ fn remove_covered(pairs: &mut Vec<Pair>, pair: &Pair)
     pairs.retain(|other| !covers(pair, other));
 }
 
-// Puts a pair at its place in a list that has the room for it, which takes no memory.
-fn put(pairs: &mut Vec<Pair>, place: usize, pair: Pair)
-    requires place { place ≤ vec_len pairs.old }
-    requires room { vec_len pairs.old < vec_capacity pairs.old }
-    ensures items { pairs.new.items ≡ take place pairs.old.items ++ pair ∷ drop place pairs.old.items }
-    ensures capacity { vec_capacity pairs.old ≤ vec_capacity pairs.new }
+// Puts an item at its place in a list that has the room for it, which takes no memory.
+pub(crate) fn put<T: Drop>(items: &mut Vec<T>, place: usize, item: T)
+    requires place { place ≤ vec_len items.old }
+    requires room { vec_len items.old < vec_capacity items.old }
+    ensures items { items.new.items ≡ take place items.old.items ++ item ∷ drop place items.old.items }
+    ensures capacity { vec_capacity items.old ≤ vec_capacity items.new }
 {
-    let _ = pairs.insert(place, pair);
+    let _ = items.insert(place, item);
 }

@@ -1,11 +1,11 @@
 ghost use Rattle.std.specs.Prelude.{◌≡◌, ◌<◌, ◌≤◌, [], position, length, vec_len, vec_capacity, is_err, IfOk};
 ghost use Rattle.kit_bytes.specs.Indications.{wants};
-ghost use Rattle.std.specs.List.{flat_map};
-ghost use Rattle.subscriptions.specs.Clients.{is_of, is_too_long, joins, leaves, list_of, merged, sets, shown_lists, shows};
+ghost use Rattle.subscriptions.specs.Clients.{is_of, is_too_long, joins, leaves, list_of, merged, sets, shows};
+ghost use Rattle.subscriptions.specs.Counts.{CountShown};
 
 use crate::client::Client;
 use crate::client_list::LONGEST_CLIENT_LIST;
-use crate::merge::Merge;
+use crate::counts::Counts;
 use crate::pair_list::PairList;
 use std::alloc::{AllocError, Global};
 use std::marker::Model;
@@ -24,11 +24,18 @@ pub struct TooMany;
 #[derive(Drop)]
 pub struct Subscriptions {
     clients: Vec<Client>,
+    // for each pair of a shown list, how many of them have it
+    counts: Counts,
+    // all that the shown clients subscribe to
+    merged: PairList,
 }
 
 impl Model for Subscriptions {
-    ghost use Rattle.std.specs.Prelude.{◌≤◌, List, length, vec_capacity};
-    ghost use Rattle.subscriptions.specs.Clients.{Client as TableClient};
+    ghost use Rattle.std.specs.Prelude.{◌≡◌, ◌≤◌, List, length, vec_capacity};
+    ghost use Rattle.std.specs.List.{AllByRecursion};
+    ghost use Rattle.kit_bytes.specs.Subscriptions.{normal_form};
+    ghost use Rattle.subscriptions.specs.Clients.{Client as TableClient, gathered};
+    ghost use Rattle.subscriptions.specs.Counts.{CountShown};
 
     ghost Value = { List TableClient };
 
@@ -37,6 +44,9 @@ impl Model for Subscriptions {
     ghost invariant = { λ table. record {
       few : length table.clients.items ≤ 64;
       room : 64 ≤ vec_capacity table.clients;
+      short : AllByRecursion (λ client. length client.list ≤ 30) table.clients.items;
+      counted : CountShown table.clients.items table.counts;
+      merged : table.merged ≡ normal_form (gathered table.clients.items);
     } };
 }
 
@@ -45,8 +55,12 @@ impl Subscriptions {
     pub fn open(alloc: Global) -> Result<Self, AllocError>
         ensures { IfOk result (λ table. table ≡ []) }
     {
+        let counts = Counts::open(alloc)?;
+        let merged = PairList::open(alloc)?;
         Ok(Subscriptions {
             clients: Vec::with_capacity(alloc, CLIENT_LIMIT)?,
+            counts,
+            merged,
         })
     }
 
@@ -65,7 +79,8 @@ impl Subscriptions {
     {
         if let Some(place) = find(&self.clients, conn) {
             let client = &mut self.clients[place];
-            client.show(shown);
+            client.show(shown, &mut self.counts);
+            self.counts.write(&mut self.merged);
         }
     }
 
@@ -73,7 +88,9 @@ impl Subscriptions {
     pub fn leave(&mut self, conn: u64)
         ensures { self.new ≡ leaves conn self.old }
     {
+        uncount(&self.clients, conn, &mut self.counts);
         self.clients.retain(|client| !client.is_of(conn));
+        self.counts.write(&mut self.merged);
     }
 
     /// Gives the client this list, unless it has more than 30 pairs: then nothing changes.
@@ -86,7 +103,8 @@ impl Subscriptions {
         }
         if let Some(place) = find(&self.clients, conn) {
             let client = &mut self.clients[place];
-            client.set(list);
+            client.set(list, &mut self.counts);
+            self.counts.write(&mut self.merged);
         }
         Ok(())
     }
@@ -118,23 +136,28 @@ impl Subscriptions {
     }
 
     /// Writes the normal form of all that the shown clients subscribe to into this list.
-    pub fn merged(&self, merge: &mut Merge, into: &mut PairList)
+    pub fn merged(&self, into: &mut PairList)
         ensures { into.new ≡ merged self.now }
     {
-        gather(&self.clients, merge);
-        merge.finish(into);
+        into.set(&self.merged);
+    }
+
+    /// The normal form of all that the shown clients subscribe to.
+    pub fn merged_list(&self) -> &PairList
+        ensures { result.now ≡ merged self.now }
+    {
+        &self.merged
     }
 }
 
-// The pairs of all shown clients, one list behind the other.
-fn gather(clients: &[Client], merge: &mut Merge)
-    requires { length clients.now ≤ CLIENT_LIMIT }
-    ensures { merge.new ≡ flat_map (λ list. list) (shown_lists clients.now) }
+// Takes back that the list of this connection was counted.
+fn uncount(clients: &[Client], conn: u64, counts: &mut Counts)
+    requires { CountShown clients.now counts.old }
+    ensures { CountShown (leaves conn clients.now) counts.new }
 {
-    merge.clear();
     for client in clients {
-        if client.is_shown() {
-            merge.add(client.list());
+        if client.is_of(conn) {
+            client.uncount(counts);
         }
     }
 }

@@ -1,8 +1,6 @@
-use Rattle.std.proofs.Common.{◌∙◌, rules}
-use Rattle.std.proofs.lemmas.Fn.{dedup_same}
-use Rattle.subscriptions.specs.Lists.{covers}
+use Rattle.std.proofs.Common.{◌∙◌}
 use Rattle.subscriptions.proofs.Sorting.{settled}
 use Rattle.subscriptions.proofs.pair_list.normalize.Goals as goal
 
 pub returns-clause-items : goal.returns-clause-items
-returns-clause-items c = dedup_same _ (λ x last. covers last x) _ (λ x y b f' x' y' k. search rules) _ _ c.dedup_by.ensures.filtered ∙ settled _ _ c.sort_unstable.ensures.permutation c.sort_unstable.ensures.sorted
+returns-clause-items c = c.drop_covered.ensures.items ∙ settled _ _ c.sort_unstable.ensures.permutation c.sort_unstable.ensures.sorted

@@ -1,15 +1,46 @@
-use Rattle.std.proofs.Common.{◌≡◌, false, Some, None, ap, sym, ◌∙◌, arith}
+use Rattle.std.proofs.Common.{◌≡◌, ◌<◌, ◌≤◌, false, Some, None, length, set, ap, sym, ◌∙◌, arith, subst}
 use Rattle.std.specs.List.{position}
 use Rattle.std.proofs.lemmas.Bool.Decides.{nat_tests}
-use Rattle.subscriptions.specs.Clients.{is_of, is_too_long, with_list, sets}
+use Rattle.std.proofs.lemmas.List.{length-set}
+use Rattle.kit_bytes.proofs.Lists.{all_set}
+use Rattle.subscriptions.specs.Clients.{is_of, is_too_long, with_list, sets, gathered}
+use Rattle.subscriptions.specs.Counts.{CountShown}
 use Rattle.subscriptions.proofs.Clients.{changed_place, changed_none, sets_short}
+use Rattle.subscriptions.proofs.Recounting.{position_within, recounted, share_fits, share_there}
 use Rattle.subscriptions.proofs.subscriptions.Subscriptions.set.Goals as goal
+
+pub set-requires-clause-there : goal.set-requires-clause-there
+set-requires-clause-there c =
+    let place : Some c.in-Some.place ≡ position (is_of c.args.conn) c.self.inside.clients.items = sym c.in-Some.is ∙ c.find.ensures ∙ ap (position (is_of c.args.conn)) c.deref.ensures.value in
+    let within : c.in-Some.place < length c.self.inside.clients.items = position_within (is_of c.args.conn) c.self.inside.clients.items c.in-Some.place place in
+    share_there c.self.inside.clients.items c.in-Some.place c.index_mut-client.result.now c.self.inside.counts c.index_mut-client.ensures.value c.self.invariant.counted within
+
+pub set-requires-clause-few : goal.set-requires-clause-few
+set-requires-clause-few c =
+    let place : Some c.in-Some.place ≡ position (is_of c.args.conn) c.self.inside.clients.items = sym c.in-Some.is ∙ c.find.ensures ∙ ap (position (is_of c.args.conn)) c.deref.ensures.value in
+    let within : c.in-Some.place < length c.self.inside.clients.items = position_within (is_of c.args.conn) c.self.inside.clients.items c.in-Some.place place in
+    share_fits c.self.inside.clients.items c.in-Some.place c.index_mut-client.result.now c.self.inside.counts c.index_mut-client.ensures.value c.self.invariant.counted (with_list c.args.list.now c.index_mut-client.result.now) within c.self.invariant.few c.self.invariant.short (omega (arith, c.len.ensures.count, c.if-len-gt-LONGEST_CLIENT_LIST.false))
+
+pub invariant_of-self : goal.invariant_of-self
+invariant_of-self c =
+    let place : Some c.in-Some.place ≡ position (is_of c.args.conn) c.self.inside.clients.items = sym c.in-Some.is ∙ c.find.ensures ∙ ap (position (is_of c.args.conn)) c.deref.ensures.value in
+    let within : c.in-Some.place < length c.self.inside.clients.items = position_within (is_of c.args.conn) c.self.inside.clients.items c.in-Some.place place in
+    let counted : CountShown (set c.self.inside.clients.items c.in-Some.place c.set.new.self) c.set.new.counts = recounted c.self.inside.clients.items c.in-Some.place c.index_mut-client.result.now c.self.inside.counts c.index_mut-client.ensures.value c.self.invariant.counted c.set.new.self c.set.new.counts within c.set.ensures.counts in
+    record {
+      few = omega (arith, length-set c.self.inside.clients.items c.in-Some.place c.set.new.self, c.self.invariant.few);
+      room = c.self.invariant.room;
+      short =
+          all_set (λ client. length client.list ≤ 30) c.self.inside.clients.items c.in-Some.place c.set.new.self c.index_mut-client.result.now
+          (λ old. subst (λ client. length client.list ≤ 30) (sym c.set.ensures.client) (omega (arith, c.len.ensures.count, c.if-len-gt-LONGEST_CLIENT_LIST.false))) c.self.invariant.short;
+      counted = counted;
+      merged = c.write.ensures (gathered (set c.self.inside.clients.items c.in-Some.place c.set.new.self)) counted.counted;
+    }
 
 pub returns-in-Some-clause-set : goal.returns-in-Some-clause-set
 returns-in-Some-clause-set c =
     let short : is_too_long c.args.list.now ≡ false = grind (arith, nat_tests, c.len.ensures.count, c.if-len-gt-LONGEST_CLIENT_LIST.false) in
     let place : Some c.in-Some.place ≡ position (is_of c.args.conn) c.self.inside.clients.items = sym c.in-Some.is ∙ c.find.ensures ∙ ap (position (is_of c.args.conn)) c.deref.ensures.value in
-    changed_place c.args.conn (with_list c.args.list.now) c.self.inside.clients.items c.in-Some.place c.index_mut-client.result.now c.set.new.self place c.index_mut-client.ensures.value c.set.ensures
+    changed_place c.args.conn (with_list c.args.list.now) c.self.inside.clients.items c.in-Some.place c.index_mut-client.result.now c.set.new.self place c.index_mut-client.ensures.value c.set.ensures.client
     ∙ sets_short c.args.conn c.args.list.now c.self.inside.clients.items short ∙ ap (sets c.args.conn c.args.list.now) c.self.view_is
 
 pub returns-in_default-clause-set : goal.returns-in_default-clause-set
