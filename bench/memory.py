@@ -23,17 +23,20 @@ def start(limit=None):
 
 
 def opens(proxy):
-    """Whether the proxy listens, as against ending."""
+    """Whether the proxy serves, as against ending. Its socket is there before all its memory is."""
     while proxy.poll() is None:
         if os.path.exists(proxy_socket):
-            return True
+            time.sleep(0.1)
+            return proxy.poll() is None
         time.sleep(0.005)
     return False
 
 
 def stop(proxy):
+    """Ends the proxy by a signal, which leaves its socket's file."""
     proxy.send_signal(signal.SIGTERM)
-    return proxy.wait()
+    proxy.wait()
+    os.unlink(proxy_socket)
 
 
 def size(proxy, name):
@@ -74,7 +77,7 @@ try:
     opened = size(proxy, "VmSize")
     resource.prlimit(proxy.pid, resource.RLIMIT_AS, (opened, opened))
     load(64, 1, 100000)
-    load(64, 16, 100000)
+    load(64, 3, 100000)
     if size(proxy, "VmSize") > opened:
         sys.exit(f"{kind}: the proxy took memory")
     print(f"{kind}: 64 clients were served with no more than the {opened / 2**20:.2f} MB of the opening, {size(proxy, 'VmHWM') / 2**20:.2f} MB of them used")

@@ -14,6 +14,8 @@ mod mbim_proxies;
 #[cfg(test)]
 mod proxies;
 #[cfg(test)]
+mod pumps;
+#[cfg(test)]
 mod sinks;
 #[cfg(test)]
 mod steps;
