@@ -7,6 +7,7 @@ import sys
 import time
 
 folder, program, peer, requests, kind = sys.argv[1], sys.argv[2], sys.argv[3], int(sys.argv[4]), sys.argv[5]
+over_node = sys.argv[6:] == ["--node"]
 NAMES = {"qmi": "libqmi", "mbim": "libmbim"}
 TICKS = os.sysconf("SC_CLK_TCK")
 
@@ -20,23 +21,24 @@ def wait_for(path):
 
 
 class Proxy:
-    """A proxy with its modem, both started anew: ours, the real one ("theirs"), or a bare forwarder in C ("bare"), to which no device
-    is named. Of ours and of the forwarder each answer must be right."""
+    """A proxy with its modem, both started anew: ours, ours at a device node ("node"), the real one ("theirs"), or a bare forwarder in C
+    ("bare"), to which no device is named. Of all but the real one each answer must be right."""
     wrong = 0
 
     def __init__(self, whose, under=()):
         self.strict = whose != "theirs"
-        where = f"{folder}/{'modem.sock' if self.strict else 'modem.tty'}"
+        at_node = whose in ("node", "theirs")
+        where = f"{folder}/{'modem.tty' if at_node else 'modem.sock'}"
         if os.path.lexists(where):
             os.unlink(where)
-        self.modem = subprocess.Popen([f"{folder}/{kind}_modem", "unix" if self.strict else "pty", where])
+        self.modem = subprocess.Popen([f"{folder}/{kind}_modem", "pty" if at_node else "unix", where])
         wait_for(where)
-        self.device = {"ours": where, "bare": ""}.get(whose) if self.strict else os.readlink(where)
+        self.device = "" if whose == "bare" else os.readlink(where) if at_node else where
         self.socket = f"{folder}/proxy.sock" if self.strict else f"@{kind}-proxy"
         if self.strict and os.path.exists(self.socket):
             os.unlink(self.socket)
-        words = {"ours": [program, f"{kind}-proxy", "-d", where, "--socket", self.socket, "--turns", "1000000000000"],
-                 "bare": [f"{folder}/{kind}_forwarder", where, self.socket], "theirs": [peer, "--no-exit"]}[whose]
+        ours = [program, f"{kind}-proxy", "-d", self.device, "--socket", self.socket, "--bridge", f"{folder}/bridge.sock", "--turns", "1000000000000"]
+        words = {"ours": ours, "node": ours, "bare": [f"{folder}/{kind}_forwarder", where, self.socket], "theirs": [peer, "--no-exit"]}[whose]
         self.process = subprocess.Popen([*under, *words], stderr=subprocess.DEVNULL, stdout=subprocess.DEVNULL)
         if self.strict:
             wait_for(self.socket)
@@ -59,8 +61,10 @@ class Proxy:
         return float(speed)
 
     def times(self):
-        fields = open(f"/proc/{self.process.pid}/stat").read().rsplit(")", 1)[1].split()
-        return int(fields[11]) / TICKS, int(fields[12]) / TICKS
+        """Processor time in user mode and in the system, in seconds, with that of its pumps."""
+        children = open(f"/proc/{self.process.pid}/task/{self.process.pid}/children").read().split()
+        stats = [open(f"/proc/{pid}/stat").read().rsplit(")", 1)[1].split() for pid in (self.process.pid, *children)]
+        return tuple(sum(int(fields[place]) for fields in stats) / TICKS for place in (11, 12))
 
     def peak(self):
         status = open(f"/proc/{self.process.pid}/status").read()
@@ -113,6 +117,12 @@ def instructions(clients, in_flight):
 
 
 theirs_name = f"{NAMES[kind]}'s"
+if over_node:
+    print(f"clients, in flight | ours at the node, its two pumps counted in: a second, us | {theirs_name}: a second, us | rate, processor time beside {theirs_name}")
+    for clients, in_flight in ((1, 1), (16, 8)):
+        ours, theirs = (rate(whose, clients, in_flight) for whose in ("node", "theirs"))
+        print(f"{clients:2}, {in_flight} | {ours[0]:9,.0f} {ours[1]:6.2f} | {theirs[0]:9,.0f} {theirs[1]:6.2f} | {ours[0] / theirs[0]:.2f}, {ours[1] / theirs[1]:.2f}", flush=True)
+    sys.exit()
 print(f"clients, in flight | ours: a second, us, MB | a bare forwarder in C: a second, us | {theirs_name}: a second, us, MB | rate, processor time beside {theirs_name}, beside the forwarder")
 for clients, in_flight in ((1, 1), (16, 8), (64, 1)):
     ours, bare, theirs = (rate(whose, clients, in_flight) for whose in ("ours", "bare", "theirs"))

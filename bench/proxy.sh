@@ -2,7 +2,8 @@
 # Our proxies beside libqmi's and libmbim's and beside a bare forwarder in C, all over the same stand-in modem, in one run: requests a
 # second, processor time and system calls a request, peak memory, and our user instructions a request. The real proxies open
 # a character device, so their modem is behind a raw pseudo terminal; ours is behind a Unix socket.
-# proxy.sh [KIND..]: qmi and mbim, where none is named. MODEMKIT names a program that is built already.
+# With --node ours is at the pseudo terminal too, behind its two pumps.
+# proxy.sh [--node] [KIND..]: qmi and mbim, where none is named. MODEMKIT names a program that is built already.
 top=$(CDPATH= cd -- "$(dirname -- "$0")/.." && pwd) || exit 70
 qmi_peer=${QMI_PROXY:-/usr/libexec/qmi-proxy}
 mbim_peer=${MBIM_PROXY:-/usr/libexec/mbim-proxy}
@@ -15,6 +16,8 @@ trap 'exit 130' INT TERM
 cc -O2 -o "$folder/qmi_load" "$top/bench/load.c" && cc -O2 -o "$folder/qmi_modem" "$top/bench/answering_modem.c" || exit 70
 cc -O2 -o "$folder/mbim_load" "$top/bench/mbim_load.c" && cc -O2 -o "$folder/mbim_modem" "$top/bench/answering_mbim.c" || exit 70
 cc -O2 -o "$folder/qmi_forwarder" "$top/bench/forwarder.c" && cc -O2 -o "$folder/mbim_forwarder" "$top/bench/mbim_forwarder.c" || exit 70
+node=
+[ "$1" != --node ] || { node=--node; shift; }
 for kind in ${*:-qmi mbim}; do
     case $kind in
     qmi) peer=$qmi_peer ;;
@@ -22,5 +25,5 @@ for kind in ${*:-qmi mbim}; do
     *) echo "no kind of proxy: $kind" >&2; exit 2 ;;
     esac
     echo "$kind-proxy:"
-    python3 "$top/bench/proxy.py" "$folder" "$program" "$peer" "${REQUESTS:-100000}" "$kind" || exit
+    python3 "$top/bench/proxy.py" "$folder" "$program" "$peer" "${REQUESTS:-100000}" "$kind" $node || exit
 done

@@ -8,8 +8,9 @@ use std::process::{Child, Command, OpenProcess, Processes, Stdio};
 
 /// The processes of the system. It tells no content.
 ///
-/// A child has nothing to read, its output goes nowhere, and its errors go where this program's do.
-/// It is named by its process number.
+/// A child has nothing to read: its input is a pipe to which nobody writes, and which is hung up once
+/// the child was stopped or this program is gone, however it ended. Its output goes nowhere, and its
+/// errors go where this program's do. It is named by its process number.
 #[derive(Drop)]
 pub struct StdSpawner<'a, R: Processes> {
     rt: &'a R,
@@ -37,7 +38,7 @@ impl<'a, R: Processes> StdSpawner<'a, R> {
         self.children.try_reserve(1)?;
         let child = Command::new(self.alloc, self.program.as_str())?
             .args(words)?
-            .stdin(Stdio::null())
+            .stdin(Stdio::piped())
             .stdout(Stdio::null())
             .spawn(self.rt)?;
         let number = child.id();

@@ -1,12 +1,15 @@
-//! The program: its words come from the command line, its text goes to the standard streams, and
-//! its link and its hub are Unix sockets. What it does with them is `program`'s.
+//! The program: its words come from the command line, its text goes to the standard streams, its
+//! link and its hub are Unix sockets, and its children are processes that run it again. What it does
+//! with them is `program`'s.
 #![tactic(auto)]
 
+use child_io::StdSpawner;
 use file_io::StdFiles;
 use hub_io::MioHub;
 use kit_io::StdSink;
 use link_io::UnixLink;
 use program::{give_up, refuse, run};
+use std::alloc::AllocError;
 use std::net::Net;
 use std::os::fd::{AsFd, BorrowedFd, OwnedFd};
 use std::process::ExitCode;
@@ -19,6 +22,9 @@ fn main(rt: HostRuntime) -> ExitCode {
         return ExitCode::from(give_up(&mut err).code());
     };
     let mut link = UnixLink::new(&rt, rt.alloc());
+    let Ok(mut spawner) = spawner_of(&rt) else {
+        return ExitCode::from(give_up(&mut err).code());
+    };
     let mut files = StdFiles::new(&rt);
     let Ok(mut hub) = MioHub::new(&rt, rt.alloc()) else {
         return ExitCode::from(give_up(&mut err).code());
@@ -31,11 +37,21 @@ fn main(rt: HostRuntime) -> ExitCode {
             &mut err,
             &mut link,
             &mut hub,
+            &mut spawner,
             &mut files,
         ),
         Err(_) => refuse(&mut err),
     };
     ExitCode::from(status.code())
+}
+
+// What starts this program again. Every start fails where the system doesn't tell the program's path.
+fn spawner_of(rt: &HostRuntime) -> Result<StdSpawner<'_, HostRuntime>, AllocError> {
+    let program = match env::current_exe(rt) {
+        Ok(path) => String::from_str(rt.alloc(), path.as_str())?,
+        Err(_) => String::new(rt.alloc()),
+    };
+    StdSpawner::new(rt, rt.alloc(), program)
 }
 
 // The words behind the program's name.

@@ -2,6 +2,8 @@
 #![tactic(auto)]
 
 #[cfg(test)]
+mod bridges;
+#[cfg(test)]
 mod children;
 #[cfg(test)]
 mod files;

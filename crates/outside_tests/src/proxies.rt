@@ -1,6 +1,7 @@
 use crate::steps::{assert_bytes, assert_calls, assert_listens, gives, modem_gives};
+use child_io::{Made, MemSpawner, SpawnerAnswer};
 use file_io::MemFiles;
-use hub_io::{Hub, HubCall, HubEvent, HubTurn, MemHub, MioHub, ServeEnd, Settings};
+use hub_io::{Hub, HubAnswer, HubCall, HubEvent, HubTurn, MemHub, MioHub, ServeEnd, Settings};
 use kit_bytes::Text;
 use kit_io::MemSink;
 use link_io::MemLink;
@@ -73,13 +74,24 @@ fn words(alloc: Global, line: &[&str]) -> Result<Vec<String>, AllocError> {
 
 /// Runs the program with these words over a hub. Its status, and what it writes.
 fn run(alloc: Global, line: &[&str], hub: &mut MemHub) -> Result<(Status, MemSink), AllocError> {
+    let mut spawner = MemSpawner::new(alloc, Vec::new(alloc), 0, 0)?;
+    run_over(alloc, line, hub, &mut spawner)
+}
+
+/// The same with what starts its children.
+fn run_over(
+    alloc: Global,
+    line: &[&str],
+    hub: &mut MemHub,
+    spawner: &mut MemSpawner,
+) -> Result<(Status, MemSink), AllocError> {
     let words = words(alloc, line)?;
     let mut out = MemSink::new(alloc, Vec::new(alloc), 1_000)?;
     let mut err = MemSink::new(alloc, Vec::new(alloc), 1_000)?;
     let mut link = MemLink::new(alloc, Vec::new(alloc), 10, 1_000)?;
     let mut files = MemFiles::new(alloc, Vec::new(alloc), 10, 1_000)?;
     let status = program::run(
-        alloc, &words, &mut out, &mut err, &mut link, hub, &mut files,
+        alloc, &words, &mut out, &mut err, &mut link, hub, spawner, &mut files,
     );
     Ok((status, err))
 }
@@ -253,8 +265,93 @@ fn words_of_a_proxy_are_read_or_refused(rt: HostRuntime) -> Result<(), Fail> {
     assert_status(&rt, alloc, &with_turns("0"), Status::TurnsSpent)?;
     assert_status(&rt, alloc, &with_turns("03"), value)?;
     assert_status(&rt, alloc, &["qmi-proxy"], no_device)?;
-    assert_status(&rt, alloc, &["qmi-proxy", "-d", "m", "--turn", "1"], words)?;
-    assert_status(&rt, alloc, &["qmi-proxy", "-d", "/dev/m"], value)
+    assert_status(&rt, alloc, &["qmi-proxy", "-d", "m", "--turn", "1"], words)
+}
+
+/// A proxy of a node.
+const OF_NODE: [&str; 7] = [
+    "qmi-proxy",
+    "-d",
+    "/dev/m",
+    "--socket",
+    "p.sock",
+    "--bridge",
+    "b.sock",
+];
+
+#[test]
+fn a_node_is_served_behind_its_pumps(rt: HostRuntime) -> Result<(), Fail> {
+    let alloc = rt.alloc();
+    let mut hub = hub_of(alloc, Vec::new(alloc))?;
+    let mut spawner = MemSpawner::new(alloc, Vec::new(alloc), 14, 200)?;
+    let (status, _) = run_over(alloc, &OF_NODE, &mut hub, &mut spawner)?;
+    assert_eq!(rt; status, Status::Done);
+    let calls: [(HubCall, &[u8]); 3] = [
+        (HubCall::Opened { ok: true }, b"p.sock"),
+        (HubCall::ToBridge, b"b.sock"),
+        (HubCall::Paired { ok: true }, b""),
+    ];
+    assert_asked(&rt, &hub, &calls);
+    let parts: [(Made, &[u8]); 14] = [
+        (Made::Starts, b""),
+        (Made::Word, b"pump"),
+        (Made::Word, b"read"),
+        (Made::Word, b"/dev/m"),
+        (Made::Word, b"b.sock"),
+        (Made::Started { child: 1 }, b""),
+        (Made::Starts, b""),
+        (Made::Word, b"pump"),
+        (Made::Word, b"write"),
+        (Made::Word, b"/dev/m"),
+        (Made::Word, b"b.sock"),
+        (Made::Started { child: 2 }, b""),
+        (Made::Stopped { child: 1, ok: true }, b""),
+        (Made::Stopped { child: 2, ok: true }, b""),
+    ];
+    assert_calls(&rt, spawner.log(), &parts);
+    Ok(())
+}
+
+/// The status of the proxy of a node whose hub and whose children answer so.
+fn status_of_node(
+    alloc: Global,
+    answers: &[HubAnswer],
+    script: &[SpawnerAnswer],
+) -> Result<Status, AllocError> {
+    let answers = Vec::from_slice(alloc, answers)?;
+    let mut hub = MemHub::new(alloc, Vec::new(alloc), answers, 0, 0)?;
+    let script = Vec::from_slice(alloc, script)?;
+    let mut spawner = MemSpawner::new(alloc, script, 0, 0)?;
+    let (status, _) = run_over(alloc, &OF_NODE, &mut hub, &mut spawner)?;
+    Ok(status)
+}
+
+#[test]
+fn a_node_fails_to_be_served(rt: HostRuntime) -> Result<(), Fail> {
+    let alloc = rt.alloc();
+    let does = SpawnerAnswer::Does;
+    let fails = SpawnerAnswer::Fails;
+    let opens = HubAnswer::Takes(0);
+    let scripts: [(&[HubAnswer], &[SpawnerAnswer], Status); 6] = [
+        // the hub isn't opened
+        (&[HubAnswer::Fails], &[], Status::HubFault),
+        // a pump isn't started
+        (&[], &[fails], Status::StartFault),
+        (&[], &[does, fails], Status::StartFault),
+        // the pumps don't come, and one of them isn't stopped
+        (&[opens, HubAnswer::Fails], &[], Status::HubFault),
+        (
+            &[opens, HubAnswer::Fails],
+            &[does, does, fails],
+            Status::HubFault,
+        ),
+        // all went well until then
+        (&[], &[does, does, does, fails], Status::StartFault),
+    ];
+    for (answers, script, status) in &scripts {
+        assert_eq!(rt; status_of_node(alloc, answers, script)?, *status);
+    }
+    Ok(())
 }
 
 /// The status of a proxy with these words over a hub that has no turns.

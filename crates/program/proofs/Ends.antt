@@ -1,9 +1,13 @@
--- Which command's end a status tells of.
-use Rattle.std.proofs.Common.{◌≡◌, refl}
+-- What a status tells of.
+use Rattle.std.proofs.Common.{◌≡◌, ℕ, zero, suc, pos, negsuc, ◌≤◌, Result, Ok, Err, is_ok, refl, arith}
+use Rattle.kit_io.specs.Causes.{Rose, HasCause}
 use Rattle.tool_runs.specs.declared.run_end.RunEnd.{RunEnd}
 use Rattle.tool_runs.specs.declared.run_end.RunEnd.TheVariants as run
 use Rattle.program.specs.declared.status.Status.TheVariants as status
-use Rattle.program.specs.Status.{status_of}
+use Rattle.sim_keeping.specs.declared.keeping.KeepEnd.{KeepEnd}
+use Rattle.sim_keeping.specs.declared.keeping.KeepEnd.TheVariants as keep
+use Rattle.program.specs.Status.{IsOfKeeping, status_of, status_of_child, status_of_keeping, with_stops}
+use Rattle.program.specs.declared.status.Status.{Status}
 
 -- only a command whose link failed ends so
 pub link_fault_is : (end : RunEnd) → status_of end ≡ status.LinkFault → end ≡ run.LinkFault
@@ -17,4 +21,46 @@ link_fault_is run.Flooded e = absurd (cc)
 link_fault_is (run.TableFault fault) e = absurd (cc)
 link_fault_is run.ReadFault e = absurd (cc)
 link_fault_is run.WriteFault e = absurd (cc)
+link_fault_is run.StartFault e = absurd (cc)
+link_fault_is run.NoProxy e = absurd (cc)
 link_fault_is run.OutOfMemory e = absurd (cc)
+
+-- only a command that couldn't start or stop a child ends so
+pub start_fault_is : (end : RunEnd) → status_of end ≡ status.StartFault → end ≡ run.StartFault
+start_fault_is run.Done e = absurd (cc)
+start_fault_is (run.Denied function code) e = absurd (cc)
+start_fault_is run.LinkFault e = absurd (cc)
+start_fault_is run.LinkEnd e = absurd (cc)
+start_fault_is run.TimedOut e = absurd (cc)
+start_fault_is (run.Broken place) e = absurd (cc)
+start_fault_is run.Flooded e = absurd (cc)
+start_fault_is (run.TableFault fault) e = absurd (cc)
+start_fault_is run.ReadFault e = absurd (cc)
+start_fault_is run.WriteFault e = absurd (cc)
+start_fault_is run.StartFault e = refl
+start_fault_is run.NoProxy e = absurd (cc)
+start_fault_is run.OutOfMemory e = absurd (cc)
+
+-- a start fault comes of a start that failed, or of a stop
+pub start_fault_comes : {T E : Type 0} {old mid new : ℕ} (result : Result T E) (ends : Status) → old ≤ mid → (ends ≡ status.StartFault → Rose old mid) → HasCause mid new result
+    → with_stops (is_ok result) ends ≡ status.StartFault → Rose old new
+start_fault_comes (Ok t) ends later started stops is = let rose = started is in omega (arith, rose, stops.later)
+start_fault_comes (Err e) ends later started stops is = omega (arith, later, stops.failed)
+
+-- a run ends so whose simulated modem was kept running
+pub is_of_keeping : (end : KeepEnd) → IsOfKeeping (status_of_keeping end)
+unfolding status_of_child
+is_of_keeping (keep.Ended (pos zero)) = tt
+is_of_keeping (keep.Ended (pos (suc code))) = tt
+is_of_keeping (keep.Ended (negsuc code)) = tt
+is_of_keeping keep.StartFault = tt
+is_of_keeping keep.OutOfMemory = tt
+
+-- only one whose children couldn't be started or waited for ends with a start fault
+pub keeping_fault_is : (end : KeepEnd) → status_of_keeping end ≡ status.StartFault → end ≡ keep.StartFault
+unfolding status_of_child
+keeping_fault_is (keep.Ended (pos zero)) e = absurd (cc)
+keeping_fault_is (keep.Ended (pos (suc code))) e = absurd (cc)
+keeping_fault_is (keep.Ended (negsuc code)) e = absurd (cc)
+keeping_fault_is keep.StartFault e = refl
+keeping_fault_is keep.OutOfMemory e = absurd (cc)

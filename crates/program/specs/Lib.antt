@@ -1,3 +1,4 @@
 pub mod Status
 pub mod Running
 pub mod Serving
+pub mod Pumping

@@ -1,31 +1,43 @@
--- What the program does: to its link, its hub and its files, and what it prints.
-use Rattle.std.specs.Prelude.{◌≡◌, ◌⊎◌, ℕ, Bool, true, false, List, [], Option, None, Result, Ok, Err}
+-- What the program does: to its link, its hub, its children and its files, and what it prints.
+use Rattle.std.specs.Prelude.{◌≡◌, ◌⊎◌, ℕ, Bool, true, false, List, [], Option, Some, None, Result, Ok, Err}
 use Rattle.std.specs.Str.{encode_utf8_all}
 use Rattle.kit_io.specs.Told.{Grows}
 use Rattle.link_io.specs.Calls as link
 use Rattle.hub_io.specs.Record as hub
+use Rattle.child_io.specs.Calls as child
 use Rattle.file_io.specs.Calls as file
+use Rattle.link_io.specs.Target.{AtSocket}
+use Rattle.modem_ways.specs.Ways.{Path, Direct, ByProxy, place_of, proxy_words}
+use Rattle.modem_ways.specs.Reaching.{LinkFails}
+use Rattle.kit_io.specs.Causes.{Rose}
+use Rattle.kit_bytes.specs.declared.Kind.{Kind}
+use Rattle.kit_bytes.specs.declared.Kind.TheVariants as kind
 use Rattle.qmi_requests.specs.declared.QmiRequest.{QmiRequest}
 use Rattle.mbim_requests.specs.declared.MbimRequest.{MbimRequest}
 use Rattle.device_core.specs.declared.plan.QmiPlan.{QmiPlan}
 use Rattle.mbim_session.specs.declared.plan.MbimPlan.{MbimPlan}
 use Rattle.tool_words.specs.declared.command.ToolCommand.{ToolCommand}
-use Rattle.tool_words.specs.declared.command.ToolCommand.TheVariants.{Qmicli, Mbimcli, Describe, Proxy, Simulator}
+use Rattle.tool_words.specs.declared.command.ToolCommand.TheVariants.{Qmicli, Mbimcli, Describe, Proxy, Simulator, Pump}
 use Rattle.tool_words.specs.declared.fault.UsageKind.{UsageKind}
-use Rattle.tool_runs.specs.Asking.{Asks}
+use Rattle.tool_runs.specs.Asking.{AsksModem, Asked}
+use Rattle.tool_runs.specs.Asking as asking
 use Rattle.tool_runs.specs.Qmi.{qmi_asked}
 use Rattle.tool_runs.specs.Mbim.{mbim_asked}
 use Rattle.tool_runs.specs.Describing.{Describes}
+use Rattle.sim_keeping.specs.Keeping.{KeepsOrLacksMemory}
+use Rattle.sim_keeping.specs.Words.{start_words}
 use Rattle.sim_runs.specs.Simulating as sim
 use Rattle.program.specs.declared.status.Status.{Status}
 use Rattle.program.specs.declared.status.Status.TheVariants as status
-use Rattle.program.specs.Status.{EndsAs, status_of, status_of_sim}
+use Rattle.program.specs.Status.{EndsAs, status_of, status_of_keeping, status_of_sim}
 use Rattle.program.specs.Serving.{ServesProxy, asked_in}
+use Rattle.program.specs.Pumping.{PumpsTo}
 
 -- what is told of the outside, before and after
 pub record Told : Type 0 where
   pub link : Option (List link.Call)
   pub hub : Option (List hub.Call)
+  pub spawner : Option (List child.Call)
   pub files : Option (List file.Call)
   pub out : Option (List ℕ)
 
@@ -33,15 +45,26 @@ pub record Told : Type 0 where
 pub record Untouched (before after : Told) : Type 0 where
   pub link : Grows before.link [] after.link
   pub hub : hub.Since before.hub after.hub (λ calls. calls ≡ [])
+  pub spawner : Grows before.spawner [] after.spawner
   pub files : Grows before.files [] after.files
   pub out : Grows before.out [] after.out
 
 -- ---- the tools ----
 
--- the link leads to the device, or to the socket of the proxy that has it
-abbrev pub path_to : Bool → List ℕ → List ℕ → List ℕ
-path_to true device socket = encode_utf8_all socket
-path_to false device socket = encode_utf8_all device
+-- the way to the device, or to the proxy that has it or is to be started; paths are in characters
+abbrev pub way_to : Kind → Bool → (device socket bridge : List ℕ) → Path
+way_to kind true device socket bridge = ByProxy (AtSocket (encode_utf8_all socket)) (proxy_words kind (encode_utf8_all device) (encode_utf8_all socket) (encode_utf8_all bridge))
+way_to kind false device socket bridge = Direct (place_of (encode_utf8_all device) (encode_utf8_all bridge))
+
+-- what a tool does is told by its link, its children and its output
+abbrev pub of_tool : Told → asking.Told
+of_tool told = record { link = told.link; spawner = told.spawner; out = told.out }
+
+-- it asked a modem so, or had no memory to begin
+abbrev pub Asks : {End : Type 0} → Path → Asked End → asking.Told → asking.Told → Status → Type 0
+Asks path asked before after result =
+    EndsAs status_of result (λ ends. AsksModem path asked before after ends)
+    ⊎ ((result ≡ status.OutOfMemory) × Grows before.link [] after.link × Grows before.spawner [] after.spawner × Grows before.out [] after.out)
 
 abbrev pub qmi_plan : List ℕ → Bool → Option ℕ → Bool → QmiRequest → QmiPlan
 qmi_plan device proxied cid keep request = record { device = device; proxied = proxied; cid = cid; keep = keep; request = request }
@@ -51,16 +74,20 @@ mbim_plan device proxied close request = record { device = device; proxied = pro
 
 -- ---- what the words ask for ----
 
--- a tool asks a modem or describes a file, and a proxy or a simulated modem serves
+-- a tool asks a modem or describes a file, a proxy or a simulated modem serves, one is kept running, and a pump passes on
 abbrev pub RunsCommand : ToolCommand → Told → Told → Status → Type 0
 RunsCommand (Qmicli device proxied cid keep request socket bridge) before after result =
-    EndsAs status_of result (λ ends. Asks (path_to proxied device socket) (qmi_asked (qmi_plan device proxied cid keep request)) before.link after.link before.out ends after.out)
+    Asks (way_to kind.Qmi proxied device socket bridge) (qmi_asked (qmi_plan device proxied cid keep request)) (of_tool before) (of_tool after) result
 RunsCommand (Mbimcli device proxied close request socket bridge) before after result =
-    EndsAs status_of result (λ ends. Asks (path_to proxied device socket) (mbim_asked (mbim_plan device proxied close request)) before.link after.link before.out ends after.out)
+    Asks (way_to kind.Mbim proxied device socket bridge) (mbim_asked (mbim_plan device proxied close request)) (of_tool before) (of_tool after) result
 RunsCommand (Describe path) before after result = EndsAs status_of result (λ ends. Describes (encode_utf8_all path) before.files after.files before.out ends after.out)
-RunsCommand (Proxy kind device socket bridge empty time turns) before after result = hub.Since before.hub after.hub (ServesProxy kind (asked_in device socket empty time turns) result)
-RunsCommand (Simulator kind socket profile turns) before after result =
+RunsCommand (Proxy kind device socket bridge empty time turns) before after result =
+    ServesProxy kind (asked_in device socket empty time turns) (place_of (encode_utf8_all device) (encode_utf8_all bridge)) before.hub before.spawner result after.hub after.spawner
+RunsCommand (Simulator kind socket profile turns None) before after result =
     EndsAs status_of_sim result (λ ends. sim.Simulates profile (sim.asked_in kind socket turns) (record { files = before.files; hub = before.hub }) (record { files = after.files; hub = after.hub }) ends)
+RunsCommand (Simulator kind socket profile turns (Some most)) before after result =
+    EndsAs status_of_keeping result (λ ends. KeepsOrLacksMemory (start_words kind socket turns profile) most before.spawner ends after.spawner)
+RunsCommand (Pump read node bridge) before after result = PumpsTo read node bridge before.link before.files result after.link after.files
 
 -- what the words ask for, or that they are refused, and why
 abbrev pub RunsWords : Result ToolCommand UsageKind → Told → Told → Status → Type 0
@@ -74,21 +101,37 @@ Runs words before after result = RunsWords words before after result ⊎ ((resul
 -- ---- what is left alone ----
 
 -- the objects of the outside themselves
-pub record Objects (L H F O : Type 0) : Type 0 where
+pub record Objects (L H P F O : Type 0) : Type 0 where
   pub link : L
   pub hub : H
+  pub spawner : P
   pub files : F
   pub out : O
 
--- what a command has no use for is left as it was: hub and files by one that asks a modem, link and hub by one that describes a file, all but the hub by a proxy, and link and output by a simulated modem, the files too where no profile is named
-abbrev pub CommandLeavesAlone : {L H F O : Type 0} → ToolCommand → Objects L H F O → Objects L H F O → Type 0
+-- what a command has no use for is left as it was: hub and files by one that asks a modem, all but files and output by one that describes a file, all but hub and children by a proxy, all but hub and files by a simulated modem, the files too where no profile is named, all but children by one that is kept running, and all but link and files by a pump
+abbrev pub CommandLeavesAlone : {L H P F O : Type 0} → ToolCommand → Objects L H P F O → Objects L H P F O → Type 0
 CommandLeavesAlone (Qmicli device proxied cid keep request socket bridge) before after = (after.hub ≡ before.hub) × (after.files ≡ before.files)
 CommandLeavesAlone (Mbimcli device proxied close request socket bridge) before after = (after.hub ≡ before.hub) × (after.files ≡ before.files)
-CommandLeavesAlone (Describe path) before after = (after.link ≡ before.link) × (after.hub ≡ before.hub)
+CommandLeavesAlone (Describe path) before after = (after.link ≡ before.link) × (after.hub ≡ before.hub) × (after.spawner ≡ before.spawner)
 CommandLeavesAlone (Proxy kind device socket bridge empty time turns) before after = (after.link ≡ before.link) × (after.files ≡ before.files) × (after.out ≡ before.out)
-CommandLeavesAlone (Simulator kind socket profile turns) before after = (after.link ≡ before.link) × (profile ≡ None → after.files ≡ before.files) × (after.out ≡ before.out)
+CommandLeavesAlone (Simulator kind socket profile turns None) before after = (after.link ≡ before.link) × (after.spawner ≡ before.spawner) × (profile ≡ None → after.files ≡ before.files) × (after.out ≡ before.out)
+CommandLeavesAlone (Simulator kind socket profile turns (Some most)) before after = (after.link ≡ before.link) × (after.hub ≡ before.hub) × (after.files ≡ before.files) × (after.out ≡ before.out)
+CommandLeavesAlone (Pump read node bridge) before after = (after.hub ≡ before.hub) × (after.spawner ≡ before.spawner) × (after.out ≡ before.out)
 
 -- words that are refused leave all as it was
-abbrev pub LeavesAlone : {L H F O : Type 0} → Result ToolCommand UsageKind → Objects L H F O → Objects L H F O → Type 0
+abbrev pub LeavesAlone : {L H P F O : Type 0} → Result ToolCommand UsageKind → Objects L H P F O → Objects L H P F O → Type 0
 LeavesAlone (Ok command) before after = CommandLeavesAlone command before after
 LeavesAlone (Err why) before after = after ≡ before
+
+-- ---- faults of the link ----
+
+-- on its way to a modem, or of a pump's
+abbrev pub CommandFailsOnLink : {L : Type 0} → ToolCommand → (L → ℕ) → (L → ℕ) → L → L → Type 0
+CommandFailsOnLink (Qmicli device proxied cid keep request socket bridge) = LinkFails (way_to kind.Qmi proxied device socket bridge)
+CommandFailsOnLink (Mbimcli device proxied close request socket bridge) = LinkFails (way_to kind.Mbim proxied device socket bridge)
+CommandFailsOnLink (Pump read node bridge) = λ faults open_faults before after. Rose (open_faults before) (open_faults after) ⊎ Rose (faults before) (faults after)
+CommandFailsOnLink _ = λ faults open_faults before after. ⊥
+
+abbrev pub FailsOnLink : {L : Type 0} → Result ToolCommand UsageKind → (L → ℕ) → (L → ℕ) → L → L → Type 0
+FailsOnLink (Ok command) = CommandFailsOnLink command
+FailsOnLink (Err why) = λ faults open_faults before after. ⊥

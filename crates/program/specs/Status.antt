@@ -1,5 +1,5 @@
 -- How a run of the program ends: its exit status, and the line that tells of it.
-use Rattle.std.specs.Prelude.{◌≡◌, ℕ, Bool, List, [], ◌++◌, Option, Some, None, codes, decimal, if◌then◌else◌}
+use Rattle.std.specs.Prelude.{◌≡◌, ℕ, zero, suc, ℤ, pos, negsuc, Bool, true, false, List, [], ◌++◌, Option, Some, None, codes, decimal, if◌then◌else◌}
 use Rattle.hub_io.specs.declared.settings.ServeEnd.{ServeEnd}
 use Rattle.hub_io.specs.declared.settings.ServeEnd.TheVariants as end
 use Rattle.message_tables.specs.declared.fault.TableFault.{TableFault}
@@ -8,6 +8,10 @@ use Rattle.message_tables.specs.Members.{member_text}
 use Rattle.modem_profile.specs.Members as profile_members
 use Rattle.modem_profile.specs.declared.fault.ProfileFault.{ProfileFault}
 use Rattle.modem_profile.specs.declared.fault.ProfileFault.TheVariants as profile
+use Rattle.pump.specs.declared.ending.PumpEnd.{PumpEnd}
+use Rattle.pump.specs.declared.ending.PumpEnd.TheVariants as pump
+use Rattle.sim_keeping.specs.declared.keeping.KeepEnd.{KeepEnd}
+use Rattle.sim_keeping.specs.declared.keeping.KeepEnd.TheVariants as keep
 use Rattle.sim_runs.specs.declared.sim_end.SimEnd.{SimEnd}
 use Rattle.sim_runs.specs.declared.sim_end.SimEnd.TheVariants as sim
 use Rattle.tool_runs.specs.declared.run_end.RunEnd.{RunEnd}
@@ -68,6 +72,8 @@ line_of status.Flooded = error_line (codes "flooded") []
 line_of status.WriteFault = error_line (codes "write fault") []
 line_of (status.TableFault fault) = tables_line fault
 line_of status.ReadFault = error_line (codes "read fault") []
+line_of status.StartFault = error_line (codes "start fault") []
+line_of status.NoProxy = error_line (codes "no proxy") []
 line_of status.HubFault = error_line (codes "hub fault") []
 line_of status.TurnsSpent = error_line (codes "turns spent") []
 line_of (status.ProfileFault fault) = profile_line fault
@@ -85,6 +91,8 @@ code_of status.Flooded = 7
 code_of status.WriteFault = 8
 code_of (status.TableFault fault) = 9
 code_of status.ReadFault = 10
+code_of status.StartFault = 11
+code_of status.NoProxy = 12
 code_of status.HubFault = 13
 code_of status.TurnsSpent = 14
 code_of (status.ProfileFault fault) = 15
@@ -102,6 +110,8 @@ status_of run.Flooded = status.Flooded
 status_of (run.TableFault fault) = status.TableFault fault
 status_of run.ReadFault = status.ReadFault
 status_of run.WriteFault = status.WriteFault
+status_of run.StartFault = status.StartFault
+status_of run.NoProxy = status.NoProxy
 status_of run.OutOfMemory = status.OutOfMemory
 
 -- how a run ends whose serving ended so
@@ -120,13 +130,39 @@ status_of_sim sim.ReadFault = status.ReadFault
 status_of_sim (sim.ProfileFault fault) = status.ProfileFault fault
 status_of_sim sim.OutOfMemory = status.OutOfMemory
 
+-- how a run ends whose last child ended with this status; one below 0 counts as 255
+unfoldable pub status_of_child : ℤ → Status
+status_of_child (pos zero) = status.Done
+status_of_child (pos (suc code)) = status.Denied false (suc code)
+status_of_child (negsuc code) = status.Denied false 255
+
+-- how a run ends whose keeping of a simulated modem ended so
+abbrev pub status_of_keeping : KeepEnd → Status
+status_of_keeping (keep.Ended status) = status_of_child status
+status_of_keeping keep.StartFault = status.StartFault
+status_of_keeping keep.OutOfMemory = status.OutOfMemory
+
+-- how a run ends whose pump ended so
+abbrev pub status_of_pump : PumpEnd → Status
+status_of_pump pump.Ended = status.Done
+status_of_pump pump.LinkFault = status.LinkFault
+status_of_pump pump.ReadFault = status.ReadFault
+status_of_pump pump.WriteFault = status.WriteFault
+status_of_pump pump.TurnsSpent = status.TurnsSpent
+
+-- how it ends where each child was stopped, or one wasn't
+abbrev pub with_stops : Bool → Status → Status
+with_stops true ends = ends
+with_stops false status.Done = status.StartFault
+with_stops false ends = ends
+
 -- an end is such, and the status tells of it
 pub record EndsAs {E : Type 0} (status_for : E → Status) (result : Status) (Is : E → Type 0) : Type 0 where
   pub ends : E
   pub is : Is ends
   pub status : result ≡ status_for ends
 
--- how a run may end of a tool, of a proxy, and of a simulated modem
+-- how a run may end of a tool, of a proxy, of a simulated modem and of one that is kept running, and of a pump
 abbrev pub IsOfTool : Status → Type 0
 IsOfTool status.HubFault = ⊥
 IsOfTool status.TurnsSpent = ⊥
@@ -135,6 +171,7 @@ IsOfTool _ = Unit {0}
 
 abbrev pub IsOfProxy : Status → Type 0
 IsOfProxy status.Done = Unit {0}
+IsOfProxy status.StartFault = Unit {0}
 IsOfProxy status.HubFault = Unit {0}
 IsOfProxy status.TurnsSpent = Unit {0}
 IsOfProxy status.OutOfMemory = Unit {0}
@@ -148,3 +185,19 @@ IsOfSimulator status.ReadFault = Unit {0}
 IsOfSimulator (status.ProfileFault fault) = Unit {0}
 IsOfSimulator status.OutOfMemory = Unit {0}
 IsOfSimulator _ = ⊥
+
+abbrev pub IsOfKeeping : Status → Type 0
+IsOfKeeping status.Done = Unit {0}
+IsOfKeeping (status.Denied function code) = Unit {0}
+IsOfKeeping status.StartFault = Unit {0}
+IsOfKeeping status.OutOfMemory = Unit {0}
+IsOfKeeping _ = ⊥
+
+abbrev pub IsOfPump : Status → Type 0
+IsOfPump status.Done = Unit {0}
+IsOfPump status.LinkFault = Unit {0}
+IsOfPump status.ReadFault = Unit {0}
+IsOfPump status.WriteFault = Unit {0}
+IsOfPump status.TurnsSpent = Unit {0}
+IsOfPump status.OutOfMemory = Unit {0}
+IsOfPump _ = ⊥

@@ -1,8 +1,10 @@
-//! What the program does: as a tool, as a proxy and as a simulated modem, from its words to its status.
+//! What the program does: as a tool, as a proxy, as a simulated modem and as a pump, from its words to its status.
 #![tactic(auto)]
 
 mod dispatch;
+mod opening;
 mod proxy;
+mod pumping;
 mod report;
 mod simulator;
 mod status;

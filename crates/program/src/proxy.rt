@@ -1,18 +1,20 @@
-ghost use Rattle.std.specs.Prelude.{◌≡◌, ◌≤◌, ℕ, List, IfOk};
+ghost use Rattle.std.specs.Prelude.{◌≡◌, ◌≤◌, ℕ, List, [], IfOk};
 ghost use Rattle.std.specs.Str.{encode_utf8_all};
 ghost use Rattle.kit_io.specs.Causes.{Rose};
-ghost use Rattle.link_io.specs.Target.{AtSocket, address_of};
 ghost use Rattle.hub_io.specs.Record.{Since};
+ghost use Rattle.modem_ways.specs.Reaching.{StartsBy};
+ghost use Rattle.modem_ways.specs.Ways.{place_in, place_of};
 ghost use Rattle.proxy_serving.specs.Ends.{EndsSo};
-ghost use Rattle.program.specs.Serving.{ServesProxy, asked_in, asked_with, proxy_for};
+ghost use Rattle.program.specs.Serving.{Serves, ServesProxy, asked_in, asked_with, proxy_for};
 ghost use Rattle.program.specs.Status.{IsOfProxy};
 
+use crate::opening::open_device;
 use crate::status::Status;
+use child_io::{Kids, Spawner};
 use hub_io::{Hub, ServeEnd, Settings};
 use kit_bytes::{Kind, PathText, Text};
-use kit_io::Failed;
-use link_io::Target;
 use mbim_serving::serve_mbim;
+use modem_ways::Device;
 use qmi_serving::serve_qmi;
 use std::alloc::{AllocError, Global};
 
@@ -34,68 +36,98 @@ fn settings_of(
     })
 }
 
-// The modem's socket.
-fn target_of(alloc: Global, settings: &Settings) -> Result<Target, AllocError>
-    ensures { IfOk result (λ target. address_of target ≡ AtSocket (encode_utf8_all settings.now.device)) }
-{
-    Ok(Target::Socket(Text::from_str(alloc, settings.device.as_str())?))
-}
-
-// Opens the hub, and serves its clients as the words of a proxy want it.
-pub fn serve_asked<H: Hub>(
+// Serves a device to the clients of a socket as the words of a proxy want it, over a bridge where it
+// is a node.
+#[tactic(auto, using(crate::proofs::Opened::without_memory))]
+pub fn run_proxy<H: Hub, P: Spawner>(
     alloc: Global,
     kind: Kind,
     device: &PathText,
     socket: &PathText,
+    bridge: &PathText,
     empty: Option<u64>,
     time: u64,
     turns: u64,
     hub: &mut H,
+    spawner: &mut P,
 ) -> Status
-    ensures serves { Since (H.calls hub.old) (H.calls hub.new) (ServesProxy kind (asked_in device.now socket.now empty time turns) result) }
+    ensures serves { ServesProxy kind (asked_in device.now socket.now empty time turns) (place_of (encode_utf8_all device.now) (encode_utf8_all bridge.now)) (H.calls hub.old) (P.calls spawner.old) result (H.calls hub.new) (P.calls spawner.new) }
     ensures own { IsOfProxy result }
     ensures hub_fault { result ≡ Status.HubFault → Rose (H.faults hub.old) (H.faults hub.new) }
+    ensures start_fault { result ≡ Status.StartFault → Rose (P.faults spawner.old) (P.faults spawner.new) }
 {
     match settings_of(alloc, device, empty, time, turns) {
-        Ok(settings) => serve(alloc, kind, socket, &settings, hub),
+        Ok(settings) => serve(alloc, kind, socket, bridge, &settings, hub, spawner),
         Err(AllocError) => Status::OutOfMemory,
     }
 }
 
-// Opens the hub, and serves its clients as a proxy of a kind.
-fn serve<H: Hub>(
+// Serves the device of the settings, wherever it is.
+#[tactic(auto, using(crate::proofs::Opened::without_memory))]
+fn serve<H: Hub, P: Spawner>(
     alloc: Global,
     kind: Kind,
     socket: &PathText,
+    bridge: &PathText,
     settings: &Settings,
     hub: &mut H,
+    spawner: &mut P,
 ) -> Status
-    ensures serves { Since (H.calls hub.old) (H.calls hub.new) (ServesProxy kind (asked_with socket.now settings.now) result) }
+    ensures serves { ServesProxy kind (asked_with socket.now settings.now) (place_of (encode_utf8_all settings.now.device) (encode_utf8_all bridge.now)) (H.calls hub.old) (P.calls spawner.old) result (H.calls hub.new) (P.calls spawner.new) }
     ensures own { IsOfProxy result }
     ensures hub_fault { result ≡ Status.HubFault → Rose (H.faults hub.old) (H.faults hub.new) }
+    ensures start_fault { result ≡ Status.StartFault → Rose (P.faults spawner.old) (P.faults spawner.new) }
 {
-    match target_of(alloc, settings) {
-        Ok(target) => serve_at(alloc, kind, socket, &target, settings, hub),
+    match Device::at(alloc, settings.device.as_str(), bridge.value().as_str()) {
+        Ok(device) => serve_device(alloc, kind, socket, &device, settings, hub, spawner),
         Err(AllocError) => Status::OutOfMemory,
     }
 }
 
-fn serve_at<H: Hub>(
+// Serves a device, and stops whatever was started.
+fn serve_device<H: Hub, P: Spawner>(
     alloc: Global,
     kind: Kind,
     socket: &PathText,
-    target: &Target,
+    device: &Device,
     settings: &Settings,
     hub: &mut H,
+    spawner: &mut P,
 ) -> Status
-    requires { address_of target.now ≡ AtSocket (encode_utf8_all settings.now.device) }
-    ensures serves { Since (H.calls hub.old) (H.calls hub.new) (ServesProxy kind (asked_with socket.now settings.now) result) }
+    ensures serves { ServesProxy kind (asked_with socket.now settings.now) (place_in device.now) (H.calls hub.old) (P.calls spawner.old) result (H.calls hub.new) (P.calls spawner.new) }
     ensures own { IsOfProxy result }
     ensures hub_fault { result ≡ Status.HubFault → Rose (H.faults hub.old) (H.faults hub.new) }
+    ensures start_fault { result ≡ Status.StartFault → Rose (P.faults spawner.old) (P.faults spawner.new) }
 {
-    match hub.open(socket.value().as_str(), Some(target)) {
+    let mut kids = Kids::none();
+    let end = serve_kept(
+        alloc, kind, socket, device, settings, hub, spawner, &mut kids,
+    );
+    let stopped = kids.stop_all(spawner).is_ok();
+    end.with_stops(stopped)
+}
+
+// The same, but that the children are kept.
+fn serve_kept<H: Hub, P: Spawner>(
+    alloc: Global,
+    kind: Kind,
+    socket: &PathText,
+    device: &Device,
+    settings: &Settings,
+    hub: &mut H,
+    spawner: &mut P,
+    kids: &mut Kids,
+) -> Status
+    requires { kids.old ≡ [] }
+    ensures serves { StartsBy (Serves kind (asked_with socket.now settings.now) (place_in device.now) (H.calls hub.old) (H.calls hub.new) result) (P.calls spawner.old) kids.new (P.calls spawner.new) }
+    ensures own { IsOfProxy result }
+    ensures hub_fault { result ≡ Status.HubFault → Rose (H.faults hub.old) (H.faults hub.new) }
+    ensures start_fault { result ≡ Status.StartFault → Rose (P.faults spawner.old) (P.faults spawner.new) }
+    ensures later_starts { P.faults spawner.old ≤ P.faults spawner.new }
+{
+    match open_device(socket.value().as_str(), device, hub, spawner, kids) {
         Ok(()) => Status::from(serve_opened(alloc, kind, settings, hub)),
-        Err(Failed) => Status::HubFault,
+        Err(fault) => Status::from(fault),
     }
 }
 

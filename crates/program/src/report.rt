@@ -62,6 +62,8 @@ fn write_line<E: Sink>(status: Status, err: &mut E) -> Result<(), WriteFault>
         Status::TableFault { fault: None } => write_error(b"tables: long", b"", err),
         Status::TableFault { fault: Some(fault) } => write_fault_of_tables(fault, err),
         Status::ReadFault => write_error(b"read fault", b"", err),
+        Status::StartFault => write_error(b"start fault", b"", err),
+        Status::NoProxy => write_error(b"no proxy", b"", err),
         Status::HubFault => write_error(b"hub fault", b"", err),
         Status::TurnsSpent => write_error(b"turns spent", b"", err),
         Status::ProfileFault { fault } => write_fault_of_profile(fault, err),

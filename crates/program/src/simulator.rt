@@ -1,13 +1,17 @@
 ghost use Rattle.std.specs.Prelude.{◌≡◌, None};
 ghost use Rattle.std.specs.Option.{option_copied};
 ghost use Rattle.kit_io.specs.Causes.{Rose};
+ghost use Rattle.sim_keeping.specs.Keeping.{KeepsOrLacksMemory};
+ghost use Rattle.sim_keeping.specs.Words.{start_words};
 ghost use Rattle.sim_runs.specs.Simulating.{Simulates, asked_in};
-ghost use Rattle.program.specs.Status.{EndsAs, IsOfSimulator, status_of_sim};
+ghost use Rattle.program.specs.Status.{EndsAs, IsOfKeeping, IsOfSimulator, status_of_keeping, status_of_sim};
 
 use crate::status::Status;
+use child_io::Spawner;
 use file_io::Files;
 use hub_io::Hub;
 use kit_bytes::{Kind, PathText};
+use sim_keeping::keep_simulator;
 use sim_runs::simulate;
 use std::alloc::Global;
 
@@ -31,4 +35,21 @@ pub fn simulate_modem<H: Hub, F: Files>(
     ensures read_fault { result ≡ Status.ReadFault → Rose (F.read_faults files.old) (F.read_faults files.new) }
 {
     Status::from(simulate(alloc, kind, socket, profile, turns, hub, files))
+}
+
+// Keeps a simulated modem running, as a child that is started so often at most.
+pub fn keep_modem<P: Spawner>(
+    alloc: Global,
+    kind: Kind,
+    socket: &PathText,
+    profile: Option<&PathText>,
+    turns: u64,
+    most: u8,
+    spawner: &mut P,
+) -> Status
+    ensures keeps { EndsAs status_of_keeping result (λ ends. KeepsOrLacksMemory (start_words kind socket.now turns (option_copied profile.entry)) most (P.calls spawner.old) ends (P.calls spawner.new)) }
+    ensures own { IsOfKeeping result }
+    ensures start_fault { result ≡ Status.StartFault → Rose (P.faults spawner.old) (P.faults spawner.new) }
+{
+    Status::from(keep_simulator(alloc, kind, socket, profile, turns, most, spawner))
 }

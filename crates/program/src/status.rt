@@ -1,9 +1,12 @@
 ghost use Rattle.std.specs.Prelude.{◌≡◌};
 ghost use Rattle.program.specs.Status.{kind_word};
 
+use crate::opening::OpenFault;
 use hub_io::ServeEnd;
 use message_tables::TableFault;
 use modem_profile::ProfileFault;
+use pump::PumpEnd;
+use sim_keeping::KeepEnd;
 use sim_runs::SimEnd;
 use tool_runs::RunEnd;
 use tool_words::UsageKind;
@@ -12,7 +15,8 @@ use tool_words::UsageKind;
 #[derive(Clone, Copy, Debug, PartialEq, Eq)]
 pub enum Status {
     Done,
-    /// The modem refused the request with this code, by a function error or in its answer.
+    /// The modem refused the request with this code, by a function error or in its answer; or the
+    /// simulated modem that was kept running ended with it.
     Denied { function: bool, code: u32 },
     /// The words are refused.
     Usage { kind: UsageKind },
@@ -32,6 +36,10 @@ pub enum Status {
     TableFault { fault: Option<TableFault> },
     /// A file couldn't be read.
     ReadFault,
+    /// A child wasn't started, or not stopped.
+    StartFault,
+    /// The proxy that was started never listened.
+    NoProxy,
     /// A call on the hub failed.
     HubFault,
     /// All the turns were taken.
@@ -57,7 +65,7 @@ pub fn kind_word(kind: UsageKind) -> &'static str
 }
 
 impl Status {
-    ghost use Rattle.program.specs.Status.{code_of};
+    ghost use Rattle.program.specs.Status.{code_of, status_of_child, with_stops};
 
     /// The exit status.
     pub fn code(self) -> u8
@@ -75,10 +83,40 @@ impl Status {
             Status::WriteFault => 8,
             Status::TableFault { .. } => 9,
             Status::ReadFault => 10,
+            Status::StartFault => 11,
+            Status::NoProxy => 12,
             Status::HubFault => 13,
             Status::TurnsSpent => 14,
             Status::ProfileFault { .. } => 15,
             Status::OutOfMemory => 70,
+        }
+    }
+
+    // How a run ended whose last child ended so.
+    #[tactic(auto, unfolding(crate::specs::Status::status_of_child))]
+    fn of_child(status: i32) -> Self
+        ensures { result ≡ status_of_child status }
+    {
+        match u32::try_from(status) {
+            Ok(0) => Status::Done,
+            Ok(code) => Status::Denied {
+                function: false,
+                code,
+            },
+            Err(_) => Status::Denied {
+                function: false,
+                code: 255,
+            },
+        }
+    }
+
+    // How a run ended of whose children one may not have been stopped.
+    pub(crate) fn with_stops(self, stopped: bool) -> Self
+        ensures { result ≡ with_stops stopped self }
+    {
+        match self {
+            Status::Done if !stopped => Status::StartFault,
+            status => status,
         }
     }
 }
@@ -100,6 +138,8 @@ impl From<RunEnd> for Status {
             RunEnd::TableFault { fault } => Status::TableFault { fault },
             RunEnd::ReadFault => Status::ReadFault,
             RunEnd::WriteFault => Status::WriteFault,
+            RunEnd::StartFault => Status::StartFault,
+            RunEnd::NoProxy => Status::NoProxy,
             RunEnd::OutOfMemory => Status::OutOfMemory,
         }
     }
@@ -120,6 +160,19 @@ impl From<ServeEnd> for Status {
     }
 }
 
+impl From<OpenFault> for Status {
+    ghost use Rattle.program.specs.Serving.{status_of_opening};
+
+    ghost from_gives = { λ fault status. status ≡ status_of_opening fault };
+
+    fn from(fault: OpenFault) -> Self {
+        match fault {
+            OpenFault::Hub => Status::HubFault,
+            OpenFault::Start => Status::StartFault,
+        }
+    }
+}
+
 impl From<SimEnd> for Status {
     ghost use Rattle.program.specs.Status.{status_of_sim};
 
@@ -132,6 +185,36 @@ impl From<SimEnd> for Status {
             SimEnd::ReadFault => Status::ReadFault,
             SimEnd::ProfileFault(fault) => Status::ProfileFault { fault },
             SimEnd::OutOfMemory => Status::OutOfMemory,
+        }
+    }
+}
+
+impl From<KeepEnd> for Status {
+    ghost use Rattle.program.specs.Status.{status_of_keeping};
+
+    ghost from_gives = { λ end status. status ≡ status_of_keeping end };
+
+    fn from(end: KeepEnd) -> Self {
+        match end {
+            KeepEnd::Ended(status) => Status::of_child(status),
+            KeepEnd::StartFault => Status::StartFault,
+            KeepEnd::OutOfMemory => Status::OutOfMemory,
+        }
+    }
+}
+
+impl From<PumpEnd> for Status {
+    ghost use Rattle.program.specs.Status.{status_of_pump};
+
+    ghost from_gives = { λ end status. status ≡ status_of_pump end };
+
+    fn from(end: PumpEnd) -> Self {
+        match end {
+            PumpEnd::Ended => Status::Done,
+            PumpEnd::LinkFault => Status::LinkFault,
+            PumpEnd::ReadFault => Status::ReadFault,
+            PumpEnd::WriteFault => Status::WriteFault,
+            PumpEnd::TurnsSpent => Status::TurnsSpent,
         }
     }
 }

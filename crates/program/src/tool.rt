@@ -1,34 +1,52 @@
-ghost use Rattle.std.specs.Prelude.{◌≡◌};
+ghost use Rattle.std.specs.Prelude.{◌≡◌, IfOk};
 ghost use Rattle.std.specs.Str.{encode_utf8_all};
 ghost use Rattle.kit_io.specs.Causes.{Rose};
-ghost use Rattle.tool_runs.specs.Asking.{Asks, asked_of, HasFailed};
+ghost use Rattle.kit_bytes.specs.declared.Kind.TheVariants as kinds;
+ghost use Rattle.modem_ways.specs.Reaching.{LinkFails};
+ghost use Rattle.modem_ways.specs.Ways.{path_in};
+ghost use Rattle.tool_runs.specs.Asking.{AsksModem, asked_of};
 ghost use Rattle.tool_runs.specs.Describing.{Describes};
 ghost use Rattle.tool_runs.specs.Qmi.{qmi_asked};
 ghost use Rattle.tool_runs.specs.Mbim.{mbim_asked};
-ghost use Rattle.program.specs.Running.{path_to, qmi_plan, mbim_plan};
+ghost use Rattle.program.specs.Running.{Asks, way_to, qmi_plan, mbim_plan};
 ghost use Rattle.program.specs.Status.{IsOfTool, EndsAs, status_of};
 
 use crate::status::Status;
+use child_io::Spawner;
 use device_core::QmiPlan;
 use file_io::Files;
-use kit_bytes::PathText;
+use kit_bytes::{Kind, PathText};
 use kit_io::Sink;
 use link_io::Link;
 use mbim_requests::MbimRequest;
 use mbim_session::MbimPlan;
+use modem_ways::Way;
 use qmi_requests::QmiRequest;
-use std::alloc::Global;
+use std::alloc::{AllocError, Global};
 use tool_runs::{Session, ask, describe};
 
-// Where a tool's link leads: to the device, or to the socket of the proxy that has it.
-fn path_to<'a>(proxied: bool, device: &'a PathText, socket: &'a PathText) -> &'a PathText
-    ensures { encode_utf8_all result.now ≡ path_to proxied device.now socket.now }
+// The way of a tool to its modem.
+fn way_to(
+    alloc: Global,
+    kind: Kind,
+    proxied: bool,
+    device: &PathText,
+    socket: &PathText,
+    bridge: &PathText,
+) -> Result<Way, AllocError>
+    ensures { IfOk result (λ way. path_in way ≡ way_to kind proxied device.now socket.now bridge.now) }
 {
-    if proxied { socket } else { device }
+    let device = device.value().as_str();
+    let bridge = bridge.value().as_str();
+    if proxied {
+        let socket = socket.value().as_str();
+        return Way::by_proxy(alloc, kind, device, socket, bridge);
+    }
+    Way::direct(alloc, device, bridge)
 }
 
 // Asks a QMI modem what the words of `qmicli` want, over the link that leads to it.
-pub fn ask_qmi<O: Sink, L: Link>(
+pub fn ask_qmi<O: Sink, L: Link, P: Spawner>(
     alloc: Global,
     device: PathText,
     proxied: bool,
@@ -36,14 +54,23 @@ pub fn ask_qmi<O: Sink, L: Link>(
     keep: bool,
     request: QmiRequest,
     socket: &PathText,
+    bridge: &PathText,
     out: &mut O,
     link: &mut L,
+    spawner: &mut P,
 ) -> Status
-    ensures asks { EndsAs status_of result (λ ends. Asks (path_to proxied device socket.now) (qmi_asked (qmi_plan device proxied cid keep request)) (L.calls link.old) (L.calls link.new) (O.taken out.old) ends (O.taken out.new)) }
+    ensures asks { Asks (way_to kinds.Qmi proxied device socket.now bridge.now) (qmi_asked (qmi_plan device proxied cid keep request))
+        (record { link = L.calls link.old; spawner = P.calls spawner.old; out = O.taken out.old })
+        (record { link = L.calls link.new; spawner = P.calls spawner.new; out = O.taken out.new })
+        result }
     ensures own { IsOfTool result }
-    ensures link_fault { result ≡ Status.LinkFault → HasFailed L.faults L.open_faults link.old link.new }
+    ensures link_fault { result ≡ Status.LinkFault → LinkFails (way_to kinds.Qmi proxied device socket.now bridge.now) L.faults L.open_faults link.old link.new }
+    ensures start_fault { result ≡ Status.StartFault → Rose (P.faults spawner.old) (P.faults spawner.new) }
     ensures write_fault { result ≡ Status.WriteFault → Rose (O.faults out.old) (O.faults out.new) }
 {
+    let Ok(way) = way_to(alloc, Kind::Qmi, proxied, &device, socket, bridge) else {
+        return Status::OutOfMemory;
+    };
     let plan = QmiPlan {
         device,
         proxied,
@@ -51,50 +78,62 @@ pub fn ask_qmi<O: Sink, L: Link>(
         keep,
         request,
     };
-    let path = path_to(proxied, &plan.device, socket);
-    ask_modem(alloc, path, &plan, out, link)
+    ask_modem(alloc, &way, &plan, out, link, spawner)
 }
 
 // Asks an MBIM modem what the words of `mbimcli` want, over the link that leads to it.
-pub fn ask_mbim<O: Sink, L: Link>(
+pub fn ask_mbim<O: Sink, L: Link, P: Spawner>(
     alloc: Global,
     device: PathText,
     proxied: bool,
     close: bool,
     request: MbimRequest,
     socket: &PathText,
+    bridge: &PathText,
     out: &mut O,
     link: &mut L,
+    spawner: &mut P,
 ) -> Status
-    ensures asks { EndsAs status_of result (λ ends. Asks (path_to proxied device socket.now) (mbim_asked (mbim_plan device proxied close request)) (L.calls link.old) (L.calls link.new) (O.taken out.old) ends (O.taken out.new)) }
+    ensures asks { Asks (way_to kinds.Mbim proxied device socket.now bridge.now) (mbim_asked (mbim_plan device proxied close request))
+        (record { link = L.calls link.old; spawner = P.calls spawner.old; out = O.taken out.old })
+        (record { link = L.calls link.new; spawner = P.calls spawner.new; out = O.taken out.new })
+        result }
     ensures own { IsOfTool result }
-    ensures link_fault { result ≡ Status.LinkFault → HasFailed L.faults L.open_faults link.old link.new }
+    ensures link_fault { result ≡ Status.LinkFault → LinkFails (way_to kinds.Mbim proxied device socket.now bridge.now) L.faults L.open_faults link.old link.new }
+    ensures start_fault { result ≡ Status.StartFault → Rose (P.faults spawner.old) (P.faults spawner.new) }
     ensures write_fault { result ≡ Status.WriteFault → Rose (O.faults out.old) (O.faults out.new) }
 {
+    let Ok(way) = way_to(alloc, Kind::Mbim, proxied, &device, socket, bridge) else {
+        return Status::OutOfMemory;
+    };
     let plan = MbimPlan {
         device,
         proxied,
         close,
         request,
     };
-    let path = path_to(proxied, &plan.device, socket);
-    ask_modem(alloc, path, &plan, out, link)
+    ask_modem(alloc, &way, &plan, out, link, spawner)
 }
 
-// Asks a modem over a link to this path, and prints its answer.
-fn ask_modem<S: Session, O: Sink, L: Link>(
+// Asks a modem on this way, and prints its answer.
+fn ask_modem<S: Session, O: Sink, L: Link, P: Spawner>(
     alloc: Global,
-    path: &PathText,
+    way: &Way,
     plan: &S,
     out: &mut O,
     link: &mut L,
+    spawner: &mut P,
 ) -> Status
-    ensures asks { EndsAs status_of result (λ ends. Asks (encode_utf8_all path.now) (asked_of S.session S.refused S.printed plan.now) (L.calls link.old) (L.calls link.new) (O.taken out.old) ends (O.taken out.new)) }
+    ensures asks { EndsAs status_of result (λ ends. AsksModem (path_in way.now) (asked_of S.session S.refused S.printed plan.now)
+        (record { link = L.calls link.old; spawner = P.calls spawner.old; out = O.taken out.old })
+        (record { link = L.calls link.new; spawner = P.calls spawner.new; out = O.taken out.new })
+        ends) }
     ensures own { IsOfTool result }
-    ensures link_fault { result ≡ Status.LinkFault → HasFailed L.faults L.open_faults link.old link.new }
+    ensures link_fault { result ≡ Status.LinkFault → LinkFails (path_in way.now) L.faults L.open_faults link.old link.new }
+    ensures start_fault { result ≡ Status.StartFault → Rose (P.faults spawner.old) (P.faults spawner.new) }
     ensures write_fault { result ≡ Status.WriteFault → Rose (O.faults out.old) (O.faults out.new) }
 {
-    Status::from(ask(alloc, path, plan, out, link))
+    Status::from(ask(alloc, way, plan, out, link, spawner))
 }
 
 // Prints what the descriptions in a file describe.
@@ -106,6 +145,8 @@ pub fn describe_file<O: Sink, F: Files>(
 ) -> Status
     ensures describes { EndsAs status_of result (λ ends. Describes (encode_utf8_all file.now) (F.calls files.old) (F.calls files.new) (O.taken out.old) ends (O.taken out.new)) }
     ensures own { IsOfTool result }
+    ensures link_fault { ¬ (result ≡ Status.LinkFault) }
+    ensures start_fault { ¬ (result ≡ Status.StartFault) }
     ensures read_fault { result ≡ Status.ReadFault → Rose (F.read_faults files.old) (F.read_faults files.new) }
     ensures write_fault { result ≡ Status.WriteFault → Rose (O.faults out.old) (O.faults out.new) }
 {

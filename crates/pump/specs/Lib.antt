@@ -1,4 +1,5 @@
 pub mod Beginning
 pub mod Reading
 pub mod Writing
+pub mod Node
 pub mod Laws

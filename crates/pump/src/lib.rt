@@ -5,10 +5,12 @@
 mod begin;
 mod ending;
 mod laws;
+mod node;
 mod reading;
 mod writing;
 
 pub use ending::PumpEnd;
 pub use laws::{what_was_read_is_sent, what_was_taken_is_written};
+pub use node::{PUMP_TURNS, pump_node};
 pub use reading::pump_read;
 pub use writing::pump_write;

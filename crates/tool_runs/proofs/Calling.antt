@@ -4,7 +4,6 @@ use Rattle.std.proofs.lemmas.List.{append-nil}
 use Rattle.std.proofs.lemmas.List.Elements.{All-nil, All-head, All-tail}
 use Rattle.std.proofs.lemmas.List.Sums.{sum_by-append}
 use Rattle.std.specs.List.{concat}
-use Rattle.link_io.specs.Target.{Address}
 use Rattle.link_io.specs.Calls.{Call, Opened, Paired, Sent, Took, WasQuiet, WasEnd, TakeFailed, Closed}
 use Rattle.link_session.specs.declared.fault.SessionFault.{SessionFault}
 use Rattle.link_session.specs.Sending.{AreFirst, EndsWell, IsSendOrTake, SendsInOrder, sent_before_takes, sent_in}
@@ -20,7 +19,7 @@ use Rattle.mbim_session.specs.declared.plan.MbimEnd.{MbimEnd}
 use Rattle.mbim_session.specs.Session as mbim
 use Rattle.mbim_session.specs.Sending as mbim_sending
 use Rattle.mbim_session.proofs.Sending.{Session-sends as mbim_sends}
-use Rattle.tool_runs.specs.Asking.{Exchange, not_opened, opened}
+use Rattle.tool_runs.specs.Asking.{Exchange}
 use Rattle.tool_runs.specs.Calling.{IsOneVisit, is_opening, is_closing}
 
 -- none of a session's calls opens or closes the link
@@ -44,38 +43,32 @@ none_among is none (call ∷ calls) each =
     let rest : count_by is calls ≡ 0 = none_among is none calls (All-tail IsSendOrTake call calls each) in
     count-append is (call ∷ []) calls ∙ ap (λ (n : ℕ). n + count_by is calls) here ∙ ap (λ (n : ℕ). 0 + n) rest
 
-module _ {End : Type 0} (address : Address) (Session : List Call → Result End SessionFault → Type 0) (calls : List Call) (result : Result End SessionFault) where
+module _ {End : Type 0} (Session : List Call → Result End SessionFault → Type 0) (calls : List Call) (result : Result End SessionFault) where
   -- a session that only sends and takes is one visit
-  pub Exchange-visits : ((own : List Call) → Session own result → All IsSendOrTake own) → Exchange address Session calls result → IsOneVisit address calls
-  Exchange-visits only (not_opened are is) =
-      rw are (record { ok = false; later = []; first = refl; openings = refl; closings = refl; last = λ ok. absurd (cc) })
-  Exchange-visits only (opened own session are) =
-      let each : All IsSendOrTake own = only own session in
+  pub Exchange-visits : ((own : List Call) → Session own result → All IsSendOrTake own) → Exchange Session calls result → IsOneVisit calls
+  Exchange-visits only exchange =
+      let own : List Call = exchange.own in
+      let each : All IsSendOrTake own = only own exchange.session in
       let no_opening : count_by is_opening own ≡ 0 = none_among is_opening (λ call is. (neither call is).0) own each in
       let no_closing : count_by is_closing own ≡ 0 = none_among is_closing (λ call is. (neither call is).1) own each in
-      let then_none : count_by is_opening (own ++ Closed ∷ []) ≡ 0 = count-append is_opening own (Closed ∷ []) ∙ ap (λ (n : ℕ). n + 0) no_opening in
-      let then_one : count_by is_closing (own ++ Closed ∷ []) ≡ 1 = count-append is_closing own (Closed ∷ []) ∙ ap (λ (n : ℕ). n + 1) no_closing in
-      rw are (record {
-        ok = true;
-        later = own ++ Closed ∷ [];
-        first = refl;
-        openings = count-append is_opening (Opened address true ∷ []) (own ++ Closed ∷ []) ∙ ap (λ (n : ℕ). 1 + n) then_none;
-        closings = count-append is_closing (Opened address true ∷ []) (own ++ Closed ∷ []) ∙ ap (λ (n : ℕ). 0 + n) then_one;
-        last = λ ok. (Opened address true ∷ own, refl);
-      })
+      record {
+        earlier = own;
+        openings = ap (count_by is_opening) exchange.whole ∙ count-append is_opening own (Closed ∷ []) ∙ ap (λ (n : ℕ). n + 0) no_opening;
+        closings = ap (count_by is_closing) exchange.whole ∙ count-append is_closing own (Closed ∷ []) ∙ ap (λ (n : ℕ). n + 1) no_closing;
+        last = exchange.whole;
+      }
 
   -- and what a session sends is sent
   pub Exchange-sends : (IsGood : End → Type 0) (texts : ℕ → List (List ℕ)) → ((own : List Call) → Session own result → Sends IsGood texts own result)
-      → Exchange address Session calls result → (choice : ℕ) × SendsInOrder (texts choice) calls (EndsWell IsGood result)
+      → Exchange Session calls result → (choice : ℕ) × SendsInOrder (texts choice) calls (EndsWell IsGood result)
   unfolding sent_in sent_before_takes
-  Exchange-sends IsGood texts sends (not_opened are is) =
-      rw (are, is) (0, record { before_takes = All-nil (AreFirst (texts 0)); unsent = concat (texts 0); in_all = refl; ends = λ ends. absurd ends })
-  Exchange-sends IsGood texts sends (opened own session are) =
-      let made : Sends IsGood texts own result = sends own session in
+  Exchange-sends IsGood texts sends exchange =
+      let own : List Call = exchange.own in
+      let made : Sends IsGood texts own result = sends own exchange.session in
       let P : List (List ℕ) → Type 0 = λ (l : List (List ℕ)). All (AreFirst (texts made.choice)) l in
       let same : sent_in (own ++ Closed ∷ []) ≡ sent_in own = sent_in-append own (Closed ∷ []) ∙ append-nil (sent_in own) in
       let same_before : sent_before_takes [] (own ++ Closed ∷ []) ≡ sent_before_takes [] own = before-append [] own (Closed ∷ []) ∙ append-nil (sent_before_takes [] own) in
-      rw are (
+      rw exchange.whole (
         made.choice,
         record {
           before_takes = subst P (sym same_before) (made.before []);
@@ -87,16 +80,14 @@ module _ {End : Type 0} (address : Address) (Session : List Call → Result End 
 
 -- ---- of each tool ----
 
-pub qmi_visits : (address : Address) (plan : QmiPlan) (calls : List Call) (result : Result QmiEnd SessionFault) → Exchange address (qmi.Session plan) calls result → IsOneVisit address calls
-qmi_visits address plan calls result = Exchange-visits address (qmi.Session plan) calls result (λ own session. (qmi_sends plan own result session).each)
+pub qmi_visits : (plan : QmiPlan) (calls : List Call) (result : Result QmiEnd SessionFault) → Exchange (qmi.Session plan) calls result → IsOneVisit calls
+qmi_visits plan calls result = Exchange-visits (qmi.Session plan) calls result (λ own session. (qmi_sends plan own result session).each)
 
-pub qmi_requests_sent : (address : Address) (plan : QmiPlan) (calls : List Call) (result : Result QmiEnd SessionFault) → Exchange address (qmi.Session plan) calls result
-    → (allocated : ℕ) × SendsRequests (requests_of plan allocated) calls result
-qmi_requests_sent address plan calls result = Exchange-sends address (qmi.Session plan) calls result qmi_sending.IsGood (λ n. qmi_sending.messages_of (requests_of plan n)) (λ own session. qmi_sends plan own result session)
+pub qmi_requests_sent : (plan : QmiPlan) (calls : List Call) (result : Result QmiEnd SessionFault) → Exchange (qmi.Session plan) calls result → (allocated : ℕ) × SendsRequests (requests_of plan allocated) calls result
+qmi_requests_sent plan calls result = Exchange-sends (qmi.Session plan) calls result qmi_sending.IsGood (λ n. qmi_sending.messages_of (requests_of plan n)) (λ own session. qmi_sends plan own result session)
 
-pub mbim_visits : (address : Address) (plan : MbimPlan) (calls : List Call) (result : Result MbimEnd SessionFault) → Exchange address (mbim.Session plan) calls result → IsOneVisit address calls
-mbim_visits address plan calls result = Exchange-visits address (mbim.Session plan) calls result (λ own session. (mbim_sends plan own result session).each)
+pub mbim_visits : (plan : MbimPlan) (calls : List Call) (result : Result MbimEnd SessionFault) → Exchange (mbim.Session plan) calls result → IsOneVisit calls
+mbim_visits plan calls result = Exchange-visits (mbim.Session plan) calls result (λ own session. (mbim_sends plan own result session).each)
 
-pub mbim_messages_sent : (address : Address) (plan : MbimPlan) (calls : List Call) (result : Result MbimEnd SessionFault) → Exchange address (mbim.Session plan) calls result
-    → SendsInOrder (mbim_sending.messages_of plan) calls (EndsWell mbim_sending.IsGood result)
-mbim_messages_sent address plan calls result exchange = (Exchange-sends address (mbim.Session plan) calls result mbim_sending.IsGood (λ n. mbim_sending.messages_of plan) (λ own session. mbim_sends plan own result session) exchange).1
+pub mbim_messages_sent : (plan : MbimPlan) (calls : List Call) (result : Result MbimEnd SessionFault) → Exchange (mbim.Session plan) calls result → SendsInOrder (mbim_sending.messages_of plan) calls (EndsWell mbim_sending.IsGood result)
+mbim_messages_sent plan calls result exchange = (Exchange-sends (mbim.Session plan) calls result mbim_sending.IsGood (λ n. mbim_sending.messages_of plan) (λ own session. mbim_sends plan own result session) exchange).1

@@ -1,9 +1,12 @@
--- What a command that asks a modem does to its link, and what it prints.
-use Rattle.std.specs.Prelude.{◌≡◌, ◌⊎◌, ℕ, Bool, List, [], ◌∷◌, ◌++◌, true, false, Option, Some, None, Result, Ok, Err}
-use Rattle.kit_io.specs.Causes.{Rose}
+-- What a command that asks a modem does to its link and its children, and what it prints.
+use Rattle.std.specs.Prelude.{◌≡◌, ℕ, Bool, List, [], ◌∷◌, ◌++◌, true, false, Option, Some, None, Result, Ok, Err}
 use Rattle.kit_io.specs.Told.{Grows, GrowsByFront}
-use Rattle.link_io.specs.Target.{Address, AtSocket}
-use Rattle.link_io.specs.Calls.{Call, Opened, Closed}
+use Rattle.link_io.specs.Calls.{Call, Closed}
+use Rattle.child_io.specs.Calls as child
+use Rattle.modem_ways.specs.Ways.{Path}
+use Rattle.modem_ways.specs.Reaching.{Reaches, StartsAndStops}
+use Rattle.modem_ways.specs.declared.reaching.ReachFault.{ReachFault}
+use Rattle.modem_ways.specs.declared.reaching.ReachFault.TheVariants as reach
 use Rattle.link_session.specs.declared.fault.SessionFault.{SessionFault}
 use Rattle.link_session.specs.declared.fault.SessionFault.TheVariants as fault
 use Rattle.tool_runs.specs.declared.run_end.RunEnd.{RunEnd}
@@ -12,20 +15,11 @@ use Rattle.tool_runs.specs.declared.session.Refusal.{Refusal}
 
 -- ---- the link ----
 
--- The calls on a link to this address over which such a session was had. A link that opened is closed once, as the last call.
-pub data Exchange {End : Type 0} (address : Address) (Session : List Call → Result End SessionFault → Type 0) (calls : List Call) (result : Result End SessionFault) : Type 0 where
-  not_opened : calls ≡ Opened address false ∷ [] → result ≡ Err fault.LinkFault → Exchange address Session calls result
-  opened : (own : List Call) → Session own result → calls ≡ (Opened address true ∷ own) ++ Closed ∷ [] → Exchange address Session calls result
-
--- a link's calls have grown by such an exchange
-pub record Exchanges {End : Type 0} (address : Address) (Session : List Call → Result End SessionFault → Type 0) (before : Option (List Call)) (result : Result End SessionFault) (after : Option (List Call)) : Type 0 where
-  pub calls : List Call
-  pub exchange : Exchange address Session calls result
-  pub grows : Grows before calls after
-
--- a count of the link's faults has risen
-abbrev pub HasFailed : {L : Type 0} → (L → ℕ) → (L → ℕ) → L → L → Type 0
-HasFailed faults open_faults old new = Rose (faults old) (faults new) ⊎ Rose (open_faults old) (open_faults new)
+-- the calls on a link that is open over which such a session was had; it is closed then
+pub record Exchange {End : Type 0} (Session : List Call → Result End SessionFault → Type 0) (calls : List Call) (result : Result End SessionFault) : Type 0 where
+  pub own : List Call
+  pub session : Session own result
+  pub whole : calls ≡ own ++ Closed ∷ []
 
 -- ---- what is printed ----
 
@@ -50,6 +44,12 @@ end_of (fault.Broken place) = run.Broken place
 end_of fault.Flooded = run.Flooded
 end_of fault.OutOfMemory = run.OutOfMemory
 
+-- how a command ends that didn't reach its modem
+abbrev pub end_of_reaching : ReachFault → RunEnd
+end_of_reaching reach.LinkFault = run.LinkFault
+end_of_reaching reach.StartFault = run.StartFault
+end_of_reaching reach.NoProxy = run.NoProxy
+
 -- from how a tool's sessions end: with a refusal, or with a text
 abbrev pub Says : {End : Type 0} → (End → Option Refusal) → (End → List ℕ) → Result End SessionFault → Option (List ℕ) → RunEnd → Option (List ℕ) → Type 0
 Says refused printed (Ok end) before ends after = Prints (refused end) (printed end) before ends after
@@ -67,14 +67,39 @@ pub record Asked (End : Type 0) : Type 1 where
 abbrev pub asked_of : {Plan End : Type 0} → (Plan → List Call → Result End SessionFault → Type 0) → (End → Option Refusal) → (End → List ℕ) → Plan → Asked End
 asked_of session refused printed plan = record { Session = session plan; refused = refused; printed = printed }
 
--- such a session was had over a link to the socket of this path, and its end was printed
-pub record AsksModem {End : Type 0} (path : List ℕ) (asked : Asked End) (before after : Option (List Call)) (out : Option (List ℕ)) (ends : RunEnd) (printed : Option (List ℕ)) : Type 0 where
+-- such a session was had over a link that is open, and its end was printed
+pub record Visits {End : Type 0} (asked : Asked End) (before after : Option (List Call)) (out : Option (List ℕ)) (ends : RunEnd) (printed : Option (List ℕ)) : Type 0 where
   pub result : Result End SessionFault
-  pub exchanges : Exchanges (AtSocket path) asked.Session before result after
+  pub calls : List Call
+  pub exchange : Exchange asked.Session calls result
+  pub grows : Grows before calls after
   pub says : Says asked.refused asked.printed result out ends printed
 
--- or there was no memory for the first call
-abbrev pub Asks : {End : Type 0} → List ℕ → Asked End → Option (List Call) → Option (List Call) → Option (List ℕ) → RunEnd → Option (List ℕ) → Type 0
-Asks path asked before after out ends printed =
-    AsksModem path asked before after out ends printed
-    ⊎ ((ends ≡ run.OutOfMemory) × Grows before [] after × Grows out [] printed)
+-- the modem was reached, such a session was had with it, and its end was printed; or it wasn't reached, and nothing was printed
+pub data Comes {End : Type 0} (path : Path) (asked : Asked End) (out : Option (List ℕ)) (ends : RunEnd) (printed : Option (List ℕ)) (on_link : List Call) (starts : List child.Call) : Type 0 where
+  visited : (reaching calls : List Call) (result : Result End SessionFault) → Reaches path (Ok tt) reaching starts → Exchange asked.Session calls result
+      → on_link ≡ reaching ++ calls → Says asked.refused asked.printed result out ends printed → Comes path asked out ends printed on_link starts
+  not_reached : (why : ReachFault) → Reaches path (Err why) on_link starts → ends ≡ end_of_reaching why → Grows out [] printed → Comes path asked out ends printed on_link starts
+
+-- how it ends where each child was stopped, or one wasn't
+abbrev pub with_stops : Bool → RunEnd → RunEnd
+with_stops true ends = ends
+with_stops false run.Done = run.StartFault
+with_stops false ends = ends
+
+-- what is told of the outside
+pub record Told : Type 0 where
+  pub link : Option (List Call)
+  pub spawner : Option (List child.Call)
+  pub out : Option (List ℕ)
+
+-- that came, and then each child that was started was stopped; none is left but by a stop that failed
+pub record AsksModem {End : Type 0} (path : Path) (asked : Asked End) (before after : Told) (result : RunEnd) : Type 0 where
+  pub on_link : List Call
+  pub starts : List child.Call
+  pub ends : RunEnd
+  pub comes : Comes path asked before.out ends after.out on_link starts
+  pub link_grows : Grows before.link on_link after.link
+  pub stopped : Bool
+  pub children : StartsAndStops starts stopped before.spawner after.spawner
+  pub is : result ≡ with_stops stopped ends

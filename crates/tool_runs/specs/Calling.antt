@@ -1,7 +1,6 @@
--- What the calls on a link come to, over a whole command.
-use Rattle.std.specs.Prelude.{◌≡◌, ℕ, Bool, true, false, List, [], ◌∷◌, ◌++◌, count_by, if◌then◌else◌, Result}
-use Rattle.link_io.specs.Target.{Address}
-use Rattle.link_io.specs.Calls.{Call, Opened, Closed}
+-- What the calls on a link come to, over a whole visit.
+use Rattle.std.specs.Prelude.{◌≡◌, ℕ, Bool, true, false, List, [], ◌∷◌, ◌++◌, count_by, Result}
+use Rattle.link_io.specs.Calls.{Call, Opened, Paired, Closed}
 use Rattle.link_session.specs.declared.fault.SessionFault.{SessionFault}
 use Rattle.link_session.specs.Sending.{EndsWell, SendsInOrder}
 use Rattle.qmi_services.specs.declared.answers.QmiEnd.{QmiEnd}
@@ -16,33 +15,30 @@ use Rattle.tool_runs.specs.Asking.{Exchange}
 
 abbrev pub is_opening : Call → Bool
 is_opening (Opened address ok) = true
+is_opening (Paired ok) = true
 is_opening _ = false
 
 abbrev pub is_closing : Call → Bool
 is_closing Closed = true
 is_closing _ = false
 
--- one of the calls opens the link, the first; and where it did, one closes it, the last
-pub record IsOneVisit (address : Address) (calls : List Call) : Type 0 where
-  pub ok : Bool
-  pub later : List Call
-  pub first : calls ≡ Opened address ok ∷ later
-  pub openings : count_by is_opening calls ≡ 1
-  pub closings : count_by is_closing calls ≡ (if ok then 1 else 0)
-  pub last : ok ≡ true → (earlier : List Call) × (calls ≡ earlier ++ Closed ∷ [])
+-- none of the calls opens or pairs the link, and one closes it, the last
+pub record IsOneVisit (calls : List Call) : Type 0 where
+  pub earlier : List Call
+  pub openings : count_by is_opening calls ≡ 0
+  pub closings : count_by is_closing calls ≡ 1
+  pub last : calls ≡ earlier ++ Closed ∷ []
 
 -- ---- the laws ----
 
 -- of sessions with a QMI modem, and with an MBIM modem
 abbrev pub ExchangesAreOneVisit : Type 0
 ExchangesAreOneVisit =
-    ((address : Address) (plan : QmiPlan) (calls : List Call) (result : Result QmiEnd SessionFault) → Exchange address (qmi.Session plan) calls result → IsOneVisit address calls)
-    × ((address : Address) (plan : MbimPlan) (calls : List Call) (result : Result MbimEnd SessionFault) → Exchange address (mbim.Session plan) calls result → IsOneVisit address calls)
+    ((plan : QmiPlan) (calls : List Call) (result : Result QmiEnd SessionFault) → Exchange (qmi.Session plan) calls result → IsOneVisit calls)
+    × ((plan : MbimPlan) (calls : List Call) (result : Result MbimEnd SessionFault) → Exchange (mbim.Session plan) calls result → IsOneVisit calls)
 
 -- what is sent are the requests of the plan
 abbrev pub ExchangesSendTheRequests : Type 0
 ExchangesSendTheRequests =
-    ((address : Address) (plan : QmiPlan) (calls : List Call) (result : Result QmiEnd SessionFault) → Exchange address (qmi.Session plan) calls result
-    → (allocated : ℕ) × SendsRequests (requests_of plan allocated) calls result)
-    × ((address : Address) (plan : MbimPlan) (calls : List Call) (result : Result MbimEnd SessionFault) → Exchange address (mbim.Session plan) calls result
-    → SendsInOrder (messages_of plan) calls (EndsWell IsGood result))
+    ((plan : QmiPlan) (calls : List Call) (result : Result QmiEnd SessionFault) → Exchange (qmi.Session plan) calls result → (allocated : ℕ) × SendsRequests (requests_of plan allocated) calls result)
+    × ((plan : MbimPlan) (calls : List Call) (result : Result MbimEnd SessionFault) → Exchange (mbim.Session plan) calls result → SendsInOrder (messages_of plan) calls (EndsWell IsGood result))

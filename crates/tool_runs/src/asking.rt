@@ -1,55 +1,79 @@
-ghost use Rattle.std.specs.Prelude.{◌≡◌, Err};
-ghost use Rattle.std.specs.Str.{encode_utf8_all};
+ghost use Rattle.std.specs.Prelude.{◌≡◌, ◌≤◌, [], Err};
 ghost use Rattle.kit_io.specs.Causes.{Rose};
-ghost use Rattle.link_io.specs.Target.{address_of};
-ghost use Rattle.tool_runs.specs.Asking.{Asks, asked_of, Exchanges, HasFailed, Prints, PrintsText};
+ghost use Rattle.modem_ways.specs.Reaching.{LinkFails, ReachesBy};
+ghost use Rattle.modem_ways.specs.Ways.{path_in};
+ghost use Rattle.tool_runs.specs.Asking.{AsksModem, asked_of, Comes, Prints, PrintsText, Visits};
 
 use crate::run_end::RunEnd;
 use crate::session::{Refusal, Session};
-use kit_bytes::{PathText, Text};
-use kit_io::{Failed, Sink, WriteFault, write_all_to};
-use link_io::{Link, Target};
-use link_session::SessionFault;
+use child_io::{Kids, Spawner};
+use kit_io::{Sink, WriteFault, write_all_to};
+use link_io::Link;
+use modem_ways::{Way, reach};
 use std::alloc::{AllocError, Global};
 
-/// Opens the link at a path, has the session of a plan over it, closes it, and prints its end.
-pub fn ask<S: Session, O: Sink, L: Link>(
+/// Goes the way to a modem, has the session of a plan with it, prints its end, and stops whatever
+/// was started.
+pub fn ask<S: Session, O: Sink, L: Link, P: Spawner>(
     alloc: Global,
-    path: &PathText,
+    way: &Way,
     plan: &S,
     out: &mut O,
     link: &mut L,
+    spawner: &mut P,
 ) -> RunEnd
-    ensures asks { Asks (encode_utf8_all path.now) (asked_of S.session S.refused S.printed plan.now) (L.calls link.old) (L.calls link.new) (O.taken out.old) result (O.taken out.new) }
+    ensures asks { AsksModem (path_in way.now) (asked_of S.session S.refused S.printed plan.now)
+        (record { link = L.calls link.old; spawner = P.calls spawner.old; out = O.taken out.old })
+        (record { link = L.calls link.new; spawner = P.calls spawner.new; out = O.taken out.new })
+        result }
     // It doesn't give up by itself.
-    ensures link_fault { result ≡ RunEnd.LinkFault → HasFailed L.faults L.open_faults link.old link.new }
+    ensures link_fault { result ≡ RunEnd.LinkFault → LinkFails (path_in way.now) L.faults L.open_faults link.old link.new }
+    ensures start_fault { result ≡ RunEnd.StartFault → Rose (P.faults spawner.old) (P.faults spawner.new) }
     ensures write_fault { result ≡ RunEnd.WriteFault → Rose (O.faults out.old) (O.faults out.new) }
 {
-    let Ok(path) = Text::from_str(alloc, path.value().as_str()) else {
-        return RunEnd::OutOfMemory;
-    };
-    match exchange(alloc, &Target::Socket(path), plan, link) {
-        Ok(end) => print_end::<S, O>(alloc, &end, out),
+    let mut kids = Kids::none();
+    let end = ask_on_the_way(alloc, way, plan, out, link, spawner, &mut kids);
+    let stopped = kids.stop_all(spawner).is_ok();
+    end.with_stops(stopped)
+}
+
+// The same, but that the children are kept.
+fn ask_on_the_way<S: Session, O: Sink, L: Link, P: Spawner>(
+    alloc: Global,
+    way: &Way,
+    plan: &S,
+    out: &mut O,
+    link: &mut L,
+    spawner: &mut P,
+    kids: &mut Kids,
+) -> RunEnd
+    requires { kids.old ≡ [] }
+    ensures comes { ReachesBy (Comes (path_in way.now) (asked_of S.session S.refused S.printed plan.now) (O.taken out.old) result (O.taken out.new)) (L.calls link.old) (P.calls spawner.old) kids.new (L.calls link.new) (P.calls spawner.new) }
+    ensures link_fault { result ≡ RunEnd.LinkFault → LinkFails (path_in way.now) L.faults L.open_faults link.old link.new }
+    ensures start_fault { result ≡ RunEnd.StartFault → Rose (P.faults spawner.old) (P.faults spawner.new) }
+    ensures write_fault { result ≡ RunEnd.WriteFault → Rose (O.faults out.old) (O.faults out.new) }
+
+    ensures later_starts { P.faults spawner.old ≤ P.faults spawner.new }
+{
+    match reach(way, link, spawner, kids) {
+        Ok(()) => visit(alloc, plan, out, link),
         Err(fault) => RunEnd::from(fault),
     }
 }
 
-// Opens the link, has the session over it, and closes it.
-fn exchange<S: Session, L: Link>(
-    alloc: Global,
-    target: &Target,
-    plan: &S,
-    link: &mut L,
-) -> Result<S::End, SessionFault>
-    ensures exchanges { Exchanges (address_of target.now) (S.session plan.now) (L.calls link.old) result (L.calls link.new) }
-    ensures link_fault { result ≡ Err SessionFault.LinkFault → HasFailed L.faults L.open_faults link.old link.new }
+// Has the session over a link that is open, closes it, and prints the session's end.
+fn visit<S: Session, O: Sink, L: Link>(alloc: Global, plan: &S, out: &mut O, link: &mut L) -> RunEnd
+    ensures visits { Visits (asked_of S.session S.refused S.printed plan.now) (L.calls link.old) (L.calls link.new) (O.taken out.old) result (O.taken out.new) }
+    ensures link_fault { result ≡ RunEnd.LinkFault → Rose (L.faults link.old) (L.faults link.new) }
+    ensures start_fault { ¬ (result ≡ RunEnd.StartFault) }
+    ensures write_fault { result ≡ RunEnd.WriteFault → Rose (O.faults out.old) (O.faults out.new) }
 {
-    if let Err(Failed) = link.open(target) {
-        return Err(SessionFault::LinkFault);
-    }
     let end = plan.hold(alloc, link);
     link.close();
-    end
+    match end {
+        Ok(end) => print_end::<S, O>(alloc, &end, out),
+        Err(fault) => RunEnd::from(fault),
+    }
 }
 
 // Prints the text of a session's end, where the modem refused nothing.
@@ -57,6 +81,7 @@ fn print_end<S: Session, O: Sink>(alloc: Global, end: &S::End, out: &mut O) -> R
     ensures prints { Prints (S.refused end.now) (S.printed end.now) (O.taken out.old) result (O.taken out.new) }
     ensures write_fault { result ≡ RunEnd.WriteFault → Rose (O.faults out.old) (O.faults out.new) }
     ensures link_fault { ¬ (result ≡ RunEnd.LinkFault) }
+    ensures start_fault { ¬ (result ≡ RunEnd.StartFault) }
 {
     match S::refusal(end) {
         Some(Refusal { function, code }) => RunEnd::Denied { function, code },
@@ -68,6 +93,7 @@ fn print_text<S: Session, O: Sink>(alloc: Global, end: &S::End, out: &mut O) -> 
     ensures prints { PrintsText (S.printed end.now) (O.taken out.old) result (O.taken out.new) }
     ensures write_fault { result ≡ RunEnd.WriteFault → Rose (O.faults out.old) (O.faults out.new) }
     ensures link_fault { ¬ (result ≡ RunEnd.LinkFault) }
+    ensures start_fault { ¬ (result ≡ RunEnd.StartFault) }
 {
     match S::text(alloc, end) {
         Err(AllocError) => RunEnd::OutOfMemory,

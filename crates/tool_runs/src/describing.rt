@@ -25,6 +25,8 @@ pub fn describe<O: Sink, F: Files>(
 ) -> RunEnd
     ensures describes { Describes (encode_utf8_all path.now) (F.calls files.old) (F.calls files.new) (O.taken out.old) result (O.taken out.new) }
     // It doesn't give up by itself.
+    ensures link_fault { ¬ (result ≡ RunEnd.LinkFault) }
+    ensures start_fault { ¬ (result ≡ RunEnd.StartFault) }
     ensures read_fault { result ≡ RunEnd.ReadFault → Rose (F.read_faults files.old) (F.read_faults files.new) }
     ensures write_fault { result ≡ RunEnd.WriteFault → Rose (O.faults out.old) (O.faults out.new) }
 {
@@ -38,6 +40,8 @@ pub fn describe<O: Sink, F: Files>(
 fn print_tables<O: Sink>(alloc: Global, text: &[u8], out: &mut O) -> RunEnd
     requires { length text.now ≤ 16777216 }
     ensures prints { PrintsTables text.now (O.taken out.old) result (O.taken out.new) }
+    ensures link_fault { ¬ (result ≡ RunEnd.LinkFault) }
+    ensures start_fault { ¬ (result ≡ RunEnd.StartFault) }
     ensures read_fault { ¬ (result ≡ RunEnd.ReadFault) }
     ensures write_fault { result ≡ RunEnd.WriteFault → Rose (O.faults out.old) (O.faults out.new) }
 {

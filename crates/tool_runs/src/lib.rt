@@ -11,6 +11,6 @@ mod session;
 
 pub use asking::ask;
 pub use describing::describe;
-pub use laws::links_are_opened_and_closed_once;
+pub use laws::links_are_closed_once;
 pub use run_end::RunEnd;
 pub use session::{Refusal, Session};

@@ -3,6 +3,7 @@ ghost use Rattle.std.specs.Prelude.{◌≡◌};
 use file_io::FileFault;
 use link_session::SessionFault;
 use message_tables::TableFault;
+use modem_ways::ReachFault;
 
 /// How a command ended.
 #[derive(Clone, Copy, Debug, PartialEq, Eq)]
@@ -28,7 +29,39 @@ pub enum RunEnd {
     ReadFault,
     /// The text couldn't be written.
     WriteFault,
+    /// A child wasn't started, or not stopped.
+    StartFault,
+    /// The proxy that was started never listened.
+    NoProxy,
     OutOfMemory,
+}
+
+impl RunEnd {
+    ghost use Rattle.tool_runs.specs.Asking.{with_stops};
+
+    // How a command ended of whose children one may not have been stopped.
+    pub(crate) fn with_stops(self, stopped: bool) -> Self
+        ensures { result ≡ with_stops stopped self }
+    {
+        match self {
+            RunEnd::Done if !stopped => RunEnd::StartFault,
+            end => end,
+        }
+    }
+}
+
+impl From<ReachFault> for RunEnd {
+    ghost use Rattle.tool_runs.specs.Asking.{end_of_reaching};
+
+    ghost from_gives = { λ fault end. end ≡ end_of_reaching fault };
+
+    fn from(fault: ReachFault) -> Self {
+        match fault {
+            ReachFault::LinkFault => RunEnd::LinkFault,
+            ReachFault::StartFault => RunEnd::StartFault,
+            ReachFault::NoProxy => RunEnd::NoProxy,
+        }
+    }
 }
 
 impl From<SessionFault> for RunEnd {

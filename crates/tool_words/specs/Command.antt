@@ -7,6 +7,7 @@ use Rattle.kit_bytes.specs.declared.Kind.TheVariants.{Qmi, Mbim}
 use Rattle.tool_words.specs.Answers.{read_by}
 use Rattle.tool_words.specs.Mbimcli.{mbimcli_app, mbimcli_asked}
 use Rattle.tool_words.specs.Proxy.{proxy_app, proxy_asked, proxy_name}
+use Rattle.tool_words.specs.Pump.{pump_asked}
 use Rattle.tool_words.specs.Qmicli.{qmicli_app, qmicli_asked}
 use Rattle.tool_words.specs.Simulator.{simulator_app, simulator_asked}
 use Rattle.tool_words.specs.declared.command.Tool.{Tool}
@@ -15,7 +16,7 @@ use Rattle.tool_words.specs.declared.command.ToolCommand.{ToolCommand}
 use Rattle.tool_words.specs.declared.fault.UsageKind.{UsageKind}
 use Rattle.tool_words.specs.declared.fault.UsageKind.TheVariants as usage
 
--- the tool of this name
+-- the tool of this name that has options
 unfoldable pub tool_named : List ℕ → Option Tool
 tool_named word =
     if bytes_eq word (codes "qmicli") then Some tool.Qmicli
@@ -46,4 +47,6 @@ read_if_named None words = Err usage.UnknownTool
 -- what the words ask for, whose first names the tool, or the first reason that fits why they are refused
 unfoldable pub command_in : List Text → Result ToolCommand UsageKind
 command_in [] = Err usage.NoTool
-command_in (word ∷ more) = read_if_named (tool_named word) (word ∷ more)
+command_in (word ∷ more) =
+    if bytes_eq word (codes "pump") then pump_asked (word ∷ more)
+    else read_if_named (tool_named word) (word ∷ more)

@@ -1,11 +1,11 @@
 -- The options that say how a tool reaches its modem.
-use Rattle.std.specs.Prelude.{◌&&◌, Bool, not, List, [], ◌∷◌, Option, Some, codes}
+use Rattle.std.specs.Prelude.{List, [], ◌∷◌, Option, Some, codes}
 use Rattle.clap.specs.Walk.{Row}
 use Rattle.kit_bytes.specs.declared.Kind.{Kind}
 use Rattle.tool_words.specs.Defaults.{bridge_socket, proxy_socket}
 use Rattle.tool_words.specs.Given.{is_given, value_given}
 use Rattle.tool_words.specs.Spelling.{Spelling, flag, or_letter, valued}
-use Rattle.tool_words.specs.Values.{◌>>=◌, device_in, optional, path_or}
+use Rattle.tool_words.specs.Values.{◌>>=◌, optional, path_in, path_or}
 use Rattle.tool_words.specs.declared.link.LinkOption.{LinkOption}
 use Rattle.tool_words.specs.declared.link.LinkOption.TheVariants as option
 use Rattle.tool_words.specs.declared.link.LinkSettings.{LinkSettings}
@@ -20,14 +20,10 @@ link_spelling option.Bridge = valued (codes "bridge")
 unfoldable pub link_options : List LinkOption
 link_options = option.Device ∷ option.DeviceOpenProxy ∷ option.Socket ∷ option.Bridge ∷ []
 
--- the program opens the device itself: a modem is asked, and not through the proxy
-abbrev pub opens_device : Bool → Bool → Bool
-opens_device asks proxied = asks && not proxied
-
--- the settings, if each of them reads; `asks` says that a modem of this kind is asked
-unfoldable pub link_in : Kind → Bool → List Row → Option LinkSettings
-link_in kind asks rows = do
-  device ← optional (device_in (opens_device asks (is_given link_spelling rows option.DeviceOpenProxy))) (value_given link_spelling rows option.Device)
+-- the settings of a tool for modems of this kind, if each of them reads
+unfoldable pub link_in : Kind → List Row → Option LinkSettings
+link_in kind rows = do
+  device ← optional path_in (value_given link_spelling rows option.Device)
   socket ← path_or (proxy_socket kind) (value_given link_spelling rows option.Socket)
   bridge ← path_or bridge_socket (value_given link_spelling rows option.Bridge)
   Some (record { device = device; proxied = is_given link_spelling rows option.DeviceOpenProxy; socket = socket; bridge = bridge })

@@ -43,7 +43,7 @@ mbim_sent link stays request = option_map (λ device. Mbimcli device link.proxie
 -- the command with its value and the settings, if each of them reads
 unfoldable pub mbimcli_values : MbimCommand → List Row → Option ToolCommand
 mbimcli_values command rows = do
-  link ← link_in Mbim true rows
+  link ← link_in Mbim rows
   request ← (mbim_line command).request (value_given mbim_spelling rows command)
   mbim_sent link (is_given mbim_setting_spelling rows setting.NoClose) request
 

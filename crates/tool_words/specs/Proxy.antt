@@ -9,7 +9,7 @@ use Rattle.tool_words.specs.Defaults.{bridge_socket, proxy_socket}
 use Rattle.tool_words.specs.Given.{is_given, value_given}
 use Rattle.tool_words.specs.Reading.{with_options, without_options}
 use Rattle.tool_words.specs.Spelling.{Spelling, flag, or_letter, valued}
-use Rattle.tool_words.specs.Values.{◌>>=◌, device_in, number_or, path_or, turns_in}
+use Rattle.tool_words.specs.Values.{◌>>=◌, number_or, path_in, path_or, turns_in}
 use Rattle.tool_words.specs.declared.command.ToolCommand.{ToolCommand}
 use Rattle.tool_words.specs.declared.command.ToolCommand.TheVariants.{Proxy}
 use Rattle.tool_words.specs.declared.fault.UsageKind.{UsageKind}
@@ -50,7 +50,7 @@ empty_time stays seconds = if stays || seconds == 0 then None else Some (seconds
 -- the proxy that these values describe, if each of them reads
 unfoldable pub proxy_values : Kind → List Row → Option ToolCommand
 proxy_values kind rows = do
-  device ← option_and_then (device_in true) (value_given proxy_spelling rows option.Device)
+  device ← option_and_then path_in (value_given proxy_spelling rows option.Device)
   socket ← path_or (proxy_socket kind) (value_given proxy_spelling rows option.Socket)
   bridge ← path_or bridge_socket (value_given proxy_spelling rows option.Bridge)
   seconds ← number_or 30 0 86400 (value_given proxy_spelling rows option.EmptyTimeout)

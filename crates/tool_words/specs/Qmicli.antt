@@ -50,7 +50,7 @@ qmi_asked link cid command rows = do
 -- the command with its value and the settings, if each of them reads
 unfoldable pub qmicli_values : QmiCommand → List Row → Option ToolCommand
 qmicli_values command rows = do
-  link ← link_in Qmi (qmi_asks command) rows
+  link ← link_in Qmi rows
   cid ← optional (number_within 1 254) (value_given qmi_setting_spelling rows setting.ClientCid)
   if qmi_asks command then qmi_asked link cid command rows else described (value_given qmi_spelling rows command)
 

@@ -1,18 +1,17 @@
 -- The words of a simulated modem.
-use Rattle.std.specs.Prelude.{List, [], ◌∷◌, Option, Some, Result, Err, codes, if◌then◌else◌}
+use Rattle.std.specs.Prelude.{ℕ, List, [], ◌∷◌, Option, Some, Result, codes}
 use Rattle.clap.specs.Simple.{App}
 use Rattle.clap.specs.Walk.{Row}
 use Rattle.kit_bytes.specs.declared.Kind.TheVariants.{Qmi}
 use Rattle.tool_words.specs.Answers.{or_value}
 use Rattle.tool_words.specs.Defaults.{simulator_socket}
-use Rattle.tool_words.specs.Given.{is_given, value_given}
+use Rattle.tool_words.specs.Given.{value_given}
 use Rattle.tool_words.specs.Reading.{with_options, without_options}
 use Rattle.tool_words.specs.Spelling.{Spelling, valued}
-use Rattle.tool_words.specs.Values.{◌>>=◌, kind_or, optional, path_in, path_or, turns_in}
+use Rattle.tool_words.specs.Values.{◌>>=◌, kind_or, number_within, optional, path_in, path_or, turns_in}
 use Rattle.tool_words.specs.declared.command.ToolCommand.{ToolCommand}
 use Rattle.tool_words.specs.declared.command.ToolCommand.TheVariants.{Simulator}
 use Rattle.tool_words.specs.declared.fault.UsageKind.{UsageKind}
-use Rattle.tool_words.specs.declared.fault.UsageKind.TheVariants as usage
 use Rattle.tool_words.specs.declared.simulator.SimulatorOption.{SimulatorOption}
 use Rattle.tool_words.specs.declared.simulator.SimulatorOption.TheVariants as option
 
@@ -34,6 +33,10 @@ simulator_app = with_options simulator_spelling (without_options (codes "modem-s
 
 -- ---- their values ----
 
+-- how often a modem may be started, each time by a program of its own
+abbrev pub starts_in : List ℕ → Option ℕ
+starts_in = number_within 1 100
+
 -- the simulated modem that these values describe, if each of them reads
 unfoldable pub simulator_values : List Row → Option ToolCommand
 simulator_values rows = do
@@ -41,10 +44,11 @@ simulator_values rows = do
   socket ← path_or simulator_socket (value_given simulator_spelling rows option.Socket)
   profile ← optional path_in (value_given simulator_spelling rows option.Profile)
   turns ← turns_in (value_given simulator_spelling rows option.Turns)
-  Some (Simulator kind socket profile turns)
+  keep ← optional starts_in (value_given simulator_spelling rows option.Keep)
+  Some (Simulator kind socket profile turns keep)
 
 -- ---- what the words ask for ----
 
--- each value must read. No value of --keep does: the program can't start a simulated modem anew yet
+-- each value must read
 unfoldable pub simulator_asked : List Row → Result ToolCommand UsageKind
-simulator_asked rows = if is_given simulator_spelling rows option.Keep then Err usage.Value else or_value (simulator_values rows)
+simulator_asked rows = or_value (simulator_values rows)

@@ -1,8 +1,8 @@
 -- The values of options.
-use Rattle.std.specs.Prelude.{◌≡◌, ℕ, ◌==◌, ◌&&◌, ◌||◌, ◌-◌, ◌^◌, Bool, false, not, nat_eq, nat_lt, nat_le, codes, List, length, slice_index, Option, Some, None, Result, Ok, Err, if◌then◌else◌, option_and_then, option_map, unwrap_or}
+use Rattle.std.specs.Prelude.{◌≡◌, ℕ, ◌==◌, ◌&&◌, ◌||◌, ◌-◌, ◌^◌, Bool, false, not, nat_lt, nat_le, codes, List, length, slice_index, Option, Some, None, Result, Ok, Err, if◌then◌else◌, option_and_then, option_map, unwrap_or}
 use Rattle.std.specs.Char.{is_ascii_digit}
 use Rattle.hex.specs.Hex.{decode_of}
-use Rattle.std.specs.List.{after_first, before_first, list_all, position_or_len, starts_with}
+use Rattle.std.specs.List.{after_first, before_first, list_all, position_or_len}
 use Rattle.std.specs.Result.{result_ok}
 use Rattle.std.specs.Str.{bytes_eq, chars}
 use Rattle.std.specs.Str.Parse.{digits_value}
@@ -72,11 +72,6 @@ path_in text = if nat_le 1 (length text) && nat_le (length text) 4096 then Some 
 -- the same, or that of the default where there is no text
 unfoldable pub path_or : List ℕ → Option (List ℕ) → Option (List ℕ)
 path_or default text = path_in (unwrap_or text default)
-
--- the path of a device. One that begins with /dev/ would be a device node's: the program can't open these
--- itself yet
-unfoldable pub device_in : Bool → List ℕ → Option (List ℕ)
-device_in opens text = if opens && starts_with nat_eq text (codes "/dev/") then None else path_in text
 
 -- the characters of a text in a request, which has at most 1,000 bytes
 unfoldable pub short_in : List ℕ → Option (List ℕ)

@@ -5,6 +5,7 @@ ghost use Rattle.tool_words.specs.Command.{command_in, tool_app, tool_asked, too
 
 use crate::mbimcli::{mbimcli_asked, mbimcli_reader};
 use crate::proxy::{proxy_asked, proxy_name, proxy_reader};
+use crate::pump::pump_asked;
 use crate::qmicli::{qmicli_asked, qmicli_reader};
 use crate::reader::read_words;
 use crate::simulator::{simulator_asked, simulator_reader};
@@ -67,10 +68,20 @@ pub enum ToolCommand {
         profile: Option<PathText>,
         /// After how many events it ends.
         turns: u64,
+        /// How often it may be started, each time by a program of its own, if it is started anew at all.
+        keep: Option<u8>,
+    },
+    /// Passes on what comes from a device node or what goes to it.
+    Pump {
+        /// Whether the node is read, and not written to.
+        read: bool,
+        node: PathText,
+        /// The socket that the other end listens on.
+        bridge: PathText,
     },
 }
 
-/// A tool, which the first word names.
+/// A tool that has options, which the first word names.
 #[derive(Clone, Copy, Debug, PartialEq, Eq)]
 enum Tool {
     Qmicli,
@@ -138,6 +149,9 @@ pub fn command_of(alloc: Global, words: &[String]) -> Result<ToolCommand, WordFa
 {
     if words.is_empty() {
         return Err(WordFault::Usage(UsageKind::NoTool));
+    }
+    if words[0].as_str() == "pump" {
+        return pump_asked(alloc, words);
     }
     match tool_named(words[0].as_str()) {
         Some(tool) => read_tool(alloc, tool, words),

@@ -12,6 +12,7 @@ mod mbimcli;
 mod modem_tools;
 mod options;
 mod proxy;
+mod pump;
 mod qmi_commands;
 mod qmicli;
 mod reader;

@@ -1,13 +1,13 @@
-ghost use Rattle.std.specs.Prelude.{◌≡◌, option_map};
+ghost use Rattle.std.specs.Prelude.{◌≡◌};
 ghost use Rattle.clap.specs.Words.{found_of, rows_of};
-ghost use Rattle.tool_words.specs.Link.{link_in, link_options, link_spelling, opens_device};
-ghost use Rattle.tool_words.specs.Values.{Gives, device_in, optional};
+ghost use Rattle.tool_words.specs.Link.{link_in, link_options, link_spelling};
+ghost use Rattle.tool_words.specs.Values.{Gives};
 
 use crate::WordFault;
 use crate::defaults::{bridge_socket, proxy_socket};
 use crate::given::{is_given, value_given};
 use crate::options::{OptionSpelling, ToolOption, flag, valued};
-use crate::values::{device, path_or};
+use crate::values::{path_if_given, path_or};
 use clap::ArgMatches;
 use kit_bytes::{Kind, PathText};
 use std::alloc::Global;
@@ -59,39 +59,18 @@ pub struct LinkSettings {
     pub bridge: PathText,
 }
 
-fn device_if_given(
-    alloc: Global,
-    opens: bool,
-    text: Option<&str>,
-) -> Result<Option<PathText>, WordFault>
-    ensures { Gives (optional (device_in opens) (option_map (λ t. t.now) text.entry)) result }
-{
-    let Some(text) = text else {
-        return Ok(None);
-    };
-    let device = device(alloc, opens, text)?;
-    Ok(Some(device))
-}
-
-fn opens_device(asks: bool, proxied: bool) -> bool
-    ensures { result ≡ opens_device asks proxied }
-{
-    asks && !proxied
-}
-
-/// The settings that the words give, where a modem of this kind is asked or none is.
+/// The settings that the words give to a tool for modems of this kind.
 #[tactic(auto, unfolding(crate::specs::Link::link_in))]
 pub fn link_given(
     alloc: Global,
     kind: Kind,
-    asks: bool,
     matches: &ArgMatches<'_>,
 ) -> Result<LinkSettings, WordFault>
-    ensures { Gives (link_in kind asks (rows_of (found_of matches.now))) result }
+    ensures { Gives (link_in kind (rows_of (found_of matches.now))) result }
 {
     let proxied = is_given(matches, LinkOption::DeviceOpenProxy);
     let device = value_given(matches, LinkOption::Device);
-    let device = device_if_given(alloc, opens_device(asks, proxied), device)?;
+    let device = path_if_given(alloc, device)?;
     let socket = value_given(matches, LinkOption::Socket);
     let socket = path_or(alloc, proxy_socket(kind), socket)?;
     let bridge = value_given(matches, LinkOption::Bridge);

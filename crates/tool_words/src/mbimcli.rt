@@ -74,7 +74,7 @@ impl ModemCommand for MbimCommand {
 
     #[tactic(auto, unfolding(crate::specs::Mbimcli::mbimcli_values))]
     fn values(self, alloc: Global, matches: &ArgMatches<'_>) -> Result<ToolCommand, WordFault> {
-        let link = link_given(alloc, Kind::Mbim, true, matches)?;
+        let link = link_given(alloc, Kind::Mbim, matches)?;
         let request = request(alloc, self, value_given(matches, self))?;
         sending(link, is_given(matches, MbimSetting::NoClose), request)
     }

@@ -2,13 +2,13 @@ ghost use Rattle.std.specs.Prelude.{◌≡◌, ◌≤◌, true, IfOk, option_and
 ghost use Rattle.clap.specs.Words.{app_of, found_of, rows_of};
 ghost use Rattle.tool_words.specs.Answers.{Answers};
 ghost use Rattle.tool_words.specs.Proxy.{empty_time, proxy_app, proxy_asked, proxy_name, proxy_options, proxy_spelling, proxy_values};
-ghost use Rattle.tool_words.specs.Values.{Gives, device_in};
+ghost use Rattle.tool_words.specs.Values.{Gives, path_in};
 
 use crate::defaults::{bridge_socket, proxy_socket};
 use crate::given::{is_given, value_given};
 use crate::options::{OptionSpelling, ToolOption, flag, valued};
 use crate::reader::{add_options, without_options};
-use crate::values::{device, number_or, path_or, turns};
+use crate::values::{number_or, path, path_or, turns};
 use crate::{ToolCommand, UsageKind, WordFault};
 use clap::{ArgMatches, Command};
 use kit_bytes::{Kind, PathText};
@@ -79,12 +79,12 @@ pub fn proxy_reader<'a>(alloc: Global, kind: Kind) -> Result<Command<'a>, AllocE
 }
 
 fn modem(alloc: Global, text: Option<&str>) -> Result<PathText, WordFault>
-    ensures { Gives (option_and_then (device_in true) (option_map (λ t. t.now) text.entry)) result }
+    ensures { Gives (option_and_then path_in (option_map (λ t. t.now) text.entry)) result }
 {
     let Some(text) = text else {
         return Err(WordFault::Usage(UsageKind::Value));
     };
-    device(alloc, true, text)
+    path(alloc, text)
 }
 
 fn empty_time(stays: bool, seconds: u64) -> Option<u64>

@@ -117,7 +117,7 @@ impl ModemCommand for QmiCommand {
 
     #[tactic(auto, unfolding(crate::specs::Qmicli::qmicli_values))]
     fn values(self, alloc: Global, matches: &ArgMatches<'_>) -> Result<ToolCommand, WordFault> {
-        let link = link_given(alloc, Kind::Qmi, asks(self), matches)?;
+        let link = link_given(alloc, Kind::Qmi, matches)?;
         let cid = cid_if_given(value_given(matches, QmiSetting::ClientCid))?;
         if asks(self) {
             asking(alloc, link, cid, self, matches)

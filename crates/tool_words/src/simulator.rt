@@ -1,14 +1,14 @@
-ghost use Rattle.std.specs.Prelude.{◌≡◌, IfOk};
+ghost use Rattle.std.specs.Prelude.{◌≡◌, IfOk, option_map};
 ghost use Rattle.clap.specs.Words.{app_of, found_of, rows_of};
 ghost use Rattle.tool_words.specs.Answers.{Answers};
-ghost use Rattle.tool_words.specs.Simulator.{simulator_app, simulator_asked, simulator_options, simulator_spelling, simulator_values};
-ghost use Rattle.tool_words.specs.Values.{Gives};
+ghost use Rattle.tool_words.specs.Simulator.{simulator_app, simulator_asked, simulator_options, simulator_spelling, simulator_values, starts_in};
+ghost use Rattle.tool_words.specs.Values.{Gives, optional};
 
 use crate::defaults::simulator_socket;
-use crate::given::{is_given, value_given};
+use crate::given::value_given;
 use crate::options::{OptionSpelling, ToolOption, valued};
 use crate::reader::{add_options, without_options};
-use crate::values::{kind_or, path_if_given, path_or, turns};
+use crate::values::{kind_or, number_within, path_if_given, path_or, turns};
 use crate::{ToolCommand, UsageKind, WordFault};
 use clap::{ArgMatches, Command};
 use kit_bytes::Kind;
@@ -21,7 +21,7 @@ pub enum SimulatorOption {
     Socket,
     Profile,
     Turns,
-    /// How often it may be started. No value of it is served yet.
+    /// How often it may be started, where it is started anew.
     Keep,
 }
 
@@ -62,6 +62,18 @@ pub fn simulator_reader<'a>(alloc: Global) -> Result<Command<'a>, AllocError>
     Ok(command)
 }
 
+fn starts_if_given(text: Option<&str>) -> Result<Option<u8>, WordFault>
+    ensures { Gives (optional starts_in (option_map (λ t. t.now) text.entry)) result }
+{
+    let Some(text) = text else {
+        return Ok(None);
+    };
+    match number_within(1, 100, text) {
+        Some(number) => Ok(Some(number as u8)),
+        None => Err(WordFault::Usage(UsageKind::Value)),
+    }
+}
+
 #[tactic(auto, unfolding(crate::specs::Simulator::simulator_values))]
 fn values(alloc: Global, matches: &ArgMatches<'_>) -> Result<ToolCommand, WordFault>
     ensures { Gives (simulator_values (rows_of (found_of matches.now))) result }
@@ -71,11 +83,13 @@ fn values(alloc: Global, matches: &ArgMatches<'_>) -> Result<ToolCommand, WordFa
     let socket = path_or(alloc, simulator_socket(), socket)?;
     let profile = path_if_given(alloc, value_given(matches, SimulatorOption::Profile))?;
     let turns = turns(value_given(matches, SimulatorOption::Turns))?;
+    let keep = starts_if_given(value_given(matches, SimulatorOption::Keep))?;
     Ok(ToolCommand::Simulator {
         kind,
         socket,
         profile,
         turns,
+        keep,
     })
 }
 
@@ -84,8 +98,5 @@ fn values(alloc: Global, matches: &ArgMatches<'_>) -> Result<ToolCommand, WordFa
 pub fn simulator_asked(alloc: Global, matches: &ArgMatches<'_>) -> Result<ToolCommand, WordFault>
     ensures { Answers (simulator_asked (rows_of (found_of matches.now))) result }
 {
-    if is_given(matches, SimulatorOption::Keep) {
-        return Err(WordFault::Usage(UsageKind::Value));
-    }
     values(alloc, matches)
 }

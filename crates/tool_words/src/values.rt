@@ -2,7 +2,7 @@ ghost use Rattle.std.specs.Prelude.{◌≡◌, ◌≤◌, IfOk, IfSome, MatchOpt
 ghost use Rattle.std.specs.Char.{is_ascii_digit};
 ghost use Rattle.std.specs.List.{list_all};
 ghost use Rattle.std.specs.Str.{chars, encode_utf8_all};
-ghost use Rattle.tool_words.specs.Values.{Gives, device_in, is_decimal, kind_named, kind_or, number_32_in, number_8_in, number_in, number_or, number_within, octets_in, path_in, path_or, short_in, split_at, optional, turns_in};
+ghost use Rattle.tool_words.specs.Values.{Gives, is_decimal, kind_named, kind_or, number_32_in, number_8_in, number_in, number_or, number_within, octets_in, path_in, path_or, short_in, split_at, optional, turns_in};
 
 use crate::{UsageKind, WordFault};
 use hex::FromHexError;
@@ -141,17 +141,6 @@ pub fn path(alloc: Global, text: &str) -> Result<PathText, WordFault>
         return Err(WordFault::Usage(UsageKind::Value));
     }
     or_fault(PathText::of(text_of(alloc, text)?))
-}
-
-/// The path of a device that the text spells, where the program opens it itself or another does.
-#[tactic(auto, unfolding(crate::specs::Values::device_in))]
-pub fn device(alloc: Global, opens: bool, text: &str) -> Result<PathText, WordFault>
-    ensures { Gives (device_in opens text.now) result }
-{
-    if opens && text.starts_with("/dev/") {
-        return Err(WordFault::Usage(UsageKind::Value));
-    }
-    path(alloc, text)
 }
 
 /// The path that the text spells, or the default where there is no text.

@@ -14,6 +14,10 @@ pub fn made_by(key: &str) -> Option<Made> {
     match key {
         "opens" => Some(Made::Opened { ok: true }),
         "open fails" => Some(Made::Opened { ok: false }),
+        "bridge opens" => Some(Made::OpenedBridge { ok: true }),
+        "bridge open fails" => Some(Made::OpenedBridge { ok: false }),
+        "pairs" => Some(Made::Paired { ok: true }),
+        "pair fails" => Some(Made::Paired { ok: false }),
         "sends" => Some(Made::Sent { ok: true }),
         "send fails" => Some(Made::Sent { ok: false }),
         "takes" => Some(Made::Took),
@@ -70,9 +74,11 @@ pub fn link_script(
     let mut script = Vec::new(alloc);
     for call in calls {
         match call.made {
-            Made::Opened { ok: false } | Made::Sent { ok: false } | Made::TakeFailed => {
-                script.push(LinkAnswer::Fails)?;
-            }
+            Made::Opened { ok: false }
+            | Made::OpenedBridge { ok: false }
+            | Made::Paired { ok: false }
+            | Made::Sent { ok: false }
+            | Made::TakeFailed => script.push(LinkAnswer::Fails)?,
             Made::Took => push_gives(alloc, &mut script, &call.bytes, whole)?,
             Made::WasEnd => script.push(LinkAnswer::Ends)?,
             _ => script.push(LinkAnswer::Does)?,
@@ -107,7 +113,10 @@ pub fn told_calls(
     let mut told = Vec::new(alloc);
     let mut is_open = false;
     for call in calls {
-        is_open |= call.made == Made::Opened { ok: true };
+        is_open |= matches!(
+            call.made,
+            Made::Opened { ok: true } | Made::OpenedBridge { ok: true }
+        );
         if whole || call.made != Made::Took {
             told.push((call.made, call.bytes.as_slice()))?;
         }

@@ -8,6 +8,7 @@ mod calls;
 mod files;
 mod format;
 mod found;
+mod kids;
 mod modem;
 mod proxy;
 mod ran;

@@ -1,6 +1,7 @@
 use crate::calls::link_script;
 use crate::files::script_of;
 use crate::tool::ToolRow;
+use child_io::MemSpawner;
 use file_io::MemFiles;
 use hub_io::MemHub;
 use kit_io::MemSink;
@@ -15,6 +16,7 @@ pub struct Ran {
     pub out: MemSink,
     pub err: MemSink,
     pub link: MemLink,
+    pub kids: MemSpawner,
     pub files: MemFiles,
 }
 
@@ -24,13 +26,14 @@ pub fn run_row(alloc: Global, row: &ToolRow, whole: bool) -> Result<Ran, AllocEr
     let mut link = link_of(alloc, row, whole)?;
     let mut files = MemFiles::new(alloc, script_of(alloc, &row.files)?, 2_000, 20_000_000)?;
     let mut hub = MemHub::new(alloc, Vec::new(alloc), Vec::new(alloc), 10, 10_000)?;
+    let mut kids = row.kids.spawner(alloc)?;
     let mut out = MemSink::new(alloc, Vec::from_slice(alloc, &row.sink)?, 10_000)?;
     let mut err = MemSink::new(alloc, Vec::new(alloc), 1_000)?;
     let status = if row.unread {
         refuse(&mut err)
     } else {
         run(
-            alloc, &row.words, &mut out, &mut err, &mut link, &mut hub, &mut files,
+            alloc, &row.words, &mut out, &mut err, &mut link, &mut hub, &mut kids, &mut files,
         )
     };
     Ok(Ran {
@@ -38,6 +41,7 @@ pub fn run_row(alloc: Global, row: &ToolRow, whole: bool) -> Result<Ran, AllocEr
         out,
         err,
         link,
+        kids,
         files,
     })
 }

@@ -2,6 +2,7 @@ use crate::asked::{asked, requested};
 use crate::calls::{Call, Noted, made_by, made_calls, push_calls, told_calls};
 use crate::files::{push_read, push_reads};
 use crate::found::{Place, Spelled, is};
+use crate::kids::KidCalls;
 use crate::ran::{Ran, run_row};
 use anyhow::{Context, Result};
 use file_io::FileAnswer;
@@ -15,6 +16,7 @@ use std::io;
 ///
 ///     opens, sends, takes: BYTES          quiet:    ends:
 ///     open fails, send fails: BYTES       take fails:
+///     bridge opens, bridge open fails: BYTES      pairs:    pair fails:
 ///
 /// A send that fails has sent the first half. `repeats: N` makes the next of these N. Further lines:
 ///
@@ -22,6 +24,9 @@ use std::io;
 ///     file: TEXT          file bytes: BYTES    what the reads of the file give; then it ends
 ///     read fails:         file open fails:     a call on the file that fails
 ///     file calls: N                            how many calls are made on it
+///     starts, start fails: WORDS               a child that is started, or can't be
+///     stops, stop fails: N                     the Nth child that is stopped, or can't be
+///     child ends: N STATUS                     the Nth child, which is waited for, ends so
 ///     out: LINE           out begins: TEXT     what is printed
 ///     err: LINE           status: N            how the run ends
 ///     asks: COMMAND       requests: REQUEST    what the words ask for; then nothing is run
@@ -35,6 +40,7 @@ pub struct ToolRow {
     pub calls: Vec<Call>,
     pub sink: Vec<SinkAnswer>,
     pub files: Vec<FileAnswer>,
+    pub kids: KidCalls,
     file_calls: Option<usize>,
     asks: Option<String>,
     requests: Option<String>,
@@ -77,6 +83,7 @@ fn read_tool_row(alloc: Global, file: &str, rows: &Rows<'_>, lines: &Row<'_>) ->
         calls: Vec::new(alloc),
         sink: Vec::new(alloc),
         files: Vec::new(alloc),
+        kids: KidCalls::none(alloc),
         file_calls: None,
         asks: None,
         requests: None,
@@ -114,7 +121,11 @@ impl ToolRow {
             "status" => self.status = value.parse::<u8>()?,
             "unread" => self.unread = true,
             "uncut" => self.uncut = true,
-            key => self.add_calls(alloc, rows, key, value)?,
+            key => {
+                if !self.kids.add(alloc, key, value)? {
+                    self.add_calls(alloc, rows, key, value)?;
+                }
+            }
         }
         Ok(())
     }
@@ -169,7 +180,14 @@ fn ends_as_told<R: Print>(rt: &R, place: Place<'_>, row: &ToolRow, ran: &Ran) ->
             row.file_calls,
             ran.files.log().len(),
         )?;
-    Ok(status && out && err && calls)
+    let kids = is(
+        rt,
+        place,
+        "the child call that differs",
+        None,
+        row.kids.differs_at(&ran.kids),
+    )?;
+    Ok(status && out && err && calls && kids)
 }
 
 fn text(taken: Option<&[u8]>) -> &str {

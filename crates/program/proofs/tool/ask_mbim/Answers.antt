@@ -1,4 +1,14 @@
+use Rattle.std.proofs.Common.{inl, inr, refl}
+use Rattle.kit_io.proofs.Told.{Grows-none}
 use Rattle.program.proofs.tool.ask_mbim.Goals as goal
 
+-- the modem on the way of the words was asked
 pub returns-clause-asks : goal.returns-clause-asks
-returns-clause-asks g c = rw (← c.path_to-path.ensures) c.ask_modem.ensures.asks
+returns-clause-asks g c = rw (← c.in-Ok.ensures) (inl c.ask_modem.ensures.asks)
+
+pub returns-clause-link_fault : goal.returns-clause-link_fault
+returns-clause-link_fault g c = λ e. rw (← c.in-Ok.ensures) (c.ask_modem.ensures.link_fault e)
+
+-- or no memory was there for it
+pub returns-in_default-clause-asks : goal.returns-in_default-clause-asks
+returns-in_default-clause-asks g c = inr (refl, Grows-none _, Grows-none _, Grows-none _)

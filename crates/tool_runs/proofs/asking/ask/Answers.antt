@@ -1,7 +1,25 @@
-use Rattle.std.proofs.Common.{◌∙◌, ap, sym, Err}
-use Rattle.link_session.specs.declared.fault.SessionFault.{SessionFault}
-use Rattle.tool_runs.proofs.Ends.{link_fault_is}
+use Rattle.std.proofs.Common.{Bool, ◌∙◌, ap, sym}
+use Rattle.modem_ways.proofs.Stopping.{each_is_stopped}
+use Rattle.tool_runs.specs.Asking.{with_stops}
+use Rattle.tool_runs.proofs.Ends.{start_fault_comes}
 use Rattle.tool_runs.proofs.asking.ask.Goals as goal
 
-pub returns-clause-link_fault : goal.returns-clause-link_fault
-returns-clause-link_fault g c = λ e. c.exchange.ensures.link_fault (c.in-Err.is ∙ ap (λ (why : SessionFault). Err why) (link_fault_is _ (sym c.from.ensures ∙ e)))
+pub returns-clause-asks : goal.returns-clause-asks
+returns-clause-asks g c =
+    let came = c.ask_on_the_way-end.ensures.comes in
+    record {
+      on_link = came.on_link;
+      starts = came.starts;
+      ends = c.ask_on_the_way-end.result;
+      comes = came.are;
+      link_grows = came.link_grows;
+      stopped = c.is_ok-stopped.result;
+      children = each_is_stopped came.spawner_grows came.stands c.stop_all.ensures.stops c.is_ok-stopped.ensures.value;
+      is = c.with_stops.ensures;
+    }
+
+pub returns-clause-start_fault : goal.returns-clause-start_fault
+returns-clause-start_fault g c = λ e.
+    let way = c.ask_on_the_way-end in
+    let ends = ap (λ (stopped : Bool). with_stops stopped way.result) (sym c.is_ok-stopped.ensures.value) ∙ sym c.with_stops.ensures ∙ e in
+    start_fault_comes c.stop_all.result way.result way.ensures.later_starts way.ensures.start_fault c.stop_all.ensures.cause ends

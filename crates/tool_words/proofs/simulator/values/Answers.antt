@@ -15,4 +15,6 @@ returns c =
       c.in_ok-profile.ensures,
       ← c.value_given-3.ensures,
       c.in_ok-turns.ensures,
+      ← c.value_given-4.ensures,
+      c.in_ok-keep.ensures,
     ) refl

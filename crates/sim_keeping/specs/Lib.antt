@@ -1,0 +1,4 @@
+pub mod Words
+pub mod Keeping
+pub mod Once
+pub mod Laws

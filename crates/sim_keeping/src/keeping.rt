@@ -1,0 +1,94 @@
+ghost use Rattle.std.specs.Prelude.{◌≡◌, [], ◌∷◌, map, string_bytes};
+ghost use Rattle.std.specs.Option.{option_copied};
+ghost use Rattle.kit_io.specs.Causes.{Rose, HasCause};
+ghost use Rattle.sim_keeping.specs.Keeping.{GrowsByKeeping, KeepsOrLacksMemory};
+ghost use Rattle.sim_keeping.specs.Once.{GrowsLike, IsEnd, IsRun};
+ghost use Rattle.sim_keeping.specs.Words.{start_words};
+
+use crate::words::start_words;
+use child_io::{Kids, Spawner};
+use kit_bytes::{Kind, PathText};
+use kit_io::Failed;
+use std::alloc::{AllocError, Global};
+
+/// How keeping a simulated modem running ended.
+#[derive(Clone, Copy, Debug, PartialEq, Eq)]
+pub enum KeepEnd {
+    /// It ended with this status: with 0, or so often that it isn't started anew.
+    Ended(i32),
+    /// It couldn't be started, or its end couldn't be waited for.
+    StartFault,
+    /// No memory was there to begin with.
+    OutOfMemory,
+}
+
+/// Starts a simulated modem as a child, waits for its end, and starts it again while it ends with
+/// another status than 0 and fewer than so many were started.
+///
+/// It is a modem of a kind, to whose socket clients connect, with the profile of the file at a path,
+/// or the default one where no file is named. It serves for so many turns at most.
+pub fn keep_simulator<P: Spawner>(
+    alloc: Global,
+    kind: Kind,
+    socket: &PathText,
+    profile: Option<&PathText>,
+    turns: u64,
+    most: u8,
+    spawner: &mut P,
+) -> KeepEnd
+    ensures keeps { KeepsOrLacksMemory (start_words kind socket.now turns (option_copied profile.entry)) most (P.calls spawner.old) result (P.calls spawner.new) }
+    // It doesn't give up by itself.
+    ensures start_fault { result ≡ KeepEnd.StartFault → Rose (P.faults spawner.old) (P.faults spawner.new) }
+{
+    match start_words(alloc, kind, socket, turns, profile) {
+        Ok(words) => keep_running(words.as_slice(), most, spawner),
+        Err(AllocError) => KeepEnd::OutOfMemory,
+    }
+}
+
+// Keeps what these words start running.
+fn keep_running<P: Spawner>(words: &[String], most: u8, spawner: &mut P) -> KeepEnd
+    ensures keeps { GrowsByKeeping (map string_bytes words.now) most (P.calls spawner.old) result (P.calls spawner.new) }
+    ensures start_fault { result ≡ KeepEnd.StartFault → Rose (P.faults spawner.old) (P.faults spawner.new) }
+{
+    for _ in 1..most {
+        let status = match run_once(words, spawner) {
+            Ok(status) => status,
+            Err(Failed) => return KeepEnd::StartFault,
+        };
+        if status == 0 {
+            return KeepEnd::Ended(status);
+        }
+    }
+    match run_once(words, spawner) {
+        Ok(status) => KeepEnd::Ended(status),
+        Err(Failed) => KeepEnd::StartFault,
+    }
+}
+
+// Starts a child, and waits for its end. One that can't be waited for is stopped.
+fn run_once<P: Spawner>(words: &[String], spawner: &mut P) -> Result<i32, Failed>
+    ensures run { GrowsLike (IsRun (map string_bytes words.now) result) (P.calls spawner.old) (P.calls spawner.new) }
+    ensures cause { HasCause (P.faults spawner.old) (P.faults spawner.new) result }
+{
+    let mut kids = Kids::none();
+    match kids.start(spawner, words) {
+        Ok(child) => end_of(kids, child, spawner),
+        Err(Failed) => {
+            let _ = kids.stop_all(spawner);
+            Err(Failed)
+        }
+    }
+}
+
+// Waits for the end of the one child that is kept, or stops it.
+fn end_of<P: Spawner>(kids: Kids, child: u32, spawner: &mut P) -> Result<i32, Failed>
+    requires { kids ≡ child ∷ [] }
+    ensures ended { GrowsLike (IsEnd child result) (P.calls spawner.old) (P.calls spawner.new) }
+    ensures cause { HasCause (P.faults spawner.old) (P.faults spawner.new) result }
+{
+    let mut kids = kids;
+    let ended = kids.ended(spawner, child);
+    let _ = kids.stop_all(spawner);
+    ended
+}

@@ -1,0 +1,100 @@
+use anyhow::{Context, Result};
+use child_io::{Made, MemSpawner, SpawnerAnswer};
+use row_text::words_of;
+use std::alloc::{AllocError, Global};
+
+/// The children that a run starts, waits for and stops: how the spawner answers, and what its log tells.
+#[derive(Drop)]
+pub struct KidCalls {
+    answers: Vec<SpawnerAnswer>,
+    notes: Vec<(Made, Vec<u8>)>,
+    // How many children were started.
+    started: u32,
+}
+
+fn does(ok: bool) -> SpawnerAnswer {
+    if ok {
+        SpawnerAnswer::Does
+    } else {
+        SpawnerAnswer::Fails
+    }
+}
+
+impl KidCalls {
+    /// No child is started.
+    pub fn none(alloc: Global) -> Self {
+        KidCalls {
+            answers: Vec::new(alloc),
+            notes: Vec::new(alloc),
+            started: 0,
+        }
+    }
+
+    /// Adds the call that a key of a row tells of, where the key is one of these.
+    pub fn add(&mut self, alloc: Global, key: &str, value: &str) -> Result<bool> {
+        match key {
+            "starts" => self.add_start(alloc, value, true)?,
+            "start fails" => self.add_start(alloc, value, false)?,
+            "stops" => self.add_stop(alloc, value.parse::<u32>()?, true)?,
+            "stop fails" => self.add_stop(alloc, value.parse::<u32>()?, false)?,
+            "child ends" => self.add_end(alloc, value)?,
+            _ => return Ok(false),
+        }
+        Ok(true)
+    }
+
+    fn add_start(&mut self, alloc: Global, words: &str, ok: bool) -> Result<()> {
+        self.note(alloc, Made::Starts, &[])?;
+        for word in &words_of(alloc, words)? {
+            self.note(alloc, Made::Word, word.as_bytes())?;
+        }
+        let made = if ok {
+            self.started = self.started.saturating_add(1);
+            Made::Started {
+                child: self.started,
+            }
+        } else {
+            Made::StartFailed
+        };
+        self.note(alloc, made, &[])?;
+        self.answers.push(does(ok))?;
+        Ok(())
+    }
+
+    fn add_stop(&mut self, alloc: Global, child: u32, ok: bool) -> Result<(), AllocError> {
+        self.note(alloc, Made::Stopped { child, ok }, &[])?;
+        self.answers.push(does(ok))?;
+        Ok(())
+    }
+
+    fn add_end(&mut self, alloc: Global, value: &str) -> Result<()> {
+        let (child, status) = value.split_once(' ').context("no child and status")?;
+        let (child, status) = (child.parse::<u32>()?, status.parse::<i32>()?);
+        self.note(alloc, Made::Ended { child, status }, &[])?;
+        self.answers.push(SpawnerAnswer::EndsWith(status))?;
+        Ok(())
+    }
+
+    fn note(&mut self, alloc: Global, made: Made, bytes: &[u8]) -> Result<(), AllocError> {
+        let bytes = Vec::from_slice(alloc, bytes)?;
+        self.notes.push((made, bytes))?;
+        Ok(())
+    }
+
+    /// A spawner that answers so.
+    pub fn spawner(&self, alloc: Global) -> Result<MemSpawner, AllocError> {
+        let answers = Vec::from_slice(alloc, &self.answers)?;
+        MemSpawner::new(alloc, answers, 100, 10_000)
+    }
+
+    /// Which note of the spawner's log isn't as it is told, if one isn't.
+    pub fn differs_at(&self, spawner: &MemSpawner) -> Option<usize> {
+        let log = spawner.log();
+        for (at, (made, bytes)) in self.notes.iter().enumerate() {
+            if log.at(at) != Some((*made, bytes.as_slice())) {
+                return Some(at);
+            }
+        }
+        (log.len() != Some(self.notes.len())).then_some(self.notes.len())
+    }
+}
