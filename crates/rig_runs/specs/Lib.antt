@@ -1,6 +1,10 @@
 pub mod Draws
 pub mod Stage
 pub mod Rig
+pub mod Counts
 pub mod Qmi
 pub mod Lines
 pub mod Examples
+pub mod Mbim
+pub mod MbimLines
+pub mod MbimExamples

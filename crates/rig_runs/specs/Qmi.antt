@@ -1,5 +1,5 @@
 -- The rig for QMI.
-use Rattle.std.specs.Prelude.{ℕ, ◌==◌, false, if◌then◌else◌, List, [], ◌∷◌, codes}
+use Rattle.std.specs.Prelude.{ℕ, ◌==◌, false, if◌then◌else◌, List, [], ◌∷◌}
 use Rattle.std.specs.List.{range_with_len}
 use Rattle.modem_profile.specs.Profile.{default_profile}
 use Rattle.qmi_requests.specs.declared.QmiRequest.{QmiRequest}
@@ -15,13 +15,7 @@ use Rattle.sim_qmi.specs.Modem.{machine}
 use Rattle.rig_runs.specs.Stage.{Cast}
 use Rattle.rig_runs.specs.Rig as rig
 use Rattle.rig_runs.specs.Rig.{Script}
-
--- the path of the device
-abbrev pub device : List ℕ
-device = codes "rig"
-
-abbrev pub time_limit : ℕ
-time_limit = 30000
+pub use Rattle.rig_runs.specs.Rig.{device, time_limit}
 
 abbrev pub setup : Setup
 setup = record { device = device; time_limit = time_limit; starts_away = false }

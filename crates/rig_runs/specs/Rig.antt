@@ -1,8 +1,16 @@
 -- The rig: a large input for a proxy that is drawn from a number. Lists of events have the newest first.
-use Rattle.std.specs.Prelude.{ℕ, ◌+◌, ◌-◌, ◌%◌, Bool, true, false, ◌==◌, nat_lt, if◌then◌else◌, List, [], ◌∷◌, fold, filter, length}
+use Rattle.std.specs.Prelude.{ℕ, ◌+◌, ◌-◌, ◌%◌, Bool, true, false, ◌==◌, nat_lt, if◌then◌else◌, List, [], ◌∷◌, fold, filter, length, codes}
 use Rattle.proxy_history.specs.Events.{Event, Joined, Piece, Now}
 use Rattle.rig_runs.specs.Draws.{Turn, turns_after}
 use Rattle.rig_runs.specs.Stage.{Cast, Stage, empty, meet, longest_arrives, shortest_arrives, all_arrive}
+
+-- the path of the device
+abbrev pub device : List ℕ
+device = codes "rig"
+
+-- how long a request waits for its answer, in milliseconds
+abbrev pub time_limit : ℕ
+time_limit = 30000
 
 -- what a protocol's clients say
 pub record Script : Type 0 where

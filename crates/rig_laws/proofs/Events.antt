@@ -1,0 +1,243 @@
+-- What holds of a rig's events at every moment, and how each event keeps it. Lists of events and of facts have the newest first.
+use Rattle.std.proofs.Common.{◌≡◌, ℕ, ◌+◌, ◌*◌, ◌<◌, ◌≤◌, max, Bool, true, false, ◌==◌, nat_lt, if◌then◌else◌, List, [], ◌∷◌, ◌++◌, length, map, Option, Some, None, refl, ap, sym, ◌∙◌, arith, subst, Contains}
+use Rattle.std.specs.List.{range_with_len}
+use Rattle.std.proofs.lemmas.Bool.{lt-ltb}
+use Rattle.framing.specs.Framing.{IsMessage}
+use Rattle.framing.specs.Cutting.{cut, cut_from}
+use Rattle.qmux_frame.specs.Frame.{size_of}
+use Rattle.qmux_frame.specs.Framing.{size_of-kept, size_of-positive}
+use Rattle.proxy_history.specs.Events.{Event, Joined, Piece, ModemPiece, Now, Took, ModemTook}
+use Rattle.proxy_history.specs.Coming.{piece_limit, greatest_name, queued_for}
+use Rattle.proxy_history.specs.Streams.{stream, modem_stream, with_piece, messages_of_piece, is_bad}
+use Rattle.proxy_history.specs.Items.{Says, Garbles, ModemSays, ModemFails, item_if, modem_items}
+use Rattle.proxy_history.specs.Facts.{Fact, Request, EventBegan, Own, NotAdmitted, Ended, Admitted, Judged, Drained, TimeIs}
+use Rattle.proxy_history.specs.Connections.{present, is_present, contains, message_count}
+use Rattle.proxy_history.specs.Requests.{in_use, pending}
+use Rattle.proxy_history.specs.Modem.{now, to_modem, modem_drained, modem_queue}
+use Rattle.proxy_history.specs.View.{view}
+use Rattle.proxy_history.specs.Unanswered.{due}
+use Rattle.proxy_history.specs.History as proxy
+use Rattle.proxy_history.proofs.Walk.{was_asked}
+use Rattle.proxy_history.proofs.Sound.{forwarded_from_in_use}
+use Rattle.proxy_solo.proofs.Pieces.{ends_message}
+use Rattle.qmi_proxy.specs.Setup.{Setup}
+use Rattle.qmi_proxy.specs.Limits.{connection_limit, outbox_limit}
+use Rattle.qmi_proxy.specs.Spaces.{space_of, top_of}
+use Rattle.qmi_proxy.specs.Messages.{is_malformed, opens}
+use Rattle.qmi_proxy.specs.Clients.{wire, hear_client}
+use Rattle.qmi_proxy.specs.FromModem.{hear_modem, in_expiry_order}
+use Rattle.qmi_proxy.specs.History.{qmi_protocol, add_all, history, text_for}
+use Rattle.qmi_proxy.proofs.Walk.{Asks}
+use Rattle.qmi_proxy.proofs.Sound.{begun_is_sound, requests_are_asked}
+use Rattle.qmi_proxy.proofs.Room.{nobody_there_is_over}
+use Rattle.qmi_solo.specs.Law.{AreSound}
+use Rattle.rig_laws.proofs.Lists.{in_range, length-range}
+use Rattle.rig_laws.proofs.Few.{few_expire}
+use Rattle.rig_laws.proofs.Calm.{Calm, queue_is, begun, timed, drained, modem_drained_all, admitted, judged_opening}
+use Rattle.rig_laws.proofs.Room.{HasRoom, AllHaveRoom, fewer, all_expire}
+use Rattle.rig_laws.proofs.Says.{IsRequestOf, IsForwarded, opening_is_answered, request_is_forwarded}
+use Rattle.rig_laws.proofs.Hears.{Suits, answer_is_heard}
+
+module _ (s : Setup) where
+  pub record Going (joined opened : ℕ) (requests : List Request) (queue : List ℕ) (events : List Event) : Type 0 where
+    pub sound : AreSound s events
+    pub names : greatest_name events ≡ joined
+    -- each stream ends with a whole message
+    pub whole : (c : ℕ) → (cut size_of (stream c events)).rest ≡ []
+    pub said : List ℕ
+    pub said_is : modem_stream size_of s.starts_away events ≡ Some said
+    pub said_whole : (cut size_of said).rest ≡ []
+    pub calm : Calm s joined opened requests queue (history s events)
+
+  -- nothing waits for a client that is there
+  abbrev pub IsServed : ℕ → List Event → Type 0
+  IsServed c events = is_present c (history s events) ≡ true → (text_for s c events).waiting ≡ []
+
+  abbrev pub AllAreServed : List Event → Type 0
+  AllAreServed events = (c : ℕ) → IsServed c events
+
+  all_have_room : (events : List Event) → AllAreServed events → AllHaveRoom s outbox_limit (EventBegan ∷ history s events)
+  unfolding view present
+  all_have_room events served c there =
+      let none : length (text_for s c events).waiting ≡ 0 = ap length (served c there) in
+      record { fits = nobody_there_is_over s events c there; room = omega (arith, none) }
+
+  is_there : {joined opened : ℕ} {requests : List Request} {queue : List ℕ} {past : List Fact} (c : ℕ) → Calm s joined opened requests queue past → 1 ≤ c → c ≤ joined → is_present c past ≡ true
+  is_there {joined} c calm low high = ap (contains c) calm.there ∙ in_range joined 1 c low (omega (arith, high))
+
+  -- ---- takings ----
+
+  pub taken : {joined opened : ℕ} {requests : List Request} {queue : List ℕ} {events : List Event} (c count : ℕ) → Going joined opened requests queue events → count ≤ queued_for (qmi_protocol s) c events
+      → Going joined opened requests queue (Took c count ∷ events)
+  unfolding proxy.history proxy.add_all stream modem_stream
+  taken {joined} {opened} {requests} {queue} {events} c count going within = record {
+    sound = (within, going.sound);
+    names = going.names;
+    whole = going.whole;
+    said = going.said;
+    said_is = going.said_is;
+    said_whole = going.said_whole;
+    calm =
+        let began : Calm s joined opened requests queue (EventBegan ∷ history s events) = begun s going.calm in
+        elim (is_present c (EventBegan ∷ history s events)) as (λ b. Calm s joined opened requests queue (if b then Drained c count ∷ EventBegan ∷ history s events else EventBegan ∷ history s events)) [ true ↦ drained s began c count | false ↦ began ];
+  }
+
+  pub modem_taken : {joined opened : ℕ} {requests : List Request} {queue : List ℕ} {events : List Event} (count : ℕ) → Going joined opened requests queue events → count ≡ length queue
+      → Going joined opened requests [] (ModemTook count ∷ events)
+  unfolding proxy.history proxy.add_all stream modem_stream
+  modem_taken {queue = queue} {events = events} count going is = record {
+    sound = (let waits : length (modem_queue wire (history s events)) ≡ length queue = ap length (queue_is s going.calm) in omega (arith, waits, is), going.sound);
+    names = going.names;
+    whole = going.whole;
+    said = going.said;
+    said_is = going.said_is;
+    said_whole = going.said_whole;
+    calm = modem_drained_all s (begun s going.calm) count is;
+  }
+
+  -- ---- a client joins ----
+
+  joined_whole : (b : Bool) (bytes : List ℕ) → (cut size_of bytes).rest ≡ [] → (cut size_of (if b then [] else bytes)).rest ≡ []
+  unfolding cut_from
+  joined_whole true bytes whole = refl
+  joined_whole false bytes whole = whole
+
+  pub joins : {joined : ℕ} {requests : List Request} {queue : List ℕ} {events : List Event} → Going joined 0 requests queue events → joined < connection_limit → Going (joined + 1) 0 requests queue (Joined (joined + 1) ∷ events)
+  unfolding proxy.history proxy.add_all stream modem_stream
+  joins {joined} {requests} {queue} {events} going few = record {
+    sound = (omega (arith, going.names), going.sound);
+    names = omega (arith, going.names);
+    whole = λ c. joined_whole (joined + 1 == c) (stream c events) (going.whole c);
+    said = going.said;
+    said_is = going.said_is;
+    said_whole = going.said_whole;
+    calm =
+        let began : Calm s joined 0 requests queue (EventBegan ∷ history s events) = begun s going.calm in
+        let count : length (present (EventBegan ∷ history s events)) ≡ joined = ap length began.there ∙ length-range joined 1 in
+        let test : nat_lt (length (present (EventBegan ∷ history s events))) connection_limit ≡ true = lt-ltb _ _ (omega (arith, count, few)) in
+        subst (λ (b : Bool). Calm s (joined + 1) 0 requests queue (if b then Admitted (joined + 1) ∷ EventBegan ∷ history s events else Ended (joined + 1) NotAdmitted ∷ EventBegan ∷ history s events)) (sym test) (admitted s began);
+  }
+
+  -- ---- a client says a message ----
+
+  module _ (events : List Event) (c : ℕ) (m : List ℕ) (whole : (d : ℕ) → (cut size_of (stream d events)).rest ≡ []) (is : IsMessage size_of m) where
+    piece_history : is_present c (history s events) ≡ true → history s (Piece c m ∷ events) ≡ hear_client s c m (EventBegan ∷ history s events)
+    unfolding proxy.history proxy.add_all present
+    piece_history there =
+        let ends = ends_message size_of size_of-kept size_of-positive refl (stream c events) m [] m (whole c) refl is in
+        let began : List Fact = EventBegan ∷ history s events in
+        ap (λ (l : List (List ℕ)). add_all s (map (λ m. Says c m) l ++ item_if (is_bad size_of (stream c events ++ m)) (Garbles c)) began) ends.messages
+        ∙ ap (λ (b : Bool). add_all s (map (λ m. Says c m) (m ∷ []) ++ item_if b (Garbles c)) began) ends.good
+        ∙ ap (λ (b : Bool). if b then hear_client s c m began else began) there
+
+    piece_whole : (d : ℕ) → (cut size_of (stream d (Piece c m ∷ events))).rest ≡ []
+    unfolding stream
+    piece_whole d =
+        elim (c == d) as (λ b. (cut size_of (if b then stream d events ++ m else stream d events)).rest ≡ []) [
+          | true ↦ (ends_message size_of size_of-kept size_of-positive refl (stream d events) m [] m (whole d) refl is).rest
+          | false ↦ whole d
+        ]
+
+  said_piece : {joined opened opened' : ℕ} {requests requests' : List Request} {queue queue' : List ℕ} {events : List Event} (c : ℕ) (m : List ℕ) → Going joined opened requests queue events
+      → IsMessage size_of m → length m ≤ piece_limit → Calm s joined opened' requests' queue' (history s (Piece c m ∷ events)) → Going joined opened' requests' queue' (Piece c m ∷ events)
+  unfolding modem_stream
+  said_piece {events = events} c m going is short calm = record {
+    sound = (short, going.sound);
+    names = going.names;
+    whole = piece_whole events c m going.whole is;
+    said = going.said;
+    said_is = going.said_is;
+    said_whole = going.said_whole;
+    calm = calm;
+  }
+
+  pub opens_device : {joined opened : ℕ} {requests : List Request} {queue : List ℕ} {events : List Event} (m : List ℕ) → Going joined opened requests queue events → AllAreServed events → opened < joined
+      → IsMessage size_of m → length m ≤ piece_limit → is_malformed m ≡ false → opens s.device m ≡ true → Going joined (opened + 1) requests queue (Piece (opened + 1) m ∷ events)
+  opens_device {joined} {opened} {requests} {queue} {events} m going served more is short fine opening =
+      let began : List Fact = EventBegan ∷ history s events in
+      let here : history s (Piece (opened + 1) m ∷ events) ≡ Judged (opened + 1) (message_count (opened + 1) began + 1) m Own ∷ began =
+      piece_history events (opened + 1) m going.whole is (is_there (opened + 1) going.calm (omega arith) (omega (arith, more)))
+      ∙ opening_is_answered s (opened + 1) m began (fewer s 20 outbox_limit began (omega arith) (all_have_room events served)) opening in
+      said_piece (opened + 1) m going is short
+      (subst (Calm s joined (opened + 1) requests queue) (sym here) (judged_opening s (begun s going.calm) (message_count (opened + 1) began + 1) m fine opening))
+
+  pub record HasAsked (joined opened : ℕ) (requests : List Request) (c : ℕ) (m : List ℕ) (events : List Event) : Type 0 where
+    pub r : Request
+    pub conn : r.conn ≡ c
+    pub message : r.message ≡ m
+    pub number : r.number ≤ top_of (space_of m)
+    pub going : Going joined opened (requests ++ r ∷ []) (wire r) events
+
+  pub asks : {joined opened : ℕ} {requests : List Request} {events : List Event} (c : ℕ) (m : List ℕ) → s.starts_away ≡ false → Going joined opened requests [] events → 1 ≤ c → c ≤ opened → opened ≤ joined → length requests ≤ 200
+      → IsRequestOf c m → HasAsked joined opened requests c m (Piece c m ∷ events)
+  asks {joined} {opened} {requests} {events} c m there going low high order few is =
+      let began : List Fact = EventBegan ∷ history s events in
+      let here : history s (Piece c m ∷ events) ≡ hear_client s c m began = piece_history events c m going.whole is.is_message (is_there c going.calm low (omega (arith, high, order))) in
+      let added : IsForwarded s c m joined opened requests (hear_client s c m began) = request_is_forwarded s c m joined opened requests began there (begun_is_sound s events) (begun s going.calm) low high few is in
+      record {
+        r = added.r;
+        conn = added.conn;
+        message = added.message;
+        number = added.number;
+        going = said_piece c m going is.is_message is.short (subst (Calm s joined opened (requests ++ added.r ∷ []) (wire added.r)) (sym here) added.calm);
+      }
+
+  -- ---- the modem answers ----
+
+  modem_history : (events : List Event) (before m : List ℕ) → modem_stream size_of s.starts_away events ≡ Some before → messages_of_piece size_of before m ≡ m ∷ [] → is_bad size_of (before ++ m) ≡ false
+      → history s (ModemPiece m ∷ events) ≡ hear_modem s.device m (EventBegan ∷ history s events)
+  unfolding proxy.history proxy.add_all
+  modem_history events before m stream_is messages_are good =
+      let began : List Fact = EventBegan ∷ history s events in
+      ap (λ (o : Option (List ℕ)). add_all s (modem_items (qmi_protocol s) m o) began) stream_is
+      ∙ ap (λ (l : List (List ℕ)). add_all s (map (λ m. ModemSays m) l ++ item_if (is_bad size_of (before ++ m)) ModemFails) began) messages_are
+      ∙ ap (λ (b : Bool). add_all s (map (λ m. ModemSays m) (m ∷ []) ++ item_if b ModemFails) began) good
+
+  placed : (events : List Event) (r : Request) → Contains (in_use (EventBegan ∷ history s events)) r → r.space ≡ space_of r.message
+  unfolding in_use
+  placed events r at = (was_asked (qmi_protocol s) (Asks s) (history s events) r (requests_are_asked s events) (forwarded_from_in_use (history s events) r at)).1.space
+
+  pub answers : {joined opened : ℕ} {events : List Event} (m : List ℕ) (before : List Request) (r : Request) (behind : List Request) → Suits m r → Going joined opened (before ++ r ∷ behind) [] events → AllAreServed events
+      → Going joined opened (before ++ behind) [] (ModemPiece m ∷ events)
+  unfolding stream modem_stream
+  answers {joined} {opened} {events} m before r behind suits going served =
+      let ends = ends_message size_of size_of-kept size_of-positive refl going.said m [] m going.said_whole refl suits.is_message in
+      let began : List Fact = EventBegan ∷ history s events in
+      let room : AllHaveRoom s piece_limit began = fewer s piece_limit outbox_limit began (omega arith) (all_have_room events served) in
+      let heard : Calm s joined opened (before ++ behind) [] (hear_modem s.device m began) =
+      answer_is_heard s m r suits joined opened before behind began (begun_is_sound s events) (placed events) (begun s going.calm) room in
+      record {
+        sound = (suits.short, going.sound);
+        names = going.names;
+        whole = going.whole;
+        said = going.said ++ m;
+        said_is = ap (with_piece size_of m) going.said_is ∙ ap (λ (b : Bool). if b then None else Some (going.said ++ m)) ends.good;
+        said_whole = ends.rest;
+        calm = subst (Calm s joined opened (before ++ behind) []) (sym (modem_history events going.said m going.said_is ends.messages ends.good)) heard;
+      }
+
+  -- ---- the time goes on ----
+
+  room_then : (count time : ℕ) (past : List Fact) → AllHaveRoom s count past → AllHaveRoom s count (TimeIs time ∷ past)
+  unfolding view present
+  room_then count time past has = has
+
+  pub goes_on : {joined opened : ℕ} {requests : List Request} {queue : List ℕ} {events : List Event} (time : ℕ) → Going joined opened requests queue events → AllAreServed events → length requests ≤ 200
+      → Going joined opened requests queue (Now time ∷ events)
+  unfolding proxy.history proxy.add_all stream modem_stream
+  goes_on {joined} {opened} {requests} {queue} {events} time going served few =
+      let began : List Fact = EventBegan ∷ history s events in
+      let shown : ℕ = max time (now began) in
+      let due_ones : List Request = in_expiry_order (due shown (pending began)) in
+      let calm : Calm s joined opened requests queue began = begun s going.calm in
+      let count : length due_ones ≤ 400 = let used : length (in_use began) ≡ length requests = ap length calm.uses in omega (arith, few_expire shown began, used, few) in
+      let room : AllHaveRoom s (20 * length due_ones) began = fewer s (20 * length due_ones) outbox_limit began (omega (arith, count)) (all_have_room events served) in
+      record {
+        sound = (tt, going.sound);
+        names = going.names;
+        whole = going.whole;
+        said = going.said;
+        said_is = going.said_is;
+        said_whole = going.said_whole;
+        calm = all_expire s due_ones (TimeIs shown ∷ began) (timed s calm shown) (room_then (20 * length due_ones) shown began room);
+      }

@@ -1,0 +1,138 @@
+-- Facts that tell nobody of others and refuse nothing, and what they leave as it is.
+use Rattle.std.proofs.Common.{◌≡◌, ℕ, Bool, true, false, not, ◌&&◌, ◌==◌, if◌then◌else◌, List, [], ◌∷◌, Some, refl, ap, sym, ◌∙◌, arith}
+use Rattle.std.specs.List.{AllByRecursion}
+use Rattle.std.proofs.lemmas.Bool.{eqb-true, eq-eqb, and_parts}
+use Rattle.kit_bytes.proofs.Lists.{all_filter, all_push}
+use Rattle.proxy_history.specs.Facts.{Fact, Own, Foreign, Away, Full, Forward, Ready, Waits, Admitted, Ended, Judged, Drained, Answered, IdHeld, Expired, Aborted, Indicated, OpeningEnded, SessionsClosed, Granted, Freed, Reset, ModemLost, ModemReturned}
+use Rattle.proxy_history.specs.Connections.{contains}
+use Rattle.proxy_history.specs.ClientIds.{Grant, is_of, held, holder_in, holder, is_other}
+use Rattle.proxy_history.specs.Modem.{is_away}
+use Rattle.proxy_history.specs.View.{Entry, Sent, Response, Refused, Indication, OpenedWith, Shut, Collected, NoAnswer, entry_if, view}
+use Rattle.proxy_solo.specs.Law.{tells_of_others}
+use Rattle.qmux_frame.specs.Control.{is_sync, is_proxy_open}
+use Rattle.qmi_proxy.specs.Setup.{Setup}
+use Rattle.qmi_proxy.specs.Errors.{malformed_message, no_error, internal, invalid_client_id}
+use Rattle.qmi_proxy.specs.Messages.{is_malformed, opens}
+use Rattle.qmi_proxy.specs.OwnReplies.{is_open, own_error}
+use Rattle.qmi_proxy.specs.Text.{blank, view_of}
+use Rattle.rig_runs.specs.Counts as rig
+use Rattle.rig_runs.specs.Lines.{one_if, refused}
+
+module _ (s : Setup) where
+  -- nobody ends, and the modem stays; a message opens the device or is forwarded; each client id is that of its client's own number
+  abbrev pub IsHarmless : Fact → Type 0
+  IsHarmless (Ended c why) = ⊥
+  IsHarmless (Judged c place m Own) = (is_malformed m ≡ false) × (opens s.device m ≡ true)
+  IsHarmless (Judged c place m Forward) = Unit {0}
+  IsHarmless (Judged c place m verdict) = ⊥
+  IsHarmless (IdHeld r) = ⊥
+  IsHarmless (Granted c service client) = client ≡ c
+  IsHarmless (Freed c service client) = ⊥
+  IsHarmless Reset = ⊥
+  IsHarmless ModemLost = ⊥
+  IsHarmless _ = Unit {0}
+
+  abbrev pub AreHarmless : List Fact → Type 0
+  AreHarmless past = AllByRecursion IsHarmless past
+
+  -- ---- nobody is told of others ----
+
+  abbrev pub AreUndisturbed : List Entry → Type 0
+  AreUndisturbed entries = AllByRecursion (λ entry. tells_of_others entry ≡ false) entries
+
+  undisturbed_entry : (b : Bool) (entry : Entry) (entries : List Entry) → tells_of_others entry ≡ false → AreUndisturbed entries → AreUndisturbed (entry_if b entry entries)
+  undisturbed_entry true entry entries here rest = (here, rest)
+  undisturbed_entry false entry entries here rest = rest
+
+  undisturbed_joining : (b : Bool) (entries : List Entry) → AreUndisturbed entries → AreUndisturbed (if b then [] else entries)
+  undisturbed_joining true entries rest = tt
+  undisturbed_joining false entries rest = rest
+
+  pub undisturbed : (c : ℕ) (past : List Fact) → AreHarmless past → AreUndisturbed (view_of c past)
+  unfolding view
+  undisturbed c [] all = tt
+  undisturbed c (Admitted d ∷ past) all = undisturbed_joining (d == c) (view_of c past) (undisturbed c past all.1)
+  undisturbed c (Ended d why ∷ past) all = absurd all.0
+  undisturbed c (Judged d place m Own ∷ past) all = undisturbed_entry (d == c) (Sent m Own) (view_of c past) refl (undisturbed c past all.1)
+  undisturbed c (Judged d place m Forward ∷ past) all = undisturbed_entry (d == c) (Sent m Forward) (view_of c past) refl (undisturbed c past all.1)
+  undisturbed c (Judged d place m Foreign ∷ past) all = absurd all.0
+  undisturbed c (Judged d place m Away ∷ past) all = absurd all.0
+  undisturbed c (Judged d place m Full ∷ past) all = absurd all.0
+  undisturbed c (Judged d place m Ready ∷ past) all = absurd all.0
+  undisturbed c (Judged d place m Waits ∷ past) all = absurd all.0
+  undisturbed c (Answered r m ∷ past) all = undisturbed_entry (r.conn == c) (Response r.place (blank m)) (view_of c past) refl (undisturbed c past all.1)
+  undisturbed c (IdHeld r ∷ past) all = absurd all.0
+  undisturbed c (Expired r ∷ past) all = undisturbed_entry (r.conn == c) (Refused r.place NoAnswer) (view_of c past) refl (undisturbed c past all.1)
+  undisturbed c (Aborted r ∷ past) all = undisturbed_entry (r.conn == c) (Refused r.place NoAnswer) (view_of c past) refl (undisturbed c past all.1)
+  undisturbed c (Indicated m receivers ∷ past) all = undisturbed_entry (contains c receivers) (Indication m) (view_of c past) refl (undisturbed c past all.1)
+  undisturbed c (OpeningEnded status receivers ∷ past) all = undisturbed_entry (contains c receivers) (OpenedWith status) (view_of c past) refl (undisturbed c past all.1)
+  undisturbed c (SessionsClosed receivers ∷ past) all = undisturbed_entry (contains c receivers) Shut (view_of c past) refl (undisturbed c past all.1)
+  undisturbed c (Drained d count ∷ past) all = undisturbed_entry (d == c) (Collected count) (view_of c past) refl (undisturbed c past all.1)
+  undisturbed c (_ ∷ past) all = undisturbed c past all.1
+
+  -- ---- nothing is refused ----
+
+  error_by : (malformed opening : Bool) (other : ℕ) → malformed ≡ false → opening ≡ true → (if malformed then malformed_message else if opening then no_error else other) ≡ 0
+  error_by true opening other fine opens = absurd (cc)
+  error_by false true other fine opens = refl
+  error_by false false other fine opens = absurd (cc)
+
+  opening_is_answered : (opened : Bool) (m : List ℕ) → is_malformed m ≡ false → opens s.device m ≡ true → own_error s.device opened m ≡ 0
+  opening_is_answered opened m fine opening =
+      error_by (is_malformed m) (opens s.device m) (if is_proxy_open m then internal else if not opened then internal else if is_sync m then no_error else invalid_client_id) fine opening
+
+  pub none_refused : (past : List Fact) → AreHarmless past → refused s past ≡ 0
+  unfolding rig.refused
+  none_refused [] all = refl
+  none_refused (Judged c place m Own ∷ past) all =
+      let own : one_if (not (own_error s.device (is_open s.device (view_of c past)) m == 0)) ≡ 0 =
+      ap (λ (n : ℕ). one_if (not (n == 0))) (opening_is_answered (is_open s.device (view_of c past)) m all.0.0 all.0.1) in
+      omega (arith, own, none_refused past all.1)
+  none_refused (Judged c place m Forward ∷ past) all = omega (arith, none_refused past all.1)
+  none_refused (Judged c place m Foreign ∷ past) all = absurd all.0
+  none_refused (Judged c place m Away ∷ past) all = absurd all.0
+  none_refused (Judged c place m Full ∷ past) all = absurd all.0
+  none_refused (Judged c place m Ready ∷ past) all = absurd all.0
+  none_refused (Judged c place m Waits ∷ past) all = absurd all.0
+  none_refused (_ ∷ past) all = none_refused past all.1
+
+  -- ---- the modem is there ----
+
+  pub is_there : s.starts_away ≡ false → (past : List Fact) → AreHarmless past → is_away s.starts_away past ≡ false
+  unfolding is_away
+  is_there there [] all = there
+  is_there there (ModemLost ∷ past) all = absurd all.0
+  is_there there (ModemReturned ∷ past) all = refl
+  is_there there (_ ∷ past) all = is_there there past all.1
+
+  -- ---- client ids ----
+
+  abbrev AreOwn : List Grant → Type 0
+  AreOwn grants = AllByRecursion (λ g. g.client ≡ g.conn) grants
+
+  ids_are_own : (past : List Fact) → AreHarmless past → AreOwn (held past)
+  unfolding held
+  ids_are_own [] all = tt
+  ids_are_own (Granted c service client ∷ past) all =
+      all_push (λ (g : Grant). g.client ≡ g.conn) _ _ (all_filter (λ (g : Grant). g.client ≡ g.conn) (λ (g : Grant). not (is_of service client g)) (held past) (ids_are_own past all.1)) all.0
+  ids_are_own (Freed c service client ∷ past) all = absurd all.0
+  ids_are_own (Ended c why ∷ past) all = absurd all.0
+  ids_are_own (Reset ∷ past) all = absurd all.0
+  ids_are_own (ModemLost ∷ past) all = absurd all.0
+  ids_are_own (_ ∷ past) all = ids_are_own past all.1
+
+  nobody_else : (c service : ℕ) (grants : List Grant) → AreOwn grants → is_other c (holder_in service c grants) ≡ false
+  nobody_else c service [] all = refl
+  nobody_else c service (g ∷ grants) all =
+      let step : (b : Bool) → is_of service c g ≡ b → is_other c (if b then Some g.conn else holder_in service c grants) ≡ false =
+      λ b. elim b as (λ b. is_of service c g ≡ b → is_other c (if b then Some g.conn else holder_in service c grants) ≡ false) [
+        | true ↦ λ e.
+            let id : g.client ≡ c = eqb-true g.client c (and_parts (g.service == service) (g.client == c) e).1 in
+            ap (λ (b : Bool). not b) (eq-eqb g.conn c (sym all.0 ∙ id))
+        | false ↦ λ e. nobody_else c service grants all.1
+      ]
+      in step (is_of service c g) refl
+
+  -- nobody else holds the id that has the client's own number
+  pub own_id_is_free : (c service : ℕ) (past : List Fact) → AreHarmless past → is_other c (holder service c past) ≡ false
+  own_id_is_free c service past all = nobody_else c service (held past) (ids_are_own past all)

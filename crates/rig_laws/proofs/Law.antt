@@ -1,0 +1,105 @@
+-- Whatever is drawn, each client of a rig gets the bytes that it gets alone.
+use Rattle.std.proofs.Common.{◌≡◌, ℕ, ◌≤◌, Bool, true, false, not, ◌&&◌, ◌==◌, List, [], ◌∷◌, ◌++◌, length, filter, codes, decimal, bytes_eq, refl, ap, sym, ◌∙◌, subst, append_assoc}
+use Rattle.std.specs.List.{list_all, range_with_len}
+use Rattle.std.proofs.lemmas.Bool.{and_from, eq-eqb, not_from_false}
+use Rattle.std.proofs.lemmas.List.Elements.{All-from_recursion}
+use Rattle.proxy_history.specs.Events.{Event}
+use Rattle.proxy_history.specs.View.{Entry}
+use Rattle.proxy_history.specs.Rendering.{Rendering}
+use Rattle.proxy_solo.specs.Law.{tells_of_others}
+use Rattle.proxy_solo.proofs.Lists.{every}
+use Rattle.qmi_proxy.specs.Text.{view_of}
+use Rattle.qmi_proxy.specs.History.{history, text_for}
+use Rattle.qmi_solo.specs.Law.{AreSound, IsLetAlone}
+use Rattle.qmi_solo.specs.Solo.{solo}
+use Rattle.qmi_solo.proofs.Law.{gets_the_same_alone}
+use Rattle.rig_runs.specs.Qmi.{setup, script, qmi_rig}
+use Rattle.rig_runs.specs.Qmi as rig
+use Rattle.rig_runs.specs.Rig.{played, ended}
+use Rattle.rig_runs.specs.Lines.{is_let_alone, gets_the_same, refused, counted, equal, Summary, summary, line, lines_of}
+use Rattle.rig_laws.specs.Laws.{EventsMayCome, NobodyIsDisturbed, EachGetsTheSame, NothingIsRefused, EndsWithAll, LastLinesSayAll, last_line}
+use Rattle.rig_laws.proofs.Lists.{filter-all, length-range}
+use Rattle.rig_laws.proofs.Harmless.{AreUndisturbed, undisturbed, none_refused}
+use Rattle.rig_laws.proofs.Turns.{IsUsual, all_is_usual}
+
+same_bytes : (bytes : List ℕ) → bytes_eq bytes bytes ≡ true
+same_bytes [] = refl
+same_bytes (byte ∷ bytes) = and_from (byte == byte) (bytes_eq bytes bytes) (eq-eqb byte byte refl) (same_bytes bytes)
+
+let_alone : (entries : List Entry) → AreUndisturbed setup entries → list_all (λ entry. not (tells_of_others entry)) entries ≡ true
+let_alone [] all = refl
+let_alone (entry ∷ entries) all = and_from (not (tells_of_others entry)) (list_all (λ e. not (tells_of_others e)) entries) (not_from_false (tells_of_others entry) all.0) (let_alone entries all.1)
+
+module _ (clients turns number : ℕ) (some : 1 ≤ clients) (within : clients ≤ 64) where
+  abbrev events : List Event
+  events = qmi_rig clients turns number
+
+  usual : IsUsual clients some within (ended (rig.cast clients) (played (rig.cast clients) script turns number))
+  usual = all_is_usual clients some within turns number
+
+  sound : AreSound setup events
+  sound = usual.stands.going.sound
+
+  nobody : (c : ℕ) → AreUndisturbed setup (view_of c (history setup events))
+  nobody c = undisturbed setup c (history setup events) usual.stands.going.calm.harmless
+
+  all_are_counted : counted setup clients events ≡ range_with_len 1 clients
+  all_are_counted =
+      filter-all (is_let_alone setup (history setup events)) (range_with_len 1 clients)
+      (every (λ (c : ℕ). is_let_alone setup (history setup events) c ≡ true) (λ c. let_alone (view_of c (history setup events)) (nobody c)) (range_with_len 1 clients))
+
+  gets_it : (c : ℕ) → gets_the_same setup events c ≡ true
+  gets_it c =
+      let alone : IsLetAlone setup c events = record { sound = sound; undisturbed = All-from_recursion (λ (entry : Entry). tells_of_others entry ≡ false) (view_of c (history setup events)) (nobody c) } in
+      ap (λ (r : Rendering). bytes_eq (text_for setup c events).bytes r.bytes) (gets_the_same_alone setup c events alone) ∙ same_bytes (text_for setup c events).bytes
+
+  all_are_equal : equal setup clients events ≡ range_with_len 1 clients
+  all_are_equal =
+      ap (filter (gets_the_same setup events)) all_are_counted
+      ∙ filter-all (gets_the_same setup events) (range_with_len 1 clients) (every (λ (c : ℕ). gets_the_same setup events c ≡ true) gets_it (range_with_len 1 clients))
+
+  nothing_refused : refused setup (history setup events) ≡ 0
+  nothing_refused = none_refused setup (history setup events) usual.stands.going.calm.harmless
+
+pub events_may_come : EventsMayCome
+events_may_come clients turns number some within = sound clients turns number some within
+
+pub nobody_is_disturbed : NobodyIsDisturbed
+nobody_is_disturbed clients turns number some within = all_are_counted clients turns number some within
+
+pub each_gets_the_same : EachGetsTheSame
+each_gets_the_same clients turns number some within = all_are_equal clients turns number some within
+
+pub nothing_is_refused : NothingIsRefused
+nothing_is_refused clients turns number some within = nothing_refused clients turns number some within
+
+-- ---- the lines ----
+
+abbrev first_lines : Summary → List ℕ
+first_lines s =
+    line (codes "clients") s.clients ++ line (codes "turns") s.turns ++ line (codes "forwarded") s.forwarded ++ line (codes "answered") s.answered
+    ++ line (codes "expired") s.expired ++ line (codes "late") s.late ++ codes "refused" ++ codes " " ++ decimal s.refused
+
+abbrev equal_line : (n m : ℕ) → List ℕ
+equal_line n m = codes "equal " ++ decimal n ++ codes " of " ++ decimal m ++ codes "\n"
+
+-- lines that are put together from the front
+together : (a b c d e f g h i j k l m n o : List ℕ) → a ++ b ++ c ++ d ++ e ++ f ++ (g ++ h ++ i ++ j) ++ k ++ l ++ m ++ n ++ o ≡ (a ++ b ++ c ++ d ++ e ++ f ++ g ++ h ++ i) ++ j ++ (k ++ l ++ m ++ n ++ o)
+together a b c d e f g h i j k l m n o = simp append_assoc
+
+lines_end : (s : Summary) → lines_of s ≡ first_lines s ++ codes "\n" ++ equal_line s.equal s.counted
+lines_end s =
+    together (line (codes "clients") s.clients) (line (codes "turns") s.turns) (line (codes "forwarded") s.forwarded) (line (codes "answered") s.answered)
+    (line (codes "expired") s.expired) (line (codes "late") s.late) (codes "refused") (codes " ") (decimal s.refused) (codes "\n")
+    (codes "equal ") (decimal s.equal) (codes " of ") (decimal s.counted) (codes "\n")
+
+pub last_lines_say_all : LastLinesSayAll
+last_lines_say_all clients turns number some within =
+    let events : List Event = qmi_rig clients turns number in
+    let s : Summary = summary setup clients turns events in
+    let same : length (equal setup clients events) ≡ clients = ap length (each_gets_the_same clients turns number some within) ∙ length-range clients 1 in
+    let all : length (counted setup clients events) ≡ clients = ap length (nobody_is_disturbed clients turns number some within) ∙ length-range clients 1 in
+    record {
+      others = first_lines s;
+      whole = lines_end s ∙ ap (λ (n : ℕ). first_lines s ++ codes "\n" ++ equal_line n s.counted) same ∙ ap (λ (n : ℕ). first_lines s ++ codes "\n" ++ equal_line clients n) all;
+    }

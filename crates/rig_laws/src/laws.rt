@@ -1,0 +1,16 @@
+ghost use Rattle.rig_laws.specs.Laws.{EventsMayCome, NobodyIsDisturbed, EachGetsTheSame, NothingIsRefused, LastLinesSayAll};
+
+/// The law that a proxy can be run on the events of any rig, and that none of its messages is answered
+/// with an error.
+pub fn rigs_can_be_run()
+    ensures sound { EventsMayCome }
+    ensures refused { NothingIsRefused }
+{}
+
+/// The law that each client of a rig is let alone, and gets the bytes that it gets alone: the last line
+/// of a summary says so of all of them.
+pub fn each_client_gets_the_same()
+    ensures undisturbed { NobodyIsDisturbed }
+    ensures same { EachGetsTheSame }
+    ensures line { LastLinesSayAll }
+{}

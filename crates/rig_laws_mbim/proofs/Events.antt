@@ -1,0 +1,308 @@
+-- What holds of a rig's events at every moment, and how each event keeps it. Lists of events and of facts have the newest first.
+use Rattle.std.proofs.Common.{◌≡◌, ℕ, ◌+◌, ◌*◌, ◌^◌, ◌<◌, ◌≤◌, max, Bool, true, false, ◌==◌, nat_le, nat_lt, if◌then◌else◌, List, [], ◌∷◌, ◌++◌, length, map, filter, Option, Some, None, refl, ap, sym, ◌∙◌, arith, subst, lit≤, Contains}
+use Rattle.std.specs.List.{range_with_len, AllByRecursion}
+use Rattle.std.proofs.lemmas.Bool.{lt-ltb}
+use Rattle.kit_bytes.proofs.Lists.{all_filter}
+use Rattle.framing.specs.Framing.{IsMessage}
+use Rattle.framing.specs.Cutting.{cut, cut_from}
+use Rattle.mbim_frame.specs.declared.kind.MessageKind.TheVariants.{CommandDone}
+use Rattle.mbim_frame.specs.Frame.{size_of}
+use Rattle.mbim_frame.specs.Framing.{size_of-kept, size_of-positive}
+use Rattle.proxy_history.specs.Events.{Event, Joined, Piece, ModemPiece, Now, Took, ModemTook}
+use Rattle.proxy_history.specs.Coming.{piece_limit, greatest_name, queued_for, AreSound}
+use Rattle.proxy_history.specs.Streams.{stream, modem_stream, with_piece, messages_of_piece, is_bad}
+use Rattle.proxy_history.specs.Items.{Item, Says, Garbles, ModemSays, ModemFails, item_if, modem_items}
+use Rattle.proxy_history.specs.Facts.{Fact, Request, EventBegan, Own, Ready, Waits, NotAdmitted, Ended, Admitted, Judged, Drained, TimeIs}
+use Rattle.proxy_history.specs.Connections.{present, is_present, contains, message_count}
+use Rattle.proxy_history.specs.Requests.{in_use, pending}
+use Rattle.proxy_history.specs.Modem.{now, to_modem, modem_drained, modem_queue}
+use Rattle.proxy_history.specs.View.{view}
+use Rattle.proxy_history.specs.Unanswered.{due}
+use Rattle.proxy_history.specs.History as proxy
+use Rattle.proxy_history.specs.History.{add_all}
+use Rattle.proxy_history.proofs.Walk.{was_asked, all_fit}
+use Rattle.proxy_history.proofs.Sound.{forwarded_from_in_use}
+use Rattle.proxy_solo.proofs.Pieces.{ends_message}
+use Rattle.mbim_proxy.specs.Setup.{the_space}
+use Rattle.mbim_proxy.specs.Known.{Known}
+use Rattle.mbim_proxy.specs.Step.{known_now}
+use Rattle.mbim_proxy.specs.ModemStates.{is_own_open}
+use Rattle.mbim_proxy.specs.Forwarding.{own_open, wire, request_of}
+use Rattle.mbim_proxy.specs.Clients.{hear_client}
+use Rattle.mbim_proxy.specs.FromModem.{hear_modem}
+use Rattle.mbim_proxy.specs.OwnList.{finish}
+use Rattle.mbim_proxy.specs.History.{mbim_protocol, history, text_for}
+use Rattle.mbim_proxy.proofs.Walk.{Asks, orderly}
+use Rattle.mbim_proxy.proofs.Sound.{histories_are_sound, requests_are_asked}
+use Rattle.mbim_solo.proofs.Spoken.{IsQuiet, SaysOne, comes_at_once, answer_says_one, plain_says_one}
+use Rattle.rig_runs.specs.Mbim.{setup}
+use Rattle.rig_runs.specs.MbimExamples.{configuration, open_2}
+use Rattle.rig_laws.proofs.Lists.{in_range, length-range}
+use Rattle.rig_laws_mbim.proofs.Few.{few_expire, commands_wait}
+use Rattle.rig_laws_mbim.proofs.Messages.{configuration_is, opening_is, query, cid_for, query_is, answer, answer_body, answer_is, own_open_under, opened, modem_is_opened}
+use Rattle.rig_laws_mbim.proofs.Calm.{Calm, Progress, shut, opening, ready, queue_is, begun, timed, drained, modem_drained_all, admitted, judged_configuration, one_more_configured, judged_ready, asks_to_open, finished}
+use Rattle.rig_laws_mbim.proofs.Room.{HasRoom, AllHaveRoom, outbox, fewer, all_expire}
+use Rattle.rig_laws_mbim.proofs.Says.{HasNumber, has_number, configuration_is_heard, open_is_heard, first_is_heard, IsForwarded, query_is_forwarded}
+use Rattle.rig_laws_mbim.proofs.Hears.{Suits, answer_is_heard, opening_is_heard}
+
+pub record Going (w : Progress) (requests : List Request) (queue : List ℕ) (events : List Event) : Type 0 where
+  pub sound : AreSound (mbim_protocol setup) events
+  pub names : greatest_name events ≡ w.joined
+  -- each stream ends with a whole message
+  pub whole : (c : ℕ) → (cut size_of (stream c events)).rest ≡ []
+  pub said : List ℕ
+  pub said_is : modem_stream size_of false events ≡ Some said
+  pub quiet : IsQuiet setup said
+  pub calm : Calm w requests queue (history setup events)
+
+-- nothing waits for a client that is there
+abbrev pub IsServed : ℕ → List Event → Type 0
+IsServed c events = is_present c (history setup events) ≡ true → (text_for setup c events).waiting ≡ []
+
+abbrev pub AllAreServed : List Event → Type 0
+AllAreServed events = (c : ℕ) → IsServed c events
+
+abbrev began : List Event → List Fact
+began events = EventBegan ∷ history setup events
+
+all_have_room : (events : List Event) → AllAreServed events → AllHaveRoom outbox (began events)
+unfolding view present
+all_have_room events served c there =
+    let none : length (text_for setup c events).waiting ≡ 0 = ap length (served c there) in
+    record { fits = all_fit (mbim_protocol setup) (Asks setup) (orderly setup) events c there; room = omega (arith, none) }
+
+is_there : {w : Progress} {requests : List Request} {queue : List ℕ} {past : List Fact} (c : ℕ) → Calm w requests queue past → 1 ≤ c → c ≤ w.joined → is_present c past ≡ true
+is_there {w} c calm low high = ap (contains c) calm.there ∙ in_range w.joined 1 c low (omega (arith, high))
+
+-- ---- takings ----
+
+pub taken : {w : Progress} {requests : List Request} {queue : List ℕ} {events : List Event} (c count : ℕ) → Going w requests queue events → count ≤ queued_for (mbim_protocol setup) c events
+    → Going w requests queue (Took c count ∷ events)
+unfolding proxy.history proxy.add_all stream modem_stream
+taken {w} {requests} {queue} {events} c count going within = record {
+  sound = (within, going.sound);
+  names = going.names;
+  whole = going.whole;
+  said = going.said;
+  said_is = going.said_is;
+  quiet = going.quiet;
+  calm =
+      let calm : Calm w requests queue (began events) = begun going.calm in
+      finished (elim (is_present c (began events)) as (λ b. Calm w requests queue (if b then Drained c count ∷ began events else began events)) [ true ↦ drained calm c count | false ↦ calm ]);
+}
+
+pub modem_taken : {w : Progress} {requests : List Request} {queue : List ℕ} {events : List Event} (count : ℕ) → Going w requests queue events → count ≡ length queue → Going w requests [] (ModemTook count ∷ events)
+unfolding proxy.history proxy.add_all stream modem_stream
+modem_taken {w} {requests} {queue} {events} count going is = record {
+  sound = (let waits : length (modem_queue (wire setup) (history setup events)) ≡ length queue = ap length (queue_is going.calm) in omega (arith, waits, is), going.sound);
+  names = going.names;
+  whole = going.whole;
+  said = going.said;
+  said_is = going.said_is;
+  quiet = going.quiet;
+  calm = finished (modem_drained_all (begun going.calm) count is);
+}
+
+-- ---- a client joins ----
+
+joined_whole : (b : Bool) (bytes : List ℕ) → (cut size_of bytes).rest ≡ [] → (cut size_of (if b then [] else bytes)).rest ≡ []
+unfolding cut_from
+joined_whole true bytes whole = refl
+joined_whole false bytes whole = whole
+
+pub joins : {joined : ℕ} {requests : List Request} {queue : List ℕ} {events : List Event} → Going (shut joined 0) requests queue events → joined < 64 → Going (shut (joined + 1) 0) requests queue (Joined (joined + 1) ∷ events)
+unfolding proxy.history proxy.add_all stream modem_stream
+joins {joined} {requests} {queue} {events} going few = record {
+  sound = (omega (arith, going.names), going.sound);
+  names = omega (arith, going.names);
+  whole = λ c. joined_whole (joined + 1 == c) (stream c events) (going.whole c);
+  said = going.said;
+  said_is = going.said_is;
+  quiet = going.quiet;
+  calm =
+      let calm : Calm (shut joined 0) requests queue (began events) = begun going.calm in
+      let count : length (present (began events)) ≡ joined = ap length calm.there ∙ length-range joined 1 in
+      let test : nat_lt (length (present (began events))) 64 ≡ true = lt-ltb _ _ (omega (arith, count, few)) in
+      finished (subst (λ (b : Bool). Calm (shut (joined + 1) 0) requests queue (if b then Admitted (joined + 1) ∷ began events else Ended (joined + 1) NotAdmitted ∷ began events)) (sym test) (admitted calm));
+}
+
+-- ---- a client says a message ----
+
+module _ (events : List Event) (c : ℕ) (m : List ℕ) (whole : (d : ℕ) → (cut size_of (stream d events)).rest ≡ []) (is : IsMessage size_of m) where
+  piece_history : is_present c (history setup events) ≡ true → history setup (Piece c m ∷ events) ≡ finish setup (hear_client setup (known_now setup c (began events)) c m (began events))
+  unfolding proxy.history proxy.add_all present
+  piece_history there =
+      let ends = ends_message size_of size_of-kept size_of-positive refl (stream c events) m [] m (whole c) refl is in
+      let p = mbim_protocol setup in
+      ap (λ (l : List (List ℕ)). finish setup (add_all p (map (λ m. Says c m) l ++ item_if (is_bad size_of (stream c events ++ m)) (Garbles c)) (began events))) ends.messages
+      ∙ ap (λ (b : Bool). finish setup (add_all p (map (λ m. Says c m) (m ∷ []) ++ item_if b (Garbles c)) (began events))) ends.good
+      ∙ ap (λ (b : Bool). finish setup (if b then hear_client setup (known_now setup c (began events)) c m (began events) else began events)) there
+
+  piece_whole : (d : ℕ) → (cut size_of (stream d (Piece c m ∷ events))).rest ≡ []
+  unfolding stream
+  piece_whole d =
+      elim (c == d) as (λ b. (cut size_of (if b then stream d events ++ m else stream d events)).rest ≡ []) [
+        | true ↦ (ends_message size_of size_of-kept size_of-positive refl (stream d events) m [] m (whole d) refl is).rest
+        | false ↦ whole d
+      ]
+
+-- where the message is heard so
+said_piece : {w v : Progress} {requests requests_then : List Request} {queue queue_then : List ℕ} {events : List Event} (c : ℕ) (m : List ℕ) → Going w requests queue events
+    → 1 ≤ c → c ≤ w.joined → v.joined ≡ w.joined → IsMessage size_of m → length m ≤ piece_limit → Calm v requests_then queue_then (hear_client setup (known_now setup c (began events)) c m (began events)) → Going v requests_then queue_then (Piece c m ∷ events)
+unfolding modem_stream
+said_piece {v = v} {requests_then = requests_then} {queue_then = queue_then} {events = events} c m going low high joined is short calm = record {
+  sound = (short, going.sound);
+  names = going.names ∙ sym joined;
+  whole = piece_whole events c m going.whole is;
+  said = going.said;
+  said_is = going.said_is;
+  quiet = going.quiet;
+  calm = subst (Calm v requests_then queue_then) (sym (piece_history events c m going.whole is (is_there c going.calm low high))) (finished calm);
+}
+
+-- its configuration
+pub configures : {w : Progress} {requests : List Request} {queue : List ℕ} {events : List Event} → Going w requests queue events → AllAreServed events → w.configured < w.joined
+    → Going (one_more_configured w) requests queue (Piece (w.configured + 1) configuration ∷ events)
+configures {w} {requests} {queue} {events} going served more =
+    let c : ℕ = w.configured + 1 in
+    let calm : Calm w requests queue (began events) = begun going.calm in
+    let heard = configuration_is_heard c (began events) calm (fewer 200 outbox (began events) (omega arith) (all_have_room events served)) in
+    said_piece c configuration going (omega arith) (omega (arith, more)) refl configuration_is.is_message configuration_is.short
+    (subst (Calm (one_more_configured w) requests queue) (sym heard) (judged_configuration calm (message_count c (began events) + 1)))
+
+-- its request to open, of an open modem
+pub finds_open : {joined configured opened : ℕ} {requests : List Request} {queue : List ℕ} {events : List Event} → Going (ready joined configured opened) requests queue events → AllAreServed events → opened < configured → configured ≤ joined
+    → Going (ready joined configured (opened + 1)) requests queue (Piece (opened + 1) open_2 ∷ events)
+finds_open {joined} {configured} {opened} {requests} {queue} {events} going served more within =
+    let c : ℕ = opened + 1 in
+    let calm : Calm (ready joined configured opened) requests queue (began events) = begun going.calm in
+    let heard = open_is_heard c (began events) calm (omega arith) (omega (arith, more)) (fewer 200 outbox (began events) (omega arith) (all_have_room events served)) in
+    said_piece c open_2 going (omega arith) (omega (arith, more, within)) refl opening_is.is_message opening_is.short
+    (subst (Calm (ready joined configured (opened + 1)) requests queue) (sym heard) (judged_ready calm (omega (arith, more, within)) (message_count c (began events) + 1)))
+
+-- or the first, by which the proxy asks the modem
+pub record HasOpened (joined : ℕ) (events : List Event) : Type 0 where
+  pub r : Request
+  pub own : r.conn ≡ 0
+  pub opens : is_own_open r ≡ true
+  pub below : r.number < 2 ^ 32
+  pub wire_is : wire setup r ≡ own_open_under r.number
+  pub going : Going (opening joined) (r ∷ []) (wire setup r) events
+
+pub opens_modem : {joined : ℕ} {events : List Event} → Going (shut joined 1) [] [] events → 1 ≤ joined → HasOpened joined (Piece 1 open_2 ∷ events)
+opens_modem {joined} {events} going some =
+    let calm : Calm (shut joined 1) [] [] (began events) = begun going.calm in
+    let given : HasNumber (own_open setup) (began events) = has_number (own_open setup) calm (omega arith) (lit≤ tt) in
+    let place : ℕ = message_count 1 (began events) + 1 in
+    let r : Request = request_of setup 0 (own_open setup) given.number (Judged 1 place open_2 Waits ∷ began events) in
+    let heard = first_is_heard 1 (began events) given.number calm (omega arith) (omega arith) given.found in
+    record {
+      r = r;
+      own = refl;
+      opens = (modem_is_opened 0).is_own;
+      below = given.below;
+      wire_is = (modem_is_opened given.number).wire;
+      going =
+          said_piece 1 open_2 going (omega arith) some refl opening_is.is_message opening_is.short
+          (subst (Calm (opening joined) (r ∷ []) (wire setup r)) (sym heard) (asks_to_open calm place r (modem_is_opened 0).is_own));
+    }
+
+pub record HasAsked (joined configured opened choice : ℕ) (requests : List Request) (events : List Event) : Type 0 where
+  pub r : Request
+  pub command : is_own_open r ≡ false
+  pub number : r.number < 2 ^ 32
+  pub wire_is : wire setup r ≡ query (cid_for choice) r.number
+  pub going : Going (ready joined configured opened) (requests ++ r ∷ []) (wire setup r) events
+
+pub asks : {joined configured opened : ℕ} {requests : List Request} {events : List Event} (c choice own : ℕ) → Going (ready joined configured opened) requests [] events → 1 ≤ c → c ≤ opened → opened ≤ joined → length requests ≤ 200
+    → HasAsked joined configured opened choice requests (Piece c (query (cid_for choice) own) ∷ events)
+asks {joined} {configured} {opened} {requests} {events} c choice own going low high order few =
+    let added : IsForwarded c (began events) choice own joined configured opened requests (hear_client setup (known_now setup c (began events)) c (query (cid_for choice) own) (began events)) =
+    query_is_forwarded c (began events) choice own (begun going.calm) low high few in
+    let q = query_is choice in
+    record {
+      r = added.r;
+      command = added.command;
+      number = added.number;
+      wire_is = added.wire_is;
+      going = said_piece c (query (cid_for choice) own) going low (omega (arith, high, order)) refl (q.is_message own) (let short = q.short own in omega (arith, short)) added.calm;
+    }
+
+-- ---- the modem answers ----
+
+modem_history : (events : List Event) (before m : List ℕ) → modem_stream size_of false events ≡ Some before → modem_items (mbim_protocol setup) m (Some before) ≡ ModemSays m ∷ []
+    → history setup (ModemPiece m ∷ events) ≡ finish setup (hear_modem setup m (began events))
+unfolding proxy.history proxy.add_all
+modem_history events before m stream_is items_are =
+    ap (λ (o : Option (List ℕ)). finish setup (add_all (mbim_protocol setup) (modem_items (mbim_protocol setup) m o) (began events))) stream_is
+    ∙ ap (λ (items : List Item). finish setup (add_all (mbim_protocol setup) items (began events))) items_are
+
+placed : (events : List Event) (r : Request) → Contains (in_use (began events)) r → r.space ≡ the_space
+unfolding in_use
+placed events r at = (was_asked (mbim_protocol setup) (Asks setup) (history setup events) r (requests_are_asked setup events) (forwarded_from_in_use (history setup events) r at)).1.space
+
+heard_piece : {w v : Progress} {requests requests_then : List Request} {queue queue_then : List ℕ} {events : List Event} (m : List ℕ) → Going w requests queue events → v.joined ≡ w.joined → length m ≤ 200 → SaysOne setup m m
+    → Calm v requests_then queue_then (hear_modem setup m (began events)) → Going v requests_then queue_then (ModemPiece m ∷ events)
+unfolding stream modem_stream
+heard_piece {v = v} {requests_then = requests_then} {queue_then = queue_then} {events = events} m going joined short one calm =
+    let comes = comes_at_once setup going.said m m going.quiet one in
+    record {
+      sound = (omega (arith, short), going.sound);
+      names = going.names ∙ sym joined;
+      whole = going.whole;
+      said = going.said ++ m;
+      said_is = ap (with_piece size_of m) going.said_is ∙ ap (λ (b : Bool). if b then None else Some (going.said ++ m)) comes.good;
+      quiet = comes.quiet;
+      calm = subst (Calm v requests_then queue_then) (sym (modem_history events going.said m going.said_is comes.items)) (finished calm);
+    }
+
+answer_says : (choice number : ℕ) → number < 2 ^ 32 → SaysOne setup (answer (cid_for choice) number) (answer (cid_for choice) number)
+answer_says choice number below =
+    let a = answer_is choice in
+    let short = a.short_body in
+    subst (λ (m : List ℕ). SaysOne setup m (answer (cid_for choice) number)) (a.split_is number)
+    (answer_says_one setup number (answer_body (cid_for choice)) below (omega (arith, short)) (omega (arith, short)))
+
+pub answers : {joined configured opened : ℕ} {events : List Event} (m : List ℕ) (before : List Request) (r : Request) (behind : List Request) → Suits m r → Going (ready joined configured opened) (before ++ r ∷ behind) [] events → AllAreServed events
+    → Going (ready joined configured opened) (before ++ behind) [] (ModemPiece m ∷ events)
+answers {joined} {configured} {opened} {events} m before r behind suits going served =
+    let room : AllHaveRoom 200 (began events) = fewer 200 outbox (began events) (omega arith) (all_have_room events served) in
+    let heard : Calm (ready joined configured opened) (before ++ behind) [] (hear_modem setup (answer (cid_for suits.choice) r.number) (began events)) =
+    answer_is_heard r suits.choice suits.below suits.command before behind (began events) (tt, histories_are_sound setup events) (placed events) (begun going.calm) room in
+    subst (λ (x : List ℕ). Going (ready joined configured opened) (before ++ behind) [] (ModemPiece x ∷ events)) (sym suits.is)
+    (heard_piece (answer (cid_for suits.choice) r.number) going refl ((answer_is suits.choice).short r.number) (answer_says suits.choice r.number suits.below) heard)
+
+pub opens : {joined : ℕ} {events : List Event} (r : Request) → r.number < 2 ^ 32 → r.conn ≡ 0 → is_own_open r ≡ true → 1 ≤ joined → Going (opening joined) (r ∷ []) [] events → AllAreServed events
+    → Going (ready joined 1 1) [] [] (ModemPiece (opened r.number) ∷ events)
+opens {joined} {events} r below own opens_it some going served =
+    let room : AllHaveRoom 200 (began events) = fewer 200 outbox (began events) (omega arith) (all_have_room events served) in
+    let is = modem_is_opened r.number in
+    heard_piece (opened r.number) going refl is.short (plain_says_one setup (opened r.number) is.is_message is.no_answer is.no_indication)
+    (opening_is_heard r below own opens_it some (began events) (tt, histories_are_sound setup events) (placed events) (begun going.calm) room)
+
+-- ---- the time goes on ----
+
+room_then : (count time : ℕ) (past : List Fact) → AllHaveRoom count past → AllHaveRoom count (TimeIs time ∷ past)
+unfolding view present
+room_then count time past has = has
+
+pub goes_on : {joined configured opened : ℕ} {requests : List Request} {queue : List ℕ} {events : List Event} (time : ℕ) → Going (ready joined configured opened) requests queue events → AllAreServed events → length requests ≤ 200
+    → AllByRecursion (λ r. is_own_open r ≡ false) requests → Going (ready joined configured opened) requests queue (Now time ∷ events)
+unfolding proxy.history proxy.add_all stream modem_stream
+goes_on {joined} {configured} {opened} {requests} {queue} {events} time going served few commands =
+    let shown : ℕ = max time (now (began events)) in
+    let due_ones : List Request = due shown (pending (began events)) in
+    let calm : Calm (ready joined configured opened) requests queue (began events) = begun going.calm in
+    let count : length due_ones ≤ 200 = let used : length (in_use (began events)) ≡ length requests = ap length calm.uses in omega (arith, few_expire shown (began events), used, few) in
+    let room : AllHaveRoom (48 * length due_ones) (began events) = fewer (48 * length due_ones) outbox (began events) (omega (arith, count)) (all_have_room events served) in
+    let of_commands : AllByRecursion (λ r. is_own_open r ≡ false) due_ones =
+    all_filter (λ (r : Request). is_own_open r ≡ false) (λ (r : Request). nat_le r.deadline shown) (pending (began events)) (commands_wait (began events) (subst (AllByRecursion (λ r. is_own_open r ≡ false)) (sym calm.uses) commands)) in
+    record {
+      sound = (tt, going.sound);
+      names = going.names;
+      whole = going.whole;
+      said = going.said;
+      said_is = going.said_is;
+      quiet = going.quiet;
+      calm = finished (all_expire due_ones (TimeIs shown ∷ began events) of_commands (timed calm shown) (room_then (48 * length due_ones) shown (began events) room));
+    }

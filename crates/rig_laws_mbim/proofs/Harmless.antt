@@ -1,0 +1,185 @@
+-- Facts that tell nobody of others and refuse nothing, and what they leave as it is. Lists of facts have the newest first.
+use Rattle.std.proofs.Common.{◌≡◌, ℕ, ◌+◌, ◌≤◌, Bool, true, false, not, ◌&&◌, ◌==◌, if◌then◌else◌, List, [], ◌∷◌, length, take, Option, Some, None, refl, ap, sym, ◌∙◌, arith, subst, length-take}
+use Rattle.std.specs.List.{AllByRecursion}
+use Rattle.kit_bytes.specs.Subscriptions.{Pair}
+use Rattle.kit_bytes.specs.Services.{starting_list}
+use Rattle.kit_bytes.proofs.Lists.{all_filter}
+use Rattle.mbim_fragments.specs.Assembling.{Assembled, joining_behind, assembled_after}
+use Rattle.mbim_fragments.specs.Assembling as assembling
+use Rattle.proxy_history.specs.Facts.{Fact, Own, Foreign, Away, Full, Forward, Ready, Waits, Admitted, Ended, Judged, Drained, Answered, IdHeld, Expired, Aborted, Indicated, OpeningEnded, SessionsClosed, ModemLost, ModemReturned}
+use Rattle.proxy_history.specs.Connections.{contains}
+use Rattle.proxy_history.specs.View.{Entry, Sent, Response, Refused, OpenedWith, Collected, NoAnswer, entry_if, view}
+use Rattle.proxy_history.specs.Wording.{told_by}
+use Rattle.proxy_solo.specs.Law.{tells_of_others}
+use Rattle.mbim_frame.specs.Numbers.{u32_at}
+use Rattle.mbim_proxy.specs.Setup.{fragment_for}
+use Rattle.mbim_proxy.specs.Known.{Ask, Known, fresh, without_ask}
+use Rattle.mbim_proxy.specs.OwnReplies.{OwnReply, Configures, is_open_request, is_command_fragment, reply_to_joining, own_reply}
+use Rattle.mbim_proxy.specs.Step.{ask_of, blank, view_of, known_from, known_now, with_message, with_reply, with_verdict, command_with}
+use Rattle.mbim_proxy.specs.Step as step
+use Rattle.rig_runs.specs.Mbim.{setup}
+use Rattle.rig_runs.specs.MbimExamples.{configuration, open_2}
+use Rattle.rig_runs.specs.Counts.{one_if}
+use Rattle.rig_runs.specs.Counts as rig
+use Rattle.rig_runs.specs.MbimLines.{tells_refusal, refuses, refused}
+use Rattle.rig_laws_mbim.proofs.Messages.{configuring, configuration_is, opening_is}
+
+-- a command that comes whole
+pub record IsWhole (m : List ℕ) : Type 0 where
+  pub fragment : is_command_fragment m ≡ true
+  pub no_open : is_open_request m ≡ false
+  pub closed : assembled_after 65536 assembling.fresh m ≡ assembling.fresh
+
+-- nobody ends, and the modem stays; a message names the device, opens the modem or is forwarded
+abbrev pub IsHarmless : Fact → Type 0
+IsHarmless (Ended c why) = ⊥
+IsHarmless (Judged c place m Own) = m ≡ configuration
+IsHarmless (Judged c place m Ready) = m ≡ open_2
+IsHarmless (Judged c place m Waits) = m ≡ open_2
+IsHarmless (Judged c place m Forward) = IsWhole m
+IsHarmless (Judged c place m verdict) = ⊥
+IsHarmless (IdHeld r) = ⊥
+IsHarmless (Aborted r) = ⊥
+IsHarmless (Indicated m receivers) = ⊥
+IsHarmless (SessionsClosed receivers) = ⊥
+IsHarmless ModemLost = ⊥
+IsHarmless _ = Unit {0}
+
+abbrev pub AreHarmless : List Fact → Type 0
+AreHarmless past = AllByRecursion IsHarmless past
+
+-- ---- nobody is told of others ----
+
+abbrev pub AreUndisturbed : List Entry → Type 0
+AreUndisturbed entries = AllByRecursion (λ entry. tells_of_others entry ≡ false) entries
+
+undisturbed_entry : (b : Bool) (entry : Entry) (entries : List Entry) → tells_of_others entry ≡ false → AreUndisturbed entries → AreUndisturbed (entry_if b entry entries)
+undisturbed_entry true entry entries here rest = (here, rest)
+undisturbed_entry false entry entries here rest = rest
+
+undisturbed_joining : (b : Bool) (entries : List Entry) → AreUndisturbed entries → AreUndisturbed (if b then [] else entries)
+undisturbed_joining true entries rest = tt
+undisturbed_joining false entries rest = rest
+
+pub undisturbed : (c : ℕ) (past : List Fact) → AreHarmless past → AreUndisturbed (view_of c past)
+unfolding view
+undisturbed c [] all = tt
+undisturbed c (Admitted d ∷ past) all = undisturbed_joining (d == c) (view_of c past) (undisturbed c past all.1)
+undisturbed c (Ended d why ∷ past) all = absurd all.0
+undisturbed c (Judged d place m Own ∷ past) all = undisturbed_entry (d == c) (Sent m Own) (view_of c past) refl (undisturbed c past all.1)
+undisturbed c (Judged d place m Forward ∷ past) all = undisturbed_entry (d == c) (Sent m Forward) (view_of c past) refl (undisturbed c past all.1)
+undisturbed c (Judged d place m Ready ∷ past) all = undisturbed_entry (d == c) (Sent m Ready) (view_of c past) refl (undisturbed c past all.1)
+undisturbed c (Judged d place m Waits ∷ past) all = undisturbed_entry (d == c) (Sent m Waits) (view_of c past) refl (undisturbed c past all.1)
+undisturbed c (Judged d place m Foreign ∷ past) all = absurd all.0
+undisturbed c (Judged d place m Away ∷ past) all = absurd all.0
+undisturbed c (Judged d place m Full ∷ past) all = absurd all.0
+undisturbed c (Answered r m ∷ past) all = undisturbed_entry (r.conn == c) (Response r.place (blank m)) (view_of c past) refl (undisturbed c past all.1)
+undisturbed c (IdHeld r ∷ past) all = absurd all.0
+undisturbed c (Expired r ∷ past) all = undisturbed_entry (r.conn == c) (Refused r.place NoAnswer) (view_of c past) refl (undisturbed c past all.1)
+undisturbed c (Aborted r ∷ past) all = absurd all.0
+undisturbed c (Indicated m receivers ∷ past) all = absurd all.0
+undisturbed c (OpeningEnded status receivers ∷ past) all = undisturbed_entry (contains c receivers) (OpenedWith status) (view_of c past) refl (undisturbed c past all.1)
+undisturbed c (SessionsClosed receivers ∷ past) all = absurd all.0
+undisturbed c (Drained d count ∷ past) all = undisturbed_entry (d == c) (Collected count) (view_of c past) refl (undisturbed c past all.1)
+undisturbed c (_ ∷ past) all = undisturbed c past all.1
+
+-- ---- what holds of what each client's view tells ----
+
+abbrev pub HasShortService : Ask → Type 0
+HasShortService ask = length ask.uuid ≤ 16
+
+-- no command has begun, and its list and its fragments are as at the start
+pub record IsSteady (known : Known) : Type 0 where
+  pub begun : known.begun ≡ assembling.fresh
+  pub list : known.list ≡ starting_list
+  pub fragment : known.fragment ≡ 4096
+  pub asks : AllByRecursion HasShortService known.asks
+
+steady_fresh : IsSteady (fresh setup)
+steady_fresh = record { begun = refl; list = refl; fragment = refl; asks = tt }
+
+pub configuration_is_answered : (known : Known) → known.begun ≡ assembling.fresh → own_reply setup known configuration ≡ Configures configuring
+configuration_is_answered known begun =
+    ap (λ (a : Assembled). reply_to_joining setup known (joining_behind 65536 a configuration)) begun ∙ configuration_is.reply known
+
+steady_configured : (known : Known) → IsSteady known → IsSteady (step.step setup known (Sent configuration Own))
+steady_configured known steady =
+    subst (λ (reply : OwnReply). IsSteady (with_reply reply (with_message setup configuration known))) (sym (configuration_is_answered known steady.begun))
+    (record { begun = ap (λ (a : Assembled). assembled_after 65536 a configuration) steady.begun ∙ configuration_is.closed; list = steady.list; fragment = steady.fragment; asks = steady.asks })
+
+steady_ready : (known : Known) → IsSteady known → IsSteady (step.step setup known (Sent open_2 Ready))
+steady_ready known steady = record { begun = steady.begun; list = steady.list; fragment = refl; asks = steady.asks }
+
+steady_waits : (known : Known) → IsSteady known → IsSteady (step.step setup known (Sent open_2 Waits))
+steady_waits known steady = record { begun = steady.begun; list = steady.list; fragment = refl; asks = steady.asks }
+
+steady_forwarded : (m : List ℕ) (known : Known) → IsWhole m → IsSteady known → IsSteady (step.step setup known (Sent m Forward))
+steady_forwarded m known whole steady = record {
+  begun =
+      ap (λ (b : Bool). if b then assembled_after 65536 known.begun m else known.begun) whole.fragment
+      ∙ ap (λ (a : Assembled). assembled_after 65536 a m) steady.begun
+      ∙ whole.closed;
+  list = steady.list;
+  fragment = ap (λ (b : Bool). if b then fragment_for setup (u32_at m 12) else known.fragment) whole.no_open ∙ steady.fragment;
+  asks = ((let short = length-take 16 (command_with setup known m) in omega (arith, short)), steady.asks);
+}
+
+steady_told : (place : ℕ) (known : Known) → IsSteady known → AllByRecursion HasShortService (without_ask place known.asks)
+steady_told place known steady = all_filter HasShortService (λ (ask : Ask). not (ask.place == place)) known.asks steady.asks
+
+steady_if : (b : Bool) (entry : Entry) (entries : List Entry) → ((known : Known) → IsSteady known → IsSteady (step.step setup known entry)) → IsSteady (known_from setup entries) → IsSteady (known_from setup (entry_if b entry entries))
+unfolding told_by
+steady_if true entry entries keeps steady = keeps (known_from setup entries) steady
+steady_if false entry entries keeps steady = steady
+
+steady_joining : (b : Bool) (entries : List Entry) → IsSteady (known_from setup entries) → IsSteady (known_from setup (if b then [] else entries))
+unfolding told_by
+steady_joining true entries steady = steady_fresh
+steady_joining false entries steady = steady
+
+pub steady : (c : ℕ) (past : List Fact) → AreHarmless past → IsSteady (known_now setup c past)
+unfolding view told_by
+steady c [] all = steady_fresh
+steady c (Admitted d ∷ past) all = steady_joining (d == c) (view_of c past) (steady c past all.1)
+steady c (Ended d why ∷ past) all = absurd all.0
+steady c (Judged d place m Own ∷ past) all =
+    subst (λ (x : List ℕ). IsSteady (known_from setup (entry_if (d == c) (Sent x Own) (view_of c past)))) (sym all.0) (steady_if (d == c) (Sent configuration Own) (view_of c past) steady_configured (steady c past all.1))
+steady c (Judged d place m Ready ∷ past) all =
+    subst (λ (x : List ℕ). IsSteady (known_from setup (entry_if (d == c) (Sent x Ready) (view_of c past)))) (sym all.0) (steady_if (d == c) (Sent open_2 Ready) (view_of c past) steady_ready (steady c past all.1))
+steady c (Judged d place m Waits ∷ past) all =
+    subst (λ (x : List ℕ). IsSteady (known_from setup (entry_if (d == c) (Sent x Waits) (view_of c past)))) (sym all.0) (steady_if (d == c) (Sent open_2 Waits) (view_of c past) steady_waits (steady c past all.1))
+steady c (Judged d place m Forward ∷ past) all = steady_if (d == c) (Sent m Forward) (view_of c past) (λ known is. steady_forwarded m known all.0 is) (steady c past all.1)
+steady c (Judged d place m Foreign ∷ past) all = absurd all.0
+steady c (Judged d place m Away ∷ past) all = absurd all.0
+steady c (Judged d place m Full ∷ past) all = absurd all.0
+steady c (Answered r m ∷ past) all =
+    steady_if (r.conn == c) (Response r.place (blank m)) (view_of c past) (λ known is. record { begun = is.begun; list = is.list; fragment = is.fragment; asks = steady_told r.place known is }) (steady c past all.1)
+steady c (IdHeld r ∷ past) all = absurd all.0
+steady c (Expired r ∷ past) all =
+    steady_if (r.conn == c) (Refused r.place NoAnswer) (view_of c past) (λ known is. record { begun = is.begun; list = is.list; fragment = is.fragment; asks = steady_told r.place known is }) (steady c past all.1)
+steady c (Aborted r ∷ past) all = absurd all.0
+steady c (Indicated m receivers ∷ past) all = absurd all.0
+steady c (OpeningEnded status receivers ∷ past) all =
+    steady_if (contains c receivers) (OpenedWith status) (view_of c past) (λ known is. record { begun = is.begun; list = is.list; fragment = is.fragment; asks = is.asks }) (steady c past all.1)
+steady c (SessionsClosed receivers ∷ past) all = absurd all.0
+steady c (Drained d count ∷ past) all =
+    steady_if (d == c) (Collected count) (view_of c past) (λ known is. is) (steady c past all.1)
+steady c (_ ∷ past) all = steady c past all.1
+
+-- ---- nothing is refused ----
+
+pub none_refused : (past : List Fact) → AreHarmless past → refused setup past ≡ 0
+unfolding rig.refused
+none_refused [] all = refl
+none_refused (Judged c place m Own ∷ past) all =
+    let reply : own_reply setup (known_now setup c past) m ≡ Configures configuring =
+    ap (own_reply setup (known_now setup c past)) all.0 ∙ configuration_is_answered (known_now setup c past) (steady c past all.1).begun in
+    let own : one_if (tells_refusal (own_reply setup (known_now setup c past) m)) ≡ 0 = ap (λ (r : OwnReply). one_if (tells_refusal r)) reply in
+    omega (arith, own, none_refused past all.1)
+none_refused (Judged c place m Forward ∷ past) all = omega (arith, none_refused past all.1)
+none_refused (Judged c place m Ready ∷ past) all = omega (arith, none_refused past all.1)
+none_refused (Judged c place m Waits ∷ past) all = omega (arith, none_refused past all.1)
+none_refused (Judged c place m Foreign ∷ past) all = absurd all.0
+none_refused (Judged c place m Away ∷ past) all = absurd all.0
+none_refused (Judged c place m Full ∷ past) all = absurd all.0
+none_refused (_ ∷ past) all = none_refused past all.1

@@ -1,0 +1,14 @@
+pub mod Messages
+pub mod Harmless
+pub mod Calm
+pub mod Room
+pub mod Says
+pub mod Hears
+pub mod Few
+pub mod Events
+pub mod Taking
+pub mod Pairs
+pub mod Stage
+pub mod Arriving
+pub mod Playing
+pub mod Law

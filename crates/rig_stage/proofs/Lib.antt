@@ -1,0 +1,4 @@
+pub mod Splitting
+pub mod Going
+pub mod Acting
+pub mod Arriving

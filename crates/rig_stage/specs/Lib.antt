@@ -1,0 +1,4 @@
+pub mod Ready
+pub mod Messages
+pub mod Running
+pub mod Stage

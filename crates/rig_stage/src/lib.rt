@@ -1,0 +1,9 @@
+//! Clients and a simulated modem with a running core of a proxy between them, where each takes at
+//! once all that waits for it, and the modem's messages are held until they arrive.
+#![tactic(auto)]
+
+mod messages;
+mod running;
+mod stage;
+
+pub use stage::Stage;
