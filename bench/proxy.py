@@ -39,6 +39,7 @@ class Proxy:
             os.unlink(self.socket)
         ours = [program, f"{kind}-proxy", "-d", self.device, "--socket", self.socket, "--bridge", f"{folder}/bridge.sock", "--turns", "1000000000000"]
         words = {"ours": ours, "node": ours, "bare": [f"{folder}/{kind}_forwarder", where, self.socket], "theirs": [peer, "--no-exit"]}[whose]
+        self.under = under
         self.process = subprocess.Popen([*under, *words], stderr=subprocess.DEVNULL, stdout=subprocess.DEVNULL)
         if self.strict:
             wait_for(self.socket)
@@ -47,8 +48,9 @@ class Proxy:
 
     def pid(self):
         """Of the proxy itself, where it runs under another program."""
-        children = open(f"/proc/{self.process.pid}/task/{self.process.pid}/children").read().split()
-        return int(children[0]) if children else self.process.pid
+        if not self.under:
+            return self.process.pid
+        return int(open(f"/proc/{self.process.pid}/task/{self.process.pid}/children").read().split()[0])
 
     def load(self, clients, in_flight, count, silent=0):
         words = [f"{folder}/{kind}_load", self.socket, self.device, str(clients), str(in_flight), str(count), str(silent)]
