@@ -5,7 +5,7 @@ use Rattle.std.proofs.lemmas.Bool.{or_left, or_right}
 use Rattle.std.proofs.lemmas.Bool.Decides.{nat_tests}
 use Rattle.std.proofs.Math.Seq.{drop-append_seam}
 use Rattle.proxy_history.specs.Facts.{Fact, Request, EventBegan, Own, Forward, Admitted, Judged, Drained, Forwarded, Answered, Late, Expired, Granted, ModemDrained, TimeIs}
-use Rattle.proxy_history.specs.Connections.{present}
+use Rattle.proxy_history.specs.Connections.{present, message_count}
 use Rattle.proxy_history.specs.Requests.{in_use, without_request}
 use Rattle.proxy_history.specs.Modem.{to_modem, modem_drained, modem_queue}
 use Rattle.proxy_history.specs.View.{Entry, Sent, Response, Refused, Collected, NoAnswer, entry_if, view}
@@ -25,6 +25,8 @@ module _ (s : Setup) where
     pub harmless : AreHarmless s past
     pub open_ones : (c : ℕ) → 1 ≤ c → c ≤ opened → is_open s.device (view_of c past) ≡ true
     pub uses : in_use past ≡ requests
+    -- before anybody opened the device nobody said anything
+    pub quiet : opened ≡ 0 → (c : ℕ) → message_count c past ≡ 0
     -- what the modem took, and what waits for it
     pub taken : List ℕ
     pub to_it : to_modem wire past ≡ taken ++ queue
@@ -32,6 +34,10 @@ module _ (s : Setup) where
 
   pub queue_is : {joined opened : ℕ} {requests : List Request} {queue : List ℕ} {past : List Fact} → Calm joined opened requests queue past → modem_queue wire past ≡ queue
   queue_is {queue = queue} {past = past} calm = ap (drop (modem_drained past)) calm.to_it ∙ ap (λ (n : ℕ). drop n (calm.taken ++ queue)) calm.count ∙ drop-append_seam calm.taken queue
+
+  -- no more is taken than was there
+  pub taken_within : {joined opened : ℕ} {requests : List Request} {queue : List ℕ} {past : List Fact} → Calm joined opened requests queue past → modem_drained past ≤ length (to_modem wire past)
+  taken_within {queue = queue} {past = past} calm = let all : length (to_modem wire past) ≡ length (calm.taken ++ queue) = ap length calm.to_it in omega (arith, all, calm.count, length-append calm.taken queue)
 
   -- who has opened the device has it open still
   stays_open : (b : Bool) (entry : Entry) (entries : List Entry) → is_open s.device entries ≡ true → is_open s.device (entry_if b entry entries) ≡ true
@@ -44,48 +50,51 @@ module _ (s : Setup) where
     -- ---- facts that change nothing of this ----
 
     pub begun : Calm joined opened requests queue (EventBegan ∷ past)
-    unfolding present in_use view to_modem modem_drained
-    begun = record { there = calm.there; harmless = (tt, calm.harmless); open_ones = calm.open_ones; uses = calm.uses; taken = calm.taken; to_it = calm.to_it; count = calm.count }
+    unfolding present in_use view message_count to_modem modem_drained
+    begun = record { there = calm.there; harmless = (tt, calm.harmless); open_ones = calm.open_ones; uses = calm.uses; quiet = calm.quiet; taken = calm.taken; to_it = calm.to_it; count = calm.count }
 
     pub timed : (time : ℕ) → Calm joined opened requests queue (TimeIs time ∷ past)
-    unfolding present in_use view to_modem modem_drained
-    timed time = record { there = calm.there; harmless = (tt, calm.harmless); open_ones = calm.open_ones; uses = calm.uses; taken = calm.taken; to_it = calm.to_it; count = calm.count }
+    unfolding present in_use view message_count to_modem modem_drained
+    timed time = record { there = calm.there; harmless = (tt, calm.harmless); open_ones = calm.open_ones; uses = calm.uses; quiet = calm.quiet; taken = calm.taken; to_it = calm.to_it; count = calm.count }
 
     pub drained : (c count : ℕ) → Calm joined opened requests queue (Drained c count ∷ past)
-    unfolding present in_use view to_modem modem_drained
+    unfolding present in_use view message_count to_modem modem_drained
     drained d count = record {
       there = calm.there;
       harmless = (tt, calm.harmless);
       open_ones = λ c low high. stays_open (d == c) (Collected count) (view_of c past) (calm.open_ones c low high);
       uses = calm.uses;
+      quiet = calm.quiet;
       taken = calm.taken;
       to_it = calm.to_it;
       count = calm.count;
     }
 
     pub expired : (r : Request) → Calm joined opened requests queue (Expired r ∷ past)
-    unfolding present in_use view to_modem modem_drained
+    unfolding present in_use view message_count to_modem modem_drained
     expired r = record {
       there = calm.there;
       harmless = (tt, calm.harmless);
       open_ones = λ c low high. stays_open (r.conn == c) (Refused r.place NoAnswer) (view_of c past) (calm.open_ones c low high);
       uses = calm.uses;
+      quiet = calm.quiet;
       taken = calm.taken;
       to_it = calm.to_it;
       count = calm.count;
     }
 
     pub granted : (c service client : ℕ) → client ≡ c → Calm joined opened requests queue (Granted c service client ∷ past)
-    unfolding present in_use view to_modem modem_drained
-    granted c service client own = record { there = calm.there; harmless = (own, calm.harmless); open_ones = calm.open_ones; uses = calm.uses; taken = calm.taken; to_it = calm.to_it; count = calm.count }
+    unfolding present in_use view message_count to_modem modem_drained
+    granted c service client own = record { there = calm.there; harmless = (own, calm.harmless); open_ones = calm.open_ones; uses = calm.uses; quiet = calm.quiet; taken = calm.taken; to_it = calm.to_it; count = calm.count }
 
-    pub judged : (c place : ℕ) (m : List ℕ) → Calm joined opened requests queue (Judged c place m Forward ∷ past)
-    unfolding present in_use view to_modem modem_drained
-    judged d place m = record {
+    pub judged : (c place : ℕ) (m : List ℕ) → 1 ≤ c → c ≤ opened → Calm joined opened requests queue (Judged c place m Forward ∷ past)
+    unfolding present in_use view message_count to_modem modem_drained
+    judged d place m low high = record {
       there = calm.there;
       harmless = (tt, calm.harmless);
       open_ones = λ c low high. stays_open (d == c) (Sent m Forward) (view_of c past) (calm.open_ones c low high);
       uses = calm.uses;
+      quiet = λ none c. absurd (omega (arith, none, low, high));
       taken = calm.taken;
       to_it = calm.to_it;
       count = calm.count;
@@ -94,42 +103,45 @@ module _ (s : Setup) where
     -- ---- requests ----
 
     pub forwarded : (r : Request) → Calm joined opened (requests ++ r ∷ []) (queue ++ wire r) (Forwarded r ∷ past)
-    unfolding present in_use view to_modem modem_drained
+    unfolding present in_use view message_count to_modem modem_drained
     forwarded r = record {
       there = calm.there;
       harmless = (tt, calm.harmless);
       open_ones = calm.open_ones;
       uses = ap (λ (l : List Request). l ++ r ∷ []) calm.uses;
+      quiet = calm.quiet;
       taken = calm.taken;
       to_it = ap (λ (l : List ℕ). l ++ wire r) calm.to_it ∙ append_assoc calm.taken queue (wire r);
       count = calm.count;
     }
 
     pub answered : (r : Request) (m : List ℕ) → Calm joined opened (without_request r requests) queue (Answered r m ∷ past)
-    unfolding present in_use view to_modem modem_drained
+    unfolding present in_use view message_count to_modem modem_drained
     answered r m = record {
       there = calm.there;
       harmless = (tt, calm.harmless);
       open_ones = λ c low high. stays_open (r.conn == c) (Response r.place (blank m)) (view_of c past) (calm.open_ones c low high);
       uses = ap (without_request r) calm.uses;
+      quiet = calm.quiet;
       taken = calm.taken;
       to_it = calm.to_it;
       count = calm.count;
     }
 
     pub late : (r : Request) → Calm joined opened (without_request r requests) queue (Late r ∷ past)
-    unfolding present in_use view to_modem modem_drained
-    late r = record { there = calm.there; harmless = (tt, calm.harmless); open_ones = calm.open_ones; uses = ap (without_request r) calm.uses; taken = calm.taken; to_it = calm.to_it; count = calm.count }
+    unfolding present in_use view message_count to_modem modem_drained
+    late r = record { there = calm.there; harmless = (tt, calm.harmless); open_ones = calm.open_ones; uses = ap (without_request r) calm.uses; quiet = calm.quiet; taken = calm.taken; to_it = calm.to_it; count = calm.count }
 
     -- ---- the modem takes all that waits ----
 
     pub modem_drained_all : (count : ℕ) → count ≡ length queue → Calm joined opened requests [] (ModemDrained count ∷ past)
-    unfolding present in_use view to_modem modem_drained
+    unfolding present in_use view message_count to_modem modem_drained
     modem_drained_all count is = record {
       there = calm.there;
       harmless = (tt, calm.harmless);
       open_ones = calm.open_ones;
       uses = calm.uses;
+      quiet = calm.quiet;
       taken = calm.taken ++ queue;
       to_it = calm.to_it ∙ sym (append-nil (calm.taken ++ queue));
       count = omega (arith, calm.count, is, length-append calm.taken queue);
@@ -137,13 +149,18 @@ module _ (s : Setup) where
 
   -- ---- clients come ----
 
+  quiet_still : (b : Bool) (said : ℕ) → said ≡ 0 → (if b then 0 else said) ≡ 0
+  quiet_still true said none = refl
+  quiet_still false said none = none
+
   pub admitted : {joined : ℕ} {requests : List Request} {queue : List ℕ} {past : List Fact} → Calm joined 0 requests queue past → Calm (joined + 1) 0 requests queue (Admitted (joined + 1) ∷ past)
-  unfolding present in_use view to_modem modem_drained
-  admitted {joined} calm = record {
+  unfolding present in_use view message_count to_modem modem_drained
+  admitted {joined} {past = past} calm = record {
     there = ap (λ (l : List ℕ). l ++ (joined + 1) ∷ []) calm.there ∙ range-more 1 joined (joined + 1) (omega arith);
     harmless = (tt, calm.harmless);
     open_ones = λ c low high. absurd (omega arith);
     uses = calm.uses;
+    quiet = λ none c. quiet_still (joined + 1 == c) (message_count c past) (calm.quiet none c);
     taken = calm.taken;
     to_it = calm.to_it;
     count = calm.count;
@@ -157,12 +174,13 @@ module _ (s : Setup) where
 
   pub judged_opening : {joined opened : ℕ} {requests : List Request} {queue : List ℕ} {past : List Fact} → Calm joined opened requests queue past → (place : ℕ) (m : List ℕ) → is_malformed m ≡ false → opens s.device m ≡ true
       → Calm joined (opened + 1) requests queue (Judged (opened + 1) place m Own ∷ past)
-  unfolding present in_use view to_modem modem_drained
+  unfolding present in_use view message_count to_modem modem_drained
   judged_opening {opened = opened} {past = past} calm place m fine opening = record {
     there = calm.there;
     harmless = ((fine, opening), calm.harmless);
     open_ones = λ c low high. opened_now (opened + 1 == c) m (view_of c past) fine opening (λ other. calm.open_ones c low (grind (arith, nat_tests, other)));
     uses = calm.uses;
+    quiet = λ none c. absurd (omega (arith, none));
     taken = calm.taken;
     to_it = calm.to_it;
     count = calm.count;

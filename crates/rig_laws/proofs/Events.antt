@@ -33,7 +33,8 @@ use Rattle.qmi_proxy.proofs.Room.{nobody_there_is_over}
 use Rattle.qmi_solo.specs.Law.{AreSound}
 use Rattle.rig_laws.proofs.Lists.{in_range, length-range}
 use Rattle.rig_laws.proofs.Few.{few_expire}
-use Rattle.rig_laws.proofs.Calm.{Calm, queue_is, begun, timed, drained, modem_drained_all, admitted, judged_opening}
+use Rattle.rig_laws.proofs.Plain.{ArePlain, AtEach, IsHarmlessNow}
+use Rattle.rig_laws.proofs.Calm.{Calm, queue_is, taken_within, begun, timed, drained, modem_drained_all, admitted, judged_opening}
 use Rattle.rig_laws.proofs.Room.{HasRoom, AllHaveRoom, fewer, all_expire}
 use Rattle.rig_laws.proofs.Says.{IsRequestOf, IsForwarded, opening_is_answered, request_is_forwarded}
 use Rattle.rig_laws.proofs.Hears.{Suits, answer_is_heard}
@@ -42,12 +43,18 @@ module _ (s : Setup) where
   pub record Going (joined opened : ℕ) (requests : List Request) (queue : List ℕ) (events : List Event) : Type 0 where
     pub sound : AreSound s events
     pub names : greatest_name events ≡ joined
+    pub few : joined ≤ connection_limit
+    pub plain : ArePlain s events
+    pub moments : AtEach (IsHarmlessNow s) events
     -- each stream ends with a whole message
     pub whole : (c : ℕ) → (cut size_of (stream c events)).rest ≡ []
     pub said : List ℕ
     pub said_is : modem_stream size_of s.starts_away events ≡ Some said
     pub said_whole : (cut size_of said).rest ≡ []
     pub calm : Calm s joined opened requests queue (history s events)
+
+  harmless_now : {joined opened : ℕ} {requests : List Request} {queue : List ℕ} {events : List Event} → Calm s joined opened requests queue (history s events) → IsHarmlessNow s events
+  harmless_now calm = record { harmless = calm.harmless; within = taken_within s calm }
 
   -- nothing waits for a client that is there
   abbrev pub IsServed : ℕ → List Event → Type 0
@@ -70,30 +77,40 @@ module _ (s : Setup) where
   pub taken : {joined opened : ℕ} {requests : List Request} {queue : List ℕ} {events : List Event} (c count : ℕ) → Going joined opened requests queue events → count ≤ queued_for (qmi_protocol s) c events
       → Going joined opened requests queue (Took c count ∷ events)
   unfolding proxy.history proxy.add_all stream modem_stream
-  taken {joined} {opened} {requests} {queue} {events} c count going within = record {
-    sound = (within, going.sound);
-    names = going.names;
-    whole = going.whole;
-    said = going.said;
-    said_is = going.said_is;
-    said_whole = going.said_whole;
-    calm =
-        let began : Calm s joined opened requests queue (EventBegan ∷ history s events) = begun s going.calm in
-        elim (is_present c (EventBegan ∷ history s events)) as (λ b. Calm s joined opened requests queue (if b then Drained c count ∷ EventBegan ∷ history s events else EventBegan ∷ history s events)) [ true ↦ drained s began c count | false ↦ began ];
-  }
+  taken {joined} {opened} {requests} {queue} {events} c count going within =
+      let began : Calm s joined opened requests queue (EventBegan ∷ history s events) = begun s going.calm in
+      let calm : Calm s joined opened requests queue (history s (Took c count ∷ events)) =
+      elim (is_present c (EventBegan ∷ history s events)) as (λ b. Calm s joined opened requests queue (if b then Drained c count ∷ EventBegan ∷ history s events else EventBegan ∷ history s events)) [ true ↦ drained s began c count | false ↦ began ] in
+      record {
+        sound = (within, going.sound);
+        names = going.names;
+        few = going.few;
+        plain = (tt, going.plain);
+        moments = (harmless_now calm, going.moments);
+        whole = going.whole;
+        said = going.said;
+        said_is = going.said_is;
+        said_whole = going.said_whole;
+        calm = calm;
+      }
 
   pub modem_taken : {joined opened : ℕ} {requests : List Request} {queue : List ℕ} {events : List Event} (count : ℕ) → Going joined opened requests queue events → count ≡ length queue
       → Going joined opened requests [] (ModemTook count ∷ events)
   unfolding proxy.history proxy.add_all stream modem_stream
-  modem_taken {queue = queue} {events = events} count going is = record {
-    sound = (let waits : length (modem_queue wire (history s events)) ≡ length queue = ap length (queue_is s going.calm) in omega (arith, waits, is), going.sound);
-    names = going.names;
-    whole = going.whole;
-    said = going.said;
-    said_is = going.said_is;
-    said_whole = going.said_whole;
-    calm = modem_drained_all s (begun s going.calm) count is;
-  }
+  modem_taken {joined} {opened} {requests} {queue} {events} count going is =
+      let calm : Calm s joined opened requests [] (history s (ModemTook count ∷ events)) = modem_drained_all s (begun s going.calm) count is in
+      record {
+        sound = (let waits : length (modem_queue wire (history s events)) ≡ length queue = ap length (queue_is s going.calm) in omega (arith, waits, is), going.sound);
+        names = going.names;
+        few = going.few;
+        plain = (tt, going.plain);
+        moments = (harmless_now calm, going.moments);
+        whole = going.whole;
+        said = going.said;
+        said_is = going.said_is;
+        said_whole = going.said_whole;
+        calm = calm;
+      }
 
   -- ---- a client joins ----
 
@@ -104,19 +121,24 @@ module _ (s : Setup) where
 
   pub joins : {joined : ℕ} {requests : List Request} {queue : List ℕ} {events : List Event} → Going joined 0 requests queue events → joined < connection_limit → Going (joined + 1) 0 requests queue (Joined (joined + 1) ∷ events)
   unfolding proxy.history proxy.add_all stream modem_stream
-  joins {joined} {requests} {queue} {events} going few = record {
-    sound = (omega (arith, going.names), going.sound);
-    names = omega (arith, going.names);
-    whole = λ c. joined_whole (joined + 1 == c) (stream c events) (going.whole c);
-    said = going.said;
-    said_is = going.said_is;
-    said_whole = going.said_whole;
-    calm =
-        let began : Calm s joined 0 requests queue (EventBegan ∷ history s events) = begun s going.calm in
-        let count : length (present (EventBegan ∷ history s events)) ≡ joined = ap length began.there ∙ length-range joined 1 in
-        let test : nat_lt (length (present (EventBegan ∷ history s events))) connection_limit ≡ true = lt-ltb _ _ (omega (arith, count, few)) in
-        subst (λ (b : Bool). Calm s (joined + 1) 0 requests queue (if b then Admitted (joined + 1) ∷ EventBegan ∷ history s events else Ended (joined + 1) NotAdmitted ∷ EventBegan ∷ history s events)) (sym test) (admitted s began);
-  }
+  joins {joined} {requests} {queue} {events} going few =
+      let began : Calm s joined 0 requests queue (EventBegan ∷ history s events) = begun s going.calm in
+      let count : length (present (EventBegan ∷ history s events)) ≡ joined = ap length began.there ∙ length-range joined 1 in
+      let test : nat_lt (length (present (EventBegan ∷ history s events))) connection_limit ≡ true = lt-ltb _ _ (omega (arith, count, few)) in
+      let calm : Calm s (joined + 1) 0 requests queue (history s (Joined (joined + 1) ∷ events)) =
+      subst (λ (b : Bool). Calm s (joined + 1) 0 requests queue (if b then Admitted (joined + 1) ∷ EventBegan ∷ history s events else Ended (joined + 1) NotAdmitted ∷ EventBegan ∷ history s events)) (sym test) (admitted s began) in
+      record {
+        sound = (omega (arith, going.names), going.sound);
+        names = omega (arith, going.names);
+        few = omega (arith, few);
+        plain = (going.calm.quiet refl (joined + 1), going.plain);
+        moments = (harmless_now calm, going.moments);
+        whole = λ c. joined_whole (joined + 1 == c) (stream c events) (going.whole c);
+        said = going.said;
+        said_is = going.said_is;
+        said_whole = going.said_whole;
+        calm = calm;
+      }
 
   -- ---- a client says a message ----
 
@@ -139,11 +161,14 @@ module _ (s : Setup) where
         ]
 
   said_piece : {joined opened opened' : ℕ} {requests requests' : List Request} {queue queue' : List ℕ} {events : List Event} (c : ℕ) (m : List ℕ) → Going joined opened requests queue events
-      → IsMessage size_of m → length m ≤ piece_limit → Calm s joined opened' requests' queue' (history s (Piece c m ∷ events)) → Going joined opened' requests' queue' (Piece c m ∷ events)
+      → 1 ≤ c → c ≤ joined → IsMessage size_of m → length m ≤ piece_limit → Calm s joined opened' requests' queue' (history s (Piece c m ∷ events)) → Going joined opened' requests' queue' (Piece c m ∷ events)
   unfolding modem_stream
-  said_piece {events = events} c m going is short calm = record {
+  said_piece {events = events} c m going low high is short calm = record {
     sound = (short, going.sound);
     names = going.names;
+    few = going.few;
+    plain = (record { low = low; high = omega (arith, high, going.few); whole = is; short = short; there = is_there c going.calm low high }, going.plain);
+    moments = (harmless_now calm, going.moments);
     whole = piece_whole events c m going.whole is;
     said = going.said;
     said_is = going.said_is;
@@ -158,7 +183,7 @@ module _ (s : Setup) where
       let here : history s (Piece (opened + 1) m ∷ events) ≡ Judged (opened + 1) (message_count (opened + 1) began + 1) m Own ∷ began =
       piece_history events (opened + 1) m going.whole is (is_there (opened + 1) going.calm (omega arith) (omega (arith, more)))
       ∙ opening_is_answered s (opened + 1) m began (fewer s 20 outbox_limit began (omega arith) (all_have_room events served)) opening in
-      said_piece (opened + 1) m going is short
+      said_piece (opened + 1) m going (omega arith) (omega (arith, more)) is short
       (subst (Calm s joined (opened + 1) requests queue) (sym here) (judged_opening s (begun s going.calm) (message_count (opened + 1) began + 1) m fine opening))
 
   pub record HasAsked (joined opened : ℕ) (requests : List Request) (c : ℕ) (m : List ℕ) (events : List Event) : Type 0 where
@@ -179,7 +204,7 @@ module _ (s : Setup) where
         conn = added.conn;
         message = added.message;
         number = added.number;
-        going = said_piece c m going is.is_message is.short (subst (Calm s joined opened (requests ++ added.r ∷ []) (wire added.r)) (sym here) added.calm);
+        going = said_piece c m going low (omega (arith, high, order)) is.is_message is.short (subst (Calm s joined opened (requests ++ added.r ∷ []) (wire added.r)) (sym here) added.calm);
       }
 
   -- ---- the modem answers ----
@@ -193,7 +218,8 @@ module _ (s : Setup) where
       ∙ ap (λ (l : List (List ℕ)). add_all s (map (λ m. ModemSays m) l ++ item_if (is_bad size_of (before ++ m)) ModemFails) began) messages_are
       ∙ ap (λ (b : Bool). add_all s (map (λ m. ModemSays m) (m ∷ []) ++ item_if b ModemFails) began) good
 
-  placed : (events : List Event) (r : Request) → Contains (in_use (EventBegan ∷ history s events)) r → r.space ≡ space_of r.message
+  -- each request in use is of its message's space
+  pub placed : (events : List Event) (r : Request) → Contains (in_use (EventBegan ∷ history s events)) r → r.space ≡ space_of r.message
   unfolding in_use
   placed events r at = (was_asked (qmi_protocol s) (Asks s) (history s events) r (requests_are_asked s events) (forwarded_from_in_use (history s events) r at)).1.space
 
@@ -206,14 +232,19 @@ module _ (s : Setup) where
       let room : AllHaveRoom s piece_limit began = fewer s piece_limit outbox_limit began (omega arith) (all_have_room events served) in
       let heard : Calm s joined opened (before ++ behind) [] (hear_modem s.device m began) =
       answer_is_heard s m r suits joined opened before behind began (begun_is_sound s events) (placed events) (begun s going.calm) room in
+      let calm : Calm s joined opened (before ++ behind) [] (history s (ModemPiece m ∷ events)) =
+      subst (Calm s joined opened (before ++ behind) []) (sym (modem_history events going.said m going.said_is ends.messages ends.good)) heard in
       record {
         sound = (suits.short, going.sound);
         names = going.names;
+        few = going.few;
+        plain = (record { whole = suits.is_message; short = suits.short; kind = suits.response }, going.plain);
+        moments = (harmless_now calm, going.moments);
         whole = going.whole;
         said = going.said ++ m;
         said_is = ap (with_piece size_of m) going.said_is ∙ ap (λ (b : Bool). if b then None else Some (going.said ++ m)) ends.good;
         said_whole = ends.rest;
-        calm = subst (Calm s joined opened (before ++ behind) []) (sym (modem_history events going.said m going.said_is ends.messages ends.good)) heard;
+        calm = calm;
       }
 
   -- ---- the time goes on ----
@@ -232,12 +263,16 @@ module _ (s : Setup) where
       let calm : Calm s joined opened requests queue began = begun s going.calm in
       let count : length due_ones ≤ 400 = let used : length (in_use began) ≡ length requests = ap length calm.uses in omega (arith, few_expire shown began, used, few) in
       let room : AllHaveRoom s (20 * length due_ones) began = fewer s (20 * length due_ones) outbox_limit began (omega (arith, count)) (all_have_room events served) in
+      let after : Calm s joined opened requests queue (history s (Now time ∷ events)) = all_expire s due_ones (TimeIs shown ∷ began) (timed s calm shown) (room_then (20 * length due_ones) shown began room) in
       record {
         sound = (tt, going.sound);
         names = going.names;
+        few = going.few;
+        plain = (tt, going.plain);
+        moments = (harmless_now after, going.moments);
         whole = going.whole;
         said = going.said;
         said_is = going.said_is;
         said_whole = going.said_whole;
-        calm = all_expire s due_ones (TimeIs shown ∷ began) (timed s calm shown) (room_then (20 * length due_ones) shown began room);
+        calm = after;
       }

@@ -5,6 +5,8 @@ pub mod Room
 pub mod Says
 pub mod Hears
 pub mod Few
+pub mod Plain
+pub mod Time
 pub mod Events
 pub mod Taking
 pub mod Pairs

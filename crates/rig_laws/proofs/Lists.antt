@@ -55,7 +55,7 @@ is_empty (x ∷ xs) none = absurd (omega arith)
 -- ---- a request among others ----
 
 -- none of these has the request's serial number
-none_goes : (r : Request) (requests : List Request) → AllByRecursion (λ q. (r.serial == q.serial) ≡ false) requests → without_request r requests ≡ requests
+pub none_goes : (r : Request) (requests : List Request) → AllByRecursion (λ q. (r.serial == q.serial) ≡ false) requests → without_request r requests ≡ requests
 none_goes r requests all = filter-all (λ (q : Request). not (r.serial == q.serial)) requests (all_weaker _ _ (λ (q : Request) e. ap not e) requests all)
 
 differs : (q r : Request) → Differ q r → (r.serial == q.serial) ≡ false

@@ -6,7 +6,7 @@ use Rattle.qmux_frame.specs.Reply.{with_number}
 use Rattle.qmux_frame.specs.Writing.{head_text}
 use Rattle.proxy_history.specs.Facts.{Request}
 use Rattle.proxy_history.specs.Streams.{stream, modem_stream}
-use Rattle.proxy_history.specs.Connections.{present}
+use Rattle.proxy_history.specs.Connections.{present, message_count}
 use Rattle.proxy_history.specs.Requests.{in_use}
 use Rattle.proxy_history.specs.Modem.{to_modem, modem_drained}
 use Rattle.proxy_history.specs.History as proxy
@@ -32,15 +32,18 @@ unfolding head_text
 allocate_top = refl
 
 nothing_yet : Going setup 0 0 [] [] []
-unfolding proxy.history present in_use to_modem modem_drained stream modem_stream cut_from
+unfolding proxy.history present in_use message_count to_modem modem_drained stream modem_stream cut_from
 nothing_yet = record {
   sound = tt;
   names = refl;
+  few = omega arith;
+  plain = tt;
+  moments = record { harmless = tt; within = omega arith };
   whole = λ c. refl;
   said = [];
   said_is = refl;
   said_whole = refl;
-  calm = record { there = refl; harmless = tt; open_ones = λ c low high. absurd (omega arith); uses = refl; taken = []; to_it = refl; count = refl };
+  calm = record { there = refl; harmless = tt; open_ones = λ c low high. absurd (omega arith); uses = refl; quiet = λ none c. refl; taken = []; to_it = refl; count = refl };
 }
 
 module _ (clients : ℕ) (within : clients ≤ 64) where

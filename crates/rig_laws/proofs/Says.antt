@@ -166,7 +166,7 @@ module _ (s : Setup) (c : ℕ) (m : List ℕ) where
     request_is_forwarded =
         let asks : List Fact = Judged c (message_count c past + 1) m Forward ∷ past in
         let added : Request = request_of s c m given asks in
-        let after : Calm s joined opened (requests ++ added ∷ []) (wire added) (judge s c m (Forwards given) past) = granted_if (uses_id m) refl (forwarded s (judged s calm c (message_count c past + 1) m) added) in
+        let after : Calm s joined opened (requests ++ added ∷ []) (wire added) (judge s c m (Forwards given) past) = granted_if (uses_id m) refl (forwarded s (judged s calm c (message_count c past + 1) m low high) added) in
         record {
           r = added;
           conn = refl;

@@ -36,7 +36,7 @@ unfolding cut_from
 one_message x is = (ends_message size_of size_of-kept size_of-positive refl [] x [] x refl refl is).messages
 
 -- a short message comes whole
-one_piece : (count : ℕ) (x : List ℕ) → length x ≤ piece_limit → pieces_of count x ≡ x ∷ []
+pub one_piece : (count : ℕ) (x : List ℕ) → length x ≤ piece_limit → pieces_of count x ≡ x ∷ []
 unfolding alone.pieces_of
 one_piece zero x short = refl
 one_piece (suc count) x short =

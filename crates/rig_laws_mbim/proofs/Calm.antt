@@ -8,7 +8,7 @@ use Rattle.kit_bytes.specs.declared.services.TheConstants.{BASIC_CONNECT, SMS, U
 use Rattle.kit_bytes.specs.Subscriptions.{Pair, merge, normal_form, ordered_pairs, pairs_with, is_beside_all}
 use Rattle.kit_bytes.specs.Services.{starting_list}
 use Rattle.proxy_history.specs.Facts.{Fact, Request, EventBegan, Own, Forward, Ready, Waits, Admitted, Judged, Drained, Forwarded, Answered, Late, Expired, OpeningEnded, ModemDrained, TimeIs}
-use Rattle.proxy_history.specs.Connections.{contains, present}
+use Rattle.proxy_history.specs.Connections.{contains, present, message_count}
 use Rattle.proxy_history.specs.Requests.{in_use, pending, without_request}
 use Rattle.proxy_history.specs.Modem.{to_modem, modem_drained, modem_queue}
 use Rattle.proxy_history.specs.View.{Entry, Sent, Response, Refused, OpenedWith, Collected, NoAnswer, entry_if, view}
@@ -57,6 +57,13 @@ pub record Knows (w : Progress) (c : ℕ) (known : Known) : Type 0 where
   pub opened : 1 ≤ c → c ≤ w.opened → known.opened ≡ true
   pub waits : known.waits ≡ w.waiting c
 
+-- how many messages each client said
+pub record Spoke (w : Progress) (c count : ℕ) : Type 0 where
+  pub nothing : w.configured < c → count ≡ 0
+  pub once : 1 ≤ c → c ≤ w.configured → w.opened < c → w.waiting c ≡ None → count ≡ 1
+  pub waits : is_some (w.waiting c) ≡ true → 2 ≤ count
+  pub often : 1 ≤ c → c ≤ w.opened → 2 ≤ count
+
 -- until the modem is open, the requests that are in use wait; then it has the list of each client
 abbrev pub Tells : ModemState → ℕ → List Request → List Fact → Type 0
 Tells IsReady opened requests past = (1 ≤ opened) × (last_list past ≡ starting_list)
@@ -66,8 +73,10 @@ Tells _ opened requests past = pending past ≡ requests
 pub record Calm (w : Progress) (requests : List Request) (queue : List ℕ) (past : List Fact) : Type 0 where
   pub there : present past ≡ range_with_len 1 w.joined
   pub order : w.opened ≤ w.joined
+  pub named : w.opened ≤ w.configured
   pub harmless : AreHarmless past
   pub knows : (c : ℕ) → Knows w c (known_now setup c past)
+  pub spoke : (c : ℕ) → Spoke w c (message_count c past)
   pub state_is : state false past ≡ w.modem
   pub tells : Tells w.modem w.opened requests past
   pub uses : in_use past ≡ requests
@@ -102,14 +111,28 @@ tells_still IsAway opened requests past after waiting last tells = waiting ∙ t
 tells_still IsShut opened requests past after waiting last tells = waiting ∙ tells
 tells_still IsOpening opened requests past after waiting last tells = waiting ∙ tells
 
+-- a client that is open asks something
+spoke_asking : (w : Progress) (d : ℕ) (b : Bool) (c count : ℕ) → (d == c) ≡ b → d ≤ w.opened → w.opened ≤ w.configured → Spoke w c count → Spoke w c (if b then count + 1 else count)
+spoke_asking w d true c count e within named spoke =
+    let same : d ≡ c = grind (arith, nat_tests, e) in
+    record {
+      nothing = λ less. absurd (omega (arith, same, within, named, less));
+      once = λ low high less none. absurd (omega (arith, same, within, less));
+      waits = λ is. let old = spoke.waits is in omega (arith, old);
+      often = λ low high. let old = spoke.often low high in omega (arith, old);
+    }
+spoke_asking w d false c count e within named spoke = spoke
+
 module _ {w : Progress} {requests : List Request} {queue : List ℕ} {past : List Fact} (calm : Calm w requests queue past) where
   -- ---- facts that change nothing of this ----
 
   pub begun : Calm w requests queue (EventBegan ∷ past)
-  unfolding present in_use pending view to_modem modem_drained state last_list
+  unfolding present message_count in_use pending view to_modem modem_drained state last_list
   begun = record {
     there = calm.there;
     order = calm.order;
+    named = calm.named;
+    spoke = calm.spoke;
     harmless = (tt, calm.harmless);
     knows = calm.knows;
     state_is = calm.state_is;
@@ -121,10 +144,12 @@ module _ {w : Progress} {requests : List Request} {queue : List ℕ} {past : Lis
   }
 
   pub timed : (time : ℕ) → Calm w requests queue (TimeIs time ∷ past)
-  unfolding present in_use pending view to_modem modem_drained state last_list
+  unfolding present message_count in_use pending view to_modem modem_drained state last_list
   timed time = record {
     there = calm.there;
     order = calm.order;
+    named = calm.named;
+    spoke = calm.spoke;
     harmless = (tt, calm.harmless);
     knows = calm.knows;
     state_is = calm.state_is;
@@ -136,10 +161,12 @@ module _ {w : Progress} {requests : List Request} {queue : List ℕ} {past : Lis
   }
 
   pub drained : (c count : ℕ) → Calm w requests queue (Drained c count ∷ past)
-  unfolding present in_use pending view to_modem modem_drained state last_list
+  unfolding present message_count in_use pending view to_modem modem_drained state last_list
   drained d count = record {
     there = calm.there;
     order = calm.order;
+    named = calm.named;
+    spoke = calm.spoke;
     harmless = (tt, calm.harmless);
     knows = λ c. still_if w c (d == c) (Collected count) (view_of c past) (λ known. (refl, refl, refl)) (calm.knows c);
     state_is = calm.state_is;
@@ -150,11 +177,13 @@ module _ {w : Progress} {requests : List Request} {queue : List ℕ} {past : Lis
     count = calm.count;
   }
 
-  pub judged : (c place : ℕ) (m : List ℕ) → IsWhole m → Calm w requests queue (Judged c place m Forward ∷ past)
-  unfolding present in_use pending view to_modem modem_drained state last_list
-  judged d place m whole = record {
+  pub judged : (c place : ℕ) (m : List ℕ) → 1 ≤ c → c ≤ w.opened → IsWhole m → Calm w requests queue (Judged c place m Forward ∷ past)
+  unfolding present message_count in_use pending view to_modem modem_drained state last_list
+  judged d place m low high whole = record {
     there = calm.there;
     order = calm.order;
+    named = calm.named;
+    spoke = λ c. spoke_asking w d (d == c) c (message_count c past) refl high calm.named (calm.spoke c);
     harmless = (whole, calm.harmless);
     knows = λ c. still_if w c (d == c) (Sent m Forward) (view_of c past) (λ known. (refl, refl, refl)) (calm.knows c);
     state_is = calm.state_is;
@@ -168,10 +197,12 @@ module _ {w : Progress} {requests : List Request} {queue : List ℕ} {past : Lis
   -- ---- the modem takes all that waits ----
 
   pub modem_drained_all : (count : ℕ) → count ≡ length queue → Calm w requests [] (ModemDrained count ∷ past)
-  unfolding present in_use pending view to_modem modem_drained state last_list
+  unfolding present message_count in_use pending view to_modem modem_drained state last_list
   modem_drained_all count is = record {
     there = calm.there;
     order = calm.order;
+    named = calm.named;
+    spoke = calm.spoke;
     harmless = (tt, calm.harmless);
     knows = calm.knows;
     state_is = calm.state_is;
@@ -192,10 +223,12 @@ knows_answered {w} {past = past} calm r m c = still_if w c (r.conn == c) (Respon
 
 module _ {joined configured opened : ℕ} {requests : List Request} {queue : List ℕ} {past : List Fact} (calm : Calm (ready joined configured opened) requests queue past) where
   pub expired : (r : Request) → Calm (ready joined configured opened) requests queue (Expired r ∷ past)
-  unfolding present in_use pending view to_modem modem_drained state last_list
+  unfolding present message_count in_use pending view to_modem modem_drained state last_list
   expired r = record {
     there = calm.there;
     order = calm.order;
+    named = calm.named;
+    spoke = calm.spoke;
     harmless = (tt, calm.harmless);
     knows = λ c. still_if (ready joined configured opened) c (r.conn == c) (Refused r.place NoAnswer) (view_of c past) (λ known. (refl, refl, refl)) (calm.knows c);
     state_is = calm.state_is;
@@ -207,10 +240,12 @@ module _ {joined configured opened : ℕ} {requests : List Request} {queue : Lis
   }
 
   pub forwarded : (r : Request) → is_own_open r ≡ false → Calm (ready joined configured opened) (requests ++ r ∷ []) (queue ++ wire setup r) (Forwarded r ∷ past)
-  unfolding present in_use pending view to_modem modem_drained state last_list
+  unfolding present message_count in_use pending view to_modem modem_drained state last_list
   forwarded r command = record {
     there = calm.there;
     order = calm.order;
+    named = calm.named;
+    spoke = calm.spoke;
     harmless = (tt, calm.harmless);
     knows = calm.knows;
     state_is = ap (λ (b : Bool). if b then IsOpening else state false past) command ∙ calm.state_is;
@@ -222,10 +257,12 @@ module _ {joined configured opened : ℕ} {requests : List Request} {queue : Lis
   }
 
   pub answered : (r : Request) (m : List ℕ) → Calm (ready joined configured opened) (without_request r requests) queue (Answered r m ∷ past)
-  unfolding present in_use pending view to_modem modem_drained state last_list
+  unfolding present message_count in_use pending view to_modem modem_drained state last_list
   answered r m = record {
     there = calm.there;
     order = calm.order;
+    named = calm.named;
+    spoke = calm.spoke;
     harmless = (tt, calm.harmless);
     knows = λ c. still_if (ready joined configured opened) c (r.conn == c) (Response r.place (blank m)) (view_of c past) (λ known. (refl, refl, refl)) (calm.knows c);
     state_is = calm.state_is;
@@ -237,10 +274,12 @@ module _ {joined configured opened : ℕ} {requests : List Request} {queue : Lis
   }
 
   pub late : (r : Request) → Calm (ready joined configured opened) (without_request r requests) queue (Late r ∷ past)
-  unfolding present in_use pending view to_modem modem_drained state last_list
+  unfolding present message_count in_use pending view to_modem modem_drained state last_list
   late r = record {
     there = calm.there;
     order = calm.order;
+    named = calm.named;
+    spoke = calm.spoke;
     harmless = (tt, calm.harmless);
     knows = calm.knows;
     state_is = calm.state_is;
@@ -258,11 +297,17 @@ unfolding told_by
 joined_knows w true c entries none_configured none_open none knows = record { configured = λ low high. absurd (omega (arith, low, high, none_configured)); opened = λ low high. absurd (omega (arith, low, high, none_open)); waits = sym none }
 joined_knows w false c entries none_configured none_open none knows = knows
 
+spoke_joined : (joined : ℕ) (b : Bool) (c count : ℕ) → Spoke (shut joined 0) c count → Spoke (shut (joined + 1) 0) c (if b then 0 else count)
+spoke_joined joined true c count spoke = record { nothing = λ less. refl; once = λ low high less none. absurd (omega (arith, low, high)); waits = λ is. absurd (cc); often = λ low high. absurd (omega (arith, low, high)) }
+spoke_joined joined false c count spoke = record { nothing = spoke.nothing; once = spoke.once; waits = spoke.waits; often = spoke.often }
+
 pub admitted : {joined : ℕ} {requests : List Request} {queue : List ℕ} {past : List Fact} → Calm (shut joined 0) requests queue past → Calm (shut (joined + 1) 0) requests queue (Admitted (joined + 1) ∷ past)
-unfolding present in_use pending view to_modem modem_drained state last_list
+unfolding present message_count in_use pending view to_modem modem_drained state last_list
 admitted {joined} {past = past} calm = record {
   there = ap (λ (l : List ℕ). l ++ (joined + 1) ∷ []) calm.there ∙ range-more 1 joined (joined + 1) (omega arith);
   order = omega arith;
+  named = omega arith;
+  spoke = λ c. spoke_joined joined (joined + 1 == c) c (message_count c past) (calm.spoke c);
   harmless = (tt, calm.harmless);
   knows = λ c. joined_knows (shut (joined + 1) 0) (joined + 1 == c) c (view_of c past) refl refl refl (record { configured = (calm.knows c).configured; opened = (calm.knows c).opened; waits = (calm.knows c).waits });
   state_is = calm.state_is;
@@ -292,12 +337,30 @@ knows_configured w true c entries e is knows =
 knows_configured w false c entries e is knows =
     record { configured = λ low high. knows.configured low (grind (arith, nat_tests, e)); opened = knows.opened; waits = knows.waits }
 
+spoke_configured : (w : Progress) (b : Bool) (c count : ℕ) → (w.configured + 1 == c) ≡ b → w.opened ≤ w.configured → Spoke w c count → Spoke (one_more_configured w) c (if b then count + 1 else count)
+spoke_configured w true c count e named spoke =
+    let same : c ≡ w.configured + 1 = grind (arith, nat_tests, e) in
+    record {
+      nothing = λ less. absurd (omega (arith, same, less));
+      once = λ low high less none. let old = spoke.nothing (omega (arith, same)) in omega (arith, old);
+      waits = λ is. let old = spoke.waits is in omega (arith, old);
+      often = λ low high. let old = spoke.often low high in omega (arith, old);
+    }
+spoke_configured w false c count e named spoke = record {
+  nothing = λ less. spoke.nothing (omega (arith, less));
+  once = λ low high less none. spoke.once low (grind (arith, nat_tests, e, high)) less none;
+  waits = spoke.waits;
+  often = spoke.often;
+}
+
 pub judged_configuration : {w : Progress} {requests : List Request} {queue : List ℕ} {past : List Fact} → Calm w requests queue past → (place : ℕ)
     → Calm (one_more_configured w) requests queue (Judged (w.configured + 1) place configuration Own ∷ past)
-unfolding present in_use pending view to_modem modem_drained state last_list
+unfolding present message_count in_use pending view to_modem modem_drained state last_list
 judged_configuration {w} {requests} {queue} {past} calm place = record {
   there = calm.there;
   order = calm.order;
+  named = (let named = calm.named in omega (arith, named));
+  spoke = λ c. spoke_configured w (w.configured + 1 == c) c (message_count c past) refl calm.named (calm.spoke c);
   harmless = (refl, calm.harmless);
   knows = λ c. knows_configured w (w.configured + 1 == c) c (view_of c past) refl (steady c past calm.harmless) (calm.knows c);
   state_is = calm.state_is;
@@ -316,12 +379,30 @@ unfolding told_by
 knows_opened joined configured opened true c entries e knows = record { configured = knows.configured; opened = λ low high. refl; waits = knows.waits }
 knows_opened joined configured opened false c entries e knows = record { configured = knows.configured; opened = λ low high. knows.opened low (grind (arith, nat_tests, e)); waits = knows.waits }
 
-pub judged_ready : {joined configured opened : ℕ} {requests : List Request} {queue : List ℕ} {past : List Fact} → Calm (ready joined configured opened) requests queue past → opened < joined → (place : ℕ)
+spoke_opened : (joined configured opened : ℕ) (b : Bool) (c count : ℕ) → (opened + 1 == c) ≡ b → opened < configured → Spoke (ready joined configured opened) c count → Spoke (ready joined configured (opened + 1)) c (if b then count + 1 else count)
+spoke_opened joined configured opened true c count e more spoke =
+    let same : c ≡ opened + 1 = grind (arith, nat_tests, e) in
+    record {
+      nothing = λ less. absurd (omega (arith, same, more, less));
+      once = λ low high less none. absurd (omega (arith, same, less));
+      waits = λ is. absurd (cc);
+      often = λ low high. let old = spoke.once low (omega (arith, same, more)) (omega (arith, same)) refl in omega (arith, old);
+    }
+spoke_opened joined configured opened false c count e more spoke = record {
+  nothing = spoke.nothing;
+  once = λ low high less none. spoke.once low high (omega (arith, less)) none;
+  waits = spoke.waits;
+  often = λ low high. spoke.often low (grind (arith, nat_tests, e, high));
+}
+
+pub judged_ready : {joined configured opened : ℕ} {requests : List Request} {queue : List ℕ} {past : List Fact} → Calm (ready joined configured opened) requests queue past → opened < configured → configured ≤ joined → (place : ℕ)
     → Calm (ready joined configured (opened + 1)) requests queue (Judged (opened + 1) place open_2 Ready ∷ past)
-unfolding present in_use pending view to_modem modem_drained state last_list
-judged_ready {joined} {configured} {opened} {past = past} calm more place = record {
+unfolding present message_count in_use pending view to_modem modem_drained state last_list
+judged_ready {joined} {configured} {opened} {past = past} calm more within place = record {
   there = calm.there;
-  order = omega (arith, more);
+  order = omega (arith, more, within);
+  named = omega (arith, more);
+  spoke = λ c. spoke_opened joined configured opened (opened + 1 == c) c (message_count c past) refl more (calm.spoke c);
   harmless = (refl, calm.harmless);
   knows = λ c. knows_opened joined configured opened (opened + 1 == c) c (view_of c past) refl (calm.knows c);
   state_is = calm.state_is;
@@ -343,12 +424,37 @@ knows_waiting joined false c entries e knows =
     let other : (c == 1) ≡ false = grind (arith, nat_tests, e) in
     record { configured = knows.configured; opened = knows.opened; waits = knows.waits ∙ sym (ap (λ (b : Bool). let o : Option ℕ = if b then Some 2 else None in o) other) }
 
+waits_if : (b : Bool) → is_some (let o : Option ℕ = if b then Some 2 else None in o) ≡ b
+waits_if true = refl
+waits_if false = refl
+
+spoke_waiting : (joined : ℕ) (b : Bool) (c count : ℕ) → (1 == c) ≡ b → Spoke (shut joined 1) c count → Spoke (opening joined) c (if b then count + 1 else count)
+spoke_waiting joined true c count e spoke =
+    let same : c ≡ 1 = grind (arith, nat_tests, e) in
+    let first : (c == 1) ≡ true = grind (arith, nat_tests, e) in
+    record {
+      nothing = λ less. absurd (omega (arith, same, less));
+      once = λ low high less none. absurd (let clash : true ≡ false = sym first ∙ sym (waits_if (c == 1)) ∙ ap (λ (o : Option ℕ). is_some o) none in cc);
+      waits = λ is. let old = spoke.once (omega (arith, same)) (omega (arith, same)) (omega (arith, same)) refl in omega (arith, old);
+      often = λ low high. absurd (omega (arith, low, high));
+    }
+spoke_waiting joined false c count e spoke =
+    let other : (c == 1) ≡ false = grind (arith, nat_tests, e) in
+    record {
+      nothing = spoke.nothing;
+      once = λ low high less none. spoke.once low high less refl;
+      waits = λ is. absurd (let clash : true ≡ false = sym is ∙ waits_if (c == 1) ∙ other in cc);
+      often = λ low high. absurd (omega (arith, low, high));
+    }
+
 pub asks_to_open : {joined : ℕ} {past : List Fact} → Calm (shut joined 1) [] [] past → (place : ℕ) (r : Request) → is_own_open r ≡ true
     → Calm (opening joined) (r ∷ []) (wire setup r) (Forwarded r ∷ Judged 1 place open_2 Waits ∷ past)
-unfolding present in_use pending view to_modem modem_drained state last_list
+unfolding present message_count in_use pending view to_modem modem_drained state last_list
 asks_to_open {joined} {past} calm place r opens = record {
   there = calm.there;
   order = omega arith;
+  named = omega arith;
+  spoke = λ c. spoke_waiting joined (1 == c) c (message_count c past) refl (calm.spoke c);
   harmless = (tt, (refl, calm.harmless));
   knows = λ c. knows_waiting joined (1 == c) c (view_of c past) refl (calm.knows c);
   state_is = ap (λ (b : Bool). if b then IsOpening else state false past) opens;
@@ -368,11 +474,21 @@ knows_told joined false c entries e knows = record {
   waits = knows.waits ∙ ap (λ (b : Bool). let o : Option ℕ = if b then Some 2 else None in o) e;
 }
 
+spoke_told : (joined c count : ℕ) → Spoke (opening joined) c count → Spoke (ready joined 1 1) c count
+spoke_told joined c count spoke = record {
+  nothing = spoke.nothing;
+  once = λ low high less none. absurd (omega (arith, high, less));
+  waits = λ is. absurd (cc);
+  often = λ low high. let first : (c == 1) ≡ true = grind (arith, nat_tests, low, high) in spoke.waits (waits_if (c == 1) ∙ first);
+}
+
 pub opening_ended : {joined : ℕ} {past : List Fact} (r : Request) (m : List ℕ) → Calm (opening joined) (r ∷ []) [] past → 1 ≤ joined → Calm (ready joined 1 1) [] [] (OpeningEnded 0 (1 ∷ []) ∷ Answered r m ∷ past)
-unfolding present in_use pending view to_modem modem_drained state last_list
+unfolding present message_count in_use pending view to_modem modem_drained state last_list
 opening_ended {joined} {past} r m calm some = record {
   there = calm.there;
   order = some;
+  named = omega arith;
+  spoke = λ c. spoke_told joined c (message_count c past) (calm.spoke c);
   harmless = (tt, (tt, calm.harmless));
   knows = λ c.
       subst (λ (b : Bool). Knows (ready joined 1 1) c (known_from setup (entry_if b (OpenedWith 0) (entry_if (r.conn == c) (Response r.place (blank m)) (view_of c past))))) (sym (or_none (c == 1)))
@@ -442,10 +558,12 @@ finished {w} {requests} {queue} calm = subst (Calm w requests queue) (sym (finis
 -- ---- before any event ----
 
 pub nobody_yet : Calm (shut 0 0) [] [] []
-unfolding present in_use pending view to_modem modem_drained state last_list told_by
+unfolding present message_count in_use pending view to_modem modem_drained state last_list told_by
 nobody_yet = record {
   there = refl;
   order = omega arith;
+  named = omega arith;
+  spoke = λ c. record { nothing = λ less. refl; once = λ low high less none. absurd (omega (arith, low, high)); waits = λ is. absurd (cc); often = λ low high. absurd (omega (arith, low, high)) };
   harmless = tt;
   knows = λ c. record { configured = λ low high. absurd (omega (arith, low, high)); opened = λ low high. absurd (omega (arith, low, high)); waits = refl };
   state_is = refl;

@@ -39,7 +39,12 @@ pub record Suits (m : List ℕ) (r : Request) : Type 0 where
   pub is : m ≡ answer (cid_for choice) r.number
   pub command : is_own_open r ≡ false
 
-no_more : (space : ℕ) → setup.limits.in_use space ≤ setup.limits.top space
+-- whether or not its sender waits
+abbrev pub answered_or_late : (waits : Bool) → Request → (message : List ℕ) → List Fact → List Fact
+answered_or_late true r m past = Answered r m ∷ past
+answered_or_late false r m past = Late r ∷ past
+
+pub no_more : (space : ℕ) → setup.limits.in_use space ≤ setup.limits.top space
 no_more space = omega arith
 
 module _ (past : List Fact) (sound : IsSound setup.limits past) (placed : (p : Request) → Contains (in_use past) p → p.space ≡ the_space) where
@@ -62,7 +67,7 @@ module _ (r : Request) (choice : ℕ) (below : r.number < 2 ^ 32) (command : is_
   abbrev m : List ℕ
   m = answer (cid_for choice) r.number
 
-  is_its_answer : is_answered_by IsDone m r ≡ true
+  pub is_its_answer : is_answered_by IsDone m r ≡ true
   is_its_answer =
       ap (λ (n : ℕ). r.number == n && not (is_own_open r)) (answer_number_is (cid_for choice) r.number below)
       ∙ ap (λ (b : Bool). b && not (is_own_open r)) (eq-eqb r.number r.number refl)
@@ -101,18 +106,27 @@ module _ (r : Request) (choice : ℕ) (below : r.number < 2 ^ 32) (command : is_
     calm_without : (after : List Fact) → Calm (ready joined configured opened) (without_request r (before ++ r ∷ behind)) [] after → IsCalm after
     calm_without after is = subst (λ (l : List Request). Calm (ready joined configured opened) l [] after) others_stay is
 
-    waits_or_not : (b : Bool) → IsCalm (answer_or_late setup b r m past)
+    waits_or_not : (b : Bool) → answer_or_late setup b r m past ≡ answered_or_late b r m past
     waits_or_not true =
-        let heard : answer_or_late setup true r m past ≡ Answered r m ∷ past =
-        ap (λ (b : Bool). if b then end_opening setup (opening_status m) (note setup (Answered r m) past) else note setup (Answered r m) past) command ∙ answer_is_noted in
-        subst IsCalm (sym heard) (calm_without (Answered r m ∷ past) (answered calm r m))
-    waits_or_not false = calm_without (Late r ∷ past) (late calm r)
+        ap (λ (b : Bool). if b then end_opening setup (opening_status m) (note setup (Answered r m) past) else note setup (Answered r m) past) command ∙ answer_is_noted
+    waits_or_not false = refl
 
-    pub answer_is_heard : IsCalm (hear_modem setup m past)
-    answer_is_heard =
-        let heard : hear_modem setup m past ≡ answer_or_late setup (is_pending r past) r m past =
-        ap (λ (h : Heard). hear_as setup h m past) ((answer_is choice).heard r.number) ∙ ap (λ (o : Option Request). respond setup o m past) (found past sound placed IsDone m r used is_its_answer) in
-        subst IsCalm (sym heard) (waits_or_not (is_pending r past))
+    calm_then : (b : Bool) → IsCalm (answered_or_late b r m past)
+    calm_then true = calm_without (Answered r m ∷ past) (answered calm r m)
+    calm_then false = calm_without (Late r ∷ past) (late calm r)
+
+    pub record IsHeard : Type 0 where
+      pub facts : hear_modem setup m past ≡ answered_or_late (is_pending r past) r m past
+      pub keeps : IsCalm (answered_or_late (is_pending r past) r m past)
+
+    pub answer_is_heard : IsHeard
+    answer_is_heard = record {
+      facts =
+          ap (λ (h : Heard). hear_as setup h m past) ((answer_is choice).heard r.number)
+          ∙ ap (λ (o : Option Request). respond setup o m past) (found past sound placed IsDone m r used is_its_answer)
+          ∙ waits_or_not (is_pending r past);
+      keeps = calm_then (is_pending r past);
+    }
 
 -- ---- the modem opened ----
 
@@ -120,7 +134,7 @@ module _ (r : Request) (below : r.number < 2 ^ 32) (own : r.conn ≡ 0) (opens :
   abbrev done : List ℕ
   done = opened r.number
 
-  ends_it : is_answered_by IsOpenDone done r ≡ true
+  pub ends_it : is_answered_by IsOpenDone done r ≡ true
   ends_it =
       ap (λ (n : ℕ). r.number == n && is_own_open r) (opened_number_is r.number below)
       ∙ ap (λ (b : Bool). b && is_own_open r) (eq-eqb r.number r.number refl)
@@ -177,15 +191,21 @@ module _ (r : Request) (below : r.number < 2 ^ 32) (own : r.conn ≡ 0) (opens :
     waits : is_pending r past ≡ true
     waits = ap (has_request r) calm.tells ∙ ap (λ (b : Bool). b || false) (eq-eqb r.serial r.serial refl)
 
-    pub opening_is_heard : Calm (ready joined 1 1) [] [] (hear_modem setup done past)
+    pub record EndsOpening : Type 0 where
+      pub facts : hear_modem setup done past ≡ OpeningEnded 0 (1 ∷ []) ∷ answered_facts
+      pub keeps : Calm (ready joined 1 1) [] [] (OpeningEnded 0 (1 ∷ []) ∷ answered_facts)
+
+    pub opening_is_heard : EndsOpening
     opening_is_heard =
         let used : Contains (in_use past) r = subst (λ (l : List Request). Contains l r) (sym calm.uses) (zero, omega arith, refl) in
-        let heard : hear_modem setup done past ≡ OpeningEnded 0 (1 ∷ []) ∷ answered_facts =
-        ap (λ (h : Heard). hear_as setup h done past) (modem_is_opened r.number).heard
-        ∙ ap (λ (o : Option Request). respond setup o done past) (found past sound placed IsOpenDone done r used ends_it)
-        ∙ ap (λ (b : Bool). answer_or_late setup b r done past) waits
-        ∙ ap (λ (b : Bool). if b then end_opening setup 0 (note setup (Answered r done) past) else note setup (Answered r done) past) opens
-        ∙ ap (λ (l : List Fact). end_opening setup 0 l) proxy_is_answered
-        ∙ ap (λ (receivers : List ℕ). note setup (OpeningEnded 0 receivers) answered_facts) first_waits_alone
-        ∙ is_told in
-        subst (Calm (ready joined 1 1) [] []) (sym heard) (opening_ended r done calm some)
+        record {
+          facts =
+              ap (λ (h : Heard). hear_as setup h done past) (modem_is_opened r.number).heard
+              ∙ ap (λ (o : Option Request). respond setup o done past) (found past sound placed IsOpenDone done r used ends_it)
+              ∙ ap (λ (b : Bool). answer_or_late setup b r done past) waits
+              ∙ ap (λ (b : Bool). if b then end_opening setup 0 (note setup (Answered r done) past) else note setup (Answered r done) past) opens
+              ∙ ap (λ (l : List Fact). end_opening setup 0 l) proxy_is_answered
+              ∙ ap (λ (receivers : List ℕ). note setup (OpeningEnded 0 receivers) answered_facts) first_waits_alone
+              ∙ is_told;
+          keeps = opening_ended r done calm some;
+        }

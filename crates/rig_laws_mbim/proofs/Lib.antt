@@ -4,7 +4,9 @@ pub mod Calm
 pub mod Room
 pub mod Says
 pub mod Hears
+pub mod Adding
 pub mod Few
+pub mod Trail
 pub mod Events
 pub mod Taking
 pub mod Pairs

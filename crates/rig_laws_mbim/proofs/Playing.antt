@@ -31,10 +31,10 @@ use Rattle.rig_laws_mbim.proofs.Arriving.{IsFewer, others, longest_is_heard, sho
 drawn_below : (below x : ℕ) → 0 < below → drawn below x < below
 drawn_below below x some = mod-lt (x / 2 ^ 33) some
 
-abbrev IsOneOf : ℕ → Turn → Type 0
+abbrev pub IsOneOf : ℕ → Turn → Type 0
 IsOneOf clients turn = (1 ≤ turn.client) × (turn.client ≤ clients)
 
-turns_are_of_clients : (clients count x : ℕ) → 1 ≤ clients → AllByRecursion (IsOneOf clients) (turns_after clients count x)
+pub turns_are_of_clients : (clients count x : ℕ) → 1 ≤ clients → AllByRecursion (IsOneOf clients) (turns_after clients count x)
 unfolding turns_after
 turns_are_of_clients clients zero x some = tt
 turns_are_of_clients clients (suc count) x some =
@@ -59,6 +59,9 @@ module _ (clients : ℕ) (some : 1 ≤ clients) (within : clients ≤ 64) where
       said_is = refl;
       quiet = starts_quiet setup;
       calm = nobody_yet;
+      few = omega arith;
+      moments = tt;
+      trail = record { calm = nobody_yet; streams = record { whole = λ c. refl; said = []; said_is = refl; quiet = starts_quiet setup } };
     };
     served = λ c there. refl;
     pairs = tt;
@@ -186,7 +189,7 @@ module _ (clients : ℕ) (some : 1 ≤ clients) (within : clients ≤ 64) where
           (as_many_less stage _ (length stage.held + 1) (asks_stage clients clients clients clients turn.client turn.choice own stage playing.stands one.0 one.1 (omega arith) (omega arith) less) (omega (arith, less)))
       by false e = longest stage playing
 
-  plays : (stage : Stage) (turn : Turn) → IsOneOf clients turn → IsPlaying stage → IsPlaying (play (cast clients) script stage turn)
+  pub plays : (stage : Stage) (turn : Turn) → IsOneOf clients turn → IsPlaying stage → IsPlaying (play (cast clients) script stage turn)
   plays stage turn one playing = by (nat_lt turn.choice 4) (nat_lt turn.choice 6) (turn.choice == 6)
     where
       by : (a b c : Bool) → IsPlaying (if a then request_or_arrive (cast clients) script turn stage else if b then longest_arrives (cast clients) stage else if c then shortest_arrives (cast clients) stage else pass (cast clients) tick stage)
@@ -195,7 +198,7 @@ module _ (clients : ℕ) (some : 1 ≤ clients) (within : clients ≤ 64) where
       by false false true = shortest stage playing
       by false false false = passing tick stage playing
 
-  all_play : (turns : List Turn) (stage : Stage) → AllByRecursion (IsOneOf clients) turns → IsPlaying stage → IsPlaying (fold (play (cast clients) script) stage turns)
+  pub all_play : (turns : List Turn) (stage : Stage) → AllByRecursion (IsOneOf clients) turns → IsPlaying stage → IsPlaying (fold (play (cast clients) script) stage turns)
   all_play [] stage all playing = playing
   all_play (turn ∷ turns) stage all playing = all_play turns (play (cast clients) script stage turn) all.1 (plays stage turn all.0 playing)
 
@@ -206,11 +209,18 @@ module _ (clients : ℕ) (some : 1 ≤ clients) (within : clients ≤ 64) where
       let all = all_are_heard clients clients clients clients (omega arith) stage playing.stands in
       (passes clients clients clients clients last_tick (all_arrive (cast clients) stage) all.stands (omega arith) (let none = all.held in omega (arith, none))).stands
 
-  pub rig_stands : (turns number : ℕ) → Standing w (ended (cast clients) (played (cast clients) script turns number))
-  rig_stands turns number =
+  pub ready_is_playing : IsPlaying (ready (cast clients) script)
+  ready_is_playing =
       let has = all_are_ready in
-      let first : IsPlaying (ready (cast clients) script) = record { stands = has.stands; few = (let none : length (ready (cast clients) script).held ≡ 0 = ap length has.none in omega (arith, none)) } in
+      record { stands = has.stands; few = (let none : length (ready (cast clients) script).held ≡ 0 = ap length has.none in omega (arith, none)) }
+
+  pub turns_of_rig : (turns number : ℕ) → AllByRecursion (IsOneOf clients) (turns_after (length (range_with_len 1 clients)) turns number)
+  turns_of_rig turns number =
       let count : length (range_with_len 1 clients) ≡ clients = length-range clients 1 in
-      ends (played (cast clients) script turns number)
-      (subst (λ (n : ℕ). IsPlaying (fold (play (cast clients) script) (ready (cast clients) script) (turns_after n turns number))) (sym count)
-      (all_play (turns_after clients turns number) (ready (cast clients) script) (turns_are_of_clients clients turns number some) first))
+      subst (λ (n : ℕ). AllByRecursion (IsOneOf clients) (turns_after n turns number)) (sym count) (turns_are_of_clients clients turns number some)
+
+  pub played_is_playing : (turns number : ℕ) → IsPlaying (played (cast clients) script turns number)
+  played_is_playing turns number = all_play (turns_after (length (range_with_len 1 clients)) turns number) (ready (cast clients) script) (turns_of_rig turns number) ready_is_playing
+
+  pub rig_stands : (turns number : ℕ) → Standing w (ended (cast clients) (played (cast clients) script turns number))
+  rig_stands turns number = ends (played (cast clients) script turns number) (played_is_playing turns number)

@@ -23,7 +23,7 @@ use Rattle.mbim_proxy.specs.ModemStates.{is_own_open}
 use Rattle.mbim_proxy.specs.FromModem.{refuse, end_opening}
 use Rattle.rig_runs.specs.Mbim.{setup}
 use Rattle.rig_laws_mbim.proofs.Harmless.{HasShortService, IsSteady, steady}
-use Rattle.rig_laws_mbim.proofs.Calm.{Calm, ready, expired}
+use Rattle.rig_laws_mbim.proofs.Calm.{Calm, Progress, ready, expired}
 
 abbrev pub outbox : ℕ
 outbox = 262144
@@ -111,6 +111,14 @@ rendered_if false entry entries = refl
 abbrev expire_each : List Request → List Fact → List Fact
 expire_each requests past = each_pending (λ r before. refuse setup (Expired r) r before) requests past
 
+abbrev expired_alone : List Request → List Fact → List Fact
+expired_alone requests past = each_pending (λ r before. Expired r ∷ before) requests past
+
+-- these facts came, and all is as it was
+pub record AllExpire (w : Progress) (used : List Request) (queue : List ℕ) (after facts_then : List Fact) : Type 0 where
+  pub facts : after ≡ facts_then
+  pub calm : Calm w used queue facts_then
+
 module _ {joined configured opened : ℕ} {used : List Request} {queue : List ℕ} where
   expired_room : (count : ℕ) (r : Request) (past : List Fact) → Calm (ready joined configured opened) used queue past → AllHaveRoom (48 + count) past → AllHaveRoom count (Expired r ∷ past)
   unfolding view present render
@@ -129,14 +137,15 @@ module _ {joined configured opened : ℕ} {used : List Request} {queue : List �
 
   -- ---- several that expire ----
 
-  pub all_expire : (requests : List Request) (past : List Fact) → AllByRecursion (λ r. is_own_open r ≡ false) requests → Calm (ready joined configured opened) used queue past → AllHaveRoom (48 * length requests) past → Calm (ready joined configured opened) used queue (expire_each requests past)
+  pub all_expire : (requests : List Request) (past : List Fact) → AllByRecursion (λ r. is_own_open r ≡ false) requests → Calm (ready joined configured opened) used queue past → AllHaveRoom (48 * length requests) past
+      → AllExpire (ready joined configured opened) used queue (expire_each requests past) (expired_alone requests past)
   unfolding each_pending
-  all_expire [] past commands calm has = calm
+  all_expire [] past commands calm has = record { facts = refl; calm = calm }
   all_expire (r ∷ requests) past commands calm has =
       let has_more : AllHaveRoom (48 + 48 * length requests) past = fewer (48 + 48 * length requests) (48 * length (r ∷ requests)) past (omega arith) has in
       let alone : refuse setup (Expired r) r past ≡ Expired r ∷ past = refused_alone (48 * length requests) r past commands.0 calm has_more in
-      elim (is_pending r past) as (λ b. Calm (ready joined configured opened) used queue (expire_each requests (if b then refuse setup (Expired r) r past else past))) [
-        | true ↦ subst (λ (l : List Fact). Calm (ready joined configured opened) used queue (expire_each requests l)) (sym alone)
+      elim (is_pending r past) as (λ b. AllExpire (ready joined configured opened) used queue (expire_each requests (if b then refuse setup (Expired r) r past else past)) (expired_alone requests (if b then Expired r ∷ past else past))) [
+        | true ↦ subst (λ (l : List Fact). AllExpire (ready joined configured opened) used queue (expire_each requests l) (expired_alone requests (Expired r ∷ past))) (sym alone)
             (all_expire requests (Expired r ∷ past) commands.1 (expired calm r) (expired_room (48 * length requests) r past calm has_more))
         | false ↦ all_expire requests past commands.1 calm (fewer (48 * length requests) (48 * length (r ∷ requests)) past (omega arith) has)
       ]

@@ -15,8 +15,8 @@ use Rattle.mbim_fragments.specs.Assembling as assembling
 use Rattle.proxy_history.specs.Facts.{Fact, Verdict, Request, Own, Foreign, Away, Full, Forward, Ready, Waits, Judged, Forwarded}
 use Rattle.proxy_history.specs.Decision.{Decision, Replies, Forwards, forwards_under}
 use Rattle.proxy_history.specs.Connections.{present, is_present, message_count}
-use Rattle.proxy_history.specs.Requests.{in_use, last_number, of_space, numbers_of, numbers_in_use, next_number, number_after, following, free_from}
-use Rattle.proxy_history.specs.Modem.{modem_queue}
+use Rattle.proxy_history.specs.Requests.{in_use, forward_count, last_number, of_space, numbers_of, numbers_in_use, next_number, number_after, following, free_from, deadline_of}
+use Rattle.proxy_history.specs.Modem.{now, modem_queue}
 use Rattle.proxy_history.specs.View.{Entry, Sent, entry_if, view}
 use Rattle.proxy_history.specs.Rendering.{Rendering, render, put}
 use Rattle.mbim_proxy.specs.Setup.{the_space}
@@ -84,7 +84,7 @@ module _ (c : ℕ) (past : List Fact) where
   abbrev known : Known
   known = known_now setup c past
 
-  own_decides : known.begun ≡ assembling.fresh → view_decides setup known configuration ≡ true
+  pub own_decides : known.begun ≡ assembling.fresh → view_decides setup known configuration ≡ true
   own_decides begun = ap (λ (a : Assembled). not (true && is_for_modem known (joining_behind 65536 a configuration))) begun ∙ ap not (configuration_is.own known)
 
   -- ---- a fact about its message alone brings it a short text ----
@@ -113,7 +113,7 @@ module _ (c : ℕ) (past : List Fact) where
   opening_is_shared : known.configured ≡ true → known.waits ≡ None → view_decides setup known open_2 ≡ false
   opening_is_shared configured waits = ap (λ (b : Bool). not (b && is_none known.waits) && true) configured ∙ ap (λ (o : Option ℕ). not (is_none o) && true) waits
 
-  opening_goes : known.configured ≡ true → known.waits ≡ None → (modem : ModemState) → state false past ≡ modem → decision_on setup known open_2 past ≡ opening_decision modem (number_for setup (own_open setup) past)
+  pub opening_goes : known.configured ≡ true → known.waits ≡ None → (modem : ModemState) → state false past ≡ modem → decision_on setup known open_2 past ≡ opening_decision modem (number_for setup (own_open setup) past)
   opening_goes configured waits modem is =
       ap (λ (b : Bool). if b then Replies Own else opening_decision (state false past) (number_for setup (own_open setup) past)) (opening_is_shared configured waits)
       ∙ ap (λ (m : ModemState). opening_decision m (number_for setup (own_open setup) past)) is
@@ -153,10 +153,10 @@ module _ (c : ℕ) (past : List Fact) where
         ∙ ap (λ (j : Joining). not (is_for_modem known j)) (joins begun)
         ∙ ap not (is.shared known is_open)
 
-    command_is : known.begun ≡ assembling.fresh → command_message setup known m ≡ asked
+    pub command_is : known.begun ≡ assembling.fresh → command_message setup known m ≡ asked
     command_is begun = ap (λ (j : Joining). unsplit 3 (number_of m) (whole_body j)) (joins begun)
 
-    query_goes : known.begun ≡ assembling.fresh → known.opened ≡ true → (number : ℕ) → number_for setup asked past ≡ Some number → decision_on setup known m past ≡ Forwards number
+    pub query_goes : known.begun ≡ assembling.fresh → known.opened ≡ true → (number : ℕ) → number_for setup asked past ≡ Some number → decision_on setup known m past ≡ Forwards number
     query_goes begun is_open number found =
         ap (λ (b : Bool). if b then Replies Own else shared_decision setup known m past) (query_is_shared begun is_open)
         ∙ ap (λ (b : Bool). if b then opening_decision (state false past) (number_for setup (own_open setup) past) else forwards_under (number_for setup (command_message setup known m) past)) ((query_is choice).no_request_to_open own)
@@ -169,10 +169,16 @@ module _ (c : ℕ) (past : List Fact) where
       pub command : is_own_open r ≡ false
       pub number : r.number < 2 ^ 32
       pub wire_is : wire setup r ≡ query (cid_for choice) r.number
+      pub serial : r.serial ≡ forward_count past + 1
+      pub sender : r.conn ≡ c
+      pub place : r.place ≡ message_count c past + 1
+      pub deadline : r.deadline ≡ deadline_of (now past) time_limit
+      pub facts : after ≡ Forwarded r ∷ Judged c (message_count c past + 1) m Forward ∷ past
       pub calm : Calm (ready joined configured opened) (requests ++ r ∷ []) (wire setup r) after
 
     pub query_is_forwarded : {joined configured opened : ℕ} {requests : List Request} → Calm (ready joined configured opened) requests [] past → 1 ≤ c → c ≤ opened → length requests ≤ 200
         → IsForwarded joined configured opened requests (hear_client setup known c m past)
+    unfolding message_count forward_count now
     query_is_forwarded {joined} {configured} {opened} {requests} calm low high few =
         let is : IsSteady known = steady c past calm.harmless in
         let q = query_is choice in
@@ -189,5 +195,10 @@ module _ (c : ℕ) (past : List Fact) where
           command = q.no_request_to_open (number_of m);
           number = given.below;
           wire_is = q.wire given.number (number_of m);
-          calm = subst (Calm (ready joined configured opened) (requests ++ added ∷ []) (wire setup added)) (sym heard) (forwarded (judged calm c (message_count c past + 1) m whole) added (q.no_request_to_open (number_of m)));
+          serial = refl;
+          sender = refl;
+          place = ap (λ (b : Bool). if b then message_count c past + 1 else message_count c past) (eq-eqb c c refl);
+          deadline = refl;
+          facts = heard;
+          calm = subst (Calm (ready joined configured opened) (requests ++ added ∷ []) (wire setup added)) (sym heard) (forwarded (judged calm c (message_count c past + 1) m low high whole) added (q.no_request_to_open (number_of m)));
         }

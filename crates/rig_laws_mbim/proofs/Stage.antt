@@ -32,12 +32,12 @@ use Rattle.rig_laws_mbim.proofs.Pairs.{Pairs, Found, as_many, one_more, find, al
 use Rattle.rig_laws_mbim.proofs.Events.{Going, AllAreServed, HasOpened, HasAsked, joins, configures, finds_open, opens_modem, asks, answers, opens, goes_on}
 use Rattle.rig_laws_mbim.proofs.Taking.{AreServed, clients_are_served, modem_is_served}
 
-one_message : (x : List ℕ) → IsMessage size_of x → (cut size_of x).messages ≡ x ∷ []
+pub one_message : (x : List ℕ) → IsMessage size_of x → (cut size_of x).messages ≡ x ∷ []
 unfolding cut_from
 one_message x is = (ends_message size_of size_of-kept size_of-positive refl [] x [] x refl refl is).messages
 
 -- a short message comes whole
-one_piece : (count : ℕ) (x : List ℕ) → length x ≤ 200 → pieces_of count x ≡ x ∷ []
+pub one_piece : (count : ℕ) (x : List ℕ) → length x ≤ 200 → pieces_of count x ≡ x ∷ []
 unfolding alone.pieces_of
 one_piece zero x short = refl
 one_piece (suc count) x short =

@@ -1,0 +1,13 @@
+pub mod Mirror
+pub mod Streams
+pub mod Saying
+pub mod Answering
+pub mod Mirroring
+pub mod Waiting
+pub mod Expiring
+pub mod Counting
+pub mod Moments
+pub mod Law
+pub mod Alone
+pub mod Joining
+pub mod Parts

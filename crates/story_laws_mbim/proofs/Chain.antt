@@ -1,0 +1,27 @@
+-- A story in two parts, and what holds of both.
+use Rattle.std.proofs.Common.{◌≡◌, ℕ, List, [], ◌∷◌, ◌++◌, fold, refl}
+use Rattle.proxy_history.specs.Events.{Event}
+use Rattle.proxy_history.specs.Proxy.{Proxy}
+use Rattle.rig_story.specs.Rows.{Reading}
+use Rattle.rig_story.specs.declared.story.Met.{Met}
+use Rattle.rig_story.specs.Alone.{meet_met, IsSame, IsSameAlone}
+
+pub fold-append : {X Y : Type 0} (f : X → Y → X) (x : X) (one other : List Y) → fold f x (one ++ other) ≡ fold f (fold f x one) other
+fold-append f x [] other = refl
+fold-append f x (y ∷ one) other = fold-append f (f x y) one other
+
+module _ (reading : Reading) (p : Proxy) (c : ℕ) where
+  -- it is the same alone with each of them in turn
+  abbrev pub AreSame : (own : List Event) → List Met → Type 0
+  AreSame own [] = Unit {0}
+  AreSame own (met ∷ story) = IsSame reading p c own met × AreSame (meet_met reading p c own met) story
+
+  pub same_both : (own : List Event) (one other : List Met) → AreSame own one → AreSame (fold (meet_met reading p c) own one) other → AreSame own (one ++ other)
+  same_both own [] other same more = more
+  same_both own (met ∷ one) other same more = (same.0, same_both (meet_met reading p c own met) one other same.1 more)
+
+  -- and in the end nothing more waits
+  pub same_alone : (own : List Event) (story : List Met) → AreSame own story → p.waiting c (fold (meet_met reading p c) own story) ≡ [] → IsSameAlone reading p c own story
+  unfolding IsSameAlone
+  same_alone own [] same none = none
+  same_alone own (met ∷ story) same none = (same.0, same_alone (meet_met reading p c own met) story same.1 none)
