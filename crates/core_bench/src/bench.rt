@@ -1,4 +1,4 @@
-ghost use Rattle.std.specs.Prelude.{◌≡◌, ℕ, Bool, true, false, List, [], ◌∷◌, Option, OnOk, OnErr};
+ghost use Rattle.std.specs.Prelude.{◌≡◌, ℕ, Bool, true, false, List, [], ◌∷◌, Option, IfOk, OnOk, OnErr};
 ghost use Rattle.std.specs.Borrow.{sem};
 ghost use Rattle.proxy_history.specs.Events as history;
 ghost use Rattle.proxy_history.specs.Events.{greatest_after};
@@ -16,7 +16,7 @@ use std::alloc::{AllocError, Global};
 
 /// A bench for the cores of proxies. It holds at most one, and whoever runs it does with it what the
 /// serving of a proxy does.
-pub trait Bench {
+pub trait Bench: Drop {
     /// What the core that it holds shows.
     ghost face: { Self → Face };
 
@@ -75,6 +75,13 @@ pub trait Bench {
         ensures next { NextDropped face self.old self.new result }
         ensures keeps { (p : Proxy) (past : List history.Event) → keeps p past self.old → keeps p past self.new }
         ensures runs { runs self.new ≡ runs self.old };
+
+    /// Gives the bench away with all that is on it, and leaves one that holds no core. Where memory
+    /// runs out all stays.
+    fn take(&mut self, alloc: Global) -> Result<Self, AllocError>
+        ensures taken { IfOk result (λ taken. taken ≡ self.old) }
+        ensures left { OnOk result (is_held self.new ≡ false) }
+        ensures err { OnErr result (self.new ≡ self.old) };
 
     /// A core that keeps what it has to is held, and shows what the definitions say.
     ghost shows: { (p : Proxy) (past : List history.Event) (bench : Self) → keeps p past bench → (is_held bench ≡ true) × Shows p past (face bench) };

@@ -7,6 +7,7 @@ use hub_io::{Event, Limits};
 use kit_bytes::Kind;
 use proxy_serving::ProxyCore;
 use std::alloc::{AllocError, Global};
+use std::mem::replace;
 
 /// A bench that runs cores and tells of no run.
 #[derive(Drop)]
@@ -73,6 +74,10 @@ impl Bench for Cores {
             Held::Qmi(core) => ProxyCore::next_dropped(core),
             Held::Mbim(core) => ProxyCore::next_dropped(core),
         }
+    }
+
+    fn take(&mut self, _alloc: Global) -> Result<Self, AllocError> {
+        Ok(replace(self, Cores::none()))
     }
 
     ghost shows = { λ p past s. shows_of p past s.held };

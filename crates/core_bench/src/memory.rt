@@ -10,6 +10,7 @@ use hub_io::{Event, Limits};
 use kit_bytes::Kind;
 use kit_io::Log;
 use std::alloc::{AllocError, Global};
+use std::mem::replace;
 
 /// What was done on a bench in memory. Its bytes stand beside it: the device's path, or a piece.
 #[derive(Clone, Copy, Debug, PartialEq, Eq)]
@@ -131,6 +132,11 @@ impl Bench for MemBench {
 
     fn next_dropped(&mut self) -> Option<u64> {
         self.cores.next_dropped()
+    }
+
+    fn take(&mut self, alloc: Global) -> Result<Self, AllocError> {
+        let none = MemBench::new(alloc, 0, 0)?;
+        Ok(replace(self, none))
     }
 
     ghost shows = { λ p past s. shows_of p past s.cores.held };

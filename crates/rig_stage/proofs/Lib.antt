@@ -1,4 +1,5 @@
 pub mod Splitting
 pub mod Going
 pub mod Acting
+pub mod Stopping
 pub mod Arriving

@@ -8,7 +8,7 @@ use Rattle.proxy_history.specs.Streams.{Framing}
 use Rattle.sim_modem.specs.Sim.{Answering}
 use Rattle.core_bench.specs.Runs.{Run}
 use Rattle.rig_runs.specs.Stage.{Cast, Stage}
-use Rattle.rig_stage.specs.Running.{Runs}
+use Rattle.rig_stage.specs.Running.{Runs, IsCutShort}
 
 -- what a running stage is seen as, beside the core
 pub record World (M : Type 0) : Type 0 where
@@ -48,3 +48,9 @@ pub record Acts {B M : Type 0} (keeps : Proxy → List Event → B → Type 0) (
     (goes_on : Cast → Stage → Stage) (old : World M) (before : B) (new : World M) (after : B) : Type 0 where
   pub plays : (cast : Cast) (opened : Run) (earlier : List Run) (stage : Stage) → Plays keeps tells asks size cast opened earlier stage old before
       → Plays keeps tells asks size cast opened earlier (goes_on cast stage) new after
+
+-- whichever stage it stands for, the run is cut short on the way to this one
+pub record Stops {B M : Type 0} (keeps : Proxy → List Event → B → Type 0) (tells : B → Option (List Run)) (asks : Answering → List (List ℕ) → M → Type 0) (size : Framing)
+    (goes_on : Cast → Stage → Stage) (old : World M) (before after : B) : Type 0 where
+  pub cut_short : (cast : Cast) (opened : Run) (earlier : List Run) (stage : Stage) → Plays keeps tells asks size cast opened earlier stage old before
+      → IsCutShort opened earlier (goes_on cast stage).events (tells after)

@@ -6,4 +6,5 @@ mod messages;
 mod running;
 mod stage;
 
+pub use running::{meet, modem_took};
 pub use stage::Stage;

@@ -14,7 +14,7 @@ use core_bench::Bench;
 use hub_io::Event;
 
 /// The core meets an event, and whom it drops is asked for.
-pub(crate) fn meet<B: Bench>(bench: &mut B, event: Event<'_>)
+pub fn meet<B: Bench>(bench: &mut B, event: Event<'_>)
     requires ready { IsReady (B.is_held bench.old) (B.face bench.old) }
     requires may { MayCome (event_of event) (B.face bench.old) }
     ensures ready { IsReady (B.is_held bench.new) (B.face bench.new) }
@@ -60,7 +60,7 @@ pub(crate) fn clients_take<B: Bench>(bench: &mut B, clients: u8)
 }
 
 /// The modem took so many bytes, if any.
-pub(crate) fn modem_took<B: Bench>(bench: &mut B, count: usize)
+pub fn modem_took<B: Bench>(bench: &mut B, count: usize)
     requires ready { IsReady (B.is_held bench.old) (B.face bench.old) }
     requires all { count ≡ length (B.face bench.old).modem_queue }
     ensures ready { StaysReady (B.is_held bench.new) (B.face bench.old) (B.face bench.new) }

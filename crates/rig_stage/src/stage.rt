@@ -1,4 +1,4 @@
-ghost use Rattle.std.specs.Prelude.{◌≡◌, ◌+◌, ◌<◌, ◌≤◌, ◌^◌, ◌++◌, [], length, ℕ, List, OnOk, IfOk};
+ghost use Rattle.std.specs.Prelude.{◌≡◌, ◌+◌, ◌<◌, ◌≤◌, ◌^◌, ◌++◌, [], length, ℕ, List, OnOk, OnErr, IfOk};
 ghost use Rattle.framing.specs.Cutting.{cut};
 ghost use Rattle.framing.specs.Framing.{IsMessage};
 ghost use Rattle.hub_io.specs.Events.{event_of};
@@ -8,7 +8,7 @@ ghost use Rattle.proxy_serving.specs.Face.{MayCome};
 ghost use Rattle.rig_runs.specs.Rig.{join, pass, say};
 ghost use Rattle.rig_runs.specs.Stage as rig;
 ghost use Rattle.rig_stage.specs.Ready.{IsReady, StaysReady};
-ghost use Rattle.rig_stage.specs.Stage.{Acts, Asks};
+ghost use Rattle.rig_stage.specs.Stage.{Acts, Asks, Stops};
 
 use crate::messages::first_message;
 use crate::running::{clients_take, meet, modem_took};
@@ -82,6 +82,7 @@ impl<S: Sim> Stage<S> {
         ensures clients { OnOk result (self.new.clients ≡ self.old.clients) }
         ensures time { OnOk result (self.new.time ≡ self.old.time) }
         ensures acts { OnOk result (Acts B.keeps B.runs S.keeps S.Framing.size (λ cast stage. join cast stage conn) self.old bench.old self.new bench.new) }
+        ensures stops { OnErr result (Stops B.keeps B.runs S.keeps S.Framing.size (λ cast stage. join cast stage conn) self.old bench.old bench.new) }
     {
         self.meet(bench, Event::Joined(conn))
     }
@@ -99,6 +100,7 @@ impl<S: Sim> Stage<S> {
         ensures clients { OnOk result (self.new.clients ≡ self.old.clients) }
         ensures time { OnOk result (self.new.time ≡ self.old.time) }
         ensures acts { OnOk result (Acts B.keeps B.runs S.keeps S.Framing.size (λ cast stage. say cast conn stage message.now) self.old bench.old self.new bench.new) }
+        ensures stops { OnErr result (Stops B.keeps B.runs S.keeps S.Framing.size (λ cast stage. say cast conn stage message.now) self.old bench.old bench.new) }
     {
         self.meet(bench, Event::Piece(conn, message))
     }
@@ -110,6 +112,7 @@ impl<S: Sim> Stage<S> {
         ensures clients { OnOk result (self.new.clients ≡ self.old.clients) }
         ensures time { OnOk result (self.new.time ≡ self.old.time) }
         ensures acts { OnOk result (Acts B.keeps B.runs S.keeps S.Framing.size rig.longest_arrives self.old bench.old self.new bench.new) }
+        ensures stops { OnErr result (Stops B.keeps B.runs S.keeps S.Framing.size rig.longest_arrives self.old bench.old bench.new) }
     {
         match self.held.pop_front() {
             Some(message) => self.arrive(bench, message.as_slice()),
@@ -124,6 +127,7 @@ impl<S: Sim> Stage<S> {
         ensures clients { OnOk result (self.new.clients ≡ self.old.clients) }
         ensures time { OnOk result (self.new.time ≡ self.old.time) }
         ensures acts { OnOk result (Acts B.keeps B.runs S.keeps S.Framing.size rig.shortest_arrives self.old bench.old self.new bench.new) }
+        ensures stops { OnErr result (Stops B.keeps B.runs S.keeps S.Framing.size rig.shortest_arrives self.old bench.old bench.new) }
     {
         match self.held.pop_back() {
             Some(message) => self.arrive(bench, message.as_slice()),
@@ -138,6 +142,7 @@ impl<S: Sim> Stage<S> {
         ensures clients { OnOk result (self.new.clients ≡ self.old.clients) }
         ensures time { OnOk result (self.new.time ≡ self.old.time) }
         ensures acts { OnOk result (Acts B.keeps B.runs S.keeps S.Framing.size rig.all_arrive self.old bench.old self.new bench.new) }
+        ensures stops { OnErr result (Stops B.keeps B.runs S.keeps S.Framing.size rig.all_arrive self.old bench.old bench.new) }
     {
         let count = self.held.len();
         for _place in 0..count {
@@ -154,6 +159,7 @@ impl<S: Sim> Stage<S> {
         ensures clients { OnOk result (self.new.clients ≡ self.old.clients) }
         ensures time { OnOk result (self.new.time ≡ self.old.time + time) }
         ensures acts { OnOk result (Acts B.keeps B.runs S.keeps S.Framing.size (λ cast stage. pass cast time stage) self.old bench.old self.new bench.new) }
+        ensures stops { OnErr result (Stops B.keeps B.runs S.keeps S.Framing.size (λ cast stage. pass cast time stage) self.old bench.old bench.new) }
     {
         let now = self.time + time;
         self.meet(bench, Event::Now(now))
@@ -166,6 +172,7 @@ impl<S: Sim> Stage<S> {
         ensures clients { OnOk result (self.new.clients ≡ self.old.clients) }
         ensures time { OnOk result (self.new.time ≡ self.old.time) }
         ensures acts { OnOk result (Acts B.keeps B.runs S.keeps S.Framing.size (λ cast stage. rig.arrive cast message.now stage) self.old bench.old self.new bench.new) }
+        ensures stops { OnErr result (Stops B.keeps B.runs S.keeps S.Framing.size (λ cast stage. rig.arrive cast message.now stage) self.old bench.old bench.new) }
     {
         let mut rest = message;
         while rest.len() > LONGEST_PIECE {
@@ -186,6 +193,7 @@ impl<S: Sim> Stage<S> {
         ensures clients { OnOk result (self.new.clients ≡ self.old.clients) }
         ensures time { OnOk result (self.new.time ≡ time_then (event_of event.entry) self.old.time) }
         ensures acts { OnOk result (Acts B.keeps B.runs S.keeps S.Framing.size (λ cast stage. rig.meet cast (event_of event.entry) stage) self.old bench.old self.new bench.new) }
+        ensures stops { OnErr result (Stops B.keeps B.runs S.keeps S.Framing.size (λ cast stage. rig.meet cast (event_of event.entry) stage) self.old bench.old bench.new) }
     {
         let clients = self.clients;
         self.time = time_after(event, self.time);
@@ -201,6 +209,7 @@ impl<S: Sim> Stage<S> {
         ensures clients { OnOk result (self.new.clients ≡ self.old.clients) }
         ensures time { OnOk result (self.new.time ≡ self.old.time) }
         ensures acts { OnOk result (Acts B.keeps B.runs S.keeps S.Framing.size rig.modem_served self.old bench.old self.new bench.new) }
+        ensures stops { OnErr result (Stops B.keeps B.runs S.keeps S.Framing.size rig.modem_served self.old bench.old bench.new) }
     {
         let queue = bench.queued_modem();
         let count = queue.len();

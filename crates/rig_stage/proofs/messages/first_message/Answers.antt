@@ -1,6 +1,6 @@
-use Rattle.std.proofs.Common.{◌≡◌, ℕ, ◌<◌, length, sym, ◌∙◌, subst}
+use Rattle.std.proofs.Common.{◌≡◌, length, sym, ◌∙◌, subst}
 use Rattle.framing.specs.declared.framing.Size.{Size}
-use Rattle.framing.specs.declared.framing.Size.TheVariants.{Unknown, Known, Invalid}
+use Rattle.framing.specs.declared.framing.Size.TheVariants.{Unknown, Known}
 use Rattle.framing.specs.Framing.{IsShort}
 use Rattle.rig_stage.proofs.Splitting.{splits, none_in_partial, none_in_bad}
 use Rattle.rig_stage.proofs.messages.first_message.Goals as goal

@@ -1,6 +1,5 @@
-use Rattle.std.proofs.Common.{◌≡◌, ℕ, ◌<◌, List, ◌∷◌, length, refl, ap, sym, ◌∙◌, subst, arith, rules}
-use Rattle.proxy_history.specs.Events.{Event, Took}
-use Rattle.proxy_history.specs.Proxy.{Proxy}
+use Rattle.std.proofs.Common.{◌≡◌, ℕ, ◌<◌, List, ◌∷◌, length, ap, sym, ◌∙◌, subst, rules}
+use Rattle.proxy_history.specs.Events.{Took}
 use Rattle.hub_io.specs.Record.{taking}
 use Rattle.rig_runs.specs.Stage.{queued_for}
 use Rattle.rig_stage.specs.Running.{Moves}

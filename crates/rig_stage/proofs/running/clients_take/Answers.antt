@@ -1,4 +1,4 @@
-use Rattle.std.proofs.Common.{◌≡◌, ℕ, ◌+◌, refl, ap, sym, ◌∙◌, subst, arith, rules}
+use Rattle.std.proofs.Common.{◌≡◌, ℕ, refl, ◌∙◌, subst, arith, rules}
 use Rattle.std.specs.List.{range_with_len}
 use Rattle.rig_runs.specs.Stage.{clients_take}
 use Rattle.rig_stage.specs.Running.{Moves}

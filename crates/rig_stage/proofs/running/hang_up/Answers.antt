@@ -1,6 +1,4 @@
-use Rattle.std.proofs.Common.{◌≡◌, length, refl, ap, sym, ◌∙◌, subst, arith}
-use Rattle.rig_stage.specs.Ready.{StaysReady}
-use Rattle.rig_stage.specs.Running.{Moves}
+use Rattle.std.proofs.Common.{length, refl, ap, ◌∙◌, arith}
 use Rattle.rig_stage.proofs.Going.{stays, met_none, moved_then}
 use Rattle.rig_stage.proofs.running.hang_up.Goals as goal
 

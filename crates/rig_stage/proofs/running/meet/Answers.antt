@@ -1,4 +1,3 @@
-use Rattle.std.proofs.Common.{◌∙◌}
 use Rattle.rig_stage.proofs.Going.{met_one, moved_then}
 use Rattle.rig_stage.proofs.running.meet.Goals as goal
 

@@ -1,4 +1,4 @@
-use Rattle.std.proofs.Common.{◌≡◌, List, ℕ, [], ◌∷◌, ◌∙◌, ap, sym, refl}
+use Rattle.std.proofs.Common.{List, ℕ, ◌∙◌}
 use Rattle.framing.specs.Cutting.{cut}
 use Rattle.rig_stage.proofs.Splitting.{first_is}
 use Rattle.rig_stage.proofs.Acting.{asking_one, asking_done, asked_bytes}

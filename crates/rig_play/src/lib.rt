@@ -1,0 +1,16 @@
+//! All clients of a rig: each opens the device, and then they take turns that are drawn from a number.
+#![tactic(auto)]
+
+mod draws;
+mod mbim;
+mod opening;
+mod players;
+mod protocol;
+mod qmi;
+mod runs;
+
+pub use mbim::MbimClients;
+pub use players::{Players, play_all};
+pub use protocol::{DEVICE, Protocol};
+pub use qmi::QmiClients;
+pub use runs::{TIME_LIMIT, open_core, run_clients};
