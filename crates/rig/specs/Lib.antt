@@ -1,0 +1,4 @@
+pub mod Lines
+pub mod Playing
+pub mod Begun
+pub mod Stopping

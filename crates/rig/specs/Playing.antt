@@ -1,0 +1,70 @@
+-- What a running rig comes to, as far as no protocol has a part in it. Lists of runs and of events have the newest first.
+use Rattle.std.specs.Prelude.{◌≡◌, ℕ, ◌≤◌, Bool, true, List, [], ◌∷◌, ◌++◌, map, reverse, Option}
+use Rattle.std.specs.List.{range_with_len}
+use Rattle.kit_bytes.specs.declared.kind.Kind.{Kind}
+use Rattle.proxy_history.specs.Events.{Event}
+use Rattle.proxy_history.specs.Proxy.{Proxy}
+use Rattle.core_bench.specs.Runs.{Run}
+use Rattle.rig_runs.specs.Counts.{Summary, lines_of}
+use Rattle.rig_stage.specs.Running.{AreTold}
+use Rattle.rig_play.specs.Runs.{run_of}
+use Rattle.rig_story.specs.Rows.{Reading, ledger_of}
+use Rattle.rig_story.specs.declared.story.Met.{Met}
+use Rattle.rig_story.specs.Story.{story_of}
+use Rattle.rig_story.specs.Alone.{met_alone}
+use Rattle.rig_notes.specs.Alone.{MayMeetAll}
+use Rattle.rig.specs.declared.text.Outcome.{Outcome}
+
+-- the bench tells these runs more
+abbrev pub AddsRuns : Option (List Run) → List Run → Option (List Run) → Type 0
+AddsRuns old runs new = (earlier : List Run) → AreTold old earlier → AreTold new (runs ++ earlier)
+
+-- ---- clients that are alone ----
+
+-- the run of a client alone
+abbrev pub run_alone : Reading → Proxy → Kind → List Met → ℕ → Run
+run_alone reading p kind story c = run_of kind (met_alone reading p c story)
+
+-- those of so many, named from 1 on
+abbrev pub runs_alone : Reading → Proxy → Kind → List Met → ℕ → List Run
+runs_alone reading p kind story clients = map (run_alone reading p kind story) (reverse (range_with_len 1 clients))
+
+-- what is the client's of a story can be met alone, and is the same
+abbrev pub IsEqual : Reading → Proxy → List Met → ℕ → Type 0
+IsEqual reading p story c = MayMeetAll reading c story p []
+
+-- one more run, where so it is with the client
+pub record RunsOne (reading : Reading) (p : Proxy) (kind : Kind) (story : List Met) (c : ℕ) (old new : Option (List Run)) (same : Bool) : Type 0 where
+  pub runs : IsEqual reading p story c → (same ≡ true) × AddsRuns old (run_alone reading p kind story c ∷ []) new
+
+-- so many more, where so it is with each of these clients
+pub record RunsEach (reading : Reading) (p : Proxy) (kind : Kind) (story : List Met) (clients : ℕ) (old new : Option (List Run)) (equal : ℕ) : Type 0 where
+  pub runs : ((c : ℕ) → 1 ≤ c → c ≤ clients → IsEqual reading p story c) → (equal ≡ clients) × AddsRuns old (runs_alone reading p kind story clients) new
+
+-- ---- the whole ----
+
+-- these events were met, and then each client's part of them alone
+pub record PlaysRig (reading : Reading) (p : Proxy) (kind : Kind) (clients : ℕ) (events : List Event) (old new : Option (List Run)) (outcome : Outcome) : Type 0 where
+  pub counts : outcome.counts ≡ (ledger_of reading p events).counts
+  pub runs : ((c : ℕ) → 1 ≤ c → c ≤ clients → IsEqual reading p (story_of reading p events) c)
+      → (outcome.equal ≡ clients) × AddsRuns old (runs_alone reading p kind (story_of reading p events) clients ++ run_of kind events ∷ []) new
+
+-- the summary of an outcome; nothing that a client of a rig meets tells of others, so all of them are counted
+abbrev pub summed : (clients turns : ℕ) → Outcome → Summary
+summed clients turns outcome = record {
+  clients = clients;
+  turns = turns;
+  forwarded = outcome.counts.forwarded;
+  answered = outcome.counts.answered;
+  expired = outcome.counts.expired;
+  late = outcome.counts.late;
+  refused = outcome.counts.refused;
+  equal = outcome.equal;
+  counted = clients;
+}
+
+-- it was run, and these are the lines of its summary
+pub record TellsRig (reading : Reading) (p : Proxy) (kind : Kind) (clients turns : ℕ) (events : List Event) (old new : Option (List Run)) (text : List ℕ) : Type 0 where
+  pub outcome : Outcome
+  pub plays : PlaysRig reading p kind clients events old new outcome
+  pub lines : text ≡ lines_of (summed clients turns outcome)

@@ -1,0 +1,89 @@
+ghost use Rattle.std.specs.Prelude.{◌≡◌, ◌≤◌, ◌<◌, ◌++◌, ◌∷◌, [], List, IfOk, OnOk, OnErr};
+ghost use Rattle.core_bench.specs.Runs.{Run};
+ghost use Rattle.rig_stage.specs.Ready.{IsReady};
+ghost use Rattle.rig_story.specs.Rows.{ledger_of};
+ghost use Rattle.rig_story.specs.Story.{story_of};
+ghost use Rattle.rig_play.specs.Runs.{run_of};
+ghost use Rattle.rig.specs.Playing.{AddsRuns, RunsEach, RunsOne, PlaysRig};
+ghost use Rattle.rig.specs.Stopping.{StopsEach, StopsOne, StopsRig};
+
+use crate::text::Outcome;
+use core_bench::Bench;
+use rig_notes::{Noting, Reading, run_alone};
+use rig_play::{Protocol, open_core, run_clients};
+use rig_story::Met;
+use std::alloc::{AllocError, Global};
+
+/// Runs a core with all clients on a bench, and then with each of them alone.
+pub(crate) fn play<P: Protocol, R: Reading, B: Bench>(
+    alloc: Global,
+    bench: &mut B,
+    clients: u8,
+    turns: u32,
+    number: u64,
+) -> Result<Outcome, AllocError>
+    requires { 1 ≤ clients }
+    ensures plays { IfOk result (PlaysRig R.reading P.proxy P.kind clients (P.events clients turns number) (B.runs bench.old) (B.runs bench.new)) }
+    ensures stops { OnErr result (StopsRig R.reading P.proxy P.kind clients (P.events clients turns number) (B.runs bench.old) (B.runs bench.new)) }
+{
+    let mut noting: Noting<R, B> = Noting::over(alloc, bench.take(alloc)?);
+    let outcome = play_on::<P, R, B>(alloc, &mut noting, clients, turns, number);
+    *bench = noting.into_bench();
+    outcome
+}
+
+// The same on a bench that notes its story.
+fn play_on<P: Protocol, R: Reading, B: Bench>(
+    alloc: Global,
+    noting: &mut Noting<R, B>,
+    clients: u8,
+    turns: u32,
+    number: u64,
+) -> Result<Outcome, AllocError>
+    requires { 1 ≤ clients }
+    ensures plays { IfOk result (PlaysRig R.reading P.proxy P.kind clients (P.events clients turns number) (B.runs noting.old.bench) (B.runs noting.new.bench)) }
+    ensures stops { OnErr result (StopsRig R.reading P.proxy P.kind clients (P.events clients turns number) (B.runs noting.old.bench) (B.runs noting.new.bench)) }
+{
+    run_clients::<P, Noting<R, B>>(alloc, noting, clients, turns, number)?;
+    if noting.has_failed() {
+        return Err(AllocError);
+    }
+    let counts = noting.counts();
+    let story = noting.take_story(alloc);
+    let equal = count_equal::<P, R, B>(alloc, noting, clients, &story)?;
+    Ok(Outcome { counts, equal })
+}
+
+// Runs a core for each client alone, and counts those that take the same bytes.
+fn count_equal<P: Protocol, R: Reading, B: Bench>(
+    alloc: Global,
+    noting: &mut Noting<R, B>,
+    clients: u8,
+    story: &[Met],
+) -> Result<u8, AllocError>
+    ensures each { IfOk result (RunsEach R.reading P.proxy P.kind story.now clients (B.runs noting.old.bench) (B.runs noting.new.bench)) }
+    ensures stops { OnErr result (StopsEach R.reading P.proxy P.kind story.now clients (B.runs noting.old.bench) (B.runs noting.new.bench)) }
+{
+    let mut equal: u8 = 0;
+    for index in 0..clients {
+        if is_equal::<P, R, B>(alloc, noting, u64::from(index) + 1, story)? {
+            equal += 1;
+        }
+    }
+    Ok(equal)
+}
+
+// Runs a core for a client alone, and says whether it takes the same bytes.
+fn is_equal<P: Protocol, R: Reading, B: Bench>(
+    alloc: Global,
+    noting: &mut Noting<R, B>,
+    conn: u64,
+    story: &[Met],
+) -> Result<bool, AllocError>
+    requires { 0 < conn }
+    ensures one { IfOk result (RunsOne R.reading P.proxy P.kind story.now conn (B.runs noting.old.bench) (B.runs noting.new.bench)) }
+    ensures stops { OnErr result (StopsOne R.reading P.proxy P.kind story.now conn (B.runs noting.old.bench) (B.runs noting.new.bench)) }
+{
+    open_core::<P, Noting<R, B>>(alloc, noting)?;
+    run_alone(noting, alloc, conn, story)
+}

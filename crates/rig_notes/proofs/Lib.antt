@@ -1,0 +1,4 @@
+pub mod Meeting
+pub mod Noted
+pub mod Sound
+pub mod Stopping

@@ -1,0 +1,31 @@
+use Rattle.std.proofs.Common.{◌≡◌, true, subst}
+use Rattle.std.proofs.lemmas.Result.{IfOk-weaker}
+use Rattle.rig_story.specs.declared.Met.{Met}
+use Rattle.rig_notes.specs.Alone.{is_met}
+use Rattle.rig_notes.proofs.Meeting.{comes, came_goes_on, said_goes_on, heard_goes_on, collected_goes_on}
+use Rattle.rig_notes.proofs.alone.meet_own.Goals as goal
+
+pub returns-in-Came-clause-same : goal.returns-in-Came-clause-same
+returns-in-Came-clause-same g c =
+    let Mine : Met → Type 0 = λ met. is_met c.args.conn met ≡ true in
+    rw c.in-Came.is (came_goes_on g.R.Reading.reading c.args.conn c.args.fresh c.in-Came.field-0 (subst Mine c.in-Came.is c.requires.own) c.come.ensures.same)
+
+pub returns-in-Said-clause-same : goal.returns-in-Said-clause-same
+returns-in-Said-clause-same g c =
+    let Mine : Met → Type 0 = λ met. is_met c.args.conn met ≡ true in
+    rw (c.in-Said.is, ← c.as_slice.ensures) (said_goes_on g.R.Reading.reading c.args.conn c.args.fresh c.in-Said.field-0 c.as_slice.result.now (subst Mine c.in-Said.is c.requires.own) c.say.ensures.same)
+
+pub returns-in-Heard-clause-same : goal.returns-in-Heard-clause-same
+returns-in-Heard-clause-same g c =
+    let Mine : Met → Type 0 = λ met. is_met c.args.conn met ≡ true in
+    rw (c.in-Heard.is, ← c.as_slice-in-Heard.ensures)
+    (IfOk-weaker c.hear.result _ _ (λ same it. heard_goes_on g.R.Reading.reading c.args.conn c.args.fresh c.in-Heard.field-0 c.in-Heard.place c.as_slice-in-Heard.result.now (subst Mine c.in-Heard.is c.requires.own) it) c.hear.ensures.same)
+
+pub returns-in-Collected-clause-same : goal.returns-in-Collected-clause-same
+returns-in-Collected-clause-same g c =
+    let Mine : Met → Type 0 = λ met. is_met c.args.conn met ≡ true in
+    rw (c.in-Collected.is, ← c.as_slice-in-Collected.ensures)
+    (collected_goes_on g.R.Reading.reading c.args.conn c.args.fresh c.in-Collected.field-0 c.as_slice-in-Collected.result.now (subst Mine c.in-Collected.is c.requires.own) c.collect.ensures.same)
+
+pub returns-in-Passed-clause-same : goal.returns-in-Passed-clause-same
+returns-in-Passed-clause-same g c = rw c.in-Passed.is (comes c.meets.ensures.met)

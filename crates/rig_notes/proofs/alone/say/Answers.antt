@@ -1,0 +1,5 @@
+use Rattle.rig_notes.proofs.Meeting.{comes}
+use Rattle.rig_notes.proofs.alone.say.Goals as goal
+
+pub returns-clause-same : goal.returns-clause-same
+returns-clause-same g c = comes c.meets.ensures.met

@@ -1,0 +1,4 @@
+pub mod Ledger
+pub mod Notes
+pub mod Noting
+pub mod Alone

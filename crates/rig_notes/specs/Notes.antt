@@ -1,0 +1,38 @@
+-- What is noted of a proxy: the ledger and the story of its events. Lists of events have the newest first, and a story is told in its order.
+use Rattle.std.specs.Prelude.{◌≡◌, ℕ, Bool, false, List, [], ◌∷◌, ◌++◌}
+use Rattle.proxy_history.specs.Events.{Event}
+use Rattle.proxy_history.specs.Proxy.{Proxy}
+use Rattle.rig_story.specs.Rows.{Reading, Ledger, empty, follow, ledger_of}
+use Rattle.rig_story.specs.Story.{met_by, story_of}
+use Rattle.rig_story.specs.declared.Met.{Met}
+
+pub record Noted : Type 0 where
+  pub ledger : Ledger
+  pub story : List Met
+  -- memory ran out, so that it isn't known what was left out
+  pub failed : Bool
+
+-- nothing was noted
+abbrev pub nothing : Noted
+nothing = record { ledger = empty; story = []; failed = false }
+
+-- the story goes on
+abbrev pub told : Met → Noted → Noted
+told met noted = record noted { story = noted.story ++ met ∷ [] }
+
+-- an event came, these bytes were new in the modem's queue then, and a client took these
+abbrev pub with_event : Reading → Event → (asked taken : List ℕ) → Noted → Noted
+with_event reading event asked taken noted = record {
+  ledger = follow reading event asked noted.ledger;
+  story = noted.story ++ met_by reading event asked taken noted.ledger;
+  failed = noted.failed;
+}
+
+-- it was noted, unless memory ran out then or before
+abbrev pub NotesEvent : Reading → Event → (asked taken : List ℕ) → (old new : Noted) → Type 0
+NotesEvent reading event asked taken old new = new.failed ≡ false → new ≡ with_event reading event asked taken old
+
+-- just these events were noted, unless memory ran out
+pub record AreNoted (reading : Reading) (p : Proxy) (past : List Event) (noted : Noted) : Type 0 where
+  pub ledger : noted.failed ≡ false → noted.ledger ≡ ledger_of reading p past
+  pub story : noted.failed ≡ false → noted.story ≡ story_of reading p past

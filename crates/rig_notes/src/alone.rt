@@ -1,0 +1,216 @@
+ghost use Rattle.std.specs.Prelude.{◌≡◌, ◌↔◌, ◌<◌, ◌≤◌, [], true, false, length, take, IsTrue, OnOk, OnErr, IfOk};
+ghost use Rattle.hub_io.specs.Events.{event_of};
+ghost use Rattle.proxy_history.specs.Events as history;
+ghost use Rattle.proxy_serving.specs.Face.{MayCome};
+ghost use Rattle.rig_stage.specs.Ready.{IsReady};
+ghost use Rattle.rig_stage.specs.Running.{Moves};
+ghost use Rattle.rig_story.specs.Alone.{meets, hears, own_number, meet_met, met_alone, IsShort};
+ghost use Rattle.rig_notes.specs.Noting.{Keeps};
+ghost use Rattle.rig_notes.specs.Alone.{is_met, GoesOn, GoesShort, MayCollect, MayMeet, MayMeetAll};
+
+use crate::slices::begins_with;
+use crate::{Noting, Reading, SHORTEST};
+use core_bench::Bench;
+use framing::LONGEST_PIECE;
+use hub_io::Event;
+use rig_stage::{meet, modem_took};
+use rig_story::Met;
+use std::alloc::{AllocError, Global};
+
+/// Runs the part of a story that a client meets, alone on a core that was just opened, and says
+/// whether it is the same alone.
+///
+/// It fails where memory runs out, also for the notes of what is run.
+pub fn run_alone<R: Reading, B: Bench>(
+    bench: &mut Noting<R, B>,
+    alloc: Global,
+    conn: u64,
+    story: &[Met],
+) -> Result<bool, AllocError>
+    requires ready { IsReady (B.is_held bench.old.bench) (B.face bench.old.bench) }
+    requires new { (B.face bench.old.bench).greatest < conn }
+    ensures ready { OnOk result (IsReady (B.is_held bench.new.bench) (B.face bench.new.bench)) }
+    ensures same { IfOk result (GoesOn (Keeps R.reading B.keeps) (λ s. B.runs s.bench) (MayMeetAll R.reading conn story.now) (λ p past. met_alone R.reading p conn story.now) bench.old bench.new) }
+    ensures stops { OnErr result (GoesShort (Keeps R.reading B.keeps) (λ s. B.runs s.bench) (MayMeetAll R.reading conn story.now) (λ p past. met_alone R.reading p conn story.now) bench.old bench.new) }
+{
+    let mut rest = story;
+    let mut fresh = true;
+    while let Some((met, more)) = rest.split_first() {
+        if !meet_met(bench, alloc, conn, met, &mut fresh)? {
+            return Ok(false);
+        }
+        rest = more;
+    }
+    Ok(nothing_waits(bench, conn))
+}
+
+// The client meets something, if it is the client's. Nothing was met so far where it is fresh.
+fn meet_met<R: Reading, B: Bench>(
+    bench: &mut Noting<R, B>,
+    alloc: Global,
+    conn: u64,
+    met: &Met,
+    fresh: &mut bool,
+) -> Result<bool, AllocError>
+    requires ready { IsReady (B.is_held bench.old.bench) (B.face bench.old.bench) }
+    requires new { fresh.old ≡ true → (B.face bench.old.bench).greatest < conn }
+    ensures ready { OnOk result (IsReady (B.is_held bench.new.bench) (B.face bench.new.bench)) }
+    ensures new { OnOk result (fresh.new ≡ true → (B.face bench.new.bench).greatest < conn) }
+    ensures fresh { OnOk result (fresh.old ≡ true → is_met conn met.now ≡ false → fresh.new ≡ true) }
+    ensures same { IfOk result (GoesOn (Keeps R.reading B.keeps) (λ s. B.runs s.bench) (MayMeet R.reading conn met.now fresh.old) (λ p own. meet_met R.reading p conn own met.now) bench.old bench.new) }
+    ensures err { OnErr result (bench.new ≡ bench.old) }
+{
+    if !is_met(conn, met) {
+        return Ok(true);
+    }
+    let nothing_met = *fresh;
+    *fresh = false;
+    meet_own(bench, alloc, conn, met, nothing_met)
+}
+
+// Whether the client meets something where this is met.
+fn is_met(conn: u64, met: &Met) -> bool
+    ensures { result ≡ is_met conn met.now }
+{
+    match met {
+        Met::Came(other) => *other == conn,
+        Met::Said(other, _) => *other == conn,
+        Met::Heard(other, _, _) => *other == conn,
+        Met::Collected(other, _) => *other == conn,
+        Met::Passed(_) => true,
+    }
+}
+
+// The client meets what is its own.
+fn meet_own<R: Reading, B: Bench>(
+    bench: &mut Noting<R, B>,
+    alloc: Global,
+    conn: u64,
+    met: &Met,
+    fresh: bool,
+) -> Result<bool, AllocError>
+    requires ready { IsReady (B.is_held bench.old.bench) (B.face bench.old.bench) }
+    requires new { fresh ≡ true → (B.face bench.old.bench).greatest < conn }
+    requires own { is_met conn met.now ≡ true }
+    ensures ready { OnOk result (IsReady (B.is_held bench.new.bench) (B.face bench.new.bench)) }
+    ensures same { IfOk result (GoesOn (Keeps R.reading B.keeps) (λ s. B.runs s.bench) (MayMeet R.reading conn met.now fresh) (λ p own. meet_met R.reading p conn own met.now) bench.old bench.new) }
+    ensures err { OnErr result (bench.new ≡ bench.old) }
+{
+    match met {
+        Met::Came(_) => Ok(come(bench, conn, fresh)),
+        Met::Said(_, message) => Ok(say(bench, conn, message.as_slice())),
+        Met::Heard(_, place, message) => hear(bench, alloc, conn, *place, message.as_slice()),
+        Met::Collected(_, bytes) => Ok(collect(bench, conn, bytes.as_slice())),
+        Met::Passed(time) => {
+            meets(bench, Event::Now(*time));
+            Ok(true)
+        }
+    }
+}
+
+// The client joins, if nothing was met before.
+fn come<B: Bench>(bench: &mut B, conn: u64, fresh: bool) -> bool
+    requires ready { IsReady (B.is_held bench.old) (B.face bench.old) }
+    requires new { fresh ≡ true → (B.face bench.old).greatest < conn }
+    ensures ready { IsReady (B.is_held bench.new) (B.face bench.new) }
+    ensures same { GoesOn B.keeps B.runs (λ p own. fresh ≡ true) (λ p own. meets p (history.Joined conn) own) bench.old bench.new result }
+{
+    if !fresh {
+        return false;
+    }
+    meets(bench, Event::Joined(conn));
+    true
+}
+
+// The client says a message, if it is one piece.
+fn say<B: Bench>(bench: &mut B, conn: u64, message: &[u8]) -> bool
+    requires { IsReady (B.is_held bench.old) (B.face bench.old) }
+    ensures ready { IsReady (B.is_held bench.new) (B.face bench.new) }
+    ensures same { GoesOn B.keeps B.runs (λ p own. length message.now ≤ LONGEST_PIECE) (λ p own. meets p (history.Piece conn message.now) own) bench.old bench.new result }
+{
+    if message.len() > LONGEST_PIECE {
+        return false;
+    }
+    meets(bench, Event::Piece(conn, message));
+    true
+}
+
+// The modem answers to the client's message from this place, if it was asked, under the number that
+// the request has here.
+fn hear<R: Reading, B: Bench>(
+    bench: &mut Noting<R, B>,
+    alloc: Global,
+    conn: u64,
+    place: u64,
+    message: &[u8],
+) -> Result<bool, AllocError>
+    requires { IsReady (B.is_held bench.old.bench) (B.face bench.old.bench) }
+    ensures ready { OnOk result (IsReady (B.is_held bench.new.bench) (B.face bench.new.bench)) }
+    ensures same { IfOk result (GoesOn (Keeps R.reading B.keeps) (λ s. B.runs s.bench) (λ p own. IsShort R.reading (own_number R.reading p conn place own) message.now) (λ p own. hears R.reading p (own_number R.reading p conn place own) message.now own) bench.old bench.new) }
+    ensures err { OnErr result (bench.new ≡ bench.old) }
+{
+    if bench.has_failed() || message.len() < SHORTEST {
+        return Err(AllocError);
+    }
+    let Some(number) = bench.number_at(conn, place) else {
+        return Ok(false);
+    };
+    let answer = R::with_number(alloc, number, message)?;
+    Ok(answer_comes(bench, answer.as_slice()))
+}
+
+// The modem gives an answer, if it is one piece.
+fn answer_comes<B: Bench>(bench: &mut B, answer: &[u8]) -> bool
+    requires { IsReady (B.is_held bench.old) (B.face bench.old) }
+    ensures ready { IsReady (B.is_held bench.new) (B.face bench.new) }
+    ensures same { GoesOn B.keeps B.runs (λ p own. length answer.now ≤ LONGEST_PIECE) (λ p own. meets p (history.ModemPiece answer.now) own) bench.old bench.new result }
+{
+    if answer.len() > LONGEST_PIECE {
+        return false;
+    }
+    meets(bench, Event::ModemPiece(answer));
+    true
+}
+
+// The client takes bytes, if these wait for it.
+fn collect<B: Bench>(bench: &mut B, conn: u64, bytes: &[u8]) -> bool
+    requires { IsReady (B.is_held bench.old) (B.face bench.old) }
+    ensures ready { IsReady (B.is_held bench.new) (B.face bench.new) }
+    ensures same { GoesOn B.keeps B.runs (MayCollect conn bytes.now) (λ p own. meets p (history.Took conn (length bytes.now)) own) bench.old bench.new result }
+{
+    if !waits(bench, conn, bytes) {
+        return false;
+    }
+    meets(bench, Event::Took(conn, bytes.len()));
+    true
+}
+
+// Whether what waits for the client begins with these bytes.
+fn waits<B: Bench>(bench: &mut B, conn: u64, bytes: &[u8]) -> bool
+    requires { B.is_held bench.old ≡ true }
+    ensures waits { IsTrue result ↔ (take (length bytes.now) ((B.face bench.old).queue conn) ≡ bytes.now) }
+    ensures bench { bench.new ≡ bench.old }
+{
+    begins_with(bench.queued(conn), bytes)
+}
+
+// Whether nothing waits for the client.
+fn nothing_waits<B: Bench>(bench: &mut B, conn: u64) -> bool
+    requires { B.is_held bench.old ≡ true }
+    ensures waits { IsTrue result ↔ ((B.face bench.old).queue conn ≡ []) }
+    ensures bench { bench.new ≡ bench.old }
+{
+    bench.queued(conn).is_empty()
+}
+
+// The core meets an event, and then the modem takes all that waits for it.
+fn meets<B: Bench>(bench: &mut B, event: Event<'_>)
+    requires ready { IsReady (B.is_held bench.old) (B.face bench.old) }
+    requires may { MayCome (event_of event) (B.face bench.old) }
+    ensures ready { IsReady (B.is_held bench.new) (B.face bench.new) }
+    ensures met { Moves B.keeps B.runs (λ p own. meets p (event_of event.entry) own) bench.old bench.new }
+{
+    meet(bench, event);
+    let count = bench.queued_modem().len();
+    modem_took(bench, count);
+}

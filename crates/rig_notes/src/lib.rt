@@ -1,0 +1,21 @@
+//! Benches that note what a proxy meets on them, as much of it as each of its clients needs to meet
+//! its part again alone, and runs of such parts.
+#![tactic(auto)]
+
+mod alone;
+mod counting;
+mod ledger;
+mod mbim;
+mod notes;
+mod noting;
+mod qmi;
+mod reading;
+mod slices;
+
+pub use alone::run_alone;
+pub use ledger::Ledger;
+pub use mbim::MbimReading;
+pub use notes::Notes;
+pub use noting::Noting;
+pub use qmi::QmiReading;
+pub use reading::{Reading, SHORTEST};
