@@ -1,15 +1,16 @@
 //! The program: its words come from the command line, its text goes to the standard streams, its
-//! link and its hub are Unix sockets, and its children are processes that run it again. What it does
-//! with them is `program`'s.
+//! link and its hub are Unix sockets, its children are processes that run it again, and its bench
+//! runs the cores of its proxies. What it does with them is `program`'s.
 #![tactic(auto)]
 
-use child_io::StdSpawner;
-use file_io::StdFiles;
-use hub_io::MioHub;
-use kit_io::StdSink;
-use link_io::UnixLink;
-use program::{give_up, refuse, run};
-use std::alloc::AllocError;
+use child_io::{Spawner, StdSpawner};
+use core_bench::Cores;
+use file_io::{Files, StdFiles};
+use hub_io::{Hub, MioHub};
+use kit_io::{Sink, StdSink};
+use link_io::{Link, UnixLink};
+use program::{Status, give_up, refuse, run};
+use std::alloc::{AllocError, Global};
 use std::net::Net;
 use std::os::fd::{AsFd, BorrowedFd, OwnedFd};
 use std::process::ExitCode;
@@ -30,7 +31,7 @@ fn main(rt: HostRuntime) -> ExitCode {
         return ExitCode::from(give_up(&mut err).code());
     };
     let status = match read_words(&rt) {
-        Ok(words) => run(
+        Ok(words) => run_words(
             rt.alloc(),
             &words,
             &mut out,
@@ -43,6 +44,23 @@ fn main(rt: HostRuntime) -> ExitCode {
         Err(_) => refuse(&mut err),
     };
     ExitCode::from(status.code())
+}
+
+// Does what the words ask, with a bench of its own.
+fn run_words<O: Sink, E: Sink, L: Link, H: Hub, P: Spawner, F: Files>(
+    alloc: Global,
+    words: &[String],
+    out: &mut O,
+    err: &mut E,
+    link: &mut L,
+    hub: &mut H,
+    spawner: &mut P,
+    files: &mut F,
+) -> Status {
+    let mut bench = Cores::none();
+    run(
+        alloc, words, out, err, link, hub, spawner, files, &mut bench,
+    )
 }
 
 // What starts this program again. Every start fails where the system doesn't tell the program's path.

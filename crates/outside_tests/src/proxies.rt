@@ -1,5 +1,6 @@
 use crate::steps::{assert_bytes, assert_calls, assert_listens, gives, modem_gives};
 use child_io::{Made, MemSpawner, SpawnerAnswer};
+use core_bench::Cores;
 use file_io::MemFiles;
 use hub_io::{Hub, HubAnswer, HubCall, HubEvent, HubTurn, MemHub, MioHub, ServeEnd, Settings};
 use kit_bytes::Text;
@@ -90,10 +91,27 @@ fn run_over(
     let mut err = MemSink::new(alloc, Vec::new(alloc), 1_000)?;
     let mut link = MemLink::new(alloc, Vec::new(alloc), 10, 1_000)?;
     let mut files = MemFiles::new(alloc, Vec::new(alloc), 10, 1_000)?;
-    let status = program::run(
+    let status = run_words(
         alloc, &words, &mut out, &mut err, &mut link, hub, spawner, &mut files,
     );
     Ok((status, err))
+}
+
+// The same over all of its outside but a bench, which stays empty.
+fn run_words(
+    alloc: Global,
+    words: &[String],
+    out: &mut MemSink,
+    err: &mut MemSink,
+    link: &mut MemLink,
+    hub: &mut MemHub,
+    spawner: &mut MemSpawner,
+    files: &mut MemFiles,
+) -> Status {
+    let mut bench = Cores::none();
+    program::run(
+        alloc, words, out, err, link, hub, spawner, files, &mut bench,
+    )
 }
 
 /// The proxy ends with this status, and writes this.

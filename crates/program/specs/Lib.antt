@@ -2,3 +2,4 @@ pub mod Status
 pub mod Running
 pub mod Serving
 pub mod Pumping
+pub mod Rigging

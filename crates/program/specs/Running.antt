@@ -1,4 +1,4 @@
--- What the program does: to its link, its hub, its children and its files, and what it prints.
+-- What the program does: to its link, its hub, its children, its files and its bench, and what it prints.
 use Rattle.std.specs.Prelude.{◌≡◌, ◌⊎◌, ℕ, Bool, true, false, List, [], Option, Some, None, Result, Ok, Err}
 use Rattle.std.specs.Str.{encode_utf8_all}
 use Rattle.kit_io.specs.Told.{Grows}
@@ -6,6 +6,7 @@ use Rattle.link_io.specs.Calls as link
 use Rattle.hub_io.specs.Record as hub
 use Rattle.child_io.specs.Calls as child
 use Rattle.file_io.specs.Calls as file
+use Rattle.core_bench.specs.Runs.{Run}
 use Rattle.link_io.specs.Target.{AtSocket}
 use Rattle.modem_ways.specs.Ways.{Path, Direct, ByProxy, place_of, proxy_words}
 use Rattle.modem_ways.specs.Reaching.{LinkFails}
@@ -17,7 +18,7 @@ use Rattle.mbim_requests.specs.declared.MbimRequest.{MbimRequest}
 use Rattle.device_core.specs.declared.plan.QmiPlan.{QmiPlan}
 use Rattle.mbim_session.specs.declared.plan.MbimPlan.{MbimPlan}
 use Rattle.tool_words.specs.declared.command.ToolCommand.{ToolCommand}
-use Rattle.tool_words.specs.declared.command.ToolCommand.TheVariants.{Qmicli, Mbimcli, Describe, Proxy, Simulator, Pump}
+use Rattle.tool_words.specs.declared.command.ToolCommand.TheVariants.{Qmicli, Mbimcli, Describe, Proxy, Simulator, Pump, Rig}
 use Rattle.tool_words.specs.declared.fault.UsageKind.{UsageKind}
 use Rattle.tool_runs.specs.Asking.{AsksModem, Asked}
 use Rattle.tool_runs.specs.Asking as asking
@@ -32,6 +33,8 @@ use Rattle.program.specs.declared.status.Status.TheVariants as status
 use Rattle.program.specs.Status.{EndsAs, status_of, status_of_keeping, status_of_sim}
 use Rattle.program.specs.Serving.{ServesProxy, asked_in}
 use Rattle.program.specs.Pumping.{PumpsTo}
+use Rattle.rig.specs.Playing.{AddsRuns}
+use Rattle.program.specs.Rigging.{RigsTo}
 
 -- what is told of the outside, before and after
 pub record Told : Type 0 where
@@ -40,6 +43,8 @@ pub record Told : Type 0 where
   pub spawner : Option (List child.Call)
   pub files : Option (List file.Call)
   pub out : Option (List ℕ)
+  -- the newest first
+  pub bench : Option (List Run)
 
 -- nothing was done
 pub record Untouched (before after : Told) : Type 0 where
@@ -48,6 +53,7 @@ pub record Untouched (before after : Told) : Type 0 where
   pub spawner : Grows before.spawner [] after.spawner
   pub files : Grows before.files [] after.files
   pub out : Grows before.out [] after.out
+  pub bench : AddsRuns before.bench [] after.bench
 
 -- ---- the tools ----
 
@@ -74,7 +80,7 @@ mbim_plan device proxied close request = record { device = device; proxied = pro
 
 -- ---- what the words ask for ----
 
--- a tool asks a modem or describes a file, a proxy or a simulated modem serves, one is kept running, and a pump passes on
+-- a tool asks a modem or describes a file, a proxy or a simulated modem serves, one is kept running, a pump passes on, and a rig runs a core on the bench
 abbrev pub RunsCommand : ToolCommand → Told → Told → Status → Type 0
 RunsCommand (Qmicli device proxied cid keep request socket bridge) before after result =
     Asks (way_to kind.Qmi proxied device socket bridge) (qmi_asked (qmi_plan device proxied cid keep request)) (of_tool before) (of_tool after) result
@@ -88,6 +94,7 @@ RunsCommand (Simulator kind socket profile turns None) before after result =
 RunsCommand (Simulator kind socket profile turns (Some most)) before after result =
     EndsAs status_of_keeping result (λ ends. KeepsOrLacksMemory (start_words kind socket turns profile) most before.spawner ends after.spawner)
 RunsCommand (Pump read node bridge) before after result = PumpsTo read node bridge before.link before.files result after.link after.files
+RunsCommand (Rig kind clients messages number) before after result = RigsTo kind clients messages number before.bench before.out result after.bench after.out
 
 -- what the words ask for, or that they are refused, and why
 abbrev pub RunsWords : Result ToolCommand UsageKind → Told → Told → Status → Type 0
@@ -101,25 +108,27 @@ Runs words before after result = RunsWords words before after result ⊎ ((resul
 -- ---- what is left alone ----
 
 -- the objects of the outside themselves
-pub record Objects (L H P F O : Type 0) : Type 0 where
+pub record Objects (L H P F O B : Type 0) : Type 0 where
   pub link : L
   pub hub : H
   pub spawner : P
   pub files : F
   pub out : O
+  pub bench : B
 
--- what a command has no use for is left as it was: hub and files by one that asks a modem, all but files and output by one that describes a file, all but hub and children by a proxy, all but hub and files by a simulated modem, the files too where no profile is named, all but children by one that is kept running, and all but link and files by a pump
-abbrev pub CommandLeavesAlone : {L H P F O : Type 0} → ToolCommand → Objects L H P F O → Objects L H P F O → Type 0
-CommandLeavesAlone (Qmicli device proxied cid keep request socket bridge) before after = (after.hub ≡ before.hub) × (after.files ≡ before.files)
-CommandLeavesAlone (Mbimcli device proxied close request socket bridge) before after = (after.hub ≡ before.hub) × (after.files ≡ before.files)
-CommandLeavesAlone (Describe path) before after = (after.link ≡ before.link) × (after.hub ≡ before.hub) × (after.spawner ≡ before.spawner)
-CommandLeavesAlone (Proxy kind device socket bridge empty time turns) before after = (after.link ≡ before.link) × (after.files ≡ before.files) × (after.out ≡ before.out)
-CommandLeavesAlone (Simulator kind socket profile turns None) before after = (after.link ≡ before.link) × (after.spawner ≡ before.spawner) × (profile ≡ None → after.files ≡ before.files) × (after.out ≡ before.out)
-CommandLeavesAlone (Simulator kind socket profile turns (Some most)) before after = (after.link ≡ before.link) × (after.hub ≡ before.hub) × (after.files ≡ before.files) × (after.out ≡ before.out)
-CommandLeavesAlone (Pump read node bridge) before after = (after.hub ≡ before.hub) × (after.spawner ≡ before.spawner) × (after.out ≡ before.out)
+-- what a command has no use for is left as it was: hub and files by one that asks a modem, all but files and output by one that describes a file, all but hub and children by a proxy, all but hub and files by a simulated modem, the files too where no profile is named, all but children by one that is kept running, all but link and files by a pump, and all but bench and output by a rig
+abbrev pub CommandLeavesAlone : {L H P F O B : Type 0} → ToolCommand → Objects L H P F O B → Objects L H P F O B → Type 0
+CommandLeavesAlone (Qmicli device proxied cid keep request socket bridge) before after = (after.hub ≡ before.hub) × (after.files ≡ before.files) × (after.bench ≡ before.bench)
+CommandLeavesAlone (Mbimcli device proxied close request socket bridge) before after = (after.hub ≡ before.hub) × (after.files ≡ before.files) × (after.bench ≡ before.bench)
+CommandLeavesAlone (Describe path) before after = (after.link ≡ before.link) × (after.hub ≡ before.hub) × (after.spawner ≡ before.spawner) × (after.bench ≡ before.bench)
+CommandLeavesAlone (Proxy kind device socket bridge empty time turns) before after = (after.link ≡ before.link) × (after.files ≡ before.files) × (after.out ≡ before.out) × (after.bench ≡ before.bench)
+CommandLeavesAlone (Simulator kind socket profile turns None) before after = (after.link ≡ before.link) × (after.spawner ≡ before.spawner) × (profile ≡ None → after.files ≡ before.files) × (after.out ≡ before.out) × (after.bench ≡ before.bench)
+CommandLeavesAlone (Simulator kind socket profile turns (Some most)) before after = (after.link ≡ before.link) × (after.hub ≡ before.hub) × (after.files ≡ before.files) × (after.out ≡ before.out) × (after.bench ≡ before.bench)
+CommandLeavesAlone (Pump read node bridge) before after = (after.hub ≡ before.hub) × (after.spawner ≡ before.spawner) × (after.out ≡ before.out) × (after.bench ≡ before.bench)
+CommandLeavesAlone (Rig kind clients messages number) before after = (after.link ≡ before.link) × (after.hub ≡ before.hub) × (after.spawner ≡ before.spawner) × (after.files ≡ before.files)
 
 -- words that are refused leave all as it was
-abbrev pub LeavesAlone : {L H P F O : Type 0} → Result ToolCommand UsageKind → Objects L H P F O → Objects L H P F O → Type 0
+abbrev pub LeavesAlone : {L H P F O B : Type 0} → Result ToolCommand UsageKind → Objects L H P F O B → Objects L H P F O B → Type 0
 LeavesAlone (Ok command) before after = CommandLeavesAlone command before after
 LeavesAlone (Err why) before after = after ≡ before
 

@@ -162,7 +162,7 @@ pub record EndsAs {E : Type 0} (status_for : E → Status) (result : Status) (Is
   pub is : Is ends
   pub status : result ≡ status_for ends
 
--- how a run may end of a tool, of a proxy, of a simulated modem and of one that is kept running, and of a pump
+-- how a run may end of a tool, of a proxy, of a simulated modem and of one that is kept running, of a pump, and of a rig
 abbrev pub IsOfTool : Status → Type 0
 IsOfTool status.HubFault = ⊥
 IsOfTool status.TurnsSpent = ⊥
@@ -201,3 +201,9 @@ IsOfPump status.WriteFault = Unit {0}
 IsOfPump status.TurnsSpent = Unit {0}
 IsOfPump status.OutOfMemory = Unit {0}
 IsOfPump _ = ⊥
+
+abbrev pub IsOfRig : Status → Type 0
+IsOfRig status.Done = Unit {0}
+IsOfRig status.WriteFault = Unit {0}
+IsOfRig status.OutOfMemory = Unit {0}
+IsOfRig _ = ⊥

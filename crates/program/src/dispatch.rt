@@ -2,16 +2,19 @@ ghost use Rattle.std.specs.Prelude.{◌≡◌, ◌⊎◌, map, string_bytes};
 ghost use Rattle.kit_io.specs.Causes.{Rose};
 ghost use Rattle.kit_io.specs.Told.{Grows};
 ghost use Rattle.tool_words.specs.Command.{command_in};
+ghost use Rattle.tool_words.specs.Rig.{IsWithinLimits};
 ghost use Rattle.program.specs.Running.{CommandFailsOnLink, CommandLeavesAlone, FailsOnLink, LeavesAlone, Runs, RunsCommand};
 ghost use Rattle.program.specs.Status.{line_of};
 
 use crate::proxy::run_proxy;
 use crate::pumping::run_pump;
 use crate::report::report;
+use crate::rigging::run_rig;
 use crate::simulator::{keep_modem, simulate_modem};
 use crate::status::Status;
 use crate::tool::{ask_mbim, ask_qmi, describe_file};
 use child_io::Spawner;
+use core_bench::Bench;
 use file_io::Files;
 use hub_io::Hub;
 use kit_io::Sink;
@@ -19,9 +22,9 @@ use link_io::Link;
 use std::alloc::Global;
 use tool_words::{ToolCommand, WordFault, command_of};
 
-/// Does all that the program does: what the words ask, as a tool, a proxy, a simulated modem or a
-/// pump. The program ends with the status.
-pub fn run<O: Sink, E: Sink, L: Link, H: Hub, P: Spawner, F: Files>(
+/// Does all that the program does: what the words ask, as a tool, a proxy, a simulated modem, a pump
+/// or a rig. The program ends with the status.
+pub fn run<O: Sink, E: Sink, L: Link, H: Hub, P: Spawner, F: Files, B: Bench>(
     alloc: Global,
     words: &[String],
     out: &mut O,
@@ -30,15 +33,16 @@ pub fn run<O: Sink, E: Sink, L: Link, H: Hub, P: Spawner, F: Files>(
     hub: &mut H,
     spawner: &mut P,
     files: &mut F,
+    bench: &mut B,
 ) -> Status
     // What the words ask for is done, or they are refused.
     ensures runs { Runs (command_in (map string_bytes words.now))
-        (record { link = L.calls link.old; hub = H.calls hub.old; spawner = P.calls spawner.old; files = F.calls files.old; out = O.taken out.old })
-        (record { link = L.calls link.new; hub = H.calls hub.new; spawner = P.calls spawner.new; files = F.calls files.new; out = O.taken out.new })
+        (record { link = L.calls link.old; hub = H.calls hub.old; spawner = P.calls spawner.old; files = F.calls files.old; out = O.taken out.old; bench = B.runs bench.old })
+        (record { link = L.calls link.new; hub = H.calls hub.new; spawner = P.calls spawner.new; files = F.calls files.new; out = O.taken out.new; bench = B.runs bench.new })
         result }
     ensures apart { LeavesAlone (command_in (map string_bytes words.now))
-        (record { link = link.old; hub = hub.old; spawner = spawner.old; files = files.old; out = out.old })
-        (record { link = link.new; hub = hub.new; spawner = spawner.new; files = files.new; out = out.new }) }
+        (record { link = link.old; hub = hub.old; spawner = spawner.old; files = files.old; out = out.old; bench = bench.old })
+        (record { link = link.new; hub = hub.new; spawner = spawner.new; files = files.new; out = out.new; bench = bench.new }) }
 
     // It doesn't give up by itself.
     ensures link_fault { result ≡ Status.LinkFault → FailsOnLink (command_in (map string_bytes words.now)) L.faults L.open_faults link.old link.new }
@@ -51,7 +55,7 @@ pub fn run<O: Sink, E: Sink, L: Link, H: Hub, P: Spawner, F: Files>(
     ensures line { ¬ Rose (E.faults err.old) (E.faults err.new) → Grows (E.taken err.old) (line_of result) (E.taken err.new) }
 {
     let status = match command_of(alloc, words) {
-        Ok(command) => run_command(alloc, command, out, link, hub, spawner, files),
+        Ok(command) => run_command(alloc, command, out, link, hub, spawner, files, bench),
         Err(WordFault::Usage(kind)) => Status::Usage { kind },
         Err(WordFault::OutOfMemory) => Status::OutOfMemory,
     };
@@ -60,7 +64,7 @@ pub fn run<O: Sink, E: Sink, L: Link, H: Hub, P: Spawner, F: Files>(
 }
 
 // Does what a command asks.
-fn run_command<O: Sink, L: Link, H: Hub, P: Spawner, F: Files>(
+fn run_command<O: Sink, L: Link, H: Hub, P: Spawner, F: Files, B: Bench>(
     alloc: Global,
     command: ToolCommand,
     out: &mut O,
@@ -68,14 +72,16 @@ fn run_command<O: Sink, L: Link, H: Hub, P: Spawner, F: Files>(
     hub: &mut H,
     spawner: &mut P,
     files: &mut F,
+    bench: &mut B,
 ) -> Status
+    requires { IsWithinLimits command }
     ensures runs { RunsCommand command
-        (record { link = L.calls link.old; hub = H.calls hub.old; spawner = P.calls spawner.old; files = F.calls files.old; out = O.taken out.old })
-        (record { link = L.calls link.new; hub = H.calls hub.new; spawner = P.calls spawner.new; files = F.calls files.new; out = O.taken out.new })
+        (record { link = L.calls link.old; hub = H.calls hub.old; spawner = P.calls spawner.old; files = F.calls files.old; out = O.taken out.old; bench = B.runs bench.old })
+        (record { link = L.calls link.new; hub = H.calls hub.new; spawner = P.calls spawner.new; files = F.calls files.new; out = O.taken out.new; bench = B.runs bench.new })
         result }
     ensures apart { CommandLeavesAlone command
-        (record { link = link.old; hub = hub.old; spawner = spawner.old; files = files.old; out = out.old })
-        (record { link = link.new; hub = hub.new; spawner = spawner.new; files = files.new; out = out.new }) }
+        (record { link = link.old; hub = hub.old; spawner = spawner.old; files = files.old; out = out.old; bench = bench.old })
+        (record { link = link.new; hub = hub.new; spawner = spawner.new; files = files.new; out = out.new; bench = bench.new }) }
     ensures link_fault { result ≡ Status.LinkFault → CommandFailsOnLink command L.faults L.open_faults link.old link.new }
     ensures start_fault { result ≡ Status.StartFault → Rose (P.faults spawner.old) (P.faults spawner.new) }
     ensures hub_fault { result ≡ Status.HubFault → Rose (H.faults hub.old) (H.faults hub.new) }
@@ -131,5 +137,11 @@ fn run_command<O: Sink, L: Link, H: Hub, P: Spawner, F: Files>(
         ToolCommand::Pump { read, node, bridge } => {
             run_pump(alloc, read, &node, &bridge, link, files)
         }
+        ToolCommand::Rig {
+            kind,
+            clients,
+            messages,
+            number,
+        } => run_rig(alloc, kind, clients, messages, number, out, bench),
     }
 }

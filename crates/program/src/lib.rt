@@ -1,4 +1,4 @@
-//! What the program does: as a tool, as a proxy, as a simulated modem and as a pump, from its words to its status.
+//! What the program does: as a tool, as a proxy, as a simulated modem, as a pump and as a rig, from its words to its status.
 #![tactic(auto)]
 
 mod dispatch;
@@ -6,6 +6,7 @@ mod opening;
 mod proxy;
 mod pumping;
 mod report;
+mod rigging;
 mod simulator;
 mod status;
 mod tool;

@@ -7,3 +7,4 @@ pub mod Numbers
 pub mod Names
 pub mod Views
 pub mod Simple
+pub mod Limits

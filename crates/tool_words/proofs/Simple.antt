@@ -9,14 +9,16 @@ use Rattle.tool_words.specs.Mbimcli.{mbim_settings, mbimcli_app}
 use Rattle.tool_words.specs.Proxy.{proxy_app, proxy_options}
 use Rattle.tool_words.specs.QmiCommands.{qmi_commands}
 use Rattle.tool_words.specs.Qmicli.{qmi_settings, qmicli_app}
+use Rattle.tool_words.specs.Rig.{rig_app, rig_options}
 use Rattle.tool_words.specs.Simulator.{simulator_app, simulator_options}
 use Rattle.tool_words.specs.declared.command.Tool.{Tool}
 use Rattle.tool_words.specs.declared.command.Tool.TheVariants as tool
 
 pub tool_app-is_simple : (tool : Tool) → is_simple_and_free (tool_app tool) ≡ true
-unfolding link_options qmicli_app qmi_settings qmi_commands mbimcli_app mbim_settings mbim_commands proxy_app proxy_options simulator_app simulator_options
+unfolding link_options qmicli_app qmi_settings qmi_commands mbimcli_app mbim_settings mbim_commands proxy_app proxy_options simulator_app simulator_options rig_app rig_options
 tool_app-is_simple tool.Qmicli = refl
 tool_app-is_simple tool.Mbimcli = refl
 tool_app-is_simple (tool.Proxy Qmi) = refl
 tool_app-is_simple (tool.Proxy Mbim) = refl
 tool_app-is_simple tool.Simulator = refl
+tool_app-is_simple tool.Rig = refl

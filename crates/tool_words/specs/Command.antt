@@ -9,6 +9,7 @@ use Rattle.tool_words.specs.Mbimcli.{mbimcli_app, mbimcli_asked}
 use Rattle.tool_words.specs.Proxy.{proxy_app, proxy_asked, proxy_name}
 use Rattle.tool_words.specs.Pump.{pump_asked}
 use Rattle.tool_words.specs.Qmicli.{qmicli_app, qmicli_asked}
+use Rattle.tool_words.specs.Rig.{rig_app, rig_asked}
 use Rattle.tool_words.specs.Simulator.{simulator_app, simulator_asked}
 use Rattle.tool_words.specs.declared.command.Tool.{Tool}
 use Rattle.tool_words.specs.declared.command.Tool.TheVariants as tool
@@ -24,6 +25,7 @@ tool_named word =
     else if bytes_eq word (proxy_name Qmi) then Some (tool.Proxy Qmi)
     else if bytes_eq word (proxy_name Mbim) then Some (tool.Proxy Mbim)
     else if bytes_eq word (codes "modem-sim") then Some tool.Simulator
+    else if bytes_eq word (codes "rig") then Some tool.Rig
     else None
 
 -- the options of a tool
@@ -32,6 +34,7 @@ tool_app tool.Qmicli = qmicli_app
 tool_app tool.Mbimcli = mbimcli_app
 tool_app (tool.Proxy kind) = proxy_app kind
 tool_app tool.Simulator = simulator_app
+tool_app tool.Rig = rig_app
 
 -- what its words ask for, by the options that they give
 abbrev pub tool_asked : Tool → List Row → Result ToolCommand UsageKind
@@ -39,6 +42,7 @@ tool_asked tool.Qmicli rows = qmicli_asked rows
 tool_asked tool.Mbimcli rows = mbimcli_asked rows
 tool_asked (tool.Proxy kind) rows = proxy_asked kind rows
 tool_asked tool.Simulator rows = simulator_asked rows
+tool_asked tool.Rig rows = rig_asked rows
 
 abbrev pub read_if_named : Option Tool → List Text → Result ToolCommand UsageKind
 read_if_named (Some tool) words = read_by (tool_app tool) (tool_asked tool) words

@@ -11,6 +11,7 @@ pub mod Link
 pub mod ModemTools
 pub mod Proxy
 pub mod Simulator
+pub mod Rig
 pub mod Pump
 pub mod QmiCommands
 pub mod Qmicli

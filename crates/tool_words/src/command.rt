@@ -2,12 +2,14 @@ ghost use Rattle.std.specs.Prelude.{◌≡◌, IfOk, map, string_bytes};
 ghost use Rattle.clap.specs.Words.{app_of, found_of, rows_of};
 ghost use Rattle.tool_words.specs.Answers.{Answers, read_by};
 ghost use Rattle.tool_words.specs.Command.{command_in, tool_app, tool_asked, tool_named};
+ghost use Rattle.tool_words.specs.Rig.{IsWithinLimits};
 
 use crate::mbimcli::{mbimcli_asked, mbimcli_reader};
 use crate::proxy::{proxy_asked, proxy_name, proxy_reader};
 use crate::pump::pump_asked;
 use crate::qmicli::{qmicli_asked, qmicli_reader};
 use crate::reader::read_words;
+use crate::rig::{rig_asked, rig_reader};
 use crate::simulator::{simulator_asked, simulator_reader};
 use crate::{UsageKind, WordFault};
 use clap::{ArgMatches, Command};
@@ -79,6 +81,15 @@ pub enum ToolCommand {
         /// The socket that the other end listens on.
         bridge: PathText,
     },
+    /// Runs a proxy's core with many clients, and with each of them alone.
+    Rig {
+        kind: Kind,
+        clients: u8,
+        /// How many turns are drawn, in most of which a message is sent or arrives.
+        messages: u32,
+        /// The number from which they are drawn.
+        number: u64,
+    },
 }
 
 /// A tool that has options, which the first word names.
@@ -90,6 +101,8 @@ enum Tool {
     Proxy(Kind),
     /// The simulated modem.
     Simulator,
+    /// Many clients before a proxy's core.
+    Rig,
 }
 
 #[tactic(auto, unfolding(crate::specs::Command::tool_named))]
@@ -106,6 +119,8 @@ fn tool_named(word: &str) -> Option<Tool>
         Some(Tool::Proxy(Kind::Mbim))
     } else if word == "modem-sim" {
         Some(Tool::Simulator)
+    } else if word == "rig" {
+        Some(Tool::Rig)
     } else {
         None
     }
@@ -120,6 +135,7 @@ fn reader<'a>(alloc: Global, tool: Tool) -> Result<Command<'a>, AllocError>
         Tool::Mbimcli => mbimcli_reader(alloc),
         Tool::Proxy(kind) => proxy_reader(alloc, kind),
         Tool::Simulator => simulator_reader(alloc),
+        Tool::Rig => rig_reader(alloc),
     }
 }
 
@@ -132,6 +148,7 @@ fn asked(alloc: Global, tool: Tool, matches: &ArgMatches<'_>) -> Result<ToolComm
         Tool::Mbimcli => mbimcli_asked(alloc, matches),
         Tool::Proxy(kind) => proxy_asked(alloc, kind, matches),
         Tool::Simulator => simulator_asked(alloc, matches),
+        Tool::Rig => rig_asked(matches),
     }
 }
 
@@ -142,9 +159,8 @@ fn read_tool(alloc: Global, tool: Tool, words: &[String]) -> Result<ToolCommand,
     asked(alloc, tool, &matches)
 }
 
-/// What the words ask for. The first one names the tool.
 #[tactic(auto, unfolding(crate::specs::Command::command_in))]
-pub fn command_of(alloc: Global, words: &[String]) -> Result<ToolCommand, WordFault>
+fn read_command(alloc: Global, words: &[String]) -> Result<ToolCommand, WordFault>
     ensures { Answers (command_in (map string_bytes words.now)) result }
 {
     if words.is_empty() {
@@ -157,4 +173,12 @@ pub fn command_of(alloc: Global, words: &[String]) -> Result<ToolCommand, WordFa
         Some(tool) => read_tool(alloc, tool, words),
         None => Err(WordFault::Usage(UsageKind::UnknownTool)),
     }
+}
+
+/// What the words ask for. The first one names the tool.
+pub fn command_of(alloc: Global, words: &[String]) -> Result<ToolCommand, WordFault>
+    ensures asked { Answers (command_in (map string_bytes words.now)) result }
+    ensures limits { IfOk result IsWithinLimits }
+{
+    read_command(alloc, words)
 }

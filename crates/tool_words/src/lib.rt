@@ -16,6 +16,7 @@ mod pump;
 mod qmi_commands;
 mod qmicli;
 mod reader;
+mod rig;
 mod simulator;
 mod sole;
 mod values;

@@ -3,7 +3,9 @@
 //! say what lines each kind of a row has.
 #![tactic(auto)]
 
+mod alone;
 mod asked;
+mod bench;
 mod calls;
 mod files;
 mod format;
@@ -82,7 +84,7 @@ fn qmi_story(
     row: &Row<'_>,
     whole: bool,
 ) -> Result<bool> {
-    let proxy = qmi_proxy(rt.alloc())?;
+    let proxy = qmi_proxy(rt.alloc(), "/dev/cdc-wdm0")?;
     story::is_as_told(rt, rt.alloc(), file, rows, row, proxy, whole)
 }
 
@@ -94,7 +96,7 @@ fn mbim_story(
     row: &Row<'_>,
     whole: bool,
 ) -> Result<bool> {
-    let proxy = mbim_proxy(rt.alloc())?;
+    let proxy = mbim_proxy(rt.alloc(), "/dev/cdc-wdm0")?;
     story::is_as_told(rt, rt.alloc(), file, rows, row, proxy, whole)
 }
 

@@ -23,10 +23,10 @@ pub struct Proxy<C: ProxyCore> {
     ghost greatest_is: { sound ≡ true → (C.face core).greatest ≡ greatest },
 }
 
-/// A QMI proxy of /dev/cdc-wdm0 with 30 seconds for an answer, to which nothing has happened.
-pub fn qmi_proxy(alloc: Global) -> Result<Proxy<QmiCore>, AllocError> {
+/// A QMI proxy of a device with 30 seconds for an answer, to which nothing has happened.
+pub fn qmi_proxy(alloc: Global, device: &str) -> Result<Proxy<QmiCore>, AllocError> {
     let limits = Limits { time: 30_000 };
-    let core = QmiCore::open(alloc, &limits, "/dev/cdc-wdm0")?;
+    let core = QmiCore::open(alloc, &limits, device)?;
     Ok(Proxy {
         core,
         greatest: 0,
@@ -34,10 +34,10 @@ pub fn qmi_proxy(alloc: Global) -> Result<Proxy<QmiCore>, AllocError> {
     })
 }
 
-/// An MBIM proxy of the same device and time, to which nothing has happened.
-pub fn mbim_proxy(alloc: Global) -> Result<Proxy<MbimCore>, AllocError> {
+/// And an MBIM proxy.
+pub fn mbim_proxy(alloc: Global, device: &str) -> Result<Proxy<MbimCore>, AllocError> {
     let limits = Limits { time: 30_000 };
-    let device = Text::from_str(alloc, "/dev/cdc-wdm0")?;
+    let device = Text::from_str(alloc, device)?;
     let core = MbimCore::open(alloc, &limits, device)?;
     Ok(Proxy {
         core,

@@ -2,6 +2,7 @@ use crate::calls::link_script;
 use crate::files::script_of;
 use crate::tool::ToolRow;
 use child_io::MemSpawner;
+use core_bench::MemBench;
 use file_io::MemFiles;
 use hub_io::MemHub;
 use kit_io::MemSink;
@@ -20,9 +21,14 @@ pub struct Ran {
     pub files: MemFiles,
 }
 
-/// Runs the program over an outside that answers as the row tells. What its link gives comes in one
-/// piece a take, or byte by byte.
-pub fn run_row(alloc: Global, row: &ToolRow, whole: bool) -> Result<Ran, AllocError> {
+/// Runs the program over a bench and an outside that answers as the row tells. What its link gives
+/// comes in one piece a take, or byte by byte.
+pub fn run_row(
+    alloc: Global,
+    row: &ToolRow,
+    whole: bool,
+    bench: &mut MemBench,
+) -> Result<Ran, AllocError> {
     let mut link = link_of(alloc, row, whole)?;
     let mut files = MemFiles::new(alloc, script_of(alloc, &row.files)?, 2_000, 20_000_000)?;
     let mut hub = MemHub::new(alloc, Vec::new(alloc), Vec::new(alloc), 10, 10_000)?;
@@ -34,6 +40,7 @@ pub fn run_row(alloc: Global, row: &ToolRow, whole: bool) -> Result<Ran, AllocEr
     } else {
         run(
             alloc, &row.words, &mut out, &mut err, &mut link, &mut hub, &mut kids, &mut files,
+            bench,
         )
     };
     Ok(Ran {

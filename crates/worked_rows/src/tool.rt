@@ -1,10 +1,13 @@
+use crate::alone::is_same_alone;
 use crate::asked::{asked, requested};
+use crate::bench::BenchRuns;
 use crate::calls::{Call, Noted, made_by, made_calls, push_calls, told_calls};
 use crate::files::{push_read, push_reads};
 use crate::found::{Place, Spelled, is};
 use crate::kids::KidCalls;
 use crate::ran::{Ran, run_row};
 use anyhow::{Context, Result};
+use core_bench::MemBench;
 use file_io::FileAnswer;
 use kit_io::SinkAnswer;
 use row_text::{Line, Row, Rows, words_of};
@@ -33,6 +36,13 @@ use std::io;
 ///     words repeat: N TEXT                     the last word goes on with N times a text
 ///     unread:                                  the words can't be read
 ///     uncut:                                   what the link gives can't come byte by byte
+///
+/// A row may tell all that is run on the bench:
+///
+///     runs: KIND          a core of the device `rig` is opened, and meets what follows
+///     joined: N           piece: N BYTES       took: N COUNT
+///     modem took: COUNT   modem piece: BYTES   now: MILLISECONDS
+///     same alone:                              cores that meet what was run give what the lines say
 #[derive(Drop)]
 pub struct ToolRow {
     pub words: Vec<String>,
@@ -41,6 +51,7 @@ pub struct ToolRow {
     pub sink: Vec<SinkAnswer>,
     pub files: Vec<FileAnswer>,
     pub kids: KidCalls,
+    pub bench: BenchRuns,
     file_calls: Option<usize>,
     asks: Option<String>,
     requests: Option<String>,
@@ -72,7 +83,7 @@ pub fn is_as_told<R: Print>(
     }
     Ok(
         runs_as_told(rt, alloc, place, &row, true)?
-            && (row.uncut || runs_as_told(rt, alloc, place, &row, false)?),
+            && (row.uncut || row.calls.is_empty() || runs_as_told(rt, alloc, place, &row, false)?),
     )
 }
 
@@ -84,6 +95,7 @@ fn read_tool_row(alloc: Global, file: &str, rows: &Rows<'_>, lines: &Row<'_>) ->
         sink: Vec::new(alloc),
         files: Vec::new(alloc),
         kids: KidCalls::none(alloc),
+        bench: BenchRuns::none(alloc),
         file_calls: None,
         asks: None,
         requests: None,
@@ -122,7 +134,7 @@ impl ToolRow {
             "unread" => self.unread = true,
             "uncut" => self.uncut = true,
             key => {
-                if !self.kids.add(alloc, key, value)? {
+                if !self.kids.add(alloc, key, value)? && !self.bench.add(alloc, rows, key, value)? {
                     self.add_calls(alloc, rows, key, value)?;
                 }
             }
@@ -160,9 +172,23 @@ fn runs_as_told<R: Print>(
     place: Place<'_>,
     row: &ToolRow,
     whole: bool,
-) -> io::Result<bool> {
-    let ran = run_row(alloc, row, whole)?;
-    let ends = ends_as_told(rt, place, row, &ran)?;
+) -> Result<bool> {
+    let mut bench = row.bench.bench(alloc)?;
+    runs_on_bench(rt, alloc, place, row, whole, &mut bench)
+}
+
+fn runs_on_bench<R: Print>(
+    rt: &R,
+    alloc: Global,
+    place: Place<'_>,
+    row: &ToolRow,
+    whole: bool,
+    bench: &mut MemBench,
+) -> Result<bool> {
+    let ran = run_row(alloc, row, whole, bench)?;
+    let ends = ends_as_told(rt, place, row, &ran)?
+        && bench_as_told(rt, place, row, bench)?
+        && (!row.bench.same_alone || is_same_alone(rt, alloc, place, bench, &row.out)?);
     let told = told_calls(alloc, &row.calls, whole)?;
     let made = made_calls(alloc, ran.link.log(), whole)?;
     Ok(are_calls(rt, place, &told, &made)? && ends)
@@ -188,6 +214,21 @@ fn ends_as_told<R: Print>(rt: &R, place: Place<'_>, row: &ToolRow, ran: &Ran) ->
         row.kids.differs_at(&ran.kids),
     )?;
     Ok(status && out && err && calls && kids)
+}
+
+fn bench_as_told<R: Print>(
+    rt: &R,
+    place: Place<'_>,
+    row: &ToolRow,
+    bench: &MemBench,
+) -> io::Result<bool> {
+    is(
+        rt,
+        place,
+        "the note of the bench that differs",
+        None,
+        row.bench.differs_at(bench),
+    )
 }
 
 fn text(taken: Option<&[u8]>) -> &str {

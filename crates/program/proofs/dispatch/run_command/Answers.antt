@@ -7,5 +7,8 @@ returns-in-Qmicli-clause-write_fault g c = λ e. inl (c.ask_qmi.ensures.write_fa
 pub returns-in-Mbimcli-clause-write_fault : goal.returns-in-Mbimcli-clause-write_fault
 returns-in-Mbimcli-clause-write_fault g c = λ e. inl (c.ask_mbim.ensures.write_fault e)
 
+pub returns-in-Pump-clause-runs : goal.returns-in-Pump-clause-runs
+returns-in-Pump-clause-runs g c = rw c.in-Pump.is c.run_pump.ensures.pumps
+
 pub returns-clause-runs : goal.returns-clause-runs
-returns-clause-runs g c = rw c.in-Pump.is c.run_pump.ensures.pumps
+returns-clause-runs g c = rw c.in-Rig.is c.run_rig.ensures.rigs

@@ -1,0 +1,8 @@
+use Rattle.std.proofs.Common.{refl}
+use Rattle.kit_io.proofs.Told.{Grows-none}
+use Rattle.program.specs.Rigging.{no_memory}
+use Rattle.program.proofs.rigging.run_rig.Goals as goal
+
+-- memory ran out
+pub returns-in-Err-clause-rigs : goal.returns-in-Err-clause-rigs
+returns-in-Err-clause-rigs g c = no_memory c.in-Err.ensures.stops (Grows-none _) refl

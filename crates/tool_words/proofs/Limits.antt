@@ -1,0 +1,171 @@
+-- A rig that words ask for is within its limits; nothing else has any.
+use Rattle.std.proofs.Common.{◌≡◌, ◌≤◌, ◌-◌, ◌^◌, ℕ, Bool, List, [], ◌∷◌, Option, Some, None, option_map, Result, Ok, Err, refl, subst, arith}
+use Rattle.std.specs.Prelude.{IfOk, IfSome, codes, option_and_then}
+use Rattle.std.specs.Str.{bytes_eq}
+use Rattle.std.proofs.lemmas.Bool.{cond_both}
+use Rattle.clap.specs.Simple.{matches_of}
+use Rattle.clap.specs.Walk.{Row, Text}
+use Rattle.kit_bytes.specs.declared.Kind.{Kind}
+use Rattle.kit_bytes.specs.declared.Kind.TheVariants as kind
+use Rattle.tool_words.specs.Answers.{Answers, or_value}
+use Rattle.tool_words.specs.Command.{command_in, read_if_named, tool_app, tool_asked, tool_named}
+use Rattle.tool_words.specs.Given.{is_given, value_given}
+use Rattle.tool_words.specs.Link.{link_in}
+use Rattle.tool_words.specs.MbimCommands.{mbim_line, mbim_spelling}
+use Rattle.tool_words.specs.Mbimcli.{mbim_asks, mbimcli_asked, mbimcli_values}
+use Rattle.tool_words.specs.ModemTools.{asked_by, modem_tool_asked}
+use Rattle.tool_words.specs.Proxy.{proxy_asked, proxy_spelling, proxy_values}
+use Rattle.tool_words.specs.Pump.{pump_asked, pump_if_named, pump_values, reads_named}
+use Rattle.tool_words.specs.QmiCommands.{qmi_asks, qmi_line, qmi_spelling}
+use Rattle.tool_words.specs.Qmicli.{described, qmi_asked, qmi_setting_spelling, qmicli_asked, qmicli_values}
+use Rattle.tool_words.specs.Reading.{is_refused}
+use Rattle.tool_words.specs.Rig.{IsWithinLimits, clients_in, messages_in, rig_asked, rig_spelling, rig_values}
+use Rattle.tool_words.specs.Simulator.{simulator_asked, simulator_values}
+use Rattle.tool_words.specs.Values.{kind_or, number_or, number_within, optional, path_in}
+use Rattle.tool_words.specs.declared.command.Tool.{Tool}
+use Rattle.tool_words.specs.declared.command.Tool.TheVariants as tool
+use Rattle.tool_words.specs.declared.command.ToolCommand.{ToolCommand}
+use Rattle.tool_words.specs.declared.fault.UsageKind.{UsageKind}
+use Rattle.tool_words.specs.declared.fault.UsageKind.TheVariants as usage
+use Rattle.tool_words.specs.declared.fault.WordFault.{WordFault}
+use Rattle.tool_words.specs.declared.link.LinkSettings.{LinkSettings}
+use Rattle.tool_words.specs.declared.mbim_commands.MbimCommand.{MbimCommand}
+use Rattle.tool_words.specs.declared.proxy.ProxyOption.TheVariants as proxy
+use Rattle.tool_words.specs.declared.qmi_commands.QmiCommand.{QmiCommand}
+use Rattle.tool_words.specs.declared.qmicli.QmiSetting.TheVariants as setting
+use Rattle.tool_words.specs.declared.rig.RigOption.TheVariants as option
+
+-- ---- values one after another ----
+
+-- a command that is within the limits, if there is one
+abbrev Fits : Option ToolCommand → Type 0
+Fits command = IfSome command IsWithinLimits
+
+abbrev IsFitting : Result ToolCommand UsageKind → Type 0
+IsFitting answer = IfOk answer IsWithinLimits
+
+Fits-each : {A : Type 0} (next : A → Option ToolCommand) (value : Option A) → ((a : A) → value ≡ Some a → Fits (next a)) → Fits (option_and_then next value)
+Fits-each next (Some a) fits = fits a refl
+Fits-each next None fits = tt
+
+Fits-map : {A : Type 0} (make : A → ToolCommand) (value : Option A) → ((a : A) → IsWithinLimits (make a)) → Fits (option_map make value)
+Fits-map make (Some a) fits = fits a
+Fits-map make None fits = tt
+
+IsFitting-value : (command : Option ToolCommand) → Fits command → IsFitting (or_value command)
+IsFitting-value (Some command) fits = fits
+IsFitting-value None fits = tt
+
+-- ---- a rig ----
+
+number-is_within : (default least most : ℕ) (text : Option (List ℕ)) (value : ℕ) → least ≤ default → default ≤ most → number_or default least most text ≡ Some value
+    → (least ≤ value) × (value ≤ most)
+unfolding number_or number_within
+number-is_within default least most text value low high is = grind arith
+
+clients-are_within : (text : Option (List ℕ)) (clients : ℕ) → clients_in text ≡ Some clients → (1 ≤ clients) × (clients ≤ 64)
+clients-are_within text clients is = number-is_within 4 1 64 text clients (omega arith) (omega arith) is
+
+messages-are_within : (text : Option (List ℕ)) (messages : ℕ) → messages_in text ≡ Some messages → messages ≤ 100000
+messages-are_within text messages is = (number-is_within 100 0 100000 text messages (omega arith) (omega arith) is).1
+
+rig-fits : (rows : List Row) → Fits (rig_values rows)
+unfolding rig_values
+rig-fits rows =
+    let clients_text : Option (List ℕ) = value_given rig_spelling rows option.Clients in
+    let messages_text : Option (List ℕ) = value_given rig_spelling rows option.Messages in
+    Fits-each _ (kind_or kind.Qmi (value_given rig_spelling rows option.Kind)) (λ kind _.
+    Fits-each _ (clients_in clients_text) (λ clients given.
+    Fits-each _ (messages_in messages_text) (λ messages told.
+    Fits-each _ (number_or 0 0 (2 ^ 64 - 1) (value_given rig_spelling rows option.Number)) (λ number _. record {
+      some_client = (clients-are_within clients_text clients given).0;
+      clients_fit = (clients-are_within clients_text clients given).1;
+      messages_fit = messages-are_within messages_text messages told;
+    }))))
+
+-- ---- all others ----
+
+simulator-fits : (rows : List Row) → Fits (simulator_values rows)
+unfolding simulator_values
+simulator-fits rows = grind arith
+
+proxy-fits : (kind : Kind) (rows : List Row) → Fits (proxy_values kind rows)
+unfolding proxy_values
+proxy-fits kind rows = grind arith
+
+pump-fits : (read : Bool) (node bridge : List ℕ) → Fits (pump_values read node bridge)
+unfolding pump_values
+pump-fits read node bridge = grind arith
+
+described-fits : (file : Option (List ℕ)) → Fits (described file)
+described-fits file = Fits-map _ (option_and_then path_in file) (λ path. tt)
+
+qmi_asked-fits : (link : LinkSettings) (cid : Option ℕ) (command : QmiCommand) (rows : List Row) → Fits (qmi_asked link cid command rows)
+unfolding qmi_asked
+qmi_asked-fits link cid command rows = Fits-each _ ((qmi_line command).request (value_given qmi_spelling rows command)) (λ request _. Fits-map _ link.device (λ device. tt))
+
+qmicli-fits : (command : QmiCommand) (rows : List Row) → Fits (qmicli_values command rows)
+unfolding qmicli_values
+qmicli-fits command rows =
+    Fits-each _ (link_in kind.Qmi rows) (λ link _.
+    Fits-each _ (optional (number_within 1 254) (value_given qmi_setting_spelling rows setting.ClientCid)) (λ cid _.
+    cond_both (qmi_asks command) (qmi_asked link cid command rows) (described (value_given qmi_spelling rows command)) Fits
+    (λ _. qmi_asked-fits link cid command rows) (λ _. described-fits (value_given qmi_spelling rows command))))
+
+mbimcli-fits : (command : MbimCommand) (rows : List Row) → Fits (mbimcli_values command rows)
+unfolding mbimcli_values
+mbimcli-fits command rows =
+    Fits-each _ (link_in kind.Mbim rows) (λ link _.
+    Fits-each _ ((mbim_line command).request (value_given mbim_spelling rows command)) (λ request _. Fits-map _ link.device (λ device. tt)))
+
+-- ---- what the words ask for ----
+
+asked_by-fits : {C : Type 0} (asks : C → Bool) (values : C → List Row → Option ToolCommand) (command : Result C UsageKind) (rows : List Row) → ((c : C) → Fits (values c rows))
+    → IsFitting (asked_by asks values command rows)
+asked_by-fits asks values (Ok command) rows fit = grind (arith, IsFitting-value (values command rows) (fit command))
+asked_by-fits asks values (Err why) rows fit = grind arith
+
+proxy_asked-fits : (kind : Kind) (rows : List Row) → IsFitting (proxy_asked kind rows)
+unfolding proxy_asked
+proxy_asked-fits kind rows =
+    cond_both (is_given proxy_spelling rows proxy.Device) (or_value (proxy_values kind rows)) (Err usage.NoDevice) IsFitting
+    (λ _. IsFitting-value (proxy_values kind rows) (proxy-fits kind rows)) (λ _. tt)
+
+tool-fits : (tool : Tool) (rows : List Row) → IsFitting (tool_asked tool rows)
+unfolding qmicli_asked mbimcli_asked simulator_asked rig_asked modem_tool_asked
+tool-fits tool.Qmicli rows = asked_by-fits qmi_asks qmicli_values _ rows (λ c. qmicli-fits c rows)
+tool-fits tool.Mbimcli rows = asked_by-fits mbim_asks mbimcli_values _ rows (λ c. mbimcli-fits c rows)
+tool-fits (tool.Proxy kind) rows = proxy_asked-fits kind rows
+tool-fits tool.Simulator rows = IsFitting-value (simulator_values rows) (simulator-fits rows)
+tool-fits tool.Rig rows = IsFitting-value (rig_values rows) (rig-fits rows)
+
+named-fits : (tool : Option Tool) (words : List Text) → IsFitting (read_if_named tool words)
+named-fits (Some tool) words =
+    cond_both (is_refused (tool_app tool) words) (Err usage.Words) (tool_asked tool (matches_of (tool_app tool) words)) IsFitting
+    (λ _. tt) (λ _. tool-fits tool (matches_of (tool_app tool) words))
+named-fits None words = tt
+
+pump-named-fits : (read : Option Bool) (node bridge : List ℕ) → IsFitting (pump_if_named read node bridge)
+pump-named-fits (Some read) node bridge = IsFitting-value (pump_values read node bridge) (pump-fits read node bridge)
+pump-named-fits None node bridge = tt
+
+pump-asked-fits : (words : List Text) → IsFitting (pump_asked words)
+unfolding pump_asked
+pump-asked-fits [] = tt
+pump-asked-fits (a ∷ []) = tt
+pump-asked-fits (a ∷ b ∷ []) = tt
+pump-asked-fits (a ∷ b ∷ c ∷ []) = tt
+pump-asked-fits (name ∷ way ∷ node ∷ bridge ∷ []) = pump-named-fits (reads_named way) node bridge
+pump-asked-fits (a ∷ b ∷ c ∷ d ∷ e ∷ more) = tt
+
+command-fits : (words : List Text) → IsFitting (command_in words)
+unfolding command_in
+command-fits [] = tt
+command-fits (word ∷ more) =
+    cond_both (bytes_eq word (codes "pump")) (pump_asked (word ∷ more)) (read_if_named (tool_named word) (word ∷ more)) IsFitting
+    (λ _. pump-asked-fits (word ∷ more)) (λ _. named-fits (tool_named word) (word ∷ more))
+
+-- what is answered to words
+pub answer-is_within : (words : List Text) (answer : Result ToolCommand WordFault) → Answers (command_in words) answer → IfOk answer IsWithinLimits
+answer-is_within words (Ok command) is = subst IsFitting is (command-fits words)
+answer-is_within words (Err why) is = tt
