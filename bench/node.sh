@@ -1,6 +1,6 @@
 #!/bin/sh
 # Device nodes: a raw pseudo terminal with a modem behind it, which our tools ask directly and through a proxy that they
-# start, and libqmi's qmicli through a proxy of ours. A line for each command, with what it printed first. Fails where one
+# start, also two at once, and libqmi's qmicli through a proxy of ours. A line for each command, with what it printed first. Fails where one
 # fails, or where a process of ours is left behind. The sockets of a proxy that was stopped stay; the next one replaces them.
 # MODEMKIT names a program that is built already. MODEM=sim has the program's own simulated modem in place of the
 # stand-in in C.
@@ -43,6 +43,24 @@ try() {
 }
 tool() { try 0 "$folder/modemkit" "$@" --socket "$folder/proxy.sock" --bridge "$folder/bridge.sock"; left "$*"; }
 
+# Two tools that start their proxies at one moment: each gets its answer, or ends with a status that docs/DEVICES.md has.
+at_once() {
+    for which in one other; do
+        {
+            timeout 30 "$folder/modemkit" "$@" --socket "$folder/proxy.sock" --bridge "$folder/bridge.sock" </dev/null >"$folder/$which" 2>&1
+            echo $? >"$folder/$which.status"
+        } &
+        eval "$which=$!"
+    done
+    wait "$one" "$other"
+    for which in one other; do
+        status=$(cat "$folder/$which.status")
+        case $status in 0 | 3 | 4 | 12) ;; *) failed=1 ;; esac
+        echo "$status of two at once: $(tail -n 1 "$folder/$which")"
+    done
+    left "by two at once"
+}
+
 # What a tool does that is killed while it waits: the modem says nothing.
 killed() {
     socat "PTY,link=$folder/silent,raw,echo=0" "EXEC:sleep 60" 2>>"$folder/log" & started="$started $!"
@@ -67,6 +85,7 @@ for kind in qmi mbim; do
     node=$(readlink "$folder/terminal")
     tool "${kind}cli" -d "$node" "$command"
     tool "${kind}cli" -p -d "$node" "$command"
+    at_once "${kind}cli" -p -d "$node" "$command"
     killed "${kind}cli" "$command"
     if [ "$kind" = qmi ] && command -v qmicli >/dev/null 2>&1 && ! grep -q ' @qmi-proxy$' /proc/net/unix; then
         "$folder/modemkit" qmi-proxy -d "$node" --socket "$folder/proxy.sock" --bridge "$folder/bridge.sock" 2>>"$folder/log" & proxy=$!
