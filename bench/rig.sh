@@ -1,17 +1,18 @@
 #!/bin/sh
 # The rig's time: processor time of a run for 5,000, 20,000 and 100,000 messages and 10, 40 and 64 clients, of each kind, the
-# best of several. Behind it the time a step, where a step is an event that a core meets: a request, its taking, its answer
-# and what the client takes, once beside others and once alone, and each turn of the clock, once for all and once for each;
-# what the openings take, which is the time of a run without messages, is left out of that. Fails where 40 clients and 20,000
-# messages take more than 2 s (QMI) or 4 s (MBIM), where a step of a run costs more than 1.5 times what it costs in the
-# cheapest of its kind, or where a last line doesn't say that all are equal.
+# best of several. Behind it the time a step, and for the smaller ones its instructions, which valgrind counts, since times differ
+# much from run to run. A step is an event that a core meets: a request, its taking, its answer and what the client takes, once
+# beside others and once alone, and each turn of the clock, once for all and once for each; what the openings take, which is what
+# a run without messages takes, is left out of that. Fails where 40 clients and 20,000 messages take more than 2 s (QMI) or 4 s
+# (MBIM), where a step has more than 1.5 times the instructions that it has in the cheapest run of its kind, or where a last line
+# doesn't say that all are equal.
 # MODEMKIT names a program that is built already.
 top=$(CDPATH= cd -- "$(dirname -- "$0")/.." && pwd) || exit 70
 . "$top/bench/needs.sh"
-needs "Debian: python3" python3
+needs "Debian: python3, valgrind" python3 valgrind
 program=${MODEMKIT:-$("$top/bench/build.sh")} || exit 70
 exec python3 - "$program" <<'P'
-import os, resource, subprocess, sys
+import os, re, subprocess, sys
 
 program = sys.argv[1]
 LIMITS = {"qmi": 2.0, "mbim": 4.0}
@@ -31,6 +32,13 @@ def seconds(times, *run):
         used = os.wait4(child, 0)[2]
         costs.append(used.ru_utime + used.ru_stime)
     return min(costs)
+
+
+def instructions(*run):
+    """How many a run executes."""
+    counted = ["valgrind", "--tool=callgrind", "--callgrind-out-file=/dev/null", *words(*run)]
+    told = subprocess.run(counted, check=True, capture_output=True, text=True).stderr
+    return int(re.search(r"Collected : (\d+)", told).group(1))
 
 
 def clock_turns(clients, messages):
@@ -57,15 +65,19 @@ for kind in LIMITS:
     costs = []
     for clients in 10, 40, 64:
         opening = seconds(30, kind, clients, 0)
+        opens = instructions(kind, clients, 0)
         for messages in 5000, 20000, 100000:
             lines = subprocess.run(words(kind, clients, messages), check=True, capture_output=True, text=True).stdout.splitlines()
-            time = seconds(300000 // messages, kind, clients, messages)
-            costs.append((time - opening) / steps(clients, messages, lines))
-            print(f"{kind}: {clients} clients, {messages} messages: {time * 1e3:.0f} ms, {opening * 1e3:.0f} of them for the openings; {costs[-1] * 1e9:.0f} ns a step")
+            time = seconds(500000 // messages, kind, clients, messages)
+            count = steps(clients, messages, lines)
+            told = f"{kind}: {clients} clients, {messages} messages: {time * 1e3:.0f} ms, {opening * 1e3:.0f} of them for the openings; a step {(time - opening) / count * 1e9:.0f} ns"
+            if messages < 100000:
+                costs.append((instructions(kind, clients, messages) - opens) / count)
+                told += f", {costs[-1]:.0f} instructions"
+            print(told, flush=True)
             missed |= lines[-1] != f"equal {clients} of {clients}"
             missed |= (clients, messages) == (40, 20000) and time > LIMITS[kind]
-    print(f"{kind}: the dearest step costs {max(costs) / min(costs):.2f} times the cheapest")
+    print(f"{kind}: the dearest step has {max(costs) / min(costs):.2f} times the instructions of the cheapest")
     missed |= max(costs) > 1.5 * min(costs)
-print(f"most memory: {resource.getrusage(resource.RUSAGE_CHILDREN).ru_maxrss / 1024:.1f} MB")
 sys.exit(missed)
 P
