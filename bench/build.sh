@@ -27,14 +27,21 @@ tell() {
         esac
     done
 }
+# One build at a time: who comes meanwhile waits, and finds the program.
+exec 9<"$top/crates.txt"
+if command -v flock >/dev/null 2>&1 && ! flock -n 9; then
+    echo "the program is being built already; waiting for that .." >&2
+    flock 9
+fi
 if [ ! -x "$program" ] || [ -n "$(changed)" ]; then
     command -v rt >/dev/null 2>&1 || { echo "rt, the command of the Rattle kit, isn't on the PATH" >&2; exit 70; }
     echo "proving and building the program; the first time this takes tens of minutes .." >&2
     log=$(mktemp) || exit 70
+    trap 'rm -f "$log"' EXIT
+    trap 'exit 130' INT TERM
     rm -f "$program"
     # `rt run` proves, builds and runs; without words the program only refuses them
-    (cd "$top/crates/modemkit" && rt run) 2>&1 | tell >"$log"
-    [ -x "$program" ] || { tail -n 20 "$log" >&2; rm -f "$log"; exit 70; }
-    rm -f "$log"
+    (cd "$top/crates/modemkit" && rt run 9<&-) 2>&1 | tell >"$log"
+    [ -x "$program" ] || { tail -n 20 "$log" >&2; exit 70; }
 fi
 echo "$program"

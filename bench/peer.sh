@@ -22,7 +22,7 @@ started=
 stop() { [ -z "$started" ] || { kill $started; wait $started; } 2>/dev/null; started=; }
 trap 'stop; rm -rf "$folder"' EXIT
 trap 'exit 130' INT TERM
-mknod "$folder/node" c 1 3 2>/dev/null || { echo "a device node can't be made here (root is wanted); nothing was tried"; exit 0; }
+mknod "$folder/node" c 1 3 2>/dev/null && unshare -m true 2>/dev/null || { echo "a device node or a mount namespace can't be made here (root is wanted); nothing was tried"; exit 0; }
 program=${MODEMKIT:-$("$top/bench/build.sh")} || exit 70
 kind=qmi
 . "$top/bench/offer.sh"

@@ -1,10 +1,11 @@
 #!/bin/sh
 # What a reply of the proxy costs that it gives by itself: system calls and user instructions a message, of
 # one client that asks again once it was answered. The modem is there, and is asked for nothing.
+# MODEMKIT names a program that is built already.
 top=$(CDPATH= cd -- "$(dirname -- "$0")/.." && pwd) || exit 70
 . "$top/bench/needs.sh"
-needs "Debian: gcc, strace, valgrind, python3" cc strace valgrind python3
-program=$("$top/bench/build.sh") || exit 70
+needs "Debian: gcc, procps, strace, valgrind, python3" cc pkill strace valgrind python3
+program=${MODEMKIT:-$("$top/bench/build.sh")} || exit 70
 folder=$(mktemp -d) || exit 70
 modem=
 clean() { [ -z "$modem" ] || kill $modem 2>/dev/null; rm -rf "$folder"; }

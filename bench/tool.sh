@@ -2,6 +2,7 @@
 # One command of each tool against a modem on this machine, beside libqmi's qmicli and libmbim's mbimcli: wall time
 # and peak memory of both in one run, as ratios. The real tools want a character device, so their modem is behind a
 # raw pseudo terminal; ours is behind a Unix socket.
+# MODEMKIT names a program that is built already.
 top=$(CDPATH= cd -- "$(dirname -- "$0")/.." && pwd) || exit 70
 . "$top/bench/needs.sh"
 needs "Debian: gcc, hyperfine, libqmi-utils, libmbim-utils, python3, time" cc hyperfine qmicli mbimcli python3 /usr/bin/time
