@@ -1,3 +1,4 @@
+pub mod Granted
 pub mod Forwards
 pub mod Expires
 pub mod Tells

@@ -1,10 +1,10 @@
-ghost use Rattle.std.specs.Prelude.{◌≡◌, ◌≤◌, true, not, [], ◌++◌, length, drop, option_map, IfOk, IfSome};
+ghost use Rattle.std.specs.Prelude.{◌≡◌, ◌≤◌, true, not, [], ◌++◌, length, drop, option_map, IfOk, IfSome, IsSome};
 ghost use Rattle.qmux_frame.specs.Head.{is_control};
 ghost use Rattle.qmux_frame.specs.Reply.{with_number};
 ghost use Rattle.qmi_proxy.specs.Clients.{has_room};
 ghost use Rattle.proxy_history.specs.ClientIds.{holder_in, holds_some, is_other};
 ghost use Rattle.number_space.specs.Table.{first_due, expires};
-ghost use Rattle.holders.specs.Grants.{is_taken, grants, releases};
+ghost use Rattle.holders.specs.Grants.{AreInOrder, is_taken, grants, releases};
 ghost use Rattle.qmi_state.specs.Traffic.{Row, traffic_of, of_control, with_numbers, row_numbered, number_at, gives_next, adopts_unless, frees, gives_up, forgets};
 ghost use Rattle.qmi_state.specs.Transitions.{shared_of, refusal_of, forwards_as, holder_at};
 
@@ -70,7 +70,8 @@ impl Traffic {
         ensures refusal { result ≡ refusal_of (shared_of away name message.now self.old) }
         ensures forwarded { self.new ≡ forwards_as (shared_of away name message.now self.old) deadline name message.now self.old }
     {
-        if self.is_foreign(name, message) {
+        let holder = self.holder_at(message);
+        if is_other(name, holder) {
             return Some(INVALID_CLIENT_ID);
         }
         if away {
@@ -82,21 +83,20 @@ impl Traffic {
         let Some(number) = self.give(name, message, deadline) else {
             return Some(DEVICE_IN_USE);
         };
-        self.adopt(name, message);
+        self.adopt(holder, name, message);
         self.queue(message, number);
         None
     }
 
-    // Whether another connection holds the client id that the message uses.
-    fn is_foreign(&self, name: u64, message: &Message<'_>) -> bool
-        ensures { result ≡ is_other name (holder_at message.now self.now) }
+    // The connection that holds the client id that the message uses.
+    fn holder_at(&self, message: &Message<'_>) -> Option<u64>
+        ensures holder { result ≡ holder_at message.now self.now }
+        ensures ordered { IsSome result → AreInOrder self.now.held }
     {
-        if !message.uses_id() {
-            return false;
-        }
-        match self.holder(message.used_service(), message.used_client()) {
-            Some(holder) => holder != name,
-            None => false,
+        if message.uses_id() {
+            self.holder(message.used_service(), message.used_client())
+        } else {
+            None
         }
     }
 
@@ -107,10 +107,12 @@ impl Traffic {
     }
 
     // The sender holds the client id that the message uses, unless another connection does.
-    fn adopt(&mut self, name: u64, message: &Message<'_>)
+    fn adopt(&mut self, holder: Option<u64>, name: u64, message: &Message<'_>)
+        requires holder { holder ≡ holder_at message.now self.old }
+        requires ordered { IsSome holder → AreInOrder self.old.held }
         ensures { self.new ≡ adopts_unless (is_other name (holder_at message.now self.old)) name message.now self.old }
     {
-        if message.uses_id() {
+        if holder.is_none() && message.uses_id() {
             self.grant(name, message.used_service(), message.used_client());
         }
     }
@@ -142,7 +144,8 @@ impl Traffic {
 
     /// The connection that holds the client id.
     pub fn holder(&self, service: u8, client: u8) -> Option<u64>
-        ensures { result ≡ holder_in service client self.now.held }
+        ensures holder { result ≡ holder_in service client self.now.held }
+        ensures ordered { AreInOrder self.now.held }
     {
         self.holders.holder(service, client)
     }
@@ -243,5 +246,14 @@ impl Traffic {
         ensures { result.now ≡ self.now.waiting }
     {
         self.outbox.front()
+    }
+}
+
+fn is_other(name: u64, holder: Option<u64>) -> bool
+    ensures { result ≡ is_other name holder }
+{
+    match holder {
+        Some(holder) => holder != name,
+        None => false,
     }
 }
