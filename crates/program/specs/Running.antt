@@ -116,7 +116,7 @@ pub record Objects (L H P F O B : Type 0) : Type 0 where
   pub out : O
   pub bench : B
 
--- what a command has no use for is left as it was: hub and files by one that asks a modem, all but files and output by one that describes a file, all but hub and children by a proxy, all but hub and files by a simulated modem, the files too where no profile is named, all but children by one that is kept running, all but link and files by a pump, and all but bench and output by a rig
+-- what a command has no use for is left as it was: hub, files and bench by one that asks a modem, all but files and output by one that describes a file, all but hub and children by a proxy, all but hub and files by a simulated modem, the files too where no profile is named, all but children by one that is kept running, all but link and files by a pump, and all but bench and output by a rig
 abbrev pub CommandLeavesAlone : {L H P F O B : Type 0} → ToolCommand → Objects L H P F O B → Objects L H P F O B → Type 0
 CommandLeavesAlone (Qmicli device proxied cid keep request socket bridge) before after = (after.hub ≡ before.hub) × (after.files ≡ before.files) × (after.bench ≡ before.bench)
 CommandLeavesAlone (Mbimcli device proxied close request socket bridge) before after = (after.hub ≡ before.hub) × (after.files ≡ before.files) × (after.bench ≡ before.bench)

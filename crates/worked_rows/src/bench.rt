@@ -1,3 +1,4 @@
+use crate::found::differs_at;
 use anyhow::{Context, Result, bail};
 use core_bench::{BenchNote, MemBench};
 use hub_io::Limits;
@@ -59,13 +60,7 @@ impl BenchRuns {
         if self.notes.is_empty() {
             return None;
         }
-        let log = bench.log();
-        for (at, (note, bytes)) in self.notes.iter().enumerate() {
-            if log.at(at) != Some((*note, bytes.as_slice())) {
-                return Some(at);
-            }
-        }
-        (log.len() != Some(self.notes.len())).then_some(self.notes.len())
+        differs_at(bench.log(), &self.notes)
     }
 }
 

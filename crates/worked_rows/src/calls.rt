@@ -103,12 +103,13 @@ fn push_gives(
 /// A call as it stands in a link's log.
 pub type Noted<'a> = (Made, &'a [u8]);
 
-/// The calls that a row tells of, and the closing of the link that was opened. Where takes are in
-/// pieces, they are left out.
+/// The calls that a row tells of, and the closing of the link where it was opened and closes. Where
+/// takes are in pieces, they are left out.
 pub fn told_calls(
     alloc: Global,
     calls: &[Call],
     whole: bool,
+    closes: bool,
 ) -> Result<Vec<Noted<'_>>, AllocError> {
     let mut told = Vec::new(alloc);
     let mut is_open = false;
@@ -121,7 +122,7 @@ pub fn told_calls(
             told.push((call.made, call.bytes.as_slice()))?;
         }
     }
-    if is_open {
+    if is_open && closes {
         told.push((Made::Closed, &[]))?;
     }
     Ok(told)

@@ -1,36 +1,110 @@
-use file_io::{FileAnswer, READ_ROOM};
+use crate::found::differs_at;
+use anyhow::Result;
+use file_io::{FileAnswer, Made, MemFiles, READ_ROOM, Side};
+use row_text::Rows;
 use std::alloc::{AllocError, Global};
 
-/// Adds reads of a file that give bytes, as many as fit each.
-pub fn push_reads(
-    alloc: Global,
-    answers: &mut Vec<FileAnswer>,
-    bytes: &[u8],
-) -> Result<(), AllocError> {
-    for piece in bytes.chunks(READ_ROOM) {
-        push_read(answers, FileAnswer::Gives(Vec::from_slice(alloc, piece)?))?;
-    }
-    Ok(())
+/// The calls that a run makes on files: how they answer, and what their log tells.
+#[derive(Drop)]
+pub struct FileCalls {
+    calls: Vec<(Made, Vec<u8>)>,
+    // Whether each call is told, with the path that is opened.
+    is_told: bool,
+    /// How many calls are made, where a row tells that.
+    pub count: Option<usize>,
 }
 
-/// Adds what a read of a file answers, behind its opening.
-pub fn push_read(answers: &mut Vec<FileAnswer>, answer: FileAnswer) -> Result<(), AllocError> {
-    if answers.is_empty() {
-        answers.push(FileAnswer::Does)?;
+impl FileCalls {
+    /// Nothing is told.
+    pub fn none(alloc: Global) -> Self {
+        FileCalls {
+            calls: Vec::new(alloc),
+            is_told: false,
+            count: None,
+        }
     }
-    answers.push(answer)?;
-    Ok(())
+
+    /// Adds the call that a key of a row tells of, where the key is one of these.
+    pub fn add(&mut self, alloc: Global, rows: &Rows<'_>, key: &str, value: &str) -> Result<bool> {
+        match key {
+            "opens to read" => self.add_opening(alloc, Side::Read, true, value)?,
+            "open to read fails" => self.add_opening(alloc, Side::Read, false, value)?,
+            "opens to write" => self.add_opening(alloc, Side::Write, true, value)?,
+            "open to write fails" => self.add_opening(alloc, Side::Write, false, value)?,
+            "file open fails" => self.push(alloc, opened(Side::Read, false), &[])?,
+            "file" => self.add_reads(alloc, value.as_bytes())?,
+            "file bytes" => self.add_reads(alloc, &rows.bytes_of(value)?)?,
+            "file ends" => self.add_call(alloc, Made::Gave, &[])?,
+            "read fails" => self.add_call(alloc, Made::ReadFailed, &[])?,
+            "writes" => self.add_call(alloc, Made::Took, &rows.bytes_of(value)?)?,
+            "write fails" => self.add_call(alloc, Made::WriteFailed, &[])?,
+            "file calls" => self.count = Some(value.parse::<usize>()?),
+            _ => return Ok(false),
+        }
+        Ok(true)
+    }
+
+    fn add_opening(
+        &mut self,
+        alloc: Global,
+        side: Side,
+        ok: bool,
+        path: &str,
+    ) -> Result<(), AllocError> {
+        self.is_told = true;
+        self.push(alloc, opened(side, ok), path.as_bytes())
+    }
+
+    // Adds reads that give bytes, as many as fit each.
+    fn add_reads(&mut self, alloc: Global, bytes: &[u8]) -> Result<(), AllocError> {
+        for piece in bytes.chunks(READ_ROOM) {
+            self.add_call(alloc, Made::Gave, piece)?;
+        }
+        Ok(())
+    }
+
+    // Adds a call behind an opening.
+    fn add_call(&mut self, alloc: Global, made: Made, bytes: &[u8]) -> Result<(), AllocError> {
+        if self.calls.is_empty() {
+            self.push(alloc, opened(Side::Read, true), &[])?;
+        }
+        self.push(alloc, made, bytes)
+    }
+
+    fn push(&mut self, alloc: Global, made: Made, bytes: &[u8]) -> Result<(), AllocError> {
+        let bytes = Vec::from_slice(alloc, bytes)?;
+        self.calls.push((made, bytes))?;
+        Ok(())
+    }
+
+    /// Files that answer so, with room to tell of so much.
+    pub fn files(&self, alloc: Global) -> Result<MemFiles, AllocError> {
+        let mut script = Vec::new(alloc);
+        for (made, bytes) in &self.calls {
+            script.push(answer_of(alloc, *made, bytes)?)?;
+        }
+        MemFiles::new(alloc, script, 2_000, 20_000_000)
+    }
+
+    /// Which call on the files isn't as it is told, if one isn't and each is told.
+    pub fn differs_at(&self, files: &MemFiles) -> Option<usize> {
+        if !self.is_told {
+            return None;
+        }
+        differs_at(files.log(), &self.calls)
+    }
 }
 
-/// The script of files that answer so.
-pub fn script_of(alloc: Global, answers: &[FileAnswer]) -> Result<Vec<FileAnswer>, AllocError> {
-    let mut script = Vec::new(alloc);
-    for answer in answers {
-        script.push(match answer {
-            FileAnswer::Gives(bytes) => FileAnswer::Gives(Vec::from_slice(alloc, bytes)?),
-            FileAnswer::Fails => FileAnswer::Fails,
-            FileAnswer::Does | FileAnswer::Takes(_) => FileAnswer::Does,
-        })?;
-    }
-    Ok(script)
+fn opened(side: Side, ok: bool) -> Made {
+    Made::Opened { side, ok }
+}
+
+// The answer by which a call is this one.
+fn answer_of(alloc: Global, made: Made, bytes: &[u8]) -> Result<FileAnswer, AllocError> {
+    Ok(match made {
+        Made::Opened { ok: false, .. } | Made::ReadFailed | Made::WriteFailed => FileAnswer::Fails,
+        Made::Gave if !bytes.is_empty() => FileAnswer::Gives(Vec::from_slice(alloc, bytes)?),
+        Made::Took => FileAnswer::Takes(bytes.len()),
+        Made::Opened { ok: true, .. } | Made::Gave | Made::Closed => FileAnswer::Does,
+    })
 }

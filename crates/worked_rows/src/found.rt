@@ -1,3 +1,4 @@
+use kit_io::Log;
 use std::fmt::{self, Debug};
 use std::io;
 
@@ -56,4 +57,17 @@ pub fn are_bytes<R: Print>(
         println!(rt; "{place}: {part} is{found}, not{told}")?;
     }
     Ok(same)
+}
+
+/// Which note of a log isn't as it is told, if one isn't.
+pub fn differs_at<K: Copy + PartialEq + Drop>(
+    log: &Log<K>,
+    told: &[(K, Vec<u8>)],
+) -> Option<usize> {
+    for (at, (kind, bytes)) in told.iter().enumerate() {
+        if log.at(at) != Some((*kind, bytes.as_slice())) {
+            return Some(at);
+        }
+    }
+    (log.len() != Some(told.len())).then_some(told.len())
 }

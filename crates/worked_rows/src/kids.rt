@@ -1,3 +1,4 @@
+use crate::found::differs_at;
 use anyhow::{Context, Result};
 use child_io::{Made, MemSpawner, SpawnerAnswer};
 use row_text::words_of;
@@ -89,12 +90,6 @@ impl KidCalls {
 
     /// Which note of the spawner's log isn't as it is told, if one isn't.
     pub fn differs_at(&self, spawner: &MemSpawner) -> Option<usize> {
-        let log = spawner.log();
-        for (at, (made, bytes)) in self.notes.iter().enumerate() {
-            if log.at(at) != Some((*made, bytes.as_slice())) {
-                return Some(at);
-            }
-        }
-        (log.len() != Some(self.notes.len())).then_some(self.notes.len())
+        differs_at(spawner.log(), &self.notes)
     }
 }

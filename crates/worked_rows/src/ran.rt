@@ -1,5 +1,4 @@
 use crate::calls::link_script;
-use crate::files::script_of;
 use crate::tool::ToolRow;
 use child_io::MemSpawner;
 use core_bench::MemBench;
@@ -30,7 +29,7 @@ pub fn run_row(
     bench: &mut MemBench,
 ) -> Result<Ran, AllocError> {
     let mut link = link_of(alloc, row, whole)?;
-    let mut files = MemFiles::new(alloc, script_of(alloc, &row.files)?, 2_000, 20_000_000)?;
+    let mut files = row.files.files(alloc)?;
     let mut hub = MemHub::new(alloc, Vec::new(alloc), Vec::new(alloc), 10, 10_000)?;
     let mut kids = row.kids.spawner(alloc)?;
     let mut out = MemSink::new(alloc, Vec::from_slice(alloc, &row.sink)?, 10_000)?;

@@ -2,13 +2,12 @@ use crate::alone::is_same_alone;
 use crate::asked::{asked, requested};
 use crate::bench::BenchRuns;
 use crate::calls::{Call, Noted, made_by, made_calls, push_calls, told_calls};
-use crate::files::{push_read, push_reads};
+use crate::files::FileCalls;
 use crate::found::{Place, Spelled, is};
 use crate::kids::KidCalls;
 use crate::ran::{Ran, run_row};
 use anyhow::{Context, Result};
 use core_bench::MemBench;
-use file_io::FileAnswer;
 use kit_io::SinkAnswer;
 use row_text::{Line, Row, Rows, words_of};
 use std::alloc::{AllocError, Global};
@@ -27,6 +26,11 @@ use std::io;
 ///     file: TEXT          file bytes: BYTES    what the reads of the file give; then it ends
 ///     read fails:         file open fails:     a call on the file that fails
 ///     file calls: N                            how many calls are made on it
+///     opens to read, opens to write: PATH      the file that is opened; then each call on it is told,
+///     open to read fails, open to write fails: PATH       in these two lines all of them
+///     file ends:                               a read that finds the end
+///     writes: BYTES       write fails:         what a write takes, or that it fails
+///     stays open:                              the link isn't closed
 ///     starts, start fails: WORDS               a child that is started, or can't be
 ///     stops, stop fails: N                     the Nth child that is stopped, or can't be
 ///     child ends: N STATUS                     the Nth child, which is waited for, ends so
@@ -49,16 +53,16 @@ pub struct ToolRow {
     pub unread: bool,
     pub calls: Vec<Call>,
     pub sink: Vec<SinkAnswer>,
-    pub files: Vec<FileAnswer>,
+    pub files: FileCalls,
     pub kids: KidCalls,
     pub bench: BenchRuns,
-    file_calls: Option<usize>,
     asks: Option<String>,
     requests: Option<String>,
     out: String,
     err: String,
     status: u8,
     uncut: bool,
+    stays_open: bool,
     // How often the next call is made.
     times: u32,
 }
@@ -93,16 +97,16 @@ fn read_tool_row(alloc: Global, file: &str, rows: &Rows<'_>, lines: &Row<'_>) ->
         unread: false,
         calls: Vec::new(alloc),
         sink: Vec::new(alloc),
-        files: Vec::new(alloc),
+        files: FileCalls::none(alloc),
         kids: KidCalls::none(alloc),
         bench: BenchRuns::none(alloc),
-        file_calls: None,
         asks: None,
         requests: None,
         out: String::new(alloc),
         err: String::new(alloc),
         status: 0,
         uncut: false,
+        stays_open: false,
         times: 1,
     };
     for line in &lines.rest {
@@ -122,19 +126,18 @@ impl ToolRow {
             "repeats" => self.times = value.parse::<u32>()?,
             "stdout takes" => self.sink.push(SinkAnswer::Takes(value.parse::<usize>()?))?,
             "stdout fails" => self.sink.push(SinkAnswer::Fails)?,
-            "file" => push_reads(alloc, &mut self.files, value.as_bytes())?,
-            "file bytes" => push_reads(alloc, &mut self.files, &rows.bytes_of(value)?)?,
-            "read fails" => push_read(&mut self.files, FileAnswer::Fails)?,
-            "file open fails" => self.files.push(FileAnswer::Fails)?,
-            "file calls" => self.file_calls = Some(value.parse::<usize>()?),
             "out" => add_line(&mut self.out, value)?,
             "out begins" => self.out.push_str(value)?,
             "err" => add_line(&mut self.err, value)?,
             "status" => self.status = value.parse::<u8>()?,
             "unread" => self.unread = true,
             "uncut" => self.uncut = true,
+            "stays open" => self.stays_open = true,
             key => {
-                if !self.kids.add(alloc, key, value)? && !self.bench.add(alloc, rows, key, value)? {
+                if !self.kids.add(alloc, key, value)?
+                    && !self.files.add(alloc, rows, key, value)?
+                    && !self.bench.add(alloc, rows, key, value)?
+                {
                     self.add_calls(alloc, rows, key, value)?;
                 }
             }
@@ -189,7 +192,7 @@ fn runs_on_bench<R: Print>(
     let ends = ends_as_told(rt, place, row, &ran)?
         && bench_as_told(rt, place, row, bench)?
         && (!row.bench.same_alone || is_same_alone(rt, alloc, place, bench, &row.out)?);
-    let told = told_calls(alloc, &row.calls, whole)?;
+    let told = told_calls(alloc, &row.calls, whole, !row.stays_open)?;
     let made = made_calls(alloc, ran.link.log(), whole)?;
     Ok(are_calls(rt, place, &told, &made)? && ends)
 }
@@ -198,14 +201,7 @@ fn ends_as_told<R: Print>(rt: &R, place: Place<'_>, row: &ToolRow, ran: &Ran) ->
     let status = is(rt, place, "status", row.status, ran.status.code())?;
     let out = is(rt, place, "out", row.out.as_str(), text(ran.out.taken()))?;
     let err = is(rt, place, "err", row.err.as_str(), text(ran.err.taken()))?;
-    let calls = row.file_calls.is_none()
-        || is(
-            rt,
-            place,
-            "file calls",
-            row.file_calls,
-            ran.files.log().len(),
-        )?;
+    let files = files_as_told(rt, place, row, ran)?;
     let kids = is(
         rt,
         place,
@@ -213,7 +209,14 @@ fn ends_as_told<R: Print>(rt: &R, place: Place<'_>, row: &ToolRow, ran: &Ran) ->
         None,
         row.kids.differs_at(&ran.kids),
     )?;
-    Ok(status && out && err && calls && kids)
+    Ok(status && out && err && files && kids)
+}
+
+fn files_as_told<R: Print>(rt: &R, place: Place<'_>, row: &ToolRow, ran: &Ran) -> io::Result<bool> {
+    let made = ran.files.log().len();
+    let count = row.files.count.is_none() || is(rt, place, "file calls", row.files.count, made)?;
+    let differs = row.files.differs_at(&ran.files);
+    Ok(is(rt, place, "the file call that differs", None, differs)? && count)
 }
 
 fn bench_as_told<R: Print>(
