@@ -3,6 +3,7 @@ import os
 import re
 import resource
 import signal
+import socket
 import subprocess
 import sys
 import time
@@ -11,6 +12,9 @@ folder, program, kind = sys.argv[1:4]
 modem_socket, proxy_socket = f"{folder}/modem.sock", f"{folder}/proxy.sock"
 OUT_OF_MEMORY = 70
 STEP = 256 * 1024
+CLIENTS = 64
+# A message that the proxy answers by itself: a request of DMS under a client id that wasn't granted, and a close of a device that wasn't opened.
+ANSWERED = {"qmi": "010c0000020100010022000000", "mbim": "020000000c00000001000000"}
 
 
 def start(limit=None):
@@ -66,6 +70,35 @@ def load(clients, in_flight, count):
         sys.exit(f"{kind}: with no memory more the load fails: {done.stderr}")
 
 
+def connect():
+    client = socket.socket(socket.AF_UNIX)
+    client.connect(proxy_socket)
+    return client
+
+
+def ask_much(client):
+    """Asks until the proxy drops the client, which takes no answer."""
+    client.settimeout(5)
+    try:
+        while True:
+            client.sendall(bytes.fromhex(ANSWERED[kind]) * 1000)
+    except (BrokenPipeError, ConnectionResetError):
+        pass
+
+
+def peak(ask):
+    """How much a proxy has used at most, once as many clients as it serves came, which do this."""
+    proxy = start()
+    opens(proxy)
+    clients = [connect() for _ in range(CLIENTS)]
+    for client in clients:
+        ask(client)
+    time.sleep(0.2)
+    used = size(proxy, "VmHWM")
+    stop(proxy)
+    return used / 2**20
+
+
 modem = subprocess.Popen([f"{folder}/{kind}_modem", "unix", modem_socket])
 try:
     while not os.path.exists(modem_socket):
@@ -76,12 +109,14 @@ try:
     opens(proxy)
     opened = size(proxy, "VmSize")
     resource.prlimit(proxy.pid, resource.RLIMIT_AS, (opened, opened))
-    load(64, 1, 100000)
-    load(64, 3, 100000)
+    load(CLIENTS, 1, 100000)
+    load(CLIENTS, 3, 100000)
     if size(proxy, "VmSize") > opened:
         sys.exit(f"{kind}: the proxy took memory")
-    print(f"{kind}: 64 clients were served with no more than the {opened / 2**20:.2f} MB of the opening, {size(proxy, 'VmHWM') / 2**20:.2f} MB of them used")
+    print(f"{kind}: {CLIENTS} clients were served with no more than the {opened / 2**20:.2f} MB of the opening, {size(proxy, 'VmHWM') / 2**20:.2f} MB of them used")
     stop(proxy)
+    silent, full = peak(lambda client: None), peak(ask_much)
+    print(f"{kind}: {CLIENTS} clients that say nothing use {silent:.2f} MB at most, and {CLIENTS} whose outboxes were full {full:.2f} MB")
 finally:
     modem.kill()
     modem.wait()
