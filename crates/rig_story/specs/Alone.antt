@@ -12,7 +12,7 @@ use Rattle.rig_story.specs.declared.story.Met.TheVariants.{Came, Said, Heard, Co
 abbrev pub meets : Proxy → Event → List Event → List Event
 meets p event own = modem_takes p (event ∷ own)
 
--- an answer under this number
+-- an answer, under the number that its request has; none where it has none
 abbrev pub hears : Reading → Proxy → Option ℕ → (message : List ℕ) → List Event → List Event
 hears reading p None m own = own
 hears reading p (Some number) m own = meets p (ModemPiece (reading.with_number number m)) own
@@ -34,12 +34,12 @@ met_alone reading p c story = fold (meet_met reading p c) [] story
 
 -- ---- whether it is the same alone ----
 
--- an answer that comes alone comes whole
+-- a request has that number, and the answer comes whole
 abbrev pub IsShort : Reading → Option ℕ → (message : List ℕ) → Type 0
 IsShort reading None m = ⊥
 IsShort reading (Some number) m = length (reading.with_number number m) ≤ piece_limit
 
--- it comes once, speaks in one piece, has asked for what it hears, and takes bytes that wait for it alone
+-- it comes before all else, speaks in one piece, has asked for what it hears, and finds the bytes that it takes waiting
 abbrev pub IsSame : Reading → Proxy → ℕ → (own : List Event) → Met → Type 0
 IsSame reading p c own (Came d) = d ≡ c → own ≡ []
 IsSame reading p c own (Said d m) = d ≡ c → length m ≤ piece_limit

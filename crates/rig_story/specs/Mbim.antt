@@ -10,7 +10,8 @@ use Rattle.mbim_services.specs.Table.{proxy_control}
 use Rattle.rig_runs.specs.Rig.{time_limit}
 use Rattle.rig_story.specs.Rows.{Key, Reading}
 
--- a request and its answer have their number in common, and their kind but for its highest bit, which an answer has
+-- a request and its answer have their number in common, and their kind but for its highest bit, which an answer has;
+-- an error in place of an answer has another kind, and finds none
 -- Source: the USB-IF MBIM specification 1.0, section 9.2, "Message Types".
 abbrev pub key_of : List ℕ → Key
 key_of m = record { kind = kind_of m % 2 ^ 31; client = 0; number = number_of m }

@@ -1,6 +1,7 @@
--- The requests in use of a proxy, as whoever runs it can tell them, who sees what the clients and the modem say and what waits for the modem.
+-- A ledger of requests in use, kept from what clients and modem say and from what waits for the modem.
+-- It is right where, as in a rig, each piece is one whole message, nobody leaves, the modem stays and gives answers alone, and the proxy asks nothing by itself but to open.
 -- Rows stand in order of asking; lists of events have the newest first.
-use Rattle.std.specs.Prelude.{ℕ, ◌+◌, max, Bool, true, false, not, ◌&&◌, ◌==◌, nat_lt, nat_le, if◌then◌else◌, List, [], ◌∷◌, ◌++◌, length, filter, drop, replicate, slice_index_or, slice_set, Option, Some, None}
+use Rattle.std.specs.Prelude.{ℕ, ◌+◌, max, Bool, not, ◌&&◌, ◌==◌, nat_lt, nat_le, if◌then◌else◌, List, [], ◌∷◌, ◌++◌, length, filter, drop, replicate, slice_index_or, slice_set, Option, Some, None}
 use Rattle.proxy_history.specs.Events.{Event, Piece, ModemPiece, Now}
 use Rattle.proxy_history.specs.Proxy.{Proxy}
 use Rattle.proxy_history.specs.Requests.{deadline_of}

@@ -21,7 +21,7 @@ abbrev pub heard_by : Option Row → (message : List ℕ) → List Met
 heard_by None m = []
 heard_by (Some row) m = Heard row.conn row.place m ∷ []
 
--- what an event is in a story, by the ledger before it; what the modem takes is left out
+-- what an event is in a story, by the ledger before it; a taking of the modem, a leaving and a loss are left out
 abbrev pub met_by : Reading → Event → (asked taken : List ℕ) → Ledger → List Met
 met_by reading (Joined c) asked taken ledger = Came c ∷ []
 met_by reading (Piece c m) asked taken ledger = Said c m ∷ heard_if_unasked asked c (said_by c ledger + 1) (reading.at_once m)

@@ -7,7 +7,8 @@ pub enum Met {
     Came(u64),
     /// A client said a message.
     Said(u64, Octets),
-    /// The modem answered to a client's message from this place, counted from 1.
+    /// The modem answers a client's message from this place, counted from 1, or would where that
+    /// client is alone.
     Heard(u64, u64, Octets),
     /// A client took these bytes.
     Collected(u64, Octets),
