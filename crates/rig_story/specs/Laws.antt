@@ -1,9 +1,13 @@
--- What the laws say of the story and the ledger of a rig. Lists of events have the newest first.
-use Rattle.std.specs.Prelude.{◌≡◌, ℕ, ◌≤◌, List, []}
+-- What the laws say of the story and the ledger of a rig. Lists of events and of facts have the newest first.
+use Rattle.std.specs.Prelude.{◌≡◌, ℕ, ◌<◌, ◌≤◌, List, [], ◌∷◌, length, map}
 use Rattle.proxy_history.specs.Events.{Event}
 use Rattle.proxy_history.specs.Proxy.{Proxy}
+use Rattle.proxy_history.specs.Facts.{Fact, Request}
+use Rattle.proxy_history.specs.Connections.{message_count}
+use Rattle.proxy_history.specs.Requests.{in_use, forward_count}
+use Rattle.proxy_history.specs.Modem.{now}
 use Rattle.rig_runs.specs.Counts.{Summary}
-use Rattle.rig_story.specs.Rows.{Reading, Counts, ledger_of}
+use Rattle.rig_story.specs.Rows.{Reading, Row, Counts, Ledger, names, said_by, ledger_of}
 use Rattle.rig_story.specs.Story.{story_of}
 use Rattle.rig_story.specs.Alone.{met_alone, IsSameAlone}
 
@@ -19,6 +23,25 @@ MeetsItsPart reading p solo c events = met_alone reading p c (story_of reading p
 abbrev pub TakesTheSame : Reading → Proxy → ℕ → List Event → Type 0
 TakesTheSame reading p c events = IsSameAlone reading p c [] (story_of reading p events)
 
+-- ---- rows ----
+
+-- what the ledger keeps is what the facts say: its rows are those of the requests in use, in order of asking
+pub record Mirrors (row_of : Request → Row) (past : List Fact) (ledger : Ledger) : Type 0 where
+  pub rows : ledger.rows ≡ map row_of (in_use past)
+  pub asked : ledger.asked ≡ forward_count past
+  pub time : ledger.time ≡ now past
+  pub names_are : length ledger.said ≡ names
+  pub said : (c : ℕ) → c < names → said_by c ledger ≡ message_count c past
+
+-- at every moment of these events
+abbrev pub AllMirror : (row_of : Request → Row) → Reading → Proxy → (history : List Event → List Fact) → List Event → Type 0
+AllMirror row_of reading p history [] = Mirrors row_of (history []) (ledger_of reading p [])
+AllMirror row_of reading p history (event ∷ events) = Mirrors row_of (history (event ∷ events)) (ledger_of reading p (event ∷ events)) × AllMirror row_of reading p history events
+
+-- so it is in each rig with at least one client, and no more than may be there
+abbrev pub AreMirrored : (rig : (clients turns number : ℕ) → List Event) → (row_of : Request → Row) → Reading → Proxy → (history : List Event → List Fact) → Type 0
+AreMirrored rig row_of reading p history = (clients turns number : ℕ) → 1 ≤ clients → clients ≤ 64 → AllMirror row_of reading p history (rig clients turns number)
+
 -- ---- counts ----
 
 -- in so many turns the clock stays far below 2^64 milliseconds
@@ -33,5 +56,6 @@ pub record Counted (counts : Counts) (summary : Summary) : Type 0 where
   pub late : counts.late ≡ summary.late
   pub refused : counts.refused ≡ summary.refused
 
+-- so it is of each rig that isn't longer
 abbrev pub AreCounted : (rig : (clients turns number : ℕ) → List Event) → (summary : (clients turns : ℕ) → List Event → Summary) → Reading → Proxy → Type 0
 AreCounted rig summary reading p = (clients turns number : ℕ) → 1 ≤ clients → clients ≤ 64 → turns ≤ most_turns → Counted (ledger_of reading p (rig clients turns number)).counts (summary clients turns (rig clients turns number))

@@ -1,6 +1,6 @@
 -- What a client meets alone of the story of plain events is what it would meet alone of the events, and so alone it takes the same bytes.
 -- Lists of events and of facts have the newest first, and a story is told in its order.
-use Rattle.std.proofs.Common.{◌≡◌, ℕ, zero, suc, ◌+◌, ◌≤◌, Bool, true, false, ◌&&◌, ◌==◌, if◌then◌else◌, List, [], ◌∷◌, ◌++◌, length, take, map, fold, refl, ap, sym, ◌∙◌, subst, arith, Option, Some, None, option_map, length-take-le}
+use Rattle.std.proofs.Common.{◌≡◌, ℕ, zero, suc, ◌+◌, ◌≤◌, Bool, true, false, ◌&&◌, ◌==◌, if◌then◌else◌, List, [], ◌∷◌, length, take, map, fold, refl, ap, sym, ◌∙◌, subst, arith, Option, Some, None, option_map, length-take-le}
 use Rattle.std.proofs.lemmas.Bool.{eqb-true, eq-eqb}
 use Rattle.std.proofs.lemmas.Bool.Decides.{nat_tests}
 use Rattle.std.proofs.lemmas.List.Sums.{fold-append}
@@ -46,10 +46,12 @@ use Rattle.rig_story.specs.Rows.{Ledger, said_by, number_at, first_with, asked_b
 use Rattle.rig_story.specs.declared.story.Met.{Met}
 use Rattle.rig_story.specs.Story.{heard_by, heard_if_unasked, met_by, taken_by, story_of}
 use Rattle.rig_story.specs.declared.story.Met.TheVariants.{Came, Said, Collected, Passed}
-use Rattle.rig_story.specs.Alone.{meets, own_number, hears, meet_met, met_alone, IsShort, IsSame, IsSameAlone}
+use Rattle.rig_story.specs.Alone.{meets, own_number, hears, meet_met, met_alone, IsShort}
 use Rattle.rig_story.specs.Qmi.{key_of, qmi_reading}
 use Rattle.rig_story.specs.Laws.{MeetsItsPart, TakesTheSame}
-use Rattle.story_laws.proofs.Mirror.{row_of}
+use Rattle.rig_story.proofs.Chain.{AreSame, same_both, same_alone}
+use Rattle.rig_story.proofs.Numbers.{within_if}
+use Rattle.story_laws.specs.Laws.{row_of}
 use Rattle.story_laws.proofs.Streams.{hears_one}
 use Rattle.story_laws.proofs.Saying.{AreLong, Mirrored}
 use Rattle.story_laws.proofs.Answering.{first_row}
@@ -84,21 +86,6 @@ module _ (s : Setup) (c : ℕ) where
   abbrev pub follow_met : List Event → Met → List Event
   follow_met own met = meet_met qmi_reading (proxy_of s) c own met
 
-  -- it is the same alone, so far
-  abbrev pub SoFar : (own : List Event) → List Met → Type 0
-  SoFar own [] = Unit {0}
-  SoFar own (met ∷ story) = IsSame qmi_reading (proxy_of s) c own met × SoFar (follow_met own met) story
-
-  so_far-append : (own : List Event) (one other : List Met) → SoFar own one → SoFar (fold follow_met own one) other → SoFar own (one ++ other)
-  so_far-append own [] other first second = second
-  so_far-append own (met ∷ one) other first second = (first.0, so_far-append (follow_met own met) one other first.1 second)
-
-  -- and in the end nothing waits for it
-  pub to_the_end : (own : List Event) (story : List Met) → SoFar own story → (proxy_of s).waiting c (fold follow_met own story) ≡ [] → IsSameAlone qmi_reading (proxy_of s) c own story
-  unfolding IsSameAlone
-  to_the_end own [] so_far none = none
-  to_the_end own (met ∷ story) so_far none = (so_far.0, to_the_end (follow_met own met) story so_far.1 none)
-
 -- ---- a modem that takes at once all that waits for it ----
 
 taking_is : (count : ℕ) (own : List Event) → taking (λ n. ModemTook n) count own ≡ take_all count own
@@ -130,10 +117,6 @@ numbered_response number m response =
       short = let count = same.long in let short = response.short in omega (arith, count, short);
       kind = same.kind ∙ response.kind;
     }
-
-within_if : (b : Bool) (count waiting : ℕ) → count ≤ (if b then waiting else 0) → count ≤ waiting
-within_if true count waiting within = within
-within_if false count waiting within = omega (arith, within)
 
 module _ (s : Setup) (there : s.starts_away ≡ false) (limit : s.time_limit ≡ time_limit) (c : ℕ) where
   -- ---- a moment ----
@@ -171,7 +154,7 @@ module _ (s : Setup) (there : s.starts_away ≡ false) (limit : s.time_limit ≡
 
   pub record MeetsPart (event : Event) (events : List Event) (story : List Met) : Type 0 where
     pub is : fold (follow_met s c) (solo s c events) story ≡ meet_event s c events event (solo s c events)
-    pub so_far : SoFar s c (solo s c events) story
+    pub so_far : AreSame qmi_reading (proxy_of s) c (solo s c events) story
     pub plain : ArePlain s (meet_event s c events event (solo s c events))
 
   plain_taking : (count : ℕ) (own : List Event) → ArePlain s own → ArePlain s (take_all count own)
@@ -305,7 +288,7 @@ module _ (s : Setup) (there : s.starts_away ≡ false) (limit : s.time_limit ≡
 
     record HearsPart (found : Option Request) : Type 0 where
       is : fold (follow_met s c) own_events (heard_by (option_map row_of found) m) ≡ meet_message s (answered found) own_events
-      so_far : SoFar s c own_events (heard_by (option_map row_of found) m)
+      so_far : AreSame qmi_reading (proxy_of s) c own_events (heard_by (option_map row_of found) m)
       plain : ArePlain s (meet_message s (answered found) own_events)
 
     hears_part : (found : Option Request) → first_answered_by m (in_use (history s events)) ≡ found → HearsPart found
@@ -376,7 +359,7 @@ module _ (s : Setup) (there : s.starts_away ≡ false) (limit : s.time_limit ≡
 
   record Told (events : List Event) : Type 0 where
     is : met_alone qmi_reading (proxy_of s) c (story_of qmi_reading (proxy_of s) events) ≡ solo s c events
-    so_far : SoFar s c [] (story_of qmi_reading (proxy_of s) events)
+    so_far : AreSame qmi_reading (proxy_of s) c [] (story_of qmi_reading (proxy_of s) events)
     plain : ArePlain s (solo s c events)
 
   told_more : (event : Event) (events : List Event) → Told events → Part event events → Told (event ∷ events)
@@ -386,7 +369,7 @@ module _ (s : Setup) (there : s.starts_away ≡ false) (limit : s.time_limit ≡
       let more : List Met = met_by qmi_reading event (asked_by (proxy_of s) event events) (taken_by (proxy_of s) event events) (ledger_of qmi_reading (proxy_of s) events) in
       record {
         is = fold-append (follow_met s c) [] before more ∙ ap (λ (own : List Event). fold (follow_met s c) own more) T.is ∙ P.is;
-        so_far = so_far-append s c [] before more T.so_far (subst (λ (own : List Event). SoFar s c own more) (sym T.is) P.so_far);
+        so_far = same_both qmi_reading (proxy_of s) c [] before more T.so_far (subst (λ (own : List Event). AreSame qmi_reading (proxy_of s) c own more) (sym T.is) P.so_far);
         plain = P.plain;
       }
 
@@ -406,5 +389,5 @@ module _ (s : Setup) (there : s.starts_away ≡ false) (limit : s.time_limit ≡
   takes_the_same events plain others first none =
       let T = told events plain others first in
       let same = (histories_are_same s c events (is_let_alone s c events others)).same.bytes in
-      to_the_end s c [] (story_of qmi_reading (proxy_of s) events) T.so_far
+      same_alone qmi_reading (proxy_of s) c [] (story_of qmi_reading (proxy_of s) events) T.so_far
       (ap (λ (own : List Event). (text_for s c own).waiting) T.is ∙ ap (λ (r : Rendering). r.waiting) (sym same) ∙ none)

@@ -7,6 +7,7 @@ use Rattle.proxy_history.specs.Connections.{message_count}
 use Rattle.proxy_history.specs.Requests.{in_use, forward_count, without_request, is_pending}
 use Rattle.proxy_history.specs.Modem.{now}
 use Rattle.proxy_history.proofs.Sound.{kept_by_note}
+use Rattle.proxy_solo.proofs.Lists.{turned}
 use Rattle.qmi_proxy.specs.Setup.{Setup}
 use Rattle.qmi_proxy.specs.Limits.{qmi_limits}
 use Rattle.qmi_proxy.specs.Clients.{wire}
@@ -16,8 +17,7 @@ use Rattle.qmi_solo.proofs.Numbering.{Same, renumbered}
 use Rattle.rig_story.specs.declared.rows.Row.{Row}
 use Rattle.rig_story.specs.Rows.{Ledger, is_same_key, first_with, without_row, has_answered}
 use Rattle.rig_story.specs.Qmi.{key_of}
-use Rattle.story_laws.proofs.Mirror.{row_of}
-use Rattle.story_laws.proofs.Waiting.{either_way}
+use Rattle.story_laws.specs.Laws.{row_of}
 use Rattle.story_laws.proofs.Saying.{AreLong, Mirrored}
 
 -- ---- rows ----
@@ -29,9 +29,9 @@ all_three service client number m = service == service_of m && (client == client
 same_key : (m : List ℕ) (r : Request) → 12 ≤ length r.message → is_same_key (key_of m) (row_of r).key ≡ is_answered_by m r
 same_key m r long =
     let same : Same r.number r.message (wire r) = renumbered r.number r.message long in
-    ap (λ (b : Bool). b && (client_of m == client_of (wire r)) && (number_of m == number_of (wire r))) (either_way (service_of m) (service_of (wire r)))
-    ∙ ap (λ (b : Bool). service_of (wire r) == service_of m && b && (number_of m == number_of (wire r))) (either_way (client_of m) (client_of (wire r)))
-    ∙ ap (λ (b : Bool). service_of (wire r) == service_of m && (client_of (wire r) == client_of m) && b) (either_way (number_of m) (number_of (wire r)))
+    ap (λ (b : Bool). b && (client_of m == client_of (wire r)) && (number_of m == number_of (wire r))) (turned (service_of m) (service_of (wire r)))
+    ∙ ap (λ (b : Bool). service_of (wire r) == service_of m && b && (number_of m == number_of (wire r))) (turned (client_of m) (client_of (wire r)))
+    ∙ ap (λ (b : Bool). service_of (wire r) == service_of m && (client_of (wire r) == client_of m) && b) (turned (number_of m) (number_of (wire r)))
     ∙ ap (λ (n : ℕ). all_three n (client_of (wire r)) (number_of (wire r)) m) same.service
     ∙ ap (λ (n : ℕ). all_three (service_of r.message) n (number_of (wire r)) m) same.client
     ∙ ap (λ (n : ℕ). all_three (service_of r.message) (client_of r.message) n m) same.number

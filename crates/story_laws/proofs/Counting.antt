@@ -18,6 +18,7 @@ use Rattle.proxy_history.specs.Unanswered.{due}
 use Rattle.proxy_history.proofs.Lists.{Contains-filter_from}
 use Rattle.proxy_history.proofs.Found.{found_is}
 use Rattle.proxy_state.proofs.Filters.{filter_both, filter_swap}
+use Rattle.proxy_state.proofs.Lists.{filter_map_is}
 use Rattle.qmux_frame.specs.Control.{is_proxy_open}
 use Rattle.qmi_proxy.specs.Setup.{Setup}
 use Rattle.qmi_proxy.specs.Spaces.{control_space, service_space, space_of}
@@ -33,9 +34,9 @@ use Rattle.rig_story.specs.declared.rows.Counts.{Counts}
 use Rattle.rig_story.specs.declared.rows.Row.{Row}
 use Rattle.rig_story.specs.Rows.{Ledger, one_forwarded, has_said, has_answered, expires, has_passed}
 use Rattle.rig_story.specs.Qmi.{qmi_reading}
-use Rattle.story_laws.proofs.Mirror.{row_of}
+use Rattle.story_laws.specs.Laws.{row_of}
 use Rattle.story_laws.proofs.Saying.{request_on, asked_on, said_some}
-use Rattle.story_laws.proofs.Waiting.{has_if_passes, filter-map}
+use Rattle.story_laws.proofs.Waiting.{has_if_passes}
 use Rattle.story_laws.proofs.Expiring.{IsOfClient, one_counts, noted_alone, expire_each, Expires, each_expires, still_waits, has_come, left_then, waits_later, came_or_waits}
 
 -- ---- what facts tell ----
@@ -295,7 +296,7 @@ module _ (s : Setup) where
   -- the rows that expire are those of the requests whose time has come
   rows_expire : (before shown : ℕ) (requests : List Request) → length (filter (expires before shown) (map row_of requests)) ≡ length (filter (has_come shown) (filter (still_waits before) requests))
   rows_expire before shown requests =
-      ap length (filter-map row_of (expires before shown) requests)
+      ap length (filter_map_is (expires before shown) row_of requests)
       ∙ length-map (filter (λ r. expires before shown (row_of r)) requests) row_of
       ∙ ap length (sym (filter_both (has_come shown) (still_waits before) requests))
 

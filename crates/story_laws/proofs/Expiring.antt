@@ -14,6 +14,7 @@ use Rattle.proxy_history.specs.Sound.{Differ}
 use Rattle.proxy_history.specs.Unanswered.{due}
 use Rattle.proxy_history.proofs.Lists.{filter-all}
 use Rattle.proxy_state.proofs.Filters.{filter_both, filter_agree}
+use Rattle.proxy_solo.proofs.Lists.{turned}
 use Rattle.qmi_proxy.specs.Setup.{Setup}
 use Rattle.qmi_proxy.specs.Limits.{qmi_limits}
 use Rattle.qmi_proxy.specs.Spaces.{control_space, service_space, space_of}
@@ -22,7 +23,7 @@ use Rattle.qmi_proxy.specs.FromModem.{refuse, in_expiry_order}
 use Rattle.qmux_frame.specs.Head.{is_control}
 use Rattle.rig_runs.specs.Counts.{count, is_forwarded, is_answered, is_expired, is_late}
 use Rattle.rig_laws.proofs.Harmless.{AreHarmless}
-use Rattle.story_laws.proofs.Waiting.{either_way, has_if_passes, has_append, without_none, one_less}
+use Rattle.story_laws.proofs.Waiting.{has_if_passes, has_append, without_none, one_less}
 
 -- who sent it is a client
 abbrev pub IsOfClient : Request → Type 0
@@ -73,7 +74,7 @@ module _ (s : Setup) where
     pub late : count is_late after ≡ count is_late past
 
   neither : (r : Request) (requests : List Request) (q : Request) → (not (r.serial == q.serial) && not (has_request q requests)) ≡ not (has_request q (r ∷ requests))
-  neither r requests q = ap (λ (b : Bool). not b && not (has_request q requests)) (either_way r.serial q.serial) ∙ elim (q.serial == r.serial) as (λ b. (not b && not (has_request q requests)) ≡ not (b || has_request q requests)) [ true ↦ refl | false ↦ refl ]
+  neither r requests q = ap (λ (b : Bool). not b && not (has_request q requests)) (turned r.serial q.serial) ∙ elim (q.serial == r.serial) as (λ b. (not b && not (has_request q requests)) ≡ not (b || has_request q requests)) [ true ↦ refl | false ↦ refl ]
 
   -- the first of them waits no more, whether it waited or not
   left_waiting : (r : Request) (requests waiting : List Request) → filter (λ q. not (has_request q requests)) (without_request r waiting) ≡ filter (λ q. not (has_request q (r ∷ requests))) waiting

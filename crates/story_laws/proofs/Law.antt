@@ -5,26 +5,19 @@ use Rattle.proxy_history.specs.Modem.{now}
 use Rattle.qmi_proxy.specs.Proxy.{proxy_of}
 use Rattle.qmi_proxy.specs.History.{history}
 use Rattle.rig_runs.specs.Qmi.{setup, qmi_rig}
-use Rattle.rig_laws.specs.Laws.{OfEachRig}
 use Rattle.rig_laws.proofs.Law.{rigs_are_plain, rigs_are_harmless, rigs_end_in_time, nothing_is_refused}
-use Rattle.rig_laws.proofs.Plain.{ArePlain}
 use Rattle.rig_story.specs.declared.rows.Counts.{Counts}
 use Rattle.rig_story.specs.Rows.{ledger_of}
 use Rattle.rig_story.specs.Qmi.{qmi_reading}
-use Rattle.story_laws.specs.Laws.{RequestsAreCounted}
-use Rattle.story_laws.proofs.Mirror.{AllMirror}
+use Rattle.story_laws.specs.Laws.{RowsAreInUse, RequestsAreCounted}
 use Rattle.story_laws.proofs.Mirroring.{all_mirror}
 use Rattle.story_laws.proofs.Counting.{Tells}
 use Rattle.story_laws.proofs.Moments.{all_within, tells}
 
-pub each_is_plain : OfEachRig (λ clients turns events. ArePlain setup events)
-each_is_plain clients turns number some within = rigs_are_plain clients turns number some within
-
--- at every moment the ledger mirrors the history
-pub each_is_mirrored : OfEachRig (λ clients turns events. AllMirror setup events)
-each_is_mirrored clients turns number some within =
+pub rows_are_in_use : RowsAreInUse
+rows_are_in_use clients turns number some within =
     let events : List Event = qmi_rig clients turns number in
-    all_mirror setup refl refl events (all_within setup events (rigs_are_harmless clients turns number some within)) (each_is_plain clients turns number some within)
+    all_mirror setup refl refl events (all_within setup events (rigs_are_harmless clients turns number some within)) (rigs_are_plain clients turns number some within)
 
 pub requests_are_counted : RequestsAreCounted
 requests_are_counted clients turns number some within few =

@@ -1,4 +1,3 @@
-pub mod Mirror
 pub mod Streams
 pub mod Saying
 pub mod Answering

@@ -1,7 +1,6 @@
 -- A ledger that is fed with plain events mirrors their history. Lists of events and of facts have the newest first.
-use Rattle.std.proofs.Common.{◌≡◌, ℕ, ◌≤◌, max, Bool, true, false, ◌==◌, if◌then◌else◌, List, [], ◌∷◌, length, map, refl, ap, sym, ◌∙◌, subst, arith, Option}
+use Rattle.std.proofs.Common.{◌≡◌, ℕ, ◌≤◌, max, Bool, true, false, if◌then◌else◌, List, [], ◌∷◌, length, map, refl, ap, sym, ◌∙◌, subst, arith, Option}
 use Rattle.std.specs.List.{AllByRecursion}
-use Rattle.std.proofs.lemmas.Bool.{eqb-true}
 use Rattle.std.proofs.lemmas.Bool.Decides.{nat_tests}
 use Rattle.std.proofs.lemmas.List.{length-replicate, get_or-replicate}
 use Rattle.framing.specs.Framing.{IsMessage}
@@ -18,6 +17,7 @@ use Rattle.proxy_history.specs.Noting.{each_pending}
 use Rattle.proxy_history.proofs.Noted.{kept_by_each}
 use Rattle.proxy_history.specs.History as proxy
 use Rattle.proxy_history.specs.History.{known_of}
+use Rattle.proxy_solo.proofs.Lists.{every}
 use Rattle.qmi_proxy.specs.Setup.{Setup}
 use Rattle.qmi_proxy.specs.FromModem.{first_answered_by, hear_as, respond, refuse}
 use Rattle.qmi_proxy.specs.Clients.{wire, decision_as, judge}
@@ -27,7 +27,9 @@ use Rattle.rig_runs.specs.Rig.{time_limit}
 use Rattle.rig_laws.proofs.Plain.{ArePlain, IsSaid, IsResponse, AtEach}
 use Rattle.rig_story.specs.Rows.{Ledger, has_passed, follow, asked_by, ledger_of}
 use Rattle.rig_story.specs.Qmi.{qmi_reading}
-use Rattle.story_laws.proofs.Mirror.{row_of, AllMirror}
+use Rattle.rig_story.specs.Laws.{AllMirror}
+use Rattle.rig_story.proofs.Numbers.{no_more_said}
+use Rattle.story_laws.specs.Laws.{row_of}
 use Rattle.story_laws.proofs.Streams.{says_one, hears_one, adds_one}
 use Rattle.story_laws.proofs.Saying.{Mirrored, Brings, asked_on, brings, new_bytes}
 use Rattle.story_laws.proofs.Answering.{Has, noted_has, answer_mirrored}
@@ -110,10 +112,6 @@ module _ (s : Setup) (there : s.starts_away ≡ false) where
 
   -- ---- the others ----
 
-  no_more_said : (c d : ℕ) (count : ℕ → ℕ) → count c ≡ 0 → (if c == d then 0 else count d) ≡ count d
-  no_more_said c d count none =
-      let step : (b : Bool) → (c == d) ≡ b → (if b then 0 else count d) ≡ count d = elim [ true ↦ λ is. sym none ∙ ap count (eqb-true c d is) | false ↦ λ isnt. refl ] in step (c == d) refl
-
   joined_has : (c : ℕ) (past : List Fact) (room : Bool) → message_count c past ≡ 0
       → Has (in_use past) (forward_count past) (now past) (λ d. message_count d past) (if room then Admitted c ∷ EventBegan ∷ past else Ended c NotAdmitted ∷ EventBegan ∷ past)
   unfolding in_use forward_count now message_count
@@ -129,16 +127,12 @@ module _ (s : Setup) (there : s.starts_away ≡ false) where
   unfolding in_use forward_count now message_count
   modem_taken_has count past = record { in_use = refl; count = refl; time = refl; said = λ d. refl }
 
-  every : (requests : List Request) → AllByRecursion (λ r. Unit {0}) requests
-  every [] = tt
-  every (r ∷ requests) = (tt, every requests)
-
   expired_has : (requests : List Request) (count time : ℕ) (said : ℕ → ℕ) (due : List Request) (past : List Fact) → Has requests count time said past
       → Has requests count time said (each_pending (λ r before. refuse s.device (Expired r) r before) due past)
   unfolding in_use forward_count now message_count
   expired_has requests count time said due past H =
       kept_by_each (Has requests count time said) (λ r. Unit {0}) (λ r before. refuse s.device (Expired r) r before)
-      (λ r before u H. noted_has requests count time said s (Expired r) before (record { in_use = H.in_use; count = H.count; time = H.time; said = H.said })) due past (every due) H
+      (λ r before u H. noted_has requests count time said s (Expired r) before (record { in_use = H.in_use; count = H.count; time = H.time; said = H.said })) due past (every (λ (r : Request). Unit {0}) (λ r. tt) due) H
 
   timed_has : (shown : ℕ) (past : List Fact) → Has (in_use past) (forward_count past) shown (λ d. message_count d past) (TimeIs shown ∷ EventBegan ∷ past)
   unfolding in_use forward_count now message_count
@@ -196,6 +190,6 @@ module _ (s : Setup) (there : s.starts_away ≡ false) where
     }
     is_mirrored (event ∷ events) within plain = mirrored_event event events (here (IsWithin s) events within.1) plain (ledger_behind events) (is_mirrored events within.1 plain.1)
 
-    pub all_mirror : (events : List Event) → AtEach (IsWithin s) events → ArePlain s events → AllMirror s events
+    pub all_mirror : (events : List Event) → AtEach (IsWithin s) events → ArePlain s events → AllMirror row_of qmi_reading (proxy_of s) (history s) events
     all_mirror [] within plain = (is_mirrored [] within plain).mirrors
     all_mirror (event ∷ events) within plain = ((is_mirrored (event ∷ events) within plain).mirrors, all_mirror events within.1 plain.1)

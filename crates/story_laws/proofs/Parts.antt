@@ -2,45 +2,29 @@
 use Rattle.std.proofs.Common.{◌≡◌, ℕ, ◌<◌, ◌≤◌, max, Bool, true, false, ◌==◌, if◌then◌else◌, List, [], ◌∷◌, length, refl, ap, ◌∙◌, subst, arith}
 use Rattle.std.proofs.lemmas.Bool.{eqb-true}
 use Rattle.std.proofs.lemmas.Bool.Decides.{nat_tests}
-use Rattle.std.proofs.lemmas.List.Elements.{All-from_recursion}
 use Rattle.proxy_history.specs.Events.{Event, Joined, Piece, Left, ModemPiece, ModemGone, ModemBack, Now, Took, ModemTook}
 use Rattle.proxy_history.specs.Coming.{greatest_name, queued_for}
-use Rattle.proxy_history.specs.Facts.{Fact}
 use Rattle.proxy_history.specs.Connections.{present, is_present}
-use Rattle.proxy_history.specs.View.{Entry}
 use Rattle.proxy_history.specs.History as proxy
-use Rattle.proxy_solo.specs.Law.{tells_of_others}
 use Rattle.proxy_solo.specs.Solo as alone
 use Rattle.qmi_proxy.specs.Setup.{Setup}
-use Rattle.qmi_proxy.specs.Text.{view_of}
 use Rattle.qmi_proxy.specs.Proxy.{proxy_of}
 use Rattle.qmi_proxy.specs.History.{qmi_protocol, history, text_for}
-use Rattle.qmi_solo.specs.Law.{AreSound, IsLetAlone}
+use Rattle.qmi_solo.specs.Law.{AreSound}
 use Rattle.qmi_solo.specs.Solo.{solo}
 use Rattle.qmi_solo.proofs.Law.{histories_are_same}
 use Rattle.qmi_solo.proofs.Meets.{meet_if}
 use Rattle.rig_runs.specs.Qmi.{setup, script, qmi_rig}
 use Rattle.rig_runs.specs.Qmi as rig
-use Rattle.rig_laws.proofs.Harmless.{AreHarmless, undisturbed}
-use Rattle.rig_laws.proofs.Plain.{ArePlain, AtEach, IsHarmlessNow}
-use Rattle.rig_laws.proofs.Law.{events_may_come, rigs_are_harmless, nothing_waits}
+use Rattle.rig_laws.proofs.Plain.{ArePlain}
+use Rattle.rig_laws.proofs.Law.{events_may_come, rigs_are_plain, each_is_let_alone, nothing_waits}
 use Rattle.rig_story.specs.Qmi.{qmi_reading}
 use Rattle.rig_story.specs.Laws.{MeetsItsPart, TakesTheSame}
 use Rattle.story_laws.specs.Laws.{EachMeetsItsPart, EachTakesTheSame}
 use Rattle.story_laws.proofs.Alone.{AllLetAlone, is_let_alone, AllJoinFirst, meets_its_part, takes_the_same}
-use Rattle.story_laws.proofs.Law.{each_is_plain}
 use Rattle.story_laws.proofs.Joining.{AreQuiet, AllJoinEarly, all_join_early}
 
 module _ (s : Setup) (c : ℕ) where
-  -- ---- each earlier moment ----
-
-  let_alone : (events : List Event) → AreSound s events → AreHarmless s (history s events) → IsLetAlone s c events
-  let_alone events sound all = record { sound = sound; undisturbed = All-from_recursion (λ (entry : Entry). tells_of_others entry ≡ false) (view_of c (history s events)) (undisturbed s c (history s events) all) }
-
-  pub all_let_alone : (events : List Event) → AreSound s events → AtEach (IsHarmlessNow s) events → AllLetAlone s c events
-  all_let_alone [] sound all = let_alone [] sound all.harmless
-  all_let_alone (event ∷ events) sound all = (let_alone (event ∷ events) sound all.0.harmless, all_let_alone events sound.1 all.1)
-
   -- ---- before it joins it meets nothing ----
 
   nobody : is_present c (history s []) ≡ false
@@ -99,13 +83,13 @@ module _ (clients turns number : ℕ) (some : 1 ≤ clients) (within : clients �
   events = qmi_rig clients turns number
 
   plain : ArePlain setup events
-  plain = each_is_plain clients turns number some within
+  plain = rigs_are_plain clients turns number some within
 
   sound : AreSound setup events
   sound = events_may_come clients turns number some within
 
   others : AllLetAlone setup c events
-  others = all_let_alone setup c events sound (rigs_are_harmless clients turns number some within)
+  others = each_is_let_alone clients turns number some within c
 
   first : AllJoinFirst setup c events
   first = all_join_first setup c events (all_join_early (rig.cast clients) script turns number) sound others

@@ -21,7 +21,8 @@ use Rattle.rig_runs.specs.Rig.{time_limit}
 use Rattle.rig_story.specs.declared.rows.Row.{Row}
 use Rattle.rig_story.specs.Rows.{Ledger, names, said_by, more_said, row_for, one_forwarded, has_said}
 use Rattle.rig_story.specs.Qmi.{key_of, qmi_reading}
-use Rattle.story_laws.proofs.Mirror.{row_of, Mirrors}
+use Rattle.rig_story.specs.Laws.{Mirrors}
+use Rattle.story_laws.specs.Laws.{row_of}
 
 -- ---- what is mirrored, of requests that are long enough to have a number ----
 
@@ -29,7 +30,7 @@ abbrev pub AreLong : List Request → Type 0
 AreLong requests = AllByRecursion (λ r. 12 ≤ length r.message) requests
 
 pub record Mirrored (past : List Fact) (ledger : Ledger) : Type 0 where
-  pub mirrors : Mirrors past ledger
+  pub mirrors : Mirrors row_of past ledger
   pub long : AreLong (in_use past)
 
 -- ---- facts ----
@@ -105,10 +106,10 @@ module _ (s : Setup) (limit : s.time_limit ≡ time_limit) (c : ℕ) (named : c 
   unfolding in_use forward_count now to_modem modem_drained message_count
   judged_reads verdict = record { in_use = refl; count = refl; time = refl; bytes = refl; drained = refl; said = λ d. refl }
 
-  said_now : (ledger : Ledger) → Mirrors past ledger → (d : ℕ) → d < names → slice_index_or (more_said c ledger) d 0 ≡ one_more d
+  said_now : (ledger : Ledger) → Mirrors row_of past ledger → (d : ℕ) → d < names → slice_index_or (more_said c ledger) d 0 ≡ one_more d
   said_now ledger M d below = said_after c d ledger M.names_are named ∙ ap (λ (n : ℕ). if c == d then n + 1 else n) (M.said d below)
 
-  names_stay : (ledger : Ledger) → Mirrors past ledger → length (more_said c ledger) ≡ names
+  names_stay : (ledger : Ledger) → Mirrors row_of past ledger → length (more_said c ledger) ≡ names
   names_stay ledger M = length-set ledger.said c (said_by c ledger + 1) ∙ M.names_are
 
   replied : (verdict : Verdict) → Brings c m [] past (judge s c m (Replies verdict) past)
@@ -155,7 +156,7 @@ module _ (s : Setup) (limit : s.time_limit ≡ time_limit) (c : ℕ) (named : c 
     unfolding now
     deadline_is = ap (deadline_of (now past)) limit
 
-    row_is : (ledger : Ledger) → Mirrors past ledger → row_for qmi_reading c (wire request) ledger ≡ row_of request
+    row_is : (ledger : Ledger) → Mirrors row_of past ledger → row_for qmi_reading c (wire request) ledger ≡ row_of request
     row_is ledger M =
         ap (λ (n : ℕ). row_with (n + 1) (said_by c ledger + 1) (deadline_of ledger.time time_limit)) M.asked
         ∙ ap (λ (n : ℕ). row_with n (said_by c ledger + 1) (deadline_of ledger.time time_limit)) (sym serial_is)
@@ -174,7 +175,7 @@ module _ (s : Setup) (limit : s.time_limit ≡ time_limit) (c : ℕ) (named : c 
           bytes = R.bytes;
           drained = R.drained;
           mirrored = λ ledger all.
-              let M : Mirrors past ledger = all.mirrors in
+              let M : Mirrors row_of past ledger = all.mirrors in
               subst (Mirrored (judge s c m (Forwards number) past)) (sym (said_some c m (wire request) ledger some))
               (record {
                 mirrors = record {

@@ -1,34 +1,16 @@
 -- Requests that differ, and those of them that pass a test.
-use Rattle.std.proofs.Common.{◌≡◌, ℕ, suc, ◌+◌, Bool, true, false, not, cond, ◌||◌, ◌==◌, List, [], ◌∷◌, ◌++◌, length, map, filter, refl, ap, sym, ◌∙◌, arith, AllPairs, Contains}
+use Rattle.std.proofs.Common.{◌≡◌, ℕ, suc, ◌+◌, Bool, true, false, not, cond, ◌||◌, ◌==◌, List, [], ◌∷◌, ◌++◌, length, filter, refl, ap, sym, ◌∙◌, arith, AllPairs, Contains}
 use Rattle.std.specs.List.{AllByRecursion}
-use Rattle.std.proofs.lemmas.Bool.{eqb-true, eqb-false, eq-eqb, ne_eqb, false_from_ne_true}
-use Rattle.std.proofs.lemmas.List.Elements.{recursion_from_All, All-from_recursion, All-contains}
+use Rattle.std.proofs.lemmas.Bool.{eqb-true}
+use Rattle.std.proofs.lemmas.List.Elements.{All-from_recursion, All-contains}
 use Rattle.kit_bytes.proofs.Lists.{all_weaker}
 use Rattle.proxy_history.specs.Facts.{Request}
 use Rattle.proxy_history.specs.Requests.{without_request, has_request}
 use Rattle.proxy_history.specs.Sound.{Differ}
-use Rattle.proxy_history.proofs.Given.{head_all, tail_pairs}
-use Rattle.proxy_state.proofs.Filters.{AreDistinct, distinct_none, distinct_more, has_passing}
+use Rattle.proxy_history.proofs.Given.{tail_pairs}
+use Rattle.proxy_state.proofs.Filters.{has_passing}
 use Rattle.rig_laws.proofs.Lists.{none_goes}
-
-pub either_way : (a b : ℕ) → (a == b) ≡ (b == a)
-either_way a b =
-    let step : (t : Bool) → (a == b) ≡ t → t ≡ (b == a) =
-    λ t. elim t as (λ t. (a == b) ≡ t → t ≡ (b == a)) [ true ↦ λ is. sym (eq-eqb b a (sym (eqb-true a b is))) | false ↦ λ isnt. sym (ne_eqb b a (λ same. eqb-false a b isnt (sym same))) ]
-    in step (a == b) refl
-
--- ---- requests that differ ----
-
-abbrev pub IsApart : Request → Request → Type 0
-IsApart r q = (r.serial == q.serial) ≡ false
-
-others_apart : (r : Request) (requests : List Request) → AllPairs Differ (r ∷ requests) → AllByRecursion (IsApart r) requests
-others_apart r requests pairs =
-    all_weaker (Differ r) (IsApart r) (λ (q : Request) apart. false_from_ne_true (r.serial == q.serial) (λ e. apart.0 (eqb-true r.serial q.serial e))) requests (recursion_from_All (Differ r) requests (head_all Differ r requests pairs))
-
-pub distinct : (requests : List Request) → AllPairs Differ requests → AreDistinct requests
-distinct [] pairs = distinct_none
-distinct (r ∷ requests) pairs = distinct_more r requests (others_apart r requests pairs) (distinct requests (tail_pairs Differ r requests pairs))
+use Rattle.rig_story.proofs.Requests.{IsApart, others_apart, distinct}
 
 -- one that is among them is among those that pass where it passes
 pub has_if_passes : (p : Request → Bool) (requests : List Request) (r : Request) → AllPairs Differ requests → Contains requests r → has_request r (filter p requests) ≡ p r
@@ -67,13 +49,3 @@ one_less r (q ∷ requests) pairs has =
       | false ↦ λ e has. let rest = one_less r requests (tail_pairs Differ q requests pairs) has in omega (arith, rest)
     ]
     in step (r.serial == q.serial) refl has
-
--- ---- tests ----
-
-pub filter-map : {X Y : Type 0} (f : X → Y) (p : Y → Bool) (xs : List X) → filter p (map f xs) ≡ map f (filter (λ x. p (f x)) xs)
-filter-map f p [] = refl
-filter-map {X} {Y} f p (x ∷ xs) =
-    elim (p (f x)) as (λ b. cond b (f x ∷ filter p (map f xs)) (filter p (map f xs)) ≡ map f (cond b (x ∷ filter (λ x. p (f x)) xs) (filter (λ x. p (f x)) xs))) [
-      | true ↦ ap (λ (l : List Y). f x ∷ l) (filter-map f p xs)
-      | false ↦ filter-map f p xs
-    ]

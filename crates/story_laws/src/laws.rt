@@ -1,13 +1,16 @@
-ghost use Rattle.story_laws.specs.Laws.{EachMeetsItsPart, EachTakesTheSame, RequestsAreCounted};
+ghost use Rattle.story_laws.specs.Laws.{EachMeetsItsPart, EachTakesTheSame, RowsAreInUse, RequestsAreCounted};
 
-/// The law that of the story of any rig each client meets alone what it would meet alone with the
-/// modem, and takes the same bytes.
+/// The law that in each run of the rig for QMI, with 1 to 64 clients, what each client meets of the
+/// story is what it would meet alone, and that it takes the same bytes, until nothing waits.
 pub fn each_client_meets_its_part()
     ensures part { EachMeetsItsPart }
     ensures same { EachTakesTheSame }
 {}
 
-/// The law that the ledger of a rig counts what the facts of its history say.
+/// The law that at every moment of each such run the ledger keeps what the facts say, its rows being
+/// the requests in use, and that in each of up to 100,000 turns it counts what the facts of its history
+/// say.
 pub fn requests_are_counted()
-    ensures { RequestsAreCounted }
+    ensures rows { RowsAreInUse }
+    ensures counts { RequestsAreCounted }
 {}

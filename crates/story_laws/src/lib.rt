@@ -1,5 +1,5 @@
-//! What the story and the ledger of a rig for QMI are: each client meets alone what it would meet, and
-//! takes the same bytes, and the ledger counts what the facts say.
+//! What holds of the story and the ledger of each rig for QMI: each client meets alone what it would
+//! meet, and takes the same bytes, and the ledger keeps and counts what the facts say.
 #![tactic(auto)]
 
 mod laws;

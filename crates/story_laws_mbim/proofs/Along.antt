@@ -35,11 +35,11 @@ use Rattle.rig_story.specs.Rows.{asked_by}
 use Rattle.rig_story.specs.Story.{met_by, taken_by}
 use Rattle.rig_story.specs.Mbim.{mbim_reading}
 use Rattle.rig_story.specs.Alone.{meets, meet_met}
+use Rattle.rig_story.proofs.Chain.{AreSame}
 use Rattle.story_laws_mbim.proofs.Content.{known_same}
 use Rattle.story_laws_mbim.proofs.Lone.{facts_of, ledger, Lone}
 use Rattle.story_laws_mbim.proofs.Asking.{room}
 use Rattle.story_laws_mbim.proofs.Meets.{Meets}
-use Rattle.story_laws_mbim.proofs.Chain.{AreSame}
 use Rattle.story_laws_mbim.proofs.Telling.{meet, meet_event}
 
 -- what is known between two events: `own` is what the client met so far alone

@@ -33,12 +33,12 @@ use Rattle.rig_runs.specs.MbimExamples.{configuration, open_2}
 use Rattle.rig_laws_mbim.proofs.Messages.{configuration_is, opening_is, query, cid_for, query_is, own_open_under, modem_is_opened}
 use Rattle.rig_laws_mbim.proofs.Calm.{Calm, Progress, begun}
 use Rattle.rig_laws_mbim.proofs.Says.{HasNumber, has_number, own_decides, opening_goes, command_is, query_goes}
-use Rattle.story_laws_mbim.proofs.Rows.{Asked}
 use Rattle.rig_story.specs.declared.rows.Row.{Row}
 use Rattle.rig_story.specs.declared.rows.Key.{Key}
 use Rattle.rig_story.specs.Rows.{names, said_by, row_for}
 use Rattle.rig_story.specs.Mbim.{key_of, mbim_reading}
-use Rattle.story_laws_mbim.proofs.Mirror.{row_of}
+use Rattle.story_laws_mbim.specs.Laws.{row_of}
+use Rattle.story_laws_mbim.proofs.Rows.{Asked}
 use Rattle.story_laws_mbim.proofs.Lone.{facts_of, ledger, Lone, Added}
 use Rattle.story_laws_mbim.proofs.Said.{decided, facts_are, replies, replies_queue, forwards}
 

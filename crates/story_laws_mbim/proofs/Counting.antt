@@ -16,6 +16,7 @@ use Rattle.proxy_history.specs.History as proxy
 use Rattle.proxy_history.specs.Unanswered.{due}
 use Rattle.proxy_history.specs.Sound.{Differ}
 use Rattle.proxy_history.proofs.SoundLaws.{in_use_differ}
+use Rattle.proxy_state.proofs.Filters.{filter_agree, filter_swap}
 use Rattle.proxy_state.proofs.Lists.{filter_map_is}
 use Rattle.mbim_proxy.specs.ModemStates.{is_own_open}
 use Rattle.mbim_proxy.specs.Forwarding.{wire}
@@ -31,10 +32,10 @@ use Rattle.rig_story.specs.declared.rows.Row.{Row}
 use Rattle.rig_story.specs.declared.rows.Counts.{Counts}
 use Rattle.rig_story.specs.Rows.{Ledger, empty, has_said, has_answered, has_passed, one_forwarded, one_refused, expires, follow, first_with, asked_by, ledger_of}
 use Rattle.rig_story.specs.Mbim.{key_of, is_open, opens, mbim_reading}
-use Rattle.story_laws_mbim.proofs.Mirror.{row_of}
+use Rattle.story_laws_mbim.specs.Laws.{row_of}
 use Rattle.story_laws_mbim.proofs.Rows.{Asked}
 use Rattle.story_laws_mbim.proofs.Mirroring.{Reflects, reflects, says_some, Starts, command_starts, own_starts, answer_finds, opening_finds, expired_same}
-use Rattle.story_laws_mbim.proofs.Waiting.{filter_both, filter_turned, filter_same, passes_among, expired_onto, each_expires, expired_waiting, passing_wait, expired_count, expired_leave}
+use Rattle.story_laws_mbim.proofs.Waiting.{filter_both, passes_among, expired_onto, each_expires, expired_waiting, passing_wait, expired_count, expired_leave}
 
 -- a request waits until its deadline
 abbrev pub waits_at : (time : ℕ) → Request → Bool
@@ -170,7 +171,7 @@ answered_counts waits counts = if waits then record counts { answered = counts.a
 
 fewer_wait : (r : Request) (past : List Fact) (counts : Counts) → IsCounted past counts → without_request r (pending past) ≡ filter (waits_at (now past)) (without_request r (in_use past))
 fewer_wait r past counts all =
-    ap (without_request r) all.waits ∙ filter_turned (λ (q : Request). not (r.serial == q.serial)) (waits_at (now past)) (in_use past)
+    ap (without_request r) all.waits ∙ filter_swap (λ (q : Request). not (r.serial == q.serial)) (waits_at (now past)) (in_use past)
 
 answered_counted : (r : Request) (m : List ℕ) (past : List Fact) (counts : Counts) → (r.conn == 0) ≡ false → IsCounted past counts → (waits : Bool) → IsCounted (answered_or_late waits r m (began past)) (answered_counts waits counts)
 unfolding in_use pending now
@@ -279,7 +280,7 @@ expire_alike before shown requests asked =
     ap (filter (λ (r : Request). not (r.conn == 0))) (filter_both (λ (r : Request). nat_le r.deadline shown) (waits_at before) in_time (λ r. refl) requests)
     ∙ filter_both (λ (r : Request). not (r.conn == 0)) in_time of_clients (λ r. refl) requests in
     let same : filter expiring requests ≡ filter of_clients requests =
-    filter_same expiring of_clients requests
+    filter_agree expiring of_clients requests
     (all_weaker Asked (λ (r : Request). expiring r ≡ of_clients r) (λ r is. in_order (is_own_open r) (waits_at before r) (nat_le r.deadline shown) ∙ ap (λ (b : Bool). waits_at before r && nat_le r.deadline shown && not b) (clients_is r is)) requests asked) in
     ap length (filter_map_is (expires before shown) (row_of 1) requests) ∙ length-map (filter expiring requests) (row_of 1) ∙ ap length (same ∙ sym both)
 

@@ -26,11 +26,11 @@ use Rattle.mbim_solo.specs.Openings.{is_absent}
 use Rattle.mbim_solo.proofs.Spoken.{SaysOne, ComesAtOnce, comes_at_once}
 use Rattle.mbim_solo.proofs.Relation.{IsQuietThere, modem_bytes, IsOrderly}
 use Rattle.rig_runs.specs.Mbim.{setup}
-use Rattle.story_laws_mbim.proofs.Rows.{Asked, AllAsked}
 use Rattle.rig_story.specs.declared.rows.Row.{Row}
 use Rattle.rig_story.specs.Rows.{first_with, without_row, has_answered, follow}
 use Rattle.rig_story.specs.Mbim.{key_of, mbim_reading}
-use Rattle.story_laws_mbim.proofs.Mirror.{row_of}
+use Rattle.story_laws_mbim.specs.Laws.{row_of}
+use Rattle.story_laws_mbim.proofs.Rows.{Asked, AllAsked}
 use Rattle.story_laws_mbim.proofs.Rows.{others_stay}
 use Rattle.story_laws_mbim.proofs.Kept.{SameCounts, alone_kept, list_kept, same_counts}
 use Rattle.story_laws_mbim.proofs.Lone.{facts_of, ledger, Mirrored, Holds, Lone}

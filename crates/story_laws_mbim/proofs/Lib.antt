@@ -1,11 +1,8 @@
-pub mod Mirror
 pub mod Plain
 pub mod Waiting
 pub mod Rows
 pub mod Mirroring
 pub mod Counting
-pub mod Rigs
-pub mod Clock
 pub mod Law
 pub mod Kept
 pub mod Content
@@ -15,7 +12,6 @@ pub mod Asking
 pub mod Heard
 pub mod Passing
 pub mod Meets
-pub mod Chain
 pub mod Telling
 pub mod Along
 pub mod OpensAlone

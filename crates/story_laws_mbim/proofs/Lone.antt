@@ -23,11 +23,11 @@ use Rattle.mbim_solo.proofs.Settling.{none_where}
 use Rattle.mbim_solo.proofs.Wanting.{finish_none}
 use Rattle.mbim_solo.proofs.Taking.{drained}
 use Rattle.rig_runs.specs.Mbim.{setup}
-use Rattle.story_laws_mbim.proofs.Rows.{AllAsked}
 use Rattle.rig_story.specs.Rows.{Ledger, names, said_by, follow, ledger_of}
 use Rattle.rig_story.specs.Mbim.{mbim_reading}
 use Rattle.rig_story.specs.Alone.{meets}
-use Rattle.story_laws_mbim.proofs.Mirror.{row_of}
+use Rattle.story_laws_mbim.specs.Laws.{row_of}
+use Rattle.story_laws_mbim.proofs.Rows.{AllAsked}
 use Rattle.story_laws_mbim.proofs.Kept.{IsAlone, HasStartingList}
 use Rattle.story_laws_mbim.proofs.Content.{IsContent, none_wanted, drained_content}
 

@@ -1,7 +1,6 @@
 -- The ledger of a rig's events mirrors their facts. Lists of events and of facts have the newest first.
 use Rattle.std.proofs.Common.{◌≡◌, ◌≢◌, ℕ, zero, ◌+◌, ◌<◌, ◌≤◌, max, Bool, true, false, not, ◌==◌, if◌then◌else◌, List, [], ◌∷◌, ◌++◌, length, drop, map, slice_index_or, Option, Some, inl, inr, refl, ap, sym, ◌∙◌, arith, subst, Contains}
 use Rattle.std.specs.List.{AllByRecursion}
-use Rattle.std.proofs.lemmas.Bool.{eqb-true}
 use Rattle.std.proofs.lemmas.Bool.Decides.{nat_tests}
 use Rattle.std.proofs.lemmas.Grind.{get_or-set_at}
 use Rattle.std.proofs.lemmas.List.{get_or-set_other, get_or-replicate, length-set, length-replicate, map-append}
@@ -16,6 +15,7 @@ use Rattle.proxy_history.specs.Modem.{now}
 use Rattle.proxy_history.specs.History as proxy
 use Rattle.proxy_history.specs.Unanswered.{due}
 use Rattle.proxy_history.proofs.Noted.{kept_by_each}
+use Rattle.proxy_solo.proofs.Lists.{every}
 use Rattle.mbim_proxy.specs.Setup.{the_space}
 use Rattle.mbim_proxy.specs.ModemStates.{is_own_open}
 use Rattle.mbim_proxy.specs.Forwarding.{wire}
@@ -33,12 +33,14 @@ use Rattle.rig_laws_mbim.proofs.Events.{placed}
 use Rattle.rig_story.specs.declared.rows.Row.{Row}
 use Rattle.rig_story.specs.Rows.{Ledger, names, empty, said_by, more_said, row_for, one_forwarded, has_said, has_answered, has_passed, follow, first_with, without_row, asked_by, ledger_of}
 use Rattle.rig_story.specs.Mbim.{key_of, is_open, mbim_reading}
-use Rattle.story_laws_mbim.proofs.Mirror.{row_of, Mirrors, AllMirror}
+use Rattle.rig_story.specs.Laws.{Mirrors, AllMirror}
+use Rattle.rig_story.proofs.Numbers.{no_more_said}
+use Rattle.story_laws_mbim.specs.Laws.{row_of}
 use Rattle.story_laws_mbim.proofs.Rows.{Asked, answer_key, opened_key, done_is_found, open_done_is_found, others_stay}
 
 -- the ledger mirrors the facts, and the modem was asked each request in use
 pub record Reflects (past : List Fact) (ledger : Ledger) : Type 0 where
-  pub mirrors : Mirrors 1 past ledger
+  pub mirrors : Mirrors (row_of 1) past ledger
   pub asked : AllByRecursion Asked (in_use past)
 
 -- ---- facts that leave all this as it is ----
@@ -63,18 +65,11 @@ same_reflects past after ledger same all =
       asked = subst (AllByRecursion Asked) (sym same.uses) all.asked;
     }
 
-none_said : (c d : ℕ) (count : ℕ → ℕ) → count c ≡ 0 → (if c == d then 0 else count d) ≡ count d
-none_said c d count none = by (c == d) refl
-  where
-    by : (b : Bool) → (c == d) ≡ b → (if b then 0 else count d) ≡ count d
-    by true is = sym none ∙ ap count (eqb-true c d is)
-    by false is = refl
-
 joined : (c : ℕ) (past after : List Fact) (ledger : Ledger) → Joins c past after → Reflects past ledger → Reflects after ledger
 unfolding in_use forward_count message_count now
 joined c past after ledger joins all =
     subst (λ (l : List Fact). Reflects l ledger) (sym joins.facts)
-    (same_reflects past (Admitted c ∷ began past) ledger (record { uses = refl; count = refl; said = λ d. none_said c d (λ e. message_count e past) joins.count; time = refl }) all)
+    (same_reflects past (Admitted c ∷ began past) ledger (record { uses = refl; count = refl; said = λ d. no_more_said c d (λ e. message_count e past) joins.count; time = refl }) all)
 
 taken : (c count : ℕ) (past : List Fact) (ledger : Ledger) → Reflects past ledger → (b : Bool) → Reflects (if b then Drained c count ∷ began past else began past) ledger
 unfolding in_use forward_count message_count now
@@ -87,14 +82,10 @@ modem_taken count past ledger all = same_reflects past (ModemDrained count ∷ b
 
 -- ---- the time goes on ----
 
-every : (requests : List Request) → AllByRecursion (λ r. Unit {0}) requests
-every [] = tt
-every (r ∷ requests) = (tt, every requests)
-
 pub expired_same : (requests : List Request) (past : List Fact) → IsSame past (expired_by requests past)
 unfolding in_use forward_count message_count now
 expired_same requests past =
-    kept_by_each (IsSame past) (λ (r : Request). Unit {0}) (λ r before. Expired r ∷ before) (λ r before u same. record { uses = same.uses; count = same.count; said = same.said; time = same.time }) requests past (every requests)
+    kept_by_each (IsSame past) (λ (r : Request). Unit {0}) (λ r before. Expired r ∷ before) (λ r before u same. record { uses = same.uses; count = same.count; said = same.said; time = same.time }) requests past (every (λ (r : Request). Unit {0}) (λ r. tt) requests)
     (record { uses = refl; count = refl; said = λ c. refl; time = refl })
 
 passed : (time : ℕ) (past after : List Fact) (ledger : Ledger) → Passes time past after → Reflects past ledger → Reflects after (has_passed time ledger)
@@ -112,7 +103,7 @@ passed time past after ledger passes all =
 
 -- ---- a client says a message ----
 
-more_is_said : (c : ℕ) (past : List Fact) (ledger : Ledger) → c ≤ 64 → Mirrors 1 past ledger → (d : ℕ) → d < names → slice_index_or (more_said c ledger) d 0 ≡ (if c == d then message_count d past + 1 else message_count d past)
+more_is_said : (c : ℕ) (past : List Fact) (ledger : Ledger) → c ≤ 64 → Mirrors (row_of 1) past ledger → (d : ℕ) → d < names → slice_index_or (more_said c ledger) d 0 ≡ (if c == d then message_count d past + 1 else message_count d past)
 more_is_said c past ledger few m d low = by (c == d) refl
   where
     long : length ledger.said ≡ 65
@@ -315,6 +306,6 @@ unfolding ledger_of
 reflects [] moments = empty_reflects
 reflects (event ∷ events) moments = event_reflects event events (ledger_of mbim_reading (proxy_of setup) events) moments.0.adds (reflects events moments.1)
 
-pub all_mirror : (events : List Event) → AreMoments events → AllMirror 1 events
+pub all_mirror : (events : List Event) → AreMoments events → AllMirror (row_of 1) mbim_reading (proxy_of setup) (history setup) events
 all_mirror [] moments = (reflects [] moments).mirrors
 all_mirror (event ∷ events) moments = ((reflects (event ∷ events) moments).mirrors, all_mirror events moments.1)

@@ -19,10 +19,10 @@ use Rattle.rig_runs.specs.Mbim.{setup}
 use Rattle.rig_laws_mbim.proofs.Messages.{opened, modem_is_opened, opened_number_is}
 use Rattle.rig_laws_mbim.proofs.Calm.{Calm}
 use Rattle.rig_laws_mbim.proofs.Trail.{Standing}
-use Rattle.story_laws_mbim.proofs.Rows.{Asked, AllAsked}
 use Rattle.rig_story.specs.Rows.{first_with, number_at}
 use Rattle.rig_story.specs.Mbim.{key_of}
-use Rattle.story_laws_mbim.proofs.Mirror.{row_of}
+use Rattle.story_laws_mbim.specs.Laws.{row_of}
+use Rattle.story_laws_mbim.proofs.Rows.{Asked, AllAsked}
 use Rattle.story_laws_mbim.proofs.Rows.{opened_key, open_done_is_found, wire_number}
 use Rattle.story_laws_mbim.proofs.Lone.{ledger, Lone}
 use Rattle.story_laws_mbim.proofs.Asking.{room, Brings}

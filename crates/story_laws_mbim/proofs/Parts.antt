@@ -16,8 +16,8 @@ use Rattle.rig_laws_mbim.proofs.Playing.{rig_stands}
 use Rattle.rig_story.specs.Story.{story_of}
 use Rattle.rig_story.specs.Mbim.{mbim_reading}
 use Rattle.rig_story.specs.Laws.{MeetsItsPart, TakesTheSame}
+use Rattle.rig_story.proofs.Chain.{same_alone}
 use Rattle.story_laws_mbim.specs.Laws.{EachMeetsItsPart, EachTakesTheSame}
-use Rattle.story_laws_mbim.proofs.Chain.{same_alone}
 use Rattle.story_laws_mbim.proofs.Along.{text_alike}
 use Rattle.story_laws_mbim.proofs.Joins.{rigs_join_first}
 use Rattle.story_laws_mbim.proofs.Story.{Follows, follows}

@@ -17,9 +17,9 @@ use Rattle.mbim_proxy.specs.Forwarding.{wire}
 use Rattle.mbim_proxy.specs.History.{mbim_protocol, history}
 use Rattle.mbim_proxy.proofs.Walk.{Asks, orderly}
 use Rattle.rig_runs.specs.Mbim.{setup}
-use Rattle.story_laws_mbim.proofs.Rows.{AllAsked}
 use Rattle.rig_story.specs.Rows.{ledger_of}
-use Rattle.story_laws_mbim.proofs.Mirror.{row_of}
+use Rattle.story_laws_mbim.specs.Laws.{row_of}
+use Rattle.story_laws_mbim.proofs.Rows.{AllAsked}
 use Rattle.story_laws_mbim.proofs.Kept.{SameCounts, alone_kept, list_kept, same_counts, clock_uses}
 use Rattle.story_laws_mbim.proofs.Lone.{facts_of, ledger, Holds, Lone}
 use Rattle.story_laws_mbim.proofs.Asking.{Brings}

@@ -7,6 +7,7 @@ use Rattle.mbim_frame.specs.Head.{number_of}
 use Rattle.proxy_history.specs.Facts.{Request}
 use Rattle.proxy_history.specs.Requests.{first_where, without_request}
 use Rattle.proxy_solo.specs.Answers as alone
+use Rattle.proxy_solo.proofs.Lists.{turned}
 use Rattle.mbim_proxy.specs.ModemStates.{is_own_open}
 use Rattle.mbim_proxy.specs.Forwarding.{wire}
 use Rattle.mbim_proxy.specs.FromModem.{IsDone, IsOpenDone, is_answered_by, first_answered_by}
@@ -17,8 +18,7 @@ use Rattle.rig_story.specs.declared.rows.Key.{Key}
 use Rattle.rig_story.specs.declared.rows.Row.{Row}
 use Rattle.rig_story.specs.Rows.{is_same_key, first_with, without_row, number_at}
 use Rattle.rig_story.specs.Mbim.{key_of}
-use Rattle.story_laws_mbim.proofs.Mirror.{row_of}
-use Rattle.story_laws_mbim.proofs.Waiting.{eq_turned}
+use Rattle.story_laws_mbim.specs.Laws.{row_of}
 
 -- a request that the modem was asked
 pub record Asked (r : Request) : Type 0 where
@@ -54,10 +54,10 @@ asked_key r is =
 
 done_finds : (own : Bool) (n k : ℕ) → is_same_key (key_under false n) (key_under own k) ≡ (k == n && not own)
 done_finds true n k = sym (and-false (k == n))
-done_finds false n k = eq_turned n k ∙ sym (and-true (k == n))
+done_finds false n k = turned n k ∙ sym (and-true (k == n))
 
 open_done_finds : (own : Bool) (n k : ℕ) → is_same_key (key_under true n) (key_under own k) ≡ (k == n && own)
-open_done_finds true n k = eq_turned n k ∙ sym (and-true (k == n))
+open_done_finds true n k = turned n k ∙ sym (and-true (k == n))
 open_done_finds false n k = sym (and-false (k == n))
 
 module _ (opener : ℕ) (m : List ℕ) (number : ℕ) (number_is : number_of m ≡ number) where

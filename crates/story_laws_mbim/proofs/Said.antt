@@ -31,11 +31,11 @@ use Rattle.mbim_proxy.specs.History.{mbim_protocol, history}
 use Rattle.mbim_proxy.proofs.Walk.{Asks, orderly}
 use Rattle.mbim_solo.proofs.Settling.{MayQueue}
 use Rattle.rig_runs.specs.Mbim.{setup}
-use Rattle.story_laws_mbim.proofs.Rows.{Asked, AllAsked}
 use Rattle.rig_story.specs.declared.rows.Row.{Row}
 use Rattle.rig_story.specs.Rows.{names, said_by, more_said, row_for, has_said, follow}
 use Rattle.rig_story.specs.Mbim.{mbim_reading}
-use Rattle.story_laws_mbim.proofs.Mirror.{row_of}
+use Rattle.story_laws_mbim.specs.Laws.{row_of}
+use Rattle.story_laws_mbim.proofs.Rows.{Asked, AllAsked}
 use Rattle.story_laws_mbim.proofs.Kept.{IsAlone, HasStartingList, alone_kept, list_kept, was_ready}
 use Rattle.story_laws_mbim.proofs.Lone.{facts_of, ledger, Mirrored, Holds, Lone, Added}
 

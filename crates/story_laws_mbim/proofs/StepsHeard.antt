@@ -40,7 +40,6 @@ use Rattle.rig_laws_mbim.proofs.Messages.{answer, cid_for, answer_is, answer_num
 use Rattle.rig_laws_mbim.proofs.Calm.{Progress, Tells, opening}
 use Rattle.rig_laws_mbim.proofs.Events.{answer_says}
 use Rattle.rig_laws_mbim.proofs.Trail.{Standing}
-use Rattle.story_laws_mbim.proofs.Rows.{AllAsked}
 use Rattle.rig_story.specs.declared.rows.Row.{Row}
 use Rattle.rig_story.specs.Rows.{first_with, number_at}
 use Rattle.rig_story.specs.declared.story.Met.{Met}
@@ -48,14 +47,16 @@ use Rattle.rig_story.specs.declared.story.Met.TheVariants as met
 use Rattle.rig_story.specs.Story.{heard_by}
 use Rattle.rig_story.specs.Mbim.{key_of, mbim_reading}
 use Rattle.rig_story.specs.Alone.{meet_met, hears, IsShort}
-use Rattle.story_laws_mbim.proofs.Mirror.{row_of, Mirrors}
+use Rattle.rig_story.specs.Laws.{Mirrors}
+use Rattle.rig_story.proofs.Chain.{AreSame}
+use Rattle.story_laws_mbim.specs.Laws.{row_of}
+use Rattle.story_laws_mbim.proofs.Rows.{AllAsked}
 use Rattle.story_laws_mbim.proofs.Rows.{AreCommands, answer_key, opened_key, done_is_found, open_done_is_found, numbers_at}
 use Rattle.story_laws_mbim.proofs.Content.{is_there}
 use Rattle.story_laws_mbim.proofs.Lone.{ledger}
 use Rattle.story_laws_mbim.proofs.Asking.{room, Brings}
 use Rattle.story_laws_mbim.proofs.Heard.{ComesAlone, comes_alone, heard}
 use Rattle.story_laws_mbim.proofs.Meets.{Meets, meets_beside}
-use Rattle.story_laws_mbim.proofs.Chain.{AreSame}
 use Rattle.story_laws_mbim.proofs.Telling.{either_none, meet, meet_event, meet_bytes, meets_piece, hears_it}
 use Rattle.story_laws_mbim.proofs.OpensAlone.{IsOpeningAlone, finds_it, own_open_is, number_of_open, opens_alone}
 use Rattle.story_laws_mbim.proofs.Along.{Along, Next, mets, Step, stays, meets_one, orderly_alone, requests_alike, stands, ready_or_shut, none_while_shut, mine_while_ready, only_while_opening}
@@ -68,7 +69,7 @@ opens_too c _ stand = absurd stand
 there_or_shut : (modem : ModemState) → (modem ≡ IsShut) ⊎ (modem ≡ IsReady) → is_absent modem ≡ false
 there_or_shut modem which = ⊎_elim (λ (is : modem ≡ IsShut). ap is_absent is) (λ (is : modem ≡ IsReady). ap is_absent is) which
 
-module _ (c : ℕ) (client : c ≢ 0) (low : 1 ≤ c) (before after : Standing) (events own : List Event) (L : Along c before events own) (mirrors : Mirrors 1 (history setup events) (ledger events)) (all : AllAsked (in_use (history setup events))) where
+module _ (c : ℕ) (client : c ≢ 0) (low : 1 ≤ c) (before after : Standing) (events own : List Event) (L : Along c before events own) (mirrors : Mirrors (row_of 1) (history setup events) (ledger events)) (all : AllAsked (in_use (history setup events))) where
   abbrev past : List Fact
   past = EventBegan ∷ history setup events
 

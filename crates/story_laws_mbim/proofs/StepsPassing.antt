@@ -35,11 +35,12 @@ use Rattle.rig_story.specs.Rows.{said_by, asked_by}
 use Rattle.rig_story.specs.Story.{heard_if_unasked}
 use Rattle.rig_story.specs.Mbim.{mbim_reading, opened_at_once}
 use Rattle.rig_story.specs.Alone.{meets, meet_met, hears, own_number}
+use Rattle.rig_story.proofs.Chain.{AreSame}
+use Rattle.rig_story.proofs.Numbers.{within_if}
 use Rattle.story_laws_mbim.proofs.Content.{shut_content}
 use Rattle.story_laws_mbim.proofs.Lone.{facts_of, ledger}
 use Rattle.story_laws_mbim.proofs.Passing.{joins, joined_shut, took, took_still, passes}
 use Rattle.story_laws_mbim.proofs.Meets.{Meets, meets_by, meets_beside}
-use Rattle.story_laws_mbim.proofs.Chain.{AreSame}
 use Rattle.story_laws_mbim.proofs.Telling.{meet, meet_event, meet_bytes}
 use Rattle.story_laws_mbim.proofs.Along.{Along, Next, Step, stays, meets_one, text_alike, orderly_alone, ready_or_shut}
 
@@ -112,16 +113,12 @@ module _ (c : ℕ) (client : c ≢ 0) (low : 1 ≤ c) (before after : Standing) 
 
   -- ---- it takes bytes ----
 
-  within_waiting : (there : Bool) (count waits : ℕ) → count ≤ (if there then waits else 0) → count ≤ waits
-  within_waiting true count waits less = less
-  within_waiting false count waits less = omega (arith, less)
-
   pub took_bytes : (count : ℕ) → StepOf (Took c count)
   unfolding modem_stream
   took_bytes count N =
       let waits : List ℕ = (text_for setup c events).waiting in
       let few : count ≤ queued_for (mbim_protocol setup) c events = N.sound.0 in
-      let less : count ≤ length waits = within_waiting (is_present c (history setup events)) count (length waits) few in
+      let less : count ≤ length waits = within_if (is_present c (history setup events)) count (length waits) few in
       let taken : length (take count waits) ≡ count = let short = length-take count waits in omega (arith, short, less) in
       let is : meet_event c events (Took c count) own ≡ meet (Took c count) own = ap (λ (b : Bool). alone.meet_if b (mbim_protocol setup) (mbim_alone setup) (Took c count) own) (self c) in
       let M : Meets c client (Took c count) own =

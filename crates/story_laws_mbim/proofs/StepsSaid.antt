@@ -44,13 +44,15 @@ use Rattle.rig_story.specs.declared.story.Met.TheVariants.{Said, Heard}
 use Rattle.rig_story.specs.Story.{heard_at_once, heard_if_unasked}
 use Rattle.rig_story.specs.Mbim.{mbim_reading, opened_at_once}
 use Rattle.rig_story.specs.Alone.{meets, meet_met, hears, IsShort}
-use Rattle.story_laws_mbim.proofs.Mirror.{IsSaid, IsQuery, Mirrors}
+use Rattle.rig_story.specs.Laws.{Mirrors}
+use Rattle.rig_story.proofs.Chain.{AreSame}
+use Rattle.story_laws_mbim.specs.Laws.{row_of}
+use Rattle.story_laws_mbim.proofs.Plain.{IsSaid, IsQuery}
 use Rattle.story_laws_mbim.proofs.Content.{shut_content}
 use Rattle.story_laws_mbim.proofs.Lone.{facts_of, ledger}
 use Rattle.story_laws_mbim.proofs.Said.{was_open}
 use Rattle.story_laws_mbim.proofs.Asking.{room, Brings, configures, opening_request, opening_facts, opens, query_number, asks_it}
 use Rattle.story_laws_mbim.proofs.Meets.{Meets, meets_by, meets_beside}
-use Rattle.story_laws_mbim.proofs.Chain.{AreSame}
 use Rattle.story_laws_mbim.proofs.Telling.{meet, meet_event, meet_bytes, meets_piece, no_opening, shut_not_ready, says_alone, says_open}
 use Rattle.story_laws_mbim.proofs.OpensAlone.{IsOpeningAlone, own_open_is, number_of_open, opens_alone}
 use Rattle.story_laws_mbim.proofs.Along.{Along, Next, Step, meets_one, orderly_alone, known_alike, present_alike, count_alike, requests_alike, whole_alone, ready_or_shut, none_while_shut, mine_while_ready}
@@ -220,14 +222,14 @@ module _ (c : ℕ) (client : c ≢ 0) (low : 1 ≤ c) (named : c < names) (befor
     abbrev done : List ℕ
     done = open_done 0 SUCCESS
 
-    heard_then : FindsItOpen c open_2 before after → Next c before after (Piece c open_2) events own → Mirrors 1 (history setup events) (ledger events) → heard_if_unasked (asked open_2) c place (opened_at_once open_2) ≡ Heard c 2 done ∷ []
+    heard_then : FindsItOpen c open_2 before after → Next c before after (Piece c open_2) events own → Mirrors (row_of 1) (history setup events) (ledger events) → heard_if_unasked (asked open_2) c place (opened_at_once open_2) ≡ Heard c 2 done ∷ []
     heard_then finds N mirrors =
         let none_asked : asked open_2 ≡ [] =
         ap₂ (λ (was is : List ℕ). drop (length was) is) (queue_is L.at.calm) (queue_is N.at.calm ∙ finds.queue) ∙ drop_of_length-le before.queue {i = length before.queue} (omega arith) in
         let place_is : place ≡ 2 = let said_one = mirrors.said c named in let counted = second_of c (history setup events) said in omega (arith, said_one, counted) in
         ap₂ (λ (l : List ℕ) (n : ℕ). heard_if_unasked l c n (Some done)) none_asked place_is
 
-    pub finds_open : FindsItOpen c open_2 before after → Mirrors 1 (history setup events) (ledger events) → StepOf (Piece c open_2)
+    pub finds_open : FindsItOpen c open_2 before after → Mirrors (row_of 1) (history setup events) (ledger events) → StepOf (Piece c open_2)
     unfolding state present
     finds_open finds mirrors N =
         let beside : state false (history setup events) ≡ IsReady = L.at.calm.state_is ∙ ap (λ (w : Progress). w.modem) finds.was in

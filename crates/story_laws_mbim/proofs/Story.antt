@@ -1,6 +1,7 @@
 -- What a client meets of a rig's story is what it meets alone. Lists of events and of facts have the newest first.
 use Rattle.std.proofs.Common.{◌≡◌, ◌≢◌, ℕ, ◌<◌, ◌≤◌, ◌⊎◌, ⊎_elim, Bool, true, false, ◌==◌, List, [], ◌∷◌, fold, None, refl, ap, sym, ◌∙◌, subst, arith, Contains}
 use Rattle.std.proofs.lemmas.Bool.{eqb-true}
+use Rattle.std.proofs.lemmas.List.Sums.{fold-append}
 use Rattle.std.proofs.lemmas.List.Elements.{All-from_recursion}
 use Rattle.proxy_history.specs.Events.{Event, Joined, Piece, Left, ModemPiece, ModemGone, ModemBack, Now, Took, ModemTook}
 use Rattle.proxy_history.specs.Streams.{stream}
@@ -31,13 +32,12 @@ use Rattle.rig_story.specs.Rows.{names}
 use Rattle.rig_story.specs.Story.{story_of}
 use Rattle.rig_story.specs.Mbim.{mbim_reading}
 use Rattle.rig_story.specs.Alone.{meet_met, met_alone}
-use Rattle.story_laws_mbim.proofs.Mirror.{IsSaid, IsPlain}
-use Rattle.story_laws_mbim.proofs.Plain.{are_plain}
+use Rattle.rig_story.proofs.Chain.{AreSame, same_both}
+use Rattle.story_laws_mbim.proofs.Plain.{IsSaid, IsPlain, are_plain}
 use Rattle.story_laws_mbim.proofs.Mirroring.{Reflects, reflects}
 use Rattle.story_laws_mbim.proofs.Lone.{ledger}
 use Rattle.story_laws_mbim.proofs.Asking.{room}
 use Rattle.story_laws_mbim.proofs.Passing.{nothing_yet}
-use Rattle.story_laws_mbim.proofs.Chain.{fold-append, AreSame, same_both}
 use Rattle.story_laws_mbim.proofs.Along.{Along, Next, mets, Step, shut_too, ready_or_shut}
 use Rattle.story_laws_mbim.proofs.Joins.{JoinFirst, met_nothing}
 use Rattle.story_laws_mbim.proofs.StepsPassing.{other_joined, other_took, other_said, modem_took, joined, took_bytes, time_passed}

@@ -1,8 +1,7 @@
 -- Requests that wait among those that are in use, and what of them expires. Lists of facts have the newest first.
 use Rattle.std.proofs.Common.{◌≡◌, ℕ, ◌+◌, Bool, true, false, not, cond, ◌&&◌, ◌||◌, ◌==◌, if◌then◌else◌, List, [], ◌∷◌, length, filter, refl, ap, sym, ◌∙◌, arith, AllPairs}
 use Rattle.std.specs.List.{AllByRecursion}
-use Rattle.std.proofs.lemmas.Bool.{eqb-true, eq-eqb, false_from_ne_true}
-use Rattle.std.proofs.lemmas.Bool.Decides.{nat_tests}
+use Rattle.std.proofs.lemmas.Bool.{eqb-true, false_from_ne_true}
 use Rattle.std.proofs.lemmas.List.Elements.{recursion_from_All}
 use Rattle.kit_bytes.proofs.Lists.{all_weaker, all_filter}
 use Rattle.proxy_history.specs.Facts.{Fact, Request, Expired}
@@ -10,57 +9,24 @@ use Rattle.proxy_history.specs.Requests.{pending, is_pending, has_request, witho
 use Rattle.proxy_history.specs.Noting.{each_pending}
 use Rattle.proxy_history.specs.Sound.{Differ}
 use Rattle.proxy_history.proofs.Given.{head_all, tail_pairs}
+use Rattle.proxy_solo.proofs.Lists.{every, turned}
+use Rattle.proxy_state.proofs.Filters as filters
+use Rattle.proxy_state.proofs.Filters.{filter_agree, has_passing}
 use Rattle.rig_runs.specs.Counts.{count, is_expired}
 use Rattle.rig_laws.proofs.Lists.{filter-all}
 use Rattle.rig_laws_mbim.proofs.Adding.{expired_by}
+use Rattle.rig_story.proofs.Requests.{distinct}
 
 -- ---- filters ----
 
 module _ {X : Type 0} where
   -- one test and then another
   pub filter_both : (p q s : X → Bool) → ((x : X) → s x ≡ (q x && p x)) → (xs : List X) → filter p (filter q xs) ≡ filter s xs
-  filter_both p q s same [] = refl
-  filter_both p q s same (x ∷ xs) =
-      let rest = filter_both p q s same xs in
-      by (q x) (p x) refl refl rest
-    where
-      by : (a b : Bool) → q x ≡ a → p x ≡ b → filter p (filter q xs) ≡ filter s xs → filter p (cond a (x ∷ filter q xs) (filter q xs)) ≡ filter s (x ∷ xs)
-      by true b e f rest =
-          let both : s x ≡ b = same x ∙ ap (λ (t : Bool). t && p x) e ∙ f in
-          ap (λ (t : Bool). cond t (x ∷ filter p (filter q xs)) (filter p (filter q xs))) (f ∙ sym both) ∙ ap (λ (l : List X). cond (s x) (x ∷ l) l) rest
-      by false b e f rest =
-          let none : s x ≡ false = same x ∙ ap (λ (t : Bool). t && p x) e in
-          rest ∙ sym (ap (λ (t : Bool). cond t (x ∷ filter s xs) (filter s xs)) none)
+  filter_both p q s same xs = filters.filter_both p q xs ∙ filter_agree (λ (x : X). q x && p x) s xs (every (λ (x : X). (q x && p x) ≡ s x) (λ x. sym (same x)) xs)
 
-  -- in either order
-  pub filter_turned : (p q : X → Bool) (xs : List X) → filter p (filter q xs) ≡ filter q (filter p xs)
-  filter_turned p q [] = refl
-  filter_turned p q (x ∷ xs) = by (filter_turned p q xs) (p x) (q x) refl refl
-    where
-      one : List X
-      one = filter p (filter q xs)
-
-      other : List X
-      other = filter q (filter p xs)
-
-      by : one ≡ other → (a b : Bool) → p x ≡ a → q x ≡ b → filter p (cond b (x ∷ filter q xs) (filter q xs)) ≡ filter q (cond a (x ∷ filter p xs) (filter p xs))
-      by same true true e f = ap (λ (t : Bool). cond t (x ∷ one) one) e ∙ ap (λ (l : List X). x ∷ l) same ∙ sym (ap (λ (t : Bool). cond t (x ∷ other) other) f)
-      by same true false e f = same ∙ sym (ap (λ (t : Bool). cond t (x ∷ other) other) f)
-      by same false true e f = ap (λ (t : Bool). cond t (x ∷ one) one) e ∙ same
-      by same false false e f = same
-
-  -- tests that agree on each of them
-  pub filter_same : (p q : X → Bool) (xs : List X) → AllByRecursion (λ x. p x ≡ q x) xs → filter p xs ≡ filter q xs
-  filter_same p q [] all = refl
-  filter_same p q (x ∷ xs) all = ap (λ (t : Bool). cond t (x ∷ filter p xs) (filter p xs)) all.0 ∙ ap (λ (l : List X). cond (q x) (x ∷ l) l) (filter_same p q xs all.1)
-
-  pub all_both : (P Q R : X → Type 0) → ((x : X) → P x → Q x → R x) → (xs : List X) → AllByRecursion P xs → AllByRecursion Q xs → AllByRecursion R xs
+  all_both : (P Q R : X → Type 0) → ((x : X) → P x → Q x → R x) → (xs : List X) → AllByRecursion P xs → AllByRecursion Q xs → AllByRecursion R xs
   all_both P Q R gives [] one other = tt
   all_both P Q R gives (x ∷ xs) one other = (gives x one.0 other.0, all_both P Q R gives xs one.1 other.1)
-
-  pub all_of : (P : X → Type 0) → ((x : X) → P x) → (xs : List X) → AllByRecursion P xs
-  all_of P each [] = tt
-  all_of P each (x ∷ xs) = (each x, all_of P each xs)
 
 -- ---- requests that differ ----
 
@@ -74,22 +40,10 @@ apart r q differ = (false_from_ne_true (r.serial == q.serial) (λ e. differ.0 (e
 apart_from_first : (r : Request) (requests : List Request) → AllPairs Differ (r ∷ requests) → AllByRecursion (IsApart r) requests
 apart_from_first r requests pairs = all_weaker (Differ r) (IsApart r) (apart r) requests (recursion_from_All (Differ r) requests (head_all Differ r requests pairs))
 
-not_among : (r : Request) (requests : List Request) → AllByRecursion (IsApart r) requests → has_request r requests ≡ false
-not_among r [] all = refl
-not_among r (q ∷ requests) all = ap (λ (b : Bool). b || has_request r requests) all.0.0 ∙ not_among r requests all.1
-
 -- a request is among those that pass a test where it passes itself
 pub passes_among : (p : Request → Bool) (requests : List Request) → AllPairs Differ requests → AllByRecursion (λ q. has_request q (filter p requests) ≡ p q) requests
-passes_among p [] pairs = tt
-passes_among p (r ∷ requests) pairs = by (apart_from_first r requests pairs) (passes_among p requests (tail_pairs Differ r requests pairs)) (p r) refl
-  where
-    by : AllByRecursion (IsApart r) requests → AllByRecursion (λ q. has_request q (filter p requests) ≡ p q) requests → (b : Bool) → p r ≡ b
-        → AllByRecursion (λ q. has_request q (cond b (r ∷ filter p requests) (filter p requests)) ≡ p q) (r ∷ requests)
-    by others later true e = (
-      ap (λ (t : Bool). t || has_request r (filter p requests)) (eq-eqb r.serial r.serial refl) ∙ sym e,
-      all_both (IsApart r) (λ q. has_request q (filter p requests) ≡ p q) (λ q. has_request q (r ∷ filter p requests) ≡ p q) (λ q is same. ap (λ (t : Bool). t || has_request q (filter p requests)) is.1 ∙ same) requests others later,
-    )
-    by others later false e = (not_among r (filter p requests) (all_filter (IsApart r) p requests others) ∙ sym e, later)
+passes_among p requests pairs =
+    all_weaker (λ (q : Request). p q ≡ has_request q (filter p requests)) (λ (q : Request). has_request q (filter p requests) ≡ p q) (λ q is. sym is) requests (has_passing p requests (distinct requests pairs))
 
 still_among : (q r : Request) → IsApart r q → (requests : List Request) → has_request q (without_request r requests) ≡ has_request q requests
 still_among q r is [] = refl
@@ -127,15 +81,6 @@ unfolding pending
 expired_pending [] past = refl
 expired_pending (r ∷ gone) past = expired_pending gone (Expired r ∷ past)
 
-pub eq_turned : (n k : ℕ) → (n == k) ≡ (k == n)
-eq_turned n k = by (n == k) (k == n) refl refl
-  where
-    by : (a b : Bool) → (n == k) ≡ a → (k == n) ≡ b → a ≡ b
-    by true true e f = refl
-    by false false e f = refl
-    by true false e f = absurd (grind (arith, nat_tests, e, f))
-    by false true e f = absurd (grind (arith, nat_tests, e, f))
-
 not_either : (a b c : Bool) → a ≡ c → not (c || b) ≡ (not a && not b)
 not_either true b true e = refl
 not_either false b false e = refl
@@ -143,17 +88,17 @@ not_either true b false e = absurd (cc)
 not_either false b true e = absurd (cc)
 
 without_all_is : (gone requests : List Request) → without_all gone requests ≡ filter (λ q. not (has_request q gone)) requests
-without_all_is [] requests = sym (filter-all (λ (q : Request). true) requests (all_of (λ (q : Request). true ≡ true) (λ q. refl) requests))
+without_all_is [] requests = sym (filter-all (λ (q : Request). true) requests (every (λ (q : Request). true ≡ true) (λ q. refl) requests))
 without_all_is (r ∷ gone) requests =
     without_all_is gone (without_request r requests)
-    ∙ filter_both (λ (q : Request). not (has_request q gone)) (λ (q : Request). not (r.serial == q.serial)) (λ (q : Request). not (has_request q (r ∷ gone))) (λ q. not_either (r.serial == q.serial) (has_request q gone) (q.serial == r.serial) (eq_turned r.serial q.serial)) requests
+    ∙ filter_both (λ (q : Request). not (has_request q gone)) (λ (q : Request). not (r.serial == q.serial)) (λ (q : Request). not (has_request q (r ∷ gone))) (λ q. not_either (r.serial == q.serial) (has_request q gone) (q.serial == r.serial) (turned r.serial q.serial)) requests
 
 -- those that pass a test expire
 pub expired_waiting : (p : Request → Bool) (past : List Fact) → AllPairs Differ (pending past) → pending (expired_onto (filter p (pending past)) past) ≡ filter (λ r. not (p r)) (pending past)
 expired_waiting p past pairs =
     expired_pending (filter p (pending past)) past
     ∙ without_all_is (filter p (pending past)) (pending past)
-    ∙ filter_same (λ (q : Request). not (has_request q (filter p (pending past)))) (λ (r : Request). not (p r)) (pending past)
+    ∙ filter_agree (λ (q : Request). not (has_request q (filter p (pending past)))) (λ (r : Request). not (p r)) (pending past)
     (all_weaker (λ (q : Request). has_request q (filter p (pending past)) ≡ p q) (λ (q : Request). not (has_request q (filter p (pending past))) ≡ not (p q)) (λ q same. ap not same) (pending past) (passes_among p (pending past) pairs))
 
 all_passing_wait : (p : Request → Bool) (all requests : List Request) → AllByRecursion (λ r. has_request r all ≡ true) requests → AllByRecursion (λ r. has_request r all ≡ true) (filter p requests)
@@ -161,7 +106,7 @@ all_passing_wait p all requests wait = all_filter (λ (r : Request). has_request
 
 itself_among : (requests : List Request) → AllPairs Differ requests → AllByRecursion (λ r. has_request r requests ≡ true) requests
 itself_among requests pairs =
-    let whole : filter (λ (r : Request). true) requests ≡ requests = filter-all (λ (r : Request). true) requests (all_of (λ (r : Request). true ≡ true) (λ r. refl) requests) in
+    let whole : filter (λ (r : Request). true) requests ≡ requests = filter-all (λ (r : Request). true) requests (every (λ (r : Request). true ≡ true) (λ r. refl) requests) in
     all_weaker (λ (r : Request). has_request r (filter (λ (r : Request). true) requests) ≡ true) (λ (r : Request). has_request r requests ≡ true) (λ r is. sym (ap (has_request r) whole) ∙ is) requests (passes_among (λ (r : Request). true) requests pairs)
 
 pub passing_wait : (p : Request → Bool) (past : List Fact) → AllPairs Differ (pending past) → AllByRecursion (λ r. is_pending r past ≡ true) (filter p (pending past))

@@ -1,5 +1,8 @@
-use Rattle.story_laws.proofs.Law.{requests_are_counted}
+use Rattle.story_laws.proofs.Law.{rows_are_in_use, requests_are_counted}
 use Rattle.story_laws.proofs.laws.requests_are_counted.Goals as goal
 
 pub returns : goal.returns
-returns c = requests_are_counted
+returns c = record {
+  rows = rows_are_in_use;
+  counts = requests_are_counted;
+}

@@ -1,14 +1,10 @@
--- A story in two parts, and what holds of both.
-use Rattle.std.proofs.Common.{◌≡◌, ℕ, List, [], ◌∷◌, ◌++◌, fold, refl}
+-- A story in two parts, and what holds of both. Lists of events have the newest first, and a story is told in its order.
+use Rattle.std.proofs.Common.{◌≡◌, ℕ, List, [], ◌∷◌, ◌++◌, fold}
 use Rattle.proxy_history.specs.Events.{Event}
 use Rattle.proxy_history.specs.Proxy.{Proxy}
 use Rattle.rig_story.specs.Rows.{Reading}
 use Rattle.rig_story.specs.declared.story.Met.{Met}
 use Rattle.rig_story.specs.Alone.{meet_met, IsSame, IsSameAlone}
-
-pub fold-append : {X Y : Type 0} (f : X → Y → X) (x : X) (one other : List Y) → fold f x (one ++ other) ≡ fold f (fold f x one) other
-fold-append f x [] other = refl
-fold-append f x (y ∷ one) other = fold-append f (f x y) one other
 
 module _ (reading : Reading) (p : Proxy) (c : ℕ) where
   -- it is the same alone with each of them in turn
