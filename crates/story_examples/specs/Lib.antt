@@ -1,0 +1,4 @@
+pub mod Ledgers
+pub mod MbimLedgers
+pub mod Stories
+pub mod MbimStories
