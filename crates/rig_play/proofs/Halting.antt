@@ -42,7 +42,7 @@ module _ (cast : Cast) where
   either_more true stage one two first second = first
   either_more false stage one two first second = second
 
-  request_more : (script : Script) (turn : Turn) → OnlyExtends (request_or_arrive cast script turn)
+  pub request_more : (script : Script) (turn : Turn) → OnlyExtends (request_or_arrive cast script turn)
   request_more script turn stage =
       let said : Stage = say cast turn.client stage (script.request turn.client turn.choice (next_number script turn.client stage.events)) in
       either_more (nat_lt (length stage.held) 200) stage said (longest_arrives cast stage) (meet_more cast _ stage) (longest_more cast stage)

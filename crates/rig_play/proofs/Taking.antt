@@ -79,6 +79,11 @@ module _ {B M : Type 0} {keeps : Proxy → List Event → B → Type 0} {tells :
   pub acts_none : (step : Cast → Stage → ℕ → Stage) (world : World M) (bench : B) → Acts keeps tells asks size (λ cast stage. fold (step cast) stage (range_with_len 1 0)) world bench world bench
   acts_none step world bench = record { plays = λ cast opened earlier stage it. it }
 
+  -- one after the other
+  pub acts_then : {old middle new : World M} {before between after : B} (first second : Cast → Stage → Stage) → Acts keeps tells asks size first old before middle between → Acts keeps tells asks size second middle between new after
+      → Acts keeps tells asks size (λ cast stage. second cast (first cast stage)) old before new after
+  acts_then first second one two = record { plays = λ cast opened earlier stage it. two.plays cast opened earlier (first cast stage) (one.plays cast opened earlier stage it) }
+
   -- a client opens the device by two messages
   pub opens_device : {w0 w1 w2 w3 w4 : World M} {b0 b1 b2 b3 b4 : B} (conn : ℕ) (one two opens_first opens_second : List ℕ) (asks_for : (conn choice number : ℕ) → List ℕ) (number : ℕ) → one ≡ opens_first → two ≡ opens_second
       → Acts keeps tells asks size (λ cast stage. say cast conn stage one) w0 b0 w1 b1 → Acts keeps tells asks size all_arrive w1 b1 w2 b2
@@ -136,8 +141,3 @@ module _ {B M : Type 0} {keeps : Proxy → List Event → B → Type 0} {tells :
                   (subst (λ list. AreNext script (say cast (place + 1) stage message).events list) (sym numbers) (next_after cast script place message stage held.numbers within it.numbers));
             });
       })
-
-  -- the stage that the party stands for
-  pub stands_for : (script : Script) {cast : Cast} {opened : Run} {earlier : List Run} {stage : Stage} {party held : Party M} {bench : B} → held ≡ party → Plays keeps tells asks size script cast opened earlier stage party bench
-      → running.Plays keeps tells asks size cast opened earlier stage held.world bench
-  stands_for script {cast = cast} {opened = opened} {earlier = earlier} {stage = stage} {bench = bench} is it = subst (λ party. running.Plays keeps tells asks size cast opened earlier stage party.world bench) (sym is) it.stands

@@ -10,7 +10,6 @@ mod qmi;
 mod runs;
 
 pub use mbim::MbimClients;
-pub use players::{Players, play_all};
-pub use protocol::{DEVICE, Protocol};
+pub use protocol::Protocol;
 pub use qmi::QmiClients;
-pub use runs::{TIME_LIMIT, open_core, run_clients};
+pub use runs::{open_core, run_clients};

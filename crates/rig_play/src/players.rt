@@ -2,8 +2,6 @@ ghost use Rattle.std.specs.Prelude.{◌≡◌, ◌+◌, ◌*◌, ◌%◌, ◌<�
 ghost use Rattle.core_bench.specs.Runs.{Run};
 ghost use Rattle.rig_runs.specs.Draws.{turn_after, turns_after, next};
 ghost use Rattle.rig_runs.specs.Rig as rig;
-ghost use Rattle.rig_runs.specs.Rig.{next_number};
-ghost use Rattle.rig_runs.specs.Stage as defined;
 ghost use Rattle.rig_stage.specs.Ready.{IsReady, StaysReady};
 ghost use Rattle.rig_stage.specs.Running.{Runs, IsCutShort};
 ghost use Rattle.rig_play.specs.Play.{cast_of, script_of, Plays, Takes, Halts};
@@ -19,14 +17,15 @@ use std::marker::Model;
 /// The modem holds at most so many messages when a request is sent.
 const MOST_HELD: usize = 200;
 
-/// How long a turn of the clock is, and the one behind all turns, in milliseconds.
+/// How long a turn of the clock is, in milliseconds.
 const TICK: u64 = 1_000;
 
+/// How long the one behind all turns is, in milliseconds.
 const LAST_TICK: u64 = 60_000;
 
 /// Clients, named from 1 on, that open the device and then take turns, on a stage.
 #[derive(Drop)]
-pub struct Players<P: Protocol> {
+pub(crate) struct Players<P: Protocol> {
     alloc: Global,
     stage: Stage<P::Modem>,
     // the number of each one's next request
@@ -44,7 +43,7 @@ impl<P: Protocol> Model for Players<P> {
 /// Has so many clients join a core that nothing has happened to, and open the device, one after the
 /// other. Then so many turns are taken, which are drawn from a number, and in the end all messages that
 /// are held arrive, and all that still waits for its answer expires.
-pub fn play_all<P: Protocol, B: Bench>(
+pub(crate) fn play_all<P: Protocol, B: Bench>(
     alloc: Global,
     bench: &mut B,
     clients: u8,
@@ -63,8 +62,7 @@ pub fn play_all<P: Protocol, B: Bench>(
         IsCutShort opened earlier (rig.rig (cast_of P.proxy P.answers P.Modem.Framing.size clients) (script_of P.first P.second P.asks P.FIRST_NUMBER) turns number) (B.runs bench.new)) }
 {
     let mut players: Players<P> = Players::open(alloc, bench, clients)?;
-    let mut draws = Draws::from(number);
-    players.take_turns(bench, turns, &mut draws)?;
+    players.take_turns(bench, turns, number)?;
     players.end(bench)?;
     Ok(())
 }
@@ -97,12 +95,12 @@ impl<P: Protocol> Players<P> {
         })
     }
 
-    // Takes so many turns, which are drawn.
+    // Takes so many turns, which are drawn from a number.
     fn take_turns<B: Bench>(
         &mut self,
         bench: &mut B,
         turns: u32,
-        draws: &mut Draws,
+        number: u64,
     ) -> Result<(), AllocError>
         requires ready { IsReady (B.is_held bench.old) (B.face bench.old) }
         requires some { 0 < self.old.world.clients }
@@ -110,14 +108,15 @@ impl<P: Protocol> Players<P> {
         requires time { self.old.world.time ≡ 0 }
         ensures ready { OnOk result (IsReady (B.is_held bench.new) (B.face bench.new)) }
         ensures clients { OnOk result (self.new.world.clients ≡ self.old.world.clients) }
-        ensures time { OnOk result (self.new.world.time ≤ 1000 * turns) }
+        ensures time { OnOk result (self.new.world.time ≤ TICK * turns) }
         ensures takes { OnOk result (Takes B.keeps B.runs P.Modem.keeps P.Modem.Framing.size (script_of P.first P.second P.asks P.FIRST_NUMBER)
-            (λ cast stage. fold (rig.play cast (script_of P.first P.second P.asks P.FIRST_NUMBER)) stage (turns_after (length cast.clients) turns draws.old.x)) self.old bench.old self.new bench.new) }
+            (λ cast stage. fold (rig.play cast (script_of P.first P.second P.asks P.FIRST_NUMBER)) stage (turns_after (length cast.clients) turns number)) self.old bench.old self.new bench.new) }
         ensures stops { OnErr result (Halts B.keeps B.runs P.Modem.keeps P.Modem.Framing.size (script_of P.first P.second P.asks P.FIRST_NUMBER)
-            (λ cast stage. fold (rig.play cast (script_of P.first P.second P.asks P.FIRST_NUMBER)) stage (turns_after (length cast.clients) turns draws.old.x)) self.old bench.old bench.new) }
+            (λ cast stage. fold (rig.play cast (script_of P.first P.second P.asks P.FIRST_NUMBER)) stage (turns_after (length cast.clients) turns number)) self.old bench.old bench.new) }
     {
+        let mut draws = Draws::from(number);
         for _turn in 0..turns {
-            self.turn(bench, draws)?;
+            self.turn(bench, &mut draws)?;
         }
         Ok(())
     }
@@ -127,11 +126,11 @@ impl<P: Protocol> Players<P> {
         requires ready { IsReady (B.is_held bench.old) (B.face bench.old) }
         requires some { 0 < self.old.world.clients }
         requires numbers { length self.old.numbers ≡ self.old.world.clients }
-        requires fits { self.old.world.time + 1000 < 2 ^ 64 }
+        requires fits { self.old.world.time + TICK < 2 ^ 64 }
         ensures ready { OnOk result (StaysReady (B.is_held bench.new) (B.face bench.old) (B.face bench.new)) }
         ensures clients { OnOk result (self.new.world.clients ≡ self.old.world.clients) }
         ensures numbers { OnOk result (length self.new.numbers ≡ length self.old.numbers) }
-        ensures time { OnOk result (self.new.world.time ≤ self.old.world.time + 1000) }
+        ensures time { OnOk result (self.new.world.time ≤ self.old.world.time + TICK) }
         ensures drawn { draws.new.x ≡ next (next draws.old.x) }
         ensures takes { OnOk result (Takes B.keeps B.runs P.Modem.keeps P.Modem.Framing.size (script_of P.first P.second P.asks P.FIRST_NUMBER)
             (λ cast stage. rig.play cast (script_of P.first P.second P.asks P.FIRST_NUMBER) stage (turn_after (length cast.clients) draws.old.x)) self.old bench.old self.new bench.new) }
@@ -151,11 +150,11 @@ impl<P: Protocol> Players<P> {
         requires client { index < length self.old.numbers }
         requires small { index < 255 }
         requires choice { choice < 8 }
-        requires fits { self.old.world.time + 1000 < 2 ^ 64 }
+        requires fits { self.old.world.time + TICK < 2 ^ 64 }
         ensures ready { OnOk result (StaysReady (B.is_held bench.new) (B.face bench.old) (B.face bench.new)) }
         ensures clients { OnOk result (self.new.world.clients ≡ self.old.world.clients) }
         ensures numbers { OnOk result (length self.new.numbers ≡ length self.old.numbers) }
-        ensures time { OnOk result (self.new.world.time ≤ self.old.world.time + 1000) }
+        ensures time { OnOk result (self.new.world.time ≤ self.old.world.time + TICK) }
         ensures takes { OnOk result (Takes B.keeps B.runs P.Modem.keeps P.Modem.Framing.size (script_of P.first P.second P.asks P.FIRST_NUMBER)
             (λ cast stage. rig.play cast (script_of P.first P.second P.asks P.FIRST_NUMBER) stage (record { client = index + 1; choice = choice })) self.old bench.old self.new bench.new) }
         ensures stops { OnErr result (Halts B.keeps B.runs P.Modem.keeps P.Modem.Framing.size (script_of P.first P.second P.asks P.FIRST_NUMBER)
@@ -191,44 +190,21 @@ impl<P: Protocol> Players<P> {
         ensures stops { OnErr result (Halts B.keeps B.runs P.Modem.keeps P.Modem.Framing.size (script_of P.first P.second P.asks P.FIRST_NUMBER)
             (λ cast stage. rig.request_or_arrive cast (script_of P.first P.second P.asks P.FIRST_NUMBER) (record { client = index + 1; choice = choice }) stage) self.old bench.old bench.new) }
     {
-        if self.stage.held() < MOST_HELD {
-            self.request(bench, index, choice)
-        } else {
-            self.stage.longest_arrives(bench)
+        if self.stage.held() >= MOST_HELD {
+            return self.stage.longest_arrives(bench);
         }
-    }
-
-    // A client sends its next request.
-    fn request<B: Bench>(&mut self, bench: &mut B, index: u8, choice: u64) -> Result<(), AllocError>
-        requires ready { IsReady (B.is_held bench.old) (B.face bench.old) }
-        requires client { index < length self.old.numbers }
-        requires small { index < 255 }
-        ensures ready { OnOk result (StaysReady (B.is_held bench.new) (B.face bench.old) (B.face bench.new)) }
-        ensures clients { OnOk result (self.new.world.clients ≡ self.old.world.clients) }
-        ensures numbers { OnOk result (length self.new.numbers ≡ length self.old.numbers) }
-        ensures time { OnOk result (self.new.world.time ≡ self.old.world.time) }
-        ensures takes { OnOk result (Takes B.keeps B.runs P.Modem.keeps P.Modem.Framing.size (script_of P.first P.second P.asks P.FIRST_NUMBER)
-            (λ cast stage. rig.say cast (index + 1) stage (P.asks (index + 1) choice (next_number (script_of P.first P.second P.asks P.FIRST_NUMBER) (index + 1) stage.events)))
-            self.old bench.old self.new bench.new) }
-        ensures stops { OnErr result (Halts B.keeps B.runs P.Modem.keeps P.Modem.Framing.size (script_of P.first P.second P.asks P.FIRST_NUMBER)
-            (λ cast stage. rig.say cast (index + 1) stage (P.asks (index + 1) choice (next_number (script_of P.first P.second P.asks P.FIRST_NUMBER) (index + 1) stage.events)))
-            self.old bench.old bench.new) }
-    {
         let number = take_number(&mut self.numbers, usize::from(index));
         let message = P::request(self.alloc, index + 1, choice, number)?;
         self.stage
-            .say(bench, u64::from(index) + 1, message.as_slice())?;
-        Ok(())
+            .say(bench, u64::from(index) + 1, message.as_slice())
     }
 
     // All messages that are held arrive, and all that still waits for its answer expires.
     fn end<B: Bench>(&mut self, bench: &mut B) -> Result<(), AllocError>
         requires ready { IsReady (B.is_held bench.old) (B.face bench.old) }
-        requires fits { self.old.world.time + 60000 < 2 ^ 64 }
+        requires fits { self.old.world.time + LAST_TICK < 2 ^ 64 }
         ensures ready { OnOk result (IsReady (B.is_held bench.new) (B.face bench.new)) }
-        ensures runs { OnOk result ((cast : defined.Cast) (opened : Run) (earlier : List Run) (now : defined.Stage) →
-            Plays B.keeps B.runs P.Modem.keeps P.Modem.Framing.size (script_of P.first P.second P.asks P.FIRST_NUMBER) cast opened earlier now self.old bench.old →
-            Runs B.keeps B.runs cast.proxy opened earlier (rig.ended cast now).events bench.new) }
+        ensures takes { OnOk result (Takes B.keeps B.runs P.Modem.keeps P.Modem.Framing.size (script_of P.first P.second P.asks P.FIRST_NUMBER) rig.ended self.old bench.old self.new bench.new) }
         ensures stops { OnErr result (Halts B.keeps B.runs P.Modem.keeps P.Modem.Framing.size (script_of P.first P.second P.asks P.FIRST_NUMBER) rig.ended self.old bench.old bench.new) }
     {
         self.stage.all_arrive(bench)?;

@@ -14,7 +14,7 @@ use sim_modem::Sim;
 use std::alloc::{AllocError, Global};
 
 /// The path of the device.
-pub const DEVICE: &str = "rig";
+pub(crate) const DEVICE: &str = "rig";
 
 /// What the rig needs of a protocol.
 pub trait Protocol {
@@ -30,9 +30,10 @@ pub trait Protocol {
     /// What the modem answers.
     ghost answers: { Answering };
 
-    /// A client's two messages that open the device.
+    /// The first of a client's two messages that open the device, by which it names the device.
     ghost first: { List ℕ };
 
+    /// The second.
     ghost second: { List ℕ };
 
     /// The request of a client for a choice, with a number of its own.

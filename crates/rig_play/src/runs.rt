@@ -11,9 +11,9 @@ use hub_io::Limits;
 use std::alloc::{AllocError, Global};
 
 /// How long a request waits for its answer, in milliseconds.
-pub const TIME_LIMIT: u64 = 30_000;
+const TIME_LIMIT: u64 = 30_000;
 
-/// Opens a core of the rig's proxy on a bench.
+/// Opens a core of the rig's proxy on a bench. Where memory runs out the bench stays as it was.
 pub fn open_core<P: Protocol, B: Bench>(alloc: Global, bench: &mut B) -> Result<(), AllocError>
     ensures ready { OnOk result (IsReady (B.is_held bench.new) (B.face bench.new)) }
     ensures new { OnOk result ((B.face bench.new).greatest ≡ 0) }

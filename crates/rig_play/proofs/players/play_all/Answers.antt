@@ -1,10 +1,9 @@
-use Rattle.std.proofs.Common.{ℕ, List, fold, length, subst}
+use Rattle.std.proofs.Common.{ℕ, List, fold, length}
 use Rattle.rig_runs.specs.Draws.{Turn, turns_after}
 use Rattle.rig_runs.specs.Rig as rig
 use Rattle.rig_runs.specs.Stage as defined
-use Rattle.rig_stage.specs.Running.{IsCutShort}
 use Rattle.rig_stage.proofs.Stopping.{also_on_err, more_then, short_of_more}
-use Rattle.rig_play.specs.Play.{cast_of, script_of, Plays}
+use Rattle.rig_play.specs.Play.{cast_of, script_of}
 use Rattle.rig_play.proofs.Halting.{plays_more, ended_more}
 use Rattle.rig_play.proofs.players.play_all.Given.{Over}
 use Rattle.rig_play.proofs.players.play_all.Goals as goal
@@ -15,10 +14,8 @@ returns-clause-runs g c = λ opened earlier runs.
     let size = g.P.Modem.Framing.Framing.size in
     let cast : defined.Cast = cast_of p.proxy p.answers size c.args.clients in
     let script : rig.Script = script_of p.first p.second p.asks p.FIRST_NUMBER in
-    let now : ℕ → defined.Stage = λ x. fold (rig.play cast script) (rig.ready cast script) (turns_after (length cast.clients) c.args.turns x) in
-    let Played : ℕ → Type 0 = λ x. Plays g.B.Bench.keeps g.B.Bench.runs g.P.Modem.Sim.keeps size script cast opened earlier (now x) c.take_turns.new.self c.take_turns.new.bench in
-    c.in_ok-end.ensures.runs cast opened earlier (now c.args.number)
-    (subst Played c.from-draws.ensures (c.in_ok-take_turns.ensures.takes.plays cast opened earlier (rig.ready cast script) (c.in_ok-players.ensures.plays opened earlier runs)))
+    let played : defined.Stage = fold (rig.play cast script) (rig.ready cast script) (turns_after (length cast.clients) c.args.turns c.args.number) in
+    (c.in_ok-end.ensures.takes.plays cast opened earlier played (c.in_ok-take_turns.ensures.takes.plays cast opened earlier (rig.ready cast script) (c.in_ok-players.ensures.plays opened earlier runs))).stands.runs
 
 abbrev script : Over → rig.Script
 script g = script_of g.P.Protocol.first g.P.Protocol.second g.P.Protocol.asks g.P.Protocol.FIRST_NUMBER
@@ -37,19 +34,14 @@ returns-in_err-players-clause-stops g c =
 pub returns-in_err-take_turns-clause-stops : goal.returns-in_err-take_turns-clause-stops
 returns-in_err-take_turns-clause-stops g c =
     let now : defined.Cast = cast g c.args.clients in
-    let played : ℕ → defined.Stage = λ x. fold (rig.play now (script g)) (rig.ready now (script g)) (turns_after (length now.clients) c.args.turns x) in
+    let played : defined.Stage = fold (rig.play now (script g)) (rig.ready now (script g)) (turns_after (length now.clients) c.args.turns c.args.number) in
     also_on_err c.from_residual-in_err-take_turns.result
-    (λ opened earlier runs.
-    let Short : ℕ → Type 0 = λ x. IsCutShort opened earlier (played x).events (g.B.Bench.runs c.take_turns.new.bench) in
-    short_of_more (ended_more now (played c.args.number))
-    (subst Short c.from-draws.ensures (c.in_err-take_turns.ensures.stops.cut_short now opened earlier (rig.ready now (script g)) (c.in_ok-players.ensures.plays opened earlier runs))))
+    (λ opened earlier runs. short_of_more (ended_more now played) (c.in_err-take_turns.ensures.stops.cut_short now opened earlier (rig.ready now (script g)) (c.in_ok-players.ensures.plays opened earlier runs)))
 
 pub returns-in_err-end-clause-stops : goal.returns-in_err-end-clause-stops
 returns-in_err-end-clause-stops g c =
     let now : defined.Cast = cast g c.args.clients in
-    let played : ℕ → defined.Stage = λ x. fold (rig.play now (script g)) (rig.ready now (script g)) (turns_after (length now.clients) c.args.turns x) in
+    let played : defined.Stage = fold (rig.play now (script g)) (rig.ready now (script g)) (turns_after (length now.clients) c.args.turns c.args.number) in
     also_on_err c.from_residual-in_err-end.result
     (λ opened earlier runs.
-    let Played : ℕ → Type 0 = λ x. Plays g.B.Bench.keeps g.B.Bench.runs g.P.Modem.Sim.keeps g.P.Modem.Framing.Framing.size (script g) now opened earlier (played x) c.take_turns.new.self c.take_turns.new.bench in
-    c.in_err-end.ensures.stops.cut_short now opened earlier (played c.args.number)
-    (subst Played c.from-draws.ensures (c.in_ok-take_turns.ensures.takes.plays now opened earlier (rig.ready now (script g)) (c.in_ok-players.ensures.plays opened earlier runs))))
+    c.in_err-end.ensures.stops.cut_short now opened earlier played (c.in_ok-take_turns.ensures.takes.plays now opened earlier (rig.ready now (script g)) (c.in_ok-players.ensures.plays opened earlier runs)))

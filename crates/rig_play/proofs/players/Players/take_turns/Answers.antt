@@ -14,7 +14,13 @@ script g = script_of g.P.Protocol.first g.P.Protocol.second g.P.Protocol.asks g.
 pub loop-turn-init : goal.loop-turn-init
 loop-turn-init g c = record {
   turning = λ cast opened earlier stage it.
-      record { now = stage; plays = it; rest = ap (λ n. fold (rig.play cast (script g)) stage (turns_after (length cast.clients) n c.args.draws.now.x)) (omega arith) };
+      record {
+        now = stage;
+        plays = it;
+        rest =
+            ap (λ n. fold (rig.play cast (script g)) stage (turns_after (length cast.clients) n c.from-draws.result.x)) (omega arith)
+            ∙ ap (λ x. fold (rig.play cast (script g)) stage (turns_after (length cast.clients) c.args.turns x)) c.from-draws.ensures;
+      };
   ready = c.requires.ready;
   clients = refl;
   numbers = c.requires.numbers;
@@ -29,7 +35,7 @@ loop-turn-preserved g c =
     let within : turn < c.args.turns = search rules in
     record {
       turning = λ cast opened earlier stage it.
-          turning_one (script g) cast opened earlier (fold (rig.play cast (script g)) stage (turns_after (length cast.clients) c.args.turns c.args.draws.now.x)) (c.args.turns - turn) (c.args.turns - (turn + 1)) c.loop-turn.draws.x
+          turning_one (script g) cast opened earlier (fold (rig.play cast (script g)) stage (turns_after (length cast.clients) c.args.turns c.args.number)) (c.args.turns - turn) (c.args.turns - (turn + 1)) c.loop-turn.draws.x
           c.turn.new.draws.x (omega (arith, within)) took.drawn took.takes (i.turning cast opened earlier stage it);
       ready = took.ready.ready;
       clients = took.clients ∙ i.clients;
@@ -42,7 +48,7 @@ returns-clause-takes g c =
     let all : c.args.turns ≤ c.loop-turn._turn = search rules in
     record {
       plays = λ cast opened earlier stage it.
-          turning_done (script g) cast opened earlier (fold (rig.play cast (script g)) stage (turns_after (length cast.clients) c.args.turns c.args.draws.now.x)) (c.args.turns - c.loop-turn._turn) c.loop-turn.draws.x
+          turning_done (script g) cast opened earlier (fold (rig.play cast (script g)) stage (turns_after (length cast.clients) c.args.turns c.args.number)) (c.args.turns - c.loop-turn._turn) c.loop-turn.draws.x
           c.loop-turn.self c.loop-turn.bench (omega (arith, all)) (c.loop-turn.invariant.turning cast opened earlier stage it);
     }
 
@@ -53,6 +59,6 @@ returns-in_err-turn-clause-stops g c =
     also_on_err c.from_residual.result
     (record {
       cut_short = λ cast opened earlier stage it.
-          turning_stops (script g) cast opened earlier (fold (rig.play cast (script g)) stage (turns_after (length cast.clients) c.args.turns c.args.draws.now.x)) (c.args.turns - turn) (c.args.turns - (turn + 1)) c.loop-turn.draws.x
+          turning_stops (script g) cast opened earlier (fold (rig.play cast (script g)) stage (turns_after (length cast.clients) c.args.turns c.args.number)) (c.args.turns - turn) (c.args.turns - (turn + 1)) c.loop-turn.draws.x
           (omega (arith, within)) c.in_err-turn.ensures.stops (c.loop-turn.invariant.turning cast opened earlier stage it);
     })

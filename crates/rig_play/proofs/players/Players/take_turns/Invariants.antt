@@ -16,7 +16,7 @@ invariant-loop-turn g l =
     record {
       turning : (cast : defined.Cast) (opened : Run) (earlier : List Run) (stage : defined.Stage) → Plays g.B.Bench.keeps g.B.Bench.runs g.P.Modem.Sim.keeps g.P.Modem.Framing.Framing.size script cast opened earlier stage l.initial.self l.initial.bench
           → IsTurning g.B.Bench.keeps g.B.Bench.runs g.P.Modem.Sim.keeps g.P.Modem.Framing.Framing.size script cast opened earlier
-          (fold (rig.play cast script) stage (turns_after (length cast.clients) l.turns l.initial.draws.x)) (l.turns - l._turn) l.draws.x l.self l.bench;
+          (fold (rig.play cast script) stage (turns_after (length cast.clients) l.turns l.number)) (l.turns - l._turn) l.draws.x l.self l.bench;
       ready : IsReady (g.B.Bench.is_held l.bench) (g.B.Bench.face l.bench);
       clients : l.self.world.clients ≡ l.initial.self.world.clients;
       numbers : length l.self.numbers ≡ l.self.world.clients;
