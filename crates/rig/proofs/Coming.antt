@@ -1,5 +1,5 @@
 -- What a running rig comes to where the laws of its story and of its ledger hold. Lists of runs and of events have the newest first.
-use Rattle.std.proofs.Common.{◌≡◌, ℕ, ◌≤◌, List, [], ◌∷◌, ◌++◌, Option, refl, ap, sym, ◌∙◌, subst}
+use Rattle.std.proofs.Common.{◌≡◌, ℕ, ◌≤◌, List, [], ◌∷◌, ◌++◌, Option, ap, sym, ◌∙◌, subst}
 use Rattle.kit_bytes.specs.declared.kind.Kind.{Kind}
 use Rattle.proxy_history.specs.Events.{Event}
 use Rattle.proxy_history.specs.Proxy.{Proxy}
@@ -11,10 +11,10 @@ use Rattle.rig_story.specs.Rows.{Reading, ledger_of}
 use Rattle.rig_story.specs.Story.{story_of}
 use Rattle.rig_story.specs.Alone.{met_alone, IsSameAlone}
 use Rattle.rig_story.specs.Laws.{Counted}
-use Rattle.rig_notes.specs.Alone.{TakesWhatWaits}
-use Rattle.rig.specs.Playing.{AddsRuns, IsEqual, TellsRig, run_alone, summed}
+use Rattle.rig_notes.proofs.Fitting.{TakesWhatWaits, same_alone_fits}
+use Rattle.rig.specs.Playing.{AddsRuns, AreEqual, TellsRig, is_equal, run_alone, summed}
 use Rattle.rig.specs.declared.text.Outcome.{Outcome}
-use Rattle.rig.proofs.Down.{down, down-same}
+use Rattle.rig.proofs.Down.{count-all, down, down-same}
 
 -- the laws of one rig
 pub record IsLawful (reading : Reading) (p : Proxy) (solo : ℕ → List Event) (clients turns : ℕ) (events : List Event) (summary : Summary) : Type 0 where
@@ -62,18 +62,19 @@ same_summary clients turns outcome counts summary are equal_are same its_clients
     ap (λ (k : Counts). summary_of k clients turns outcome.equal clients) are ∙ step
 
 module _ (reading : Reading) (p : Proxy) (kind : Kind) (solo : ℕ → List Event) (clients turns : ℕ) (events : List Event) (summary : Summary) (lawful : IsLawful reading p solo clients turns events summary) where
-  pub each_is_equal : (c : ℕ) → 1 ≤ c → c ≤ clients → IsEqual reading p (story_of reading p events) c
-  each_is_equal c low high = record { opened = refl; same = lawful.same c low high; takes = subst (TakesWhatWaits p) (sym (lawful.meets c low high)) (lawful.takes c low high) }
+  pub each_is_equal : AreEqual reading p (story_of reading p events) clients
+  each_is_equal c low high = same_alone_fits reading p c (story_of reading p events) (lawful.same c low high) (subst (TakesWhatWaits p) (sym (lawful.meets c low high)) (lawful.takes c low high))
 
   module _ (old new : Option (List Run)) (lines : List ℕ) (tells : TellsRig reading p kind clients turns events old new lines) where
     pub all_runs : AddsRuns old (down (λ c. run_of kind (solo c)) clients ++ run_of kind events ∷ []) new
     all_runs =
         subst (λ (runs : List Run). AddsRuns old (runs ++ run_of kind events ∷ []) new)
         (down-same (run_alone reading p kind (story_of reading p events)) (λ c. run_of kind (solo c)) clients (λ c low high. ap (run_of kind) (lawful.meets c low high)))
-        (tells.plays.runs each_is_equal).1
+        (tells.plays.runs each_is_equal)
 
     pub the_lines : lines ≡ lines_of summary
     the_lines =
         tells.lines
         ∙ ap lines_of
-        (same_summary clients turns tells.outcome (ledger_of reading p events).counts summary tells.plays.counts (tells.plays.runs each_is_equal).0 lawful.counts lawful.its_clients lawful.its_turns lawful.equal lawful.counted)
+        (same_summary clients turns tells.outcome (ledger_of reading p events).counts summary tells.plays.counts
+        (tells.plays.equal ∙ count-all (is_equal reading p (story_of reading p events)) clients each_is_equal) lawful.counts lawful.its_clients lawful.its_turns lawful.equal lawful.counted)

@@ -22,7 +22,7 @@ use Rattle.rig_story.specs.Mbim.{mbim_reading}
 use Rattle.rig_story.specs.Laws.{most_turns}
 use Rattle.story_laws_mbim.proofs.Law.{requests_are_counted}
 use Rattle.story_laws_mbim.proofs.Parts.{each_meets_its_part, each_takes_the_same}
-use Rattle.rig_notes.specs.Alone.{TakesWhatWaits}
+use Rattle.rig_notes.proofs.Fitting.{TakesWhatWaits}
 use Rattle.rig_notes.proofs.Sound.{takes_what_waits}
 use Rattle.rig.proofs.Coming.{IsLawful}
 

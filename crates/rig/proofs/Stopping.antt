@@ -27,10 +27,10 @@ module _ (reading : Reading) (p : Proxy) (kind : Kind) where
     runs = λ all earlier told.
         let alone : ℕ → Run = run_alone reading p kind story in
         let done : List Run = down alone count in
-        let ran : AreTold mid (done ++ earlier) = (each.runs (λ d low high. all d low (omega (arith, high, is, within)))).1 earlier told in
+        let ran : AreTold mid (done ++ earlier) = each.runs (λ d low high. all d low (omega (arith, high, is, within))) earlier told in
         let next : (later : List Run) × (down alone clients ≡ later ++ alone c ∷ done) = next_of alone count c clients is within in
         let it : TellsFirst (next.0 ++ alone c ∷ done) earlier new =
-        tells_next (run_of kind []) (met_alone reading p c story) next.0 done earlier new (one.runs (all c (omega (arith, is)) within) (done ++ earlier) ran) in
+        tells_next (run_of kind []) (met_alone reading p c story) next.0 done earlier new (one.runs (done ++ earlier) ran) in
         subst (λ runs. TellsFirst runs earlier new) (sym next.1) it;
   }
 
@@ -61,7 +61,7 @@ module _ (reading : Reading) (p : Proxy) (kind : Kind) where
 
     -- all was run
     pub all_run : (old new : Option (List Run)) (outcome : Outcome) → PlaysRig reading p kind clients events old new outcome → StopsRig reading p kind clients events old new
-    all_run old new outcome plays = record { runs = λ all earlier told. tells_done [] (alone ++ run_of kind events ∷ []) earlier new ((plays.runs all).1 earlier told) }
+    all_run old new outcome plays = record { runs = λ all earlier told. tells_done [] (alone ++ run_of kind events ∷ []) earlier new (plays.runs all earlier told) }
 
 module _ (reading : Reading) (p : Proxy) (kind : Kind) (solo : ℕ → List Event) (clients turns : ℕ) (events : List Event) (summary : Summary) (lawful : IsLawful reading p solo clients turns events summary) where
   -- where the laws hold, they are the first of the runs that are defined

@@ -1,5 +1,5 @@
 -- What a running rig comes to, as far as no protocol has a part in it. Lists of runs and of events have the newest first.
-use Rattle.std.specs.Prelude.{◌≡◌, ℕ, ◌≤◌, Bool, true, List, [], ◌∷◌, ◌++◌, map, reverse, Option}
+use Rattle.std.specs.Prelude.{◌≡◌, ℕ, ◌≤◌, Bool, true, List, [], ◌∷◌, ◌++◌, length, filter, map, reverse, Option}
 use Rattle.std.specs.List.{range_with_len}
 use Rattle.kit_bytes.specs.declared.kind.Kind.{Kind}
 use Rattle.proxy_history.specs.Events.{Event}
@@ -12,7 +12,7 @@ use Rattle.rig_story.specs.Rows.{Reading, ledger_of}
 use Rattle.rig_story.specs.declared.story.Met.{Met}
 use Rattle.rig_story.specs.Story.{story_of}
 use Rattle.rig_story.specs.Alone.{met_alone}
-use Rattle.rig_notes.specs.Alone.{MayMeetAll}
+use Rattle.rig_notes.specs.Alone.{is_fit_alone}
 use Rattle.rig.specs.declared.text.Outcome.{Outcome}
 
 -- the bench tells these runs more
@@ -29,25 +29,35 @@ run_alone reading p kind story c = run_of kind (met_alone reading p c story)
 abbrev pub runs_alone : Reading → Proxy → Kind → List Met → ℕ → List Run
 runs_alone reading p kind story clients = map (run_alone reading p kind story) (reverse (range_with_len 1 clients))
 
--- what is the client's of a story can be met alone, and is the same
-abbrev pub IsEqual : Reading → Proxy → List Met → ℕ → Type 0
-IsEqual reading p story c = MayMeetAll reading c story p []
+-- what is the client's of a story fits it alone
+abbrev pub is_equal : Reading → Proxy → List Met → ℕ → Bool
+is_equal reading p story c = is_fit_alone reading p c [] story
 
--- one more run, where so it is with the client
+-- with how many of so many clients it is so
+abbrev pub equal_of : Reading → Proxy → List Met → (clients : ℕ) → ℕ
+equal_of reading p story clients = length (filter (is_equal reading p story) (range_with_len 1 clients))
+
+-- it is so with each of them
+abbrev pub AreEqual : Reading → Proxy → List Met → (clients : ℕ) → Type 0
+AreEqual reading p story clients = (c : ℕ) → 1 ≤ c → c ≤ clients → is_equal reading p story c ≡ true
+
+-- just where so it is with the client, it is told, and there is one more run
 pub record RunsOne (reading : Reading) (p : Proxy) (kind : Kind) (story : List Met) (c : ℕ) (old new : Option (List Run)) (same : Bool) : Type 0 where
-  pub runs : IsEqual reading p story c → (same ≡ true) × AddsRuns old (run_alone reading p kind story c ∷ []) new
+  pub told : same ≡ is_equal reading p story c
+  pub runs : same ≡ true → AddsRuns old (run_alone reading p kind story c ∷ []) new
 
--- so many more, where so it is with each of these clients
+-- those with whom it is so are counted, and there are so many more runs, where so it is with each
 pub record RunsEach (reading : Reading) (p : Proxy) (kind : Kind) (story : List Met) (clients : ℕ) (old new : Option (List Run)) (equal : ℕ) : Type 0 where
-  pub runs : ((c : ℕ) → 1 ≤ c → c ≤ clients → IsEqual reading p story c) → (equal ≡ clients) × AddsRuns old (runs_alone reading p kind story clients) new
+  pub counted : equal ≡ equal_of reading p story clients
+  pub runs : AreEqual reading p story clients → AddsRuns old (runs_alone reading p kind story clients) new
 
 -- ---- the whole ----
 
--- these events were met, and then each client's part of them alone
+-- these events were met, and then each client's part of them alone; the clients whom it fits are counted
 pub record PlaysRig (reading : Reading) (p : Proxy) (kind : Kind) (clients : ℕ) (events : List Event) (old new : Option (List Run)) (outcome : Outcome) : Type 0 where
   pub counts : outcome.counts ≡ (ledger_of reading p events).counts
-  pub runs : ((c : ℕ) → 1 ≤ c → c ≤ clients → IsEqual reading p (story_of reading p events) c)
-      → (outcome.equal ≡ clients) × AddsRuns old (runs_alone reading p kind (story_of reading p events) clients ++ run_of kind events ∷ []) new
+  pub equal : outcome.equal ≡ equal_of reading p (story_of reading p events) clients
+  pub runs : AreEqual reading p (story_of reading p events) clients → AddsRuns old (runs_alone reading p kind (story_of reading p events) clients ++ run_of kind events ∷ []) new
 
 -- the summary of an outcome; nothing that a client of a rig meets tells of others, so all of them are counted
 abbrev pub summed : (clients turns : ℕ) → Outcome → Summary

@@ -1,5 +1,5 @@
 -- What a running rig comes to where memory runs out, as far as no protocol has a part in it. Lists of runs and of events have the newest first.
-use Rattle.std.specs.Prelude.{ℕ, ◌≤◌, List, [], ◌∷◌, ◌++◌, Option}
+use Rattle.std.specs.Prelude.{ℕ, List, [], ◌∷◌, ◌++◌, Option}
 use Rattle.kit_bytes.specs.declared.kind.Kind.{Kind}
 use Rattle.proxy_history.specs.Events.{Event}
 use Rattle.proxy_history.specs.Proxy.{Proxy}
@@ -11,17 +11,16 @@ use Rattle.rig_story.specs.Story.{story_of}
 use Rattle.rig_story.specs.declared.story.Met.{Met}
 use Rattle.rig_story.specs.Alone.{met_alone}
 use Rattle.rig.specs.Begun.{AddsFirst}
-use Rattle.rig.specs.Playing.{IsEqual, runs_alone}
+use Rattle.rig.specs.Playing.{AreEqual, runs_alone}
 
--- where the client can meet its part alone, there is no run more, or one that is cut short
+-- there is no run more, or one that is cut short
 pub record StopsOne (reading : Reading) (p : Proxy) (kind : Kind) (story : List Met) (c : ℕ) (old new : Option (List Run)) : Type 0 where
-  pub runs : IsEqual reading p story c → (earlier : List Run) → AreTold old earlier → StopsEarly (run_of kind []) earlier (met_alone reading p c story) new
+  pub runs : (earlier : List Run) → AreTold old earlier → StopsEarly (run_of kind []) earlier (met_alone reading p c story) new
 
--- where each can, the runs more are those of the first clients
+-- where it is the same for each client, the runs more are those of the first
 pub record StopsEach (reading : Reading) (p : Proxy) (kind : Kind) (story : List Met) (clients : ℕ) (old new : Option (List Run)) : Type 0 where
-  pub runs : ((c : ℕ) → 1 ≤ c → c ≤ clients → IsEqual reading p story c) → AddsFirst old (runs_alone reading p kind story clients) new
+  pub runs : AreEqual reading p story clients → AddsFirst old (runs_alone reading p kind story clients) new
 
 -- the whole
 pub record StopsRig (reading : Reading) (p : Proxy) (kind : Kind) (clients : ℕ) (events : List Event) (old new : Option (List Run)) : Type 0 where
-  pub runs : ((c : ℕ) → 1 ≤ c → c ≤ clients → IsEqual reading p (story_of reading p events) c)
-      → AddsFirst old (runs_alone reading p kind (story_of reading p events) clients ++ run_of kind events ∷ []) new
+  pub runs : AreEqual reading p (story_of reading p events) clients → AddsFirst old (runs_alone reading p kind (story_of reading p events) clients ++ run_of kind events ∷ []) new

@@ -1,10 +1,5 @@
-ghost use Rattle.std.specs.Prelude.{◌≡◌, ◌≤◌, ◌<◌, ◌++◌, ◌∷◌, [], List, IfOk, OnOk, OnErr};
-ghost use Rattle.core_bench.specs.Runs.{Run};
-ghost use Rattle.rig_stage.specs.Ready.{IsReady};
-ghost use Rattle.rig_story.specs.Rows.{ledger_of};
-ghost use Rattle.rig_story.specs.Story.{story_of};
-ghost use Rattle.rig_play.specs.Runs.{run_of};
-ghost use Rattle.rig.specs.Playing.{AddsRuns, RunsEach, RunsOne, PlaysRig};
+ghost use Rattle.std.specs.Prelude.{◌≤◌, ◌<◌, IfOk, OnErr};
+ghost use Rattle.rig.specs.Playing.{RunsEach, RunsOne, PlaysRig};
 ghost use Rattle.rig.specs.Stopping.{StopsEach, StopsOne, StopsRig};
 
 use crate::text::Outcome;
@@ -85,5 +80,5 @@ fn is_equal<P: Protocol, R: Reading, B: Bench>(
     ensures stops { OnErr result (StopsOne R.reading P.proxy P.kind story.now conn (B.runs noting.old.bench) (B.runs noting.new.bench)) }
 {
     open_core::<P, Noting<R, B>>(alloc, noting)?;
-    run_alone(noting, alloc, conn, story)
+    run_alone(alloc, noting, conn, story)
 }

@@ -1,3 +1,4 @@
+pub mod Fitting
 pub mod Meeting
 pub mod Noted
 pub mod Sound

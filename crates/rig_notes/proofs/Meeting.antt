@@ -1,8 +1,10 @@
 -- What a client meets alone, and what runs then. Lists of runs and of events have the newest first, and a story is told in its order.
-use Rattle.std.proofs.Common.{◌≡◌, ℕ, zero, suc, ◌≤◌, Bool, true, false, ◌==◌, if◌then◌else◌, List, [], ◌∷◌, fold, length, take, Option, Some, None, refl, sym, ap, ◌∙◌, subst, arith}
-use Rattle.std.proofs.lemmas.Bool.{eqb-true}
-use Rattle.std.proofs.lemmas.List.{length-take}
-use Rattle.proxy_history.specs.Events.{Event, Joined, Piece, Left, ModemPiece, ModemGone, ModemBack, Now, Took, ModemTook}
+use Rattle.std.proofs.Common.{◌≡◌, ℕ, zero, suc, ◌+◌, ◌<◌, Bool, true, false, ◌==◌, ◌&&◌, nat_eq, nat_le, if◌then◌else◌, List, [], ◌∷◌, fold, get_or, drop, length, Option, Some, None, refl, sym, ap, ◌∙◌, subst}
+use Rattle.std.specs.List.{starts_with}
+use Rattle.std.proofs.Math.Dec.{eqb-suc-zero}
+use Rattle.std.proofs.lemmas.Bool.{eq-eqb, false≢true}
+use Rattle.std.proofs.lemmas.List.{drop_more}
+use Rattle.proxy_history.specs.Events.{Event, Joined, Piece, ModemPiece, Now, Took, ModemTook}
 use Rattle.proxy_history.specs.Coming.{piece_limit}
 use Rattle.proxy_history.specs.Connections.{contains}
 use Rattle.proxy_history.specs.Proxy.{Proxy}
@@ -14,243 +16,214 @@ use Rattle.rig_stage.specs.Running.{Runs, Moves}
 use Rattle.rig_story.specs.Rows.{Reading, Ledger, number_at}
 use Rattle.rig_story.specs.declared.Met.{Met}
 use Rattle.rig_story.specs.declared.Met.TheVariants.{Came, Said, Heard, Collected, Passed}
-use Rattle.rig_story.specs.Alone.{meets, hears, own_number, meet_met, met_alone, IsShort, IsSame, IsSameAlone}
+use Rattle.rig_story.specs.Alone.{meets, hears, own_number, meet_met, met_alone}
 use Rattle.rig_notes.specs.declared.noting.Noting.{Noting}
 use Rattle.rig_notes.specs.Noting.{Keeps}
-use Rattle.rig_notes.specs.Alone.{TakesWhatWaits, is_met, GoesOn, MayCollect, MayMeet, MayMeetAll}
+use Rattle.rig_notes.specs.Alone.{is_met, queue_for, is_short, is_fit, is_fit_alone, GoesOn}
 
 -- ---- what runs ----
 
 module _ {B : Type 0} {keeps : Proxy → List Event → B → Type 0} {tells : B → Option (List Run)} where
-  -- it is the same, and goes on
-  pub comes : {old new : B} {May : Proxy → List Event → Type 0} {goes_on : Proxy → List Event → List Event} → Moves keeps tells goes_on old new → GoesOn keeps tells May goes_on old new true
-  comes moves = record { runs = λ p opened earlier past r may. (refl, moves.runs p opened earlier past r) }
+  -- it fits, and goes on
+  pub comes : {old new : B} {fits : Proxy → List Event → Bool} {goes_on : Proxy → List Event → List Event} → ((p : Proxy) (past : List Event) → keeps p past old → true ≡ fits p past)
+      → Moves keeps tells goes_on old new → GoesOn keeps tells fits goes_on old new true
+  comes fitting moves = record { told = fitting; runs = λ p opened earlier past r is. moves.runs p opened earlier past r }
 
-  -- it isn't the same, where it can't be so
-  pub refused : {old new : B} {May : Proxy → List Event → Type 0} {goes_on : Proxy → List Event → List Event} → ((p : Proxy) (past : List Event) → keeps p past old → May p past → ⊥) → GoesOn keeps tells May goes_on old new false
-  refused never = record { runs = λ p opened earlier past r may. absurd (never p past r.kept may) }
+  -- it doesn't
+  pub refused : {old new : B} {fits : Proxy → List Event → Bool} {goes_on : Proxy → List Event → List Event} → ((p : Proxy) (past : List Event) → keeps p past old → false ≡ fits p past) → GoesOn keeps tells fits goes_on old new false
+  refused unfitting = record { told = unfitting; runs = λ p opened earlier past r is. absurd (false≢true is) }
 
   -- the same in other words
-  pub goes_on_as : {old new : B} {same : Bool} {First : Proxy → List Event → Type 0} (May : Proxy → List Event → Type 0) {first : Proxy → List Event → List Event} (second : Proxy → List Event → List Event)
-      → ((p : Proxy) (past : List Event) → keeps p past old → May p past → First p past) → ((p : Proxy) (past : List Event) → keeps p past old → May p past → first p past ≡ second p past)
-      → GoesOn keeps tells First first old new same → GoesOn keeps tells May second old new same
-  goes_on_as {new = new} May second allows same one = record {
-    runs = λ p opened earlier past r may.
-        let it = one.runs p opened earlier past r (allows p past r.kept may) in
-        (it.0, subst (λ events. Runs keeps tells p opened earlier events new) (same p past r.kept may) it.1);
+  pub goes_on_as : {old new : B} {same : Bool} {first_fits : Proxy → List Event → Bool} (fits : Proxy → List Event → Bool) {first : Proxy → List Event → List Event} (second : Proxy → List Event → List Event)
+      → ((p : Proxy) (past : List Event) → keeps p past old → first_fits p past ≡ fits p past) → ((p : Proxy) (past : List Event) → keeps p past old → first p past ≡ second p past)
+      → GoesOn keeps tells first_fits first old new same → GoesOn keeps tells fits second old new same
+  goes_on_as {new = new} fits second fitting same one = record {
+    told = λ p past kept. one.told p past kept ∙ fitting p past kept;
+    runs = λ p opened earlier past r is. subst (λ events. Runs keeps tells p opened earlier events new) (same p past r.kept) (one.runs p opened earlier past r is);
   }
-
--- ---- what is taken ----
-
-taking_earlier : (p : Proxy) (count : ℕ) (events : List Event) → TakesWhatWaits p (taking (λ n. ModemTook n) count events) → TakesWhatWaits p events
-taking_earlier p zero events takes = takes
-taking_earlier p (suc count) events takes = takes
-
-event_earlier : (p : Proxy) (event : Event) (own : List Event) → TakesWhatWaits p (event ∷ own) → TakesWhatWaits p own
-event_earlier p (Joined c) own takes = takes
-event_earlier p (Piece c bytes) own takes = takes
-event_earlier p (Left c) own takes = takes
-event_earlier p (ModemPiece bytes) own takes = takes
-event_earlier p ModemGone own takes = takes
-event_earlier p ModemBack own takes = takes
-event_earlier p (Now time) own takes = takes
-event_earlier p (Took c count) own takes = takes.1
-event_earlier p (ModemTook count) own takes = takes
-
-meets_earlier : (p : Proxy) (event : Event) (own : List Event) → TakesWhatWaits p (meets p event own) → TakesWhatWaits p (event ∷ own)
-meets_earlier p event own takes = taking_earlier p (length (p.waiting_for_modem (event ∷ own))) (event ∷ own) takes
-
-met_if_earlier : (p : Proxy) (test : Bool) (met own : List Event) → (TakesWhatWaits p met → TakesWhatWaits p own) → TakesWhatWaits p (if test then met else own) → TakesWhatWaits p own
-met_if_earlier p true met own earlier takes = earlier takes
-met_if_earlier p false met own earlier takes = takes
-
-module _ (reading : Reading) (p : Proxy) (c : ℕ) where
-  hears_earlier : (number : Option ℕ) (m : List ℕ) (own : List Event) → TakesWhatWaits p (hears reading p number m own) → TakesWhatWaits p own
-  hears_earlier None m own takes = takes
-  hears_earlier (Some number) m own takes = event_earlier p (ModemPiece (reading.with_number number m)) own (meets_earlier p (ModemPiece (reading.with_number number m)) own takes)
-
-  met_earlier : (met : Met) (own : List Event) → TakesWhatWaits p (meet_met reading p c own met) → TakesWhatWaits p own
-  met_earlier (Came d) own takes = met_if_earlier p (d == c) _ own (λ t. event_earlier p (Joined c) own (meets_earlier p (Joined c) own t)) takes
-  met_earlier (Said d m) own takes = met_if_earlier p (d == c) _ own (λ t. event_earlier p (Piece c m) own (meets_earlier p (Piece c m) own t)) takes
-  met_earlier (Heard d place m) own takes = met_if_earlier p (d == c) _ own (hears_earlier (own_number reading p c place own) m own) takes
-  met_earlier (Collected d bytes) own takes = met_if_earlier p (d == c) _ own (λ t. event_earlier p (Took c (length bytes)) own (meets_earlier p (Took c (length bytes)) own t)) takes
-  met_earlier (Passed time) own takes = event_earlier p (Now time) own (meets_earlier p (Now time) own takes)
-
-  all_earlier : (story : List Met) (own : List Event) → TakesWhatWaits p (fold (meet_met reading p c) own story) → TakesWhatWaits p own
-  all_earlier [] own takes = takes
-  all_earlier (met ∷ story) own takes = met_earlier met own (all_earlier story (meet_met reading p c own met) takes)
 
 -- ---- whether something was met ----
 
-taken_some : (count : ℕ) (event : Event) (own : List Event) → taking (λ n. ModemTook n) count (event ∷ own) ≡ [] → ⊥
-taken_some zero event own none = absurd cc
-taken_some (suc count) event own none = absurd cc
+taken_some : (count : ℕ) (event : Event) (own : List Event) → (length (taking (λ n. ModemTook n) count (event ∷ own)) == 0) ≡ false
+taken_some zero event own = eqb-suc-zero (length own)
+taken_some (suc count) event own = eqb-suc-zero (length (event ∷ own))
 
-some_met : (p : Proxy) (event : Event) (own : List Event) → meets p event own ≡ [] → ⊥
-some_met p event own none = taken_some (length (p.waiting_for_modem (event ∷ own))) event own none
-
--- ---- which events it comes to ----
-
-pub met_as : (test : Bool) (met own : List Event) → test ≡ true → (if test then met else own) ≡ met
-met_as test met own is = ap (λ t. if t then met else own) is
-
-unmet_as : (test : Bool) (met own : List Event) → test ≡ false → (if test then met else own) ≡ own
-unmet_as test met own is = ap (λ t. if t then met else own) is
-
-module _ (reading : Reading) (p : Proxy) (c : ℕ) (own : List Event) where
-  pub unmet : (met : Met) → is_met c met ≡ false → meet_met reading p c own met ≡ own
-  unmet (Came d) other = unmet_as (d == c) _ own other
-  unmet (Said d m) other = unmet_as (d == c) _ own other
-  unmet (Heard d place m) other = unmet_as (d == c) _ own other
-  unmet (Collected d bytes) other = unmet_as (d == c) _ own other
-  unmet (Passed time) other = absurd cc
-
-  some_heard : (number : Option ℕ) (m : List ℕ) → IsShort reading number m → hears reading p number m own ≡ [] → ⊥
-  some_heard None m short none = short
-  some_heard (Some number) m short none = some_met p (ModemPiece (reading.with_number number m)) own none
-
-  something_met : (met : Met) → is_met c met ≡ true → IsSame reading p c own met → meet_met reading p c own met ≡ [] → ⊥
-  something_met (Came d) mine same none = some_met p (Joined c) own (sym (met_as (d == c) _ own mine) ∙ none)
-  something_met (Said d m) mine same none = some_met p (Piece c m) own (sym (met_as (d == c) _ own mine) ∙ none)
-  something_met (Heard d place m) mine same none = some_heard (own_number reading p c place own) m (same (eqb-true d c mine)) (sym (met_as (d == c) _ own mine) ∙ none)
-  something_met (Collected d bytes) mine same none = some_met p (Took c (length bytes)) own (sym (met_as (d == c) _ own mine) ∙ none)
-  something_met (Passed time) mine same none = some_met p (Now time) own none
+some_met : (p : Proxy) (event : Event) (own : List Event) → (length (meets p event own) == 0) ≡ false
+some_met p event own = taken_some (length (p.waiting_for_modem (event ∷ own))) event own
 
 -- ---- what is the client's ----
 
-module _ {B : Type 0} {keeps : Proxy → List Event → B → Type 0} {tells : B → Option (List Run)} (reading : Reading) (c : ℕ) (fresh : Bool) {old new : B} {same : Bool} where
-  pub came_goes_on : (d : ℕ) → is_met c (Came d) ≡ true → GoesOn keeps tells (λ p own. fresh ≡ true) (λ p own. meets p (Joined c) own) old new same
-      → GoesOn keeps tells (MayMeet reading c (Came d) fresh) (λ p own. meet_met reading p c own (Came d)) old new same
-  came_goes_on d mine one =
-      goes_on_as (MayMeet reading c (Came d) fresh) (λ p own. meet_met reading p c own (Came d)) (λ p own kept may. may.unmet (may.same (eqb-true d c mine)))
-      (λ p own kept may. sym (met_as (d == c) (meets p (Joined c) own) own mine)) one
+pub mine_is : {X : Type 0} (test : Bool) (mine other : X) → test ≡ true → (if test then mine else other) ≡ mine
+mine_is test mine other is = ap (λ t. if t then mine else other) is
 
-  pub said_goes_on : (d : ℕ) (m : List ℕ) → is_met c (Said d m) ≡ true → GoesOn keeps tells (λ p own. length m ≤ piece_limit) (λ p own. meets p (Piece c m) own) old new same
-      → GoesOn keeps tells (MayMeet reading c (Said d m) fresh) (λ p own. meet_met reading p c own (Said d m)) old new same
+other_is : {X : Type 0} (test : Bool) (mine other : X) → test ≡ false → (if test then mine else other) ≡ other
+other_is test mine other is = ap (λ t. if t then mine else other) is
+
+module _ (reading : Reading) (p : Proxy) (c : ℕ) (fresh : Bool) (own : List Event) where
+  unmet : (met : Met) → is_met c met ≡ false → meet_met reading p c own met ≡ own
+  unmet (Came d) other = other_is (d == c) _ own other
+  unmet (Said d m) other = other_is (d == c) _ own other
+  unmet (Heard d place m) other = other_is (d == c) _ own other
+  unmet (Collected d bytes) other = other_is (d == c) _ own other
+  unmet (Passed time) other = absurd (false≢true (sym other))
+
+  unmet_fits : (met : Met) → is_met c met ≡ false → is_fit reading p c fresh own met ≡ true
+  unmet_fits (Came d) other = other_is (d == c) _ true other
+  unmet_fits (Said d m) other = other_is (d == c) _ true other
+  unmet_fits (Heard d place m) other = other_is (d == c) _ true other
+  unmet_fits (Collected d bytes) other = other_is (d == c) _ true other
+  unmet_fits (Passed time) other = refl
+
+  some_heard : (number : Option ℕ) (m : List ℕ) → is_short reading number m ≡ true → (length (hears reading p number m own) == 0) ≡ false
+  some_heard None m short = absurd (false≢true short)
+  some_heard (Some number) m short = some_met p (ModemPiece (reading.with_number number m)) own
+
+  met_some : (test : Bool) (met : List Event) → test ≡ true → (length met == 0) ≡ false → (length (if test then met else own) == 0) ≡ false
+  met_some test met is some = ap (λ (events : List Event). length events == 0) (mine_is test met own is) ∙ some
+
+  something_met : (met : Met) → is_met c met ≡ true → is_fit reading p c fresh own met ≡ true → (length (meet_met reading p c own met) == 0) ≡ false
+  something_met (Came d) mine fit = met_some (d == c) _ mine (some_met p (Joined c) own)
+  something_met (Said d m) mine fit = met_some (d == c) _ mine (some_met p (Piece c m) own)
+  something_met (Heard d place m) mine fit =
+      let number : Option ℕ = own_number reading p c place own in
+      met_some (d == c) _ mine (some_heard number m (sym (mine_is (d == c) (is_short reading number m) true mine) ∙ fit))
+  something_met (Collected d bytes) mine fit = met_some (d == c) _ mine (some_met p (Took c (length bytes)) own)
+  something_met (Passed time) mine fit = some_met p (Now time) own
+
+module _ {B : Type 0} {keeps : Proxy → List Event → B → Type 0} {tells : B → Option (List Run)} (reading : Reading) (c : ℕ) (fresh : Bool) {old new : B} {same : Bool} where
+  pub came_goes_on : (d : ℕ) → is_met c (Came d) ≡ true → GoesOn keeps tells (λ p own. fresh) (λ p own. meets p (Joined c) own) old new same
+      → GoesOn keeps tells (λ p own. is_fit reading p c fresh own (Came d)) (λ p own. meet_met reading p c own (Came d)) old new same
+  came_goes_on d mine one =
+      goes_on_as (λ p own. is_fit reading p c fresh own (Came d)) (λ p own. meet_met reading p c own (Came d)) (λ p own kept. sym (mine_is (d == c) fresh true mine))
+      (λ p own kept. sym (mine_is (d == c) (meets p (Joined c) own) own mine)) one
+
+  pub said_goes_on : (d : ℕ) (m : List ℕ) → is_met c (Said d m) ≡ true → GoesOn keeps tells (λ p own. nat_le (length m) piece_limit) (λ p own. meets p (Piece c m) own) old new same
+      → GoesOn keeps tells (λ p own. is_fit reading p c fresh own (Said d m)) (λ p own. meet_met reading p c own (Said d m)) old new same
   said_goes_on d m mine one =
-      goes_on_as (MayMeet reading c (Said d m) fresh) (λ p own. meet_met reading p c own (Said d m)) (λ p own kept may. may.same (eqb-true d c mine))
-      (λ p own kept may. sym (met_as (d == c) (meets p (Piece c m) own) own mine)) one
+      goes_on_as (λ p own. is_fit reading p c fresh own (Said d m)) (λ p own. meet_met reading p c own (Said d m)) (λ p own kept. sym (mine_is (d == c) (nat_le (length m) piece_limit) true mine))
+      (λ p own kept. sym (mine_is (d == c) (meets p (Piece c m) own) own mine)) one
 
   pub heard_goes_on : (d place : ℕ) (m : List ℕ) → is_met c (Heard d place m) ≡ true
-      → GoesOn keeps tells (λ p own. IsShort reading (own_number reading p c place own) m) (λ p own. hears reading p (own_number reading p c place own) m own) old new same
-      → GoesOn keeps tells (MayMeet reading c (Heard d place m) fresh) (λ p own. meet_met reading p c own (Heard d place m)) old new same
+      → GoesOn keeps tells (λ p own. is_short reading (own_number reading p c place own) m) (λ p own. hears reading p (own_number reading p c place own) m own) old new same
+      → GoesOn keeps tells (λ p own. is_fit reading p c fresh own (Heard d place m)) (λ p own. meet_met reading p c own (Heard d place m)) old new same
   heard_goes_on d place m mine one =
-      goes_on_as (MayMeet reading c (Heard d place m) fresh) (λ p own. meet_met reading p c own (Heard d place m)) (λ p own kept may. may.same (eqb-true d c mine))
-      (λ p own kept may. sym (met_as (d == c) (hears reading p (own_number reading p c place own) m own) own mine)) one
+      goes_on_as (λ p own. is_fit reading p c fresh own (Heard d place m)) (λ p own. meet_met reading p c own (Heard d place m))
+      (λ p own kept. sym (mine_is (d == c) (is_short reading (own_number reading p c place own) m) true mine))
+      (λ p own kept. sym (mine_is (d == c) (hears reading p (own_number reading p c place own) m own) own mine)) one
 
-  pub collected_goes_on : (d : ℕ) (bytes : List ℕ) → is_met c (Collected d bytes) ≡ true → GoesOn keeps tells (MayCollect c bytes) (λ p own. meets p (Took c (length bytes)) own) old new same
-      → GoesOn keeps tells (MayMeet reading c (Collected d bytes) fresh) (λ p own. meet_met reading p c own (Collected d bytes)) old new same
+  pub collected_goes_on : (d : ℕ) (bytes : List ℕ) → is_met c (Collected d bytes) ≡ true
+      → GoesOn keeps tells (λ p own. starts_with nat_eq (queue_for p c own) bytes) (λ p own. meets p (Took c (length bytes)) own) old new same
+      → GoesOn keeps tells (λ p own. is_fit reading p c fresh own (Collected d bytes)) (λ p own. meet_met reading p c own (Collected d bytes)) old new same
   collected_goes_on d bytes mine one =
-      let is : (p : Proxy) (own : List Event) → meet_met reading p c own (Collected d bytes) ≡ meets p (Took c (length bytes)) own =
-      λ p own. met_as (d == c) (meets p (Took c (length bytes)) own) own mine
-      in
-      goes_on_as (MayMeet reading c (Collected d bytes) fresh) (λ p own. meet_met reading p c own (Collected d bytes))
-      (λ p own kept may. record {
-        same = may.same (eqb-true d c mine);
-        within = (meets_earlier p (Took c (length bytes)) own (subst (TakesWhatWaits p) (is p own) may.takes)).0;
-      }) (λ p own kept may. sym (is p own)) one
+      goes_on_as (λ p own. is_fit reading p c fresh own (Collected d bytes)) (λ p own. meet_met reading p c own (Collected d bytes))
+      (λ p own kept. sym (mine_is (d == c) (starts_with nat_eq (queue_for p c own) bytes) true mine))
+      (λ p own kept. sym (mine_is (d == c) (meets p (Took c (length bytes)) own) own mine)) one
 
--- an answer comes under the number that the ledger tells
-pub answers_as : {R B : Type 0} {keeps : Proxy → List Event → B → Type 0} {tells : Noting R B → Option (List Run)} (reading : Reading) (c place : ℕ) (m : List ℕ) (number : ℕ) (old : Noting R B) (answer : List ℕ) {new : Noting R B} {same : Bool}
-    → old.notes.failed ≡ false → number_at c place old.notes.ledger.rows ≡ Some number → answer ≡ reading.with_number number m
-    → GoesOn (Keeps reading keeps) tells (λ p own. length answer ≤ piece_limit) (λ p own. meets p (ModemPiece answer) own) old new same
-    → GoesOn (Keeps reading keeps) tells (λ p own. IsShort reading (own_number reading p c place own) m) (λ p own. hears reading p (own_number reading p c place own) m own) old new same
-answers_as {keeps = keeps} reading c place m number old answer ok found is one =
-    let own_is : (p : Proxy) (own : List Event) → Keeps reading keeps p own old → own_number reading p c place own ≡ Some number =
-    λ p own kept. ap (λ (ledger : Ledger). number_at c place ledger.rows) (sym (kept.noted.ledger ok)) ∙ found
-    in
-    goes_on_as (λ p own. IsShort reading (own_number reading p c place own) m) (λ p own. hears reading p (own_number reading p c place own) m own)
-    (λ p own kept short. subst (λ bytes. length bytes ≤ piece_limit) (sym is) (subst (λ (n : Option ℕ). IsShort reading n m) (own_is p own kept) short))
-    (λ p own kept short. ap (λ bytes. meets p (ModemPiece bytes) own) is ∙ sym (ap (λ n. hears reading p n m own) (own_is p own kept))) one
+-- ---- an answer ----
+
+-- the ledger tells the number
+number_is : {R B : Type 0} {keeps : Proxy → List Event → B → Type 0} (reading : Reading) (c place : ℕ) (old : Noting R B) → old.notes.failed ≡ false → (number : Option ℕ) → number_at c place old.notes.ledger.rows ≡ number
+    → (p : Proxy) (own : List Event) → Keeps reading keeps p own old → own_number reading p c place own ≡ number
+number_is reading c place old ok number found p own kept = ap (λ (ledger : Ledger). number_at c place ledger.rows) (sym (kept.noted.ledger ok)) ∙ found
+
+module _ {R B : Type 0} {keeps : Proxy → List Event → B → Type 0} {tells : Noting R B → Option (List Run)} (reading : Reading) (c place : ℕ) (m : List ℕ) (old : Noting R B) (ok : old.notes.failed ≡ false) where
+  -- it comes under that one
+  pub answers_as : (number : ℕ) (answer : List ℕ) {new : Noting R B} {same : Bool} → number_at c place old.notes.ledger.rows ≡ Some number → answer ≡ reading.with_number number m
+      → GoesOn (Keeps reading keeps) tells (λ p own. nat_le (length answer) piece_limit) (λ p own. meets p (ModemPiece answer) own) old new same
+      → GoesOn (Keeps reading keeps) tells (λ p own. is_short reading (own_number reading p c place own) m) (λ p own. hears reading p (own_number reading p c place own) m own) old new same
+  answers_as number answer found is one =
+      goes_on_as (λ p own. is_short reading (own_number reading p c place own) m) (λ p own. hears reading p (own_number reading p c place own) m own)
+      (λ p own kept. ap (λ (bytes : List ℕ). nat_le (length bytes) piece_limit) is ∙ sym (ap (λ n. is_short reading n m) (number_is reading c place old ok (Some number) found p own kept)))
+      (λ p own kept. ap (λ bytes. meets p (ModemPiece bytes) own) is ∙ sym (ap (λ n. hears reading p n m own) (number_is reading c place old ok (Some number) found p own kept))) one
+
+  -- there is none
+  pub not_asked : {new : Noting R B} → number_at c place old.notes.ledger.rows ≡ None
+      → GoesOn (Keeps reading keeps) tells (λ p own. is_short reading (own_number reading p c place own) m) (λ p own. hears reading p (own_number reading p c place own) m own) old new false
+  not_asked none = refused (λ p own kept. sym (ap (λ n. is_short reading n m) (number_is reading c place old ok None none p own kept)))
 
 -- ---- a story, met by met ----
 
--- of the story the client met its part but for what is left
+-- of the story the client met its part but for what is left, and that fitted it
 pub record HasMet {B : Type 0} (keeps : Proxy → List Event → B → Type 0) (tells : B → Option (List Run)) (reading : Reading) (c : ℕ) (story rest : List Met) (fresh : Bool)
     (p : Proxy) (opened : Run) (earlier : List Run) (bench : B) : Type 0 where
   pub own : List Event
   pub runs : Runs keeps tells p opened earlier own bench
-  pub same : IsSameAlone reading p c own rest
-  pub takes : TakesWhatWaits p (fold (meet_met reading p c) own rest)
+  pub fits : is_fit_alone reading p c own rest ≡ is_fit_alone reading p c [] story
   pub whole : fold (meet_met reading p c) own rest ≡ met_alone reading p c story
-  pub unmet : own ≡ [] → fresh ≡ true
+  pub unmet : fresh ≡ (length own == 0)
 
-same_first : (reading : Reading) (p : Proxy) (c : ℕ) (own : List Event) (met : Met) (more : List Met) → IsSameAlone reading p c own (met ∷ more)
-    → IsSame reading p c own met × IsSameAlone reading p c (meet_met reading p c own met) more
-unfolding IsSameAlone
-same_first reading p c own met more same = same
+-- what is met fits it, or not
+fits_first : (reading : Reading) (p : Proxy) (c : ℕ) (own : List Event) (met : Met) (more : List Met) (fresh fit : Bool) → fresh ≡ (length own == 0) → is_fit reading p c fresh own met ≡ fit
+    → is_fit_alone reading p c own (met ∷ more) ≡ (fit && is_fit_alone reading p c (meet_met reading p c own met) more)
+unfolding is_fit_alone
+fits_first reading p c own met more fresh fit nothing is = ap (λ b. b && is_fit_alone reading p c (meet_met reading p c own met) more) (ap (λ f. is_fit reading p c f own met) (sym nothing) ∙ is)
 
-same_last : (reading : Reading) (p : Proxy) (c : ℕ) (own : List Event) → IsSameAlone reading p c own [] → p.waiting c own ≡ []
-unfolding IsSameAlone
-same_last reading p c own same = same
+fits_last : (reading : Reading) (p : Proxy) (c : ℕ) (own : List Event) → is_fit_alone reading p c own [] ≡ (length (queue_for p c own) == 0)
+unfolding is_fit_alone
+fits_last reading p c own = refl
+
+-- this is the next
+pub next_is : (story : List Met) (place : ℕ) (found met : Met) → place < length story → met ≡ get_or story place found → drop place story ≡ met ∷ drop (place + 1) story
+next_is story place found met within is = drop_more story place found within ∙ ap (λ m. m ∷ drop (place + 1) story) (sym is)
 
 module _ {B : Type 0} {keeps : Proxy → List Event → B → Type 0} {tells : B → Option (List Run)} (reading : Reading) (c : ℕ) (story : List Met) (p : Proxy) (opened : Run) (earlier : List Run) where
-  pub nothing_met : (past : List Event) (bench : B) → Runs keeps tells p opened earlier past bench → MayMeetAll reading c story p past → HasMet keeps tells reading c story story true p opened earlier bench
-  nothing_met past bench runs may = record {
-    own = [];
-    runs = subst (λ events. Runs keeps tells p opened earlier events bench) may.opened runs;
-    same = may.same;
-    takes = may.takes;
-    whole = refl;
-    unmet = λ none. refl;
-  }
+  pub nothing_met : (bench : B) → Runs keeps tells p opened earlier [] bench → HasMet keeps tells reading c story story true p opened earlier bench
+  nothing_met bench runs = record { own = []; runs = runs; fits = refl; whole = refl; unmet = sym (eq-eqb 0 0 refl) }
 
-  pub meets_one : (met : Met) (rest more : List Met) (fresh later : Bool) (old new : B) (same : Bool) → HasMet keeps tells reading c story rest fresh p opened earlier old → rest ≡ met ∷ more
-      → GoesOn keeps tells (MayMeet reading c met fresh) (λ p own. meet_met reading p c own met) old new same → (fresh ≡ true → is_met c met ≡ false → later ≡ true)
-      → (same ≡ true) × HasMet keeps tells reading c story more later p opened earlier new
-  meets_one met rest more fresh later old new same has is goes_on stays =
-      let own : List Event = meet_met reading p c has.own met in
-      let first : IsSame reading p c has.own met × IsSameAlone reading p c own more = same_first reading p c has.own met more (subst (IsSameAlone reading p c has.own) is has.same) in
-      let takes : TakesWhatWaits p (fold (meet_met reading p c) own more) = subst (λ left. TakesWhatWaits p (fold (meet_met reading p c) has.own left)) is has.takes in
-      let it : (same ≡ true) × Runs keeps tells p opened earlier own new =
-      goes_on.runs p opened earlier has.own has.runs (record { same = first.0; unmet = has.unmet; takes = all_earlier reading p c more own takes }) in
-      let freshly : (b : Bool) → is_met c met ≡ b → own ≡ [] → later ≡ true = elim [
-        | true ↦ λ mine none. absurd (something_met reading p c has.own met mine first.0 none)
-        | false ↦ λ other none. stays (has.unmet (sym (unmet reading p c has.own met other) ∙ none)) other
-      ] in (
-        it.0,
+  -- this is the next that is met
+  pub goes_to : (rest : List Met) (met : Met) (more : List Met) (fresh : Bool) (bench : B) → rest ≡ met ∷ more → HasMet keeps tells reading c story rest fresh p opened earlier bench → HasMet keeps tells reading c story (met ∷ more) fresh p opened earlier bench
+  goes_to rest met more fresh bench is has = subst (λ left. HasMet keeps tells reading c story left fresh p opened earlier bench) is has
+
+  -- it is another client's
+  pub meets_none : (met : Met) (more : List Met) (fresh : Bool) (bench : B) → is_met c met ≡ false → HasMet keeps tells reading c story (met ∷ more) fresh p opened earlier bench → HasMet keeps tells reading c story more fresh p opened earlier bench
+  meets_none met more fresh bench other has =
+      let same : meet_met reading p c has.own met ≡ has.own = unmet reading p c fresh has.own met other in
+      record {
+        own = has.own;
+        runs = has.runs;
+        fits =
+            sym (ap (λ own. is_fit_alone reading p c own more) same)
+            ∙ sym (fits_first reading p c has.own met more fresh true has.unmet (unmet_fits reading p c fresh has.own met other)) ∙ has.fits;
+        whole = sym (ap (λ own. fold (meet_met reading p c) own more) same) ∙ has.whole;
+        unmet = has.unmet;
+      }
+
+  module _ (met : Met) (more : List Met) (fresh : Bool) (old new : B) (same : Bool) (mine : is_met c met ≡ true)
+      (goes : GoesOn keeps tells (λ p own. is_fit reading p c fresh own met) (λ p own. meet_met reading p c own met) old new same)
+      (has : HasMet keeps tells reading c story (met ∷ more) fresh p opened earlier old) where
+    -- it is the client's, and fits it
+    pub meets_one : same ≡ true → HasMet keeps tells reading c story more false p opened earlier new
+    meets_one is =
+        let fit : is_fit reading p c fresh has.own met ≡ true = sym (goes.told p has.own has.runs.kept) ∙ is in
         record {
-          own = own;
-          runs = it.1;
-          same = first.1;
-          takes = takes;
-          whole = sym (ap (fold (meet_met reading p c) has.own) is) ∙ has.whole;
-          unmet = freshly (is_met c met) refl;
-        },
-      )
+          own = meet_met reading p c has.own met;
+          runs = goes.runs p opened earlier has.own has.runs is;
+          fits = sym (fits_first reading p c has.own met more fresh true has.unmet fit) ∙ has.fits;
+          whole = has.whole;
+          unmet = sym (something_met reading p c fresh has.own met mine fit);
+        }
 
-  pub meets_last : (rest : List Met) (fresh : Bool) (bench : B) → HasMet keeps tells reading c story rest fresh p opened earlier bench → rest ≡ []
-      → (p.waiting c (met_alone reading p c story) ≡ []) × Runs keeps tells p opened earlier (met_alone reading p c story) bench
-  meets_last rest fresh bench has is =
-      let all : has.own ≡ met_alone reading p c story = sym (ap (fold (meet_met reading p c) has.own) is) ∙ has.whole in
-      let last : p.waiting c has.own ≡ [] = same_last reading p c has.own (subst (IsSameAlone reading p c has.own) is has.same) in
-      (subst (λ events. p.waiting c events ≡ []) all last, subst (λ events. Runs keeps tells p opened earlier events bench) all has.runs)
-
-pub none_left : (rest : List Met) → length rest ≡ 0 → rest ≡ []
-none_left [] none = refl
-none_left (met ∷ rest) none = absurd (omega (arith, none))
+    -- it doesn't
+    pub unfit : same ≡ false → same ≡ is_fit_alone reading p c [] story
+    unfit is = is ∙ sym (fits_first reading p c has.own met more fresh false has.unmet (sym (goes.told p has.own has.runs.kept) ∙ is)) ∙ has.fits
 
 -- ---- what waits for the client ----
 
-nothing_taken : (bytes queue : List ℕ) → queue ≡ [] → length bytes ≤ 0 → take (length bytes) queue ≡ bytes
-nothing_taken [] queue none few = refl
-nothing_taken (byte ∷ bytes) queue none few = absurd (omega (arith, few))
-
 -- for a client that isn't there nothing waits
-module _ (p : Proxy) (past : List Event) (face : Face) (c : ℕ) (shows : Shows p past face) (nobody : contains c face.present ≡ false → face.queue c ≡ []) where
-  pub bytes_wait : (bytes : List ℕ) → MayCollect c bytes p past → take (length bytes) (face.queue c) ≡ bytes
-  bytes_wait bytes may =
-      let step : (b : Bool) → contains c (p.present past) ≡ b → take (length bytes) (face.queue c) ≡ bytes = elim [
-        | true ↦ λ is. ap (take (length bytes)) (shows.queue c is) ∙ may.same
-        | false ↦ λ is. nothing_taken bytes (face.queue c) (nobody (ap (contains c) shows.present ∙ is)) (subst (λ count. length bytes ≤ count) (ap (λ b. if b then length (p.waiting c past) else 0) is) may.within)
-      ] in step (contains c (p.present past)) refl
+pub queue_is : (p : Proxy) (past : List Event) (face : Face) (c : ℕ) → Shows p past face → (contains c face.present ≡ false → face.queue c ≡ []) → face.queue c ≡ queue_for p c past
+queue_is p past face c shows nobody =
+    let step : (b : Bool) → contains c (p.present past) ≡ b → face.queue c ≡ (if b then p.waiting c past else []) = elim [
+      | true ↦ λ is. shows.queue c is
+      | false ↦ λ is. nobody (ap (contains c) shows.present ∙ is)
+    ] in step (contains c (p.present past)) refl
 
-  pub nothing_waits : p.waiting c past ≡ [] → face.queue c ≡ []
-  nothing_waits none =
-      let step : (b : Bool) → contains c (p.present past) ≡ b → face.queue c ≡ [] = elim [
-        | true ↦ λ is. shows.queue c is ∙ none
-        | false ↦ λ is. nobody (ap (contains c) shows.present ∙ is)
-      ] in step (contains c (p.present past)) refl
+-- what is left in the end
+module _ {B : Type 0} {keeps : Proxy → List Event → B → Type 0} {tells : B → Option (List Run)} (reading : Reading) (c : ℕ) (story : List Met) (fresh : Bool) (p : Proxy) (opened : Run) (earlier : List Run) (bench : B) (rest : List Met)
+    (is : rest ≡ []) (has : HasMet keeps tells reading c story rest fresh p opened earlier bench) where
+  pub fits_in_the_end : (face : Face) → Shows p has.own face → (contains c face.present ≡ false → face.queue c ≡ []) → (length (face.queue c) == 0) ≡ is_fit_alone reading p c [] story
+  fits_in_the_end face shows nobody =
+      ap (λ (queue : List ℕ). length queue == 0) (queue_is p has.own face c shows nobody)
+      ∙ sym (fits_last reading p c has.own) ∙ sym (ap (is_fit_alone reading p c has.own) is) ∙ has.fits
 
-pub taken_within : (bytes queue : List ℕ) → take (length bytes) queue ≡ bytes → length bytes ≤ length queue
-taken_within bytes queue is = let count : length (take (length bytes) queue) ≡ length bytes = ap length is in omega (arith, count, length-take (length bytes) queue)
+  pub all_met : Runs keeps tells p opened earlier (met_alone reading p c story) bench
+  all_met = subst (λ events. Runs keeps tells p opened earlier events bench) (sym (ap (fold (meet_met reading p c) has.own) is) ∙ has.whole) has.runs

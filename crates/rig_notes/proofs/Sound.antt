@@ -5,7 +5,7 @@ use Rattle.proxy_history.specs.Facts.{Fact}
 use Rattle.proxy_history.specs.Coming.{AreSound}
 use Rattle.proxy_history.specs.Lawful.{proxy_of}
 use Rattle.proxy_history.specs.Protocol.{Protocol}
-use Rattle.rig_notes.specs.Alone.{TakesWhatWaits}
+use Rattle.rig_notes.proofs.Fitting.{TakesWhatWaits}
 
 pub takes_what_waits : {Known : Type 0} (p : Protocol Known) (own : List Fact → ℕ) (events : List Event) → AreSound p events → TakesWhatWaits (proxy_of p own) events
 takes_what_waits p own [] sound = tt

@@ -1,4 +1,3 @@
-pub mod Ledger
 pub mod Notes
 pub mod Noting
 pub mod Alone

@@ -9,7 +9,7 @@ use Rattle.rig_story.specs.declared.Met.{Met}
 pub record Noted : Type 0 where
   pub ledger : Ledger
   pub story : List Met
-  -- memory ran out, so that it isn't known what was left out
+  -- something couldn't be noted, so that it isn't known what was left out
   pub failed : Bool
 
 -- nothing was noted
@@ -28,11 +28,11 @@ with_event reading event asked taken noted = record {
   failed = noted.failed;
 }
 
--- it was noted, unless memory ran out then or before
+-- it was noted, unless something couldn't be noted then or before
 abbrev pub NotesEvent : Reading → Event → (asked taken : List ℕ) → (old new : Noted) → Type 0
 NotesEvent reading event asked taken old new = new.failed ≡ false → new ≡ with_event reading event asked taken old
 
--- just these events were noted, unless memory ran out
+-- just these events were noted, unless something couldn't be noted
 pub record AreNoted (reading : Reading) (p : Proxy) (past : List Event) (noted : Noted) : Type 0 where
   pub ledger : noted.failed ≡ false → noted.ledger ≡ ledger_of reading p past
   pub story : noted.failed ≡ false → noted.story ≡ story_of reading p past

@@ -1,71 +1,50 @@
-ghost use Rattle.std.specs.Prelude.{◌≡◌, ◌↔◌, ◌<◌, ◌≤◌, [], true, false, length, take, IsTrue, OnOk, OnErr, IfOk};
+ghost use Rattle.std.specs.Prelude.{◌≡◌, ◌<◌, ◌≤◌, ◌==◌, true, length, nat_eq, nat_le, OnOk, OnErr, IfOk};
+ghost use Rattle.std.specs.List.{starts_with};
 ghost use Rattle.hub_io.specs.Events.{event_of};
 ghost use Rattle.proxy_history.specs.Events as history;
 ghost use Rattle.proxy_serving.specs.Face.{MayCome};
 ghost use Rattle.rig_stage.specs.Ready.{IsReady};
 ghost use Rattle.rig_stage.specs.Running.{Moves};
-ghost use Rattle.rig_story.specs.Alone.{meets, hears, own_number, meet_met, met_alone, IsShort};
+ghost use Rattle.rig_story.specs.Alone.{meets, hears, own_number, meet_met};
 ghost use Rattle.rig_notes.specs.Noting.{Keeps};
-ghost use Rattle.rig_notes.specs.Alone.{is_met, GoesOn, GoesShort, MayCollect, MayMeet, MayMeetAll};
+ghost use Rattle.rig_notes.specs.Alone.{is_met, is_short, is_fit, queue_for, GoesOn, RunsAlone, StopsAlone};
 
-use crate::slices::begins_with;
 use crate::{Noting, Reading, SHORTEST};
 use core_bench::Bench;
 use framing::LONGEST_PIECE;
 use hub_io::Event;
-use rig_stage::{meet, modem_took};
+use rig_stage::{meet, modem_takes};
 use rig_story::Met;
 use std::alloc::{AllocError, Global};
 
 /// Runs the part of a story that a client meets, alone on a core that was just opened, and says
-/// whether it is the same alone.
+/// whether it is the same alone: whether the client comes once, speaks in one piece, has asked for what
+/// it hears, takes bytes that wait for it just then, and in the end leaves none.
 ///
-/// It fails where memory runs out, also for the notes of what is run.
+/// It fails where memory runs out, where what was run couldn't be noted, and where an answer of the
+/// story has no whole head or its number doesn't fit.
 pub fn run_alone<R: Reading, B: Bench>(
-    bench: &mut Noting<R, B>,
     alloc: Global,
+    bench: &mut Noting<R, B>,
     conn: u64,
     story: &[Met],
 ) -> Result<bool, AllocError>
     requires ready { IsReady (B.is_held bench.old.bench) (B.face bench.old.bench) }
     requires new { (B.face bench.old.bench).greatest < conn }
     ensures ready { OnOk result (IsReady (B.is_held bench.new.bench) (B.face bench.new.bench)) }
-    ensures same { IfOk result (GoesOn (Keeps R.reading B.keeps) (λ s. B.runs s.bench) (MayMeetAll R.reading conn story.now) (λ p past. met_alone R.reading p conn story.now) bench.old bench.new) }
-    ensures stops { OnErr result (GoesShort (Keeps R.reading B.keeps) (λ s. B.runs s.bench) (MayMeetAll R.reading conn story.now) (λ p past. met_alone R.reading p conn story.now) bench.old bench.new) }
+    ensures same { IfOk result (RunsAlone (Keeps R.reading B.keeps) (λ s. B.runs s.bench) R.reading conn story.now bench.old bench.new) }
+    ensures stops { OnErr result (StopsAlone (Keeps R.reading B.keeps) (λ s. B.runs s.bench) R.reading conn story.now bench.old bench.new) }
 {
-    let mut rest = story;
     let mut fresh = true;
-    while let Some((met, more)) = rest.split_first() {
-        if !meet_met(bench, alloc, conn, met, &mut fresh)? {
-            return Ok(false);
+    for met in story {
+        if is_met(conn, met) {
+            if !meet_own(alloc, bench, conn, met, fresh)? {
+                return Ok(false);
+            }
+            fresh = false;
         }
-        rest = more;
     }
     Ok(nothing_waits(bench, conn))
-}
-
-// The client meets something, if it is the client's. Nothing was met so far where it is fresh.
-fn meet_met<R: Reading, B: Bench>(
-    bench: &mut Noting<R, B>,
-    alloc: Global,
-    conn: u64,
-    met: &Met,
-    fresh: &mut bool,
-) -> Result<bool, AllocError>
-    requires ready { IsReady (B.is_held bench.old.bench) (B.face bench.old.bench) }
-    requires new { fresh.old ≡ true → (B.face bench.old.bench).greatest < conn }
-    ensures ready { OnOk result (IsReady (B.is_held bench.new.bench) (B.face bench.new.bench)) }
-    ensures new { OnOk result (fresh.new ≡ true → (B.face bench.new.bench).greatest < conn) }
-    ensures fresh { OnOk result (fresh.old ≡ true → is_met conn met.now ≡ false → fresh.new ≡ true) }
-    ensures same { IfOk result (GoesOn (Keeps R.reading B.keeps) (λ s. B.runs s.bench) (MayMeet R.reading conn met.now fresh.old) (λ p own. meet_met R.reading p conn own met.now) bench.old bench.new) }
-    ensures err { OnErr result (bench.new ≡ bench.old) }
-{
-    if !is_met(conn, met) {
-        return Ok(true);
-    }
-    let nothing_met = *fresh;
-    *fresh = false;
-    meet_own(bench, alloc, conn, met, nothing_met)
 }
 
 // Whether the client meets something where this is met.
@@ -81,10 +60,10 @@ fn is_met(conn: u64, met: &Met) -> bool
     }
 }
 
-// The client meets what is its own.
+// The client meets what is its own. It met nothing so far where it is fresh.
 fn meet_own<R: Reading, B: Bench>(
-    bench: &mut Noting<R, B>,
     alloc: Global,
+    bench: &mut Noting<R, B>,
     conn: u64,
     met: &Met,
     fresh: bool,
@@ -93,13 +72,13 @@ fn meet_own<R: Reading, B: Bench>(
     requires new { fresh ≡ true → (B.face bench.old.bench).greatest < conn }
     requires own { is_met conn met.now ≡ true }
     ensures ready { OnOk result (IsReady (B.is_held bench.new.bench) (B.face bench.new.bench)) }
-    ensures same { IfOk result (GoesOn (Keeps R.reading B.keeps) (λ s. B.runs s.bench) (MayMeet R.reading conn met.now fresh) (λ p own. meet_met R.reading p conn own met.now) bench.old bench.new) }
+    ensures same { IfOk result (GoesOn (Keeps R.reading B.keeps) (λ s. B.runs s.bench) (λ p own. is_fit R.reading p conn fresh own met.now) (λ p own. meet_met R.reading p conn own met.now) bench.old bench.new) }
     ensures err { OnErr result (bench.new ≡ bench.old) }
 {
     match met {
         Met::Came(_) => Ok(come(bench, conn, fresh)),
         Met::Said(_, message) => Ok(say(bench, conn, message.as_slice())),
-        Met::Heard(_, place, message) => hear(bench, alloc, conn, *place, message.as_slice()),
+        Met::Heard(_, place, message) => hear(alloc, bench, conn, *place, message.as_slice()),
         Met::Collected(_, bytes) => Ok(collect(bench, conn, bytes.as_slice())),
         Met::Passed(time) => {
             meets(bench, Event::Now(*time));
@@ -113,7 +92,7 @@ fn come<B: Bench>(bench: &mut B, conn: u64, fresh: bool) -> bool
     requires ready { IsReady (B.is_held bench.old) (B.face bench.old) }
     requires new { fresh ≡ true → (B.face bench.old).greatest < conn }
     ensures ready { IsReady (B.is_held bench.new) (B.face bench.new) }
-    ensures same { GoesOn B.keeps B.runs (λ p own. fresh ≡ true) (λ p own. meets p (history.Joined conn) own) bench.old bench.new result }
+    ensures same { GoesOn B.keeps B.runs (λ p own. fresh) (λ p own. meets p (history.Joined conn) own) bench.old bench.new result }
 {
     if !fresh {
         return false;
@@ -126,7 +105,7 @@ fn come<B: Bench>(bench: &mut B, conn: u64, fresh: bool) -> bool
 fn say<B: Bench>(bench: &mut B, conn: u64, message: &[u8]) -> bool
     requires { IsReady (B.is_held bench.old) (B.face bench.old) }
     ensures ready { IsReady (B.is_held bench.new) (B.face bench.new) }
-    ensures same { GoesOn B.keeps B.runs (λ p own. length message.now ≤ LONGEST_PIECE) (λ p own. meets p (history.Piece conn message.now) own) bench.old bench.new result }
+    ensures same { GoesOn B.keeps B.runs (λ p own. nat_le (length message.now) LONGEST_PIECE) (λ p own. meets p (history.Piece conn message.now) own) bench.old bench.new result }
 {
     if message.len() > LONGEST_PIECE {
         return false;
@@ -138,15 +117,15 @@ fn say<B: Bench>(bench: &mut B, conn: u64, message: &[u8]) -> bool
 // The modem answers to the client's message from this place, if it was asked, under the number that
 // the request has here.
 fn hear<R: Reading, B: Bench>(
-    bench: &mut Noting<R, B>,
     alloc: Global,
+    bench: &mut Noting<R, B>,
     conn: u64,
     place: u64,
     message: &[u8],
 ) -> Result<bool, AllocError>
     requires { IsReady (B.is_held bench.old.bench) (B.face bench.old.bench) }
     ensures ready { OnOk result (IsReady (B.is_held bench.new.bench) (B.face bench.new.bench)) }
-    ensures same { IfOk result (GoesOn (Keeps R.reading B.keeps) (λ s. B.runs s.bench) (λ p own. IsShort R.reading (own_number R.reading p conn place own) message.now) (λ p own. hears R.reading p (own_number R.reading p conn place own) message.now own) bench.old bench.new) }
+    ensures same { IfOk result (GoesOn (Keeps R.reading B.keeps) (λ s. B.runs s.bench) (λ p own. is_short R.reading (own_number R.reading p conn place own) message.now) (λ p own. hears R.reading p (own_number R.reading p conn place own) message.now own) bench.old bench.new) }
     ensures err { OnErr result (bench.new ≡ bench.old) }
 {
     if bench.has_failed() || message.len() < SHORTEST {
@@ -163,7 +142,7 @@ fn hear<R: Reading, B: Bench>(
 fn answer_comes<B: Bench>(bench: &mut B, answer: &[u8]) -> bool
     requires { IsReady (B.is_held bench.old) (B.face bench.old) }
     ensures ready { IsReady (B.is_held bench.new) (B.face bench.new) }
-    ensures same { GoesOn B.keeps B.runs (λ p own. length answer.now ≤ LONGEST_PIECE) (λ p own. meets p (history.ModemPiece answer.now) own) bench.old bench.new result }
+    ensures same { GoesOn B.keeps B.runs (λ p own. nat_le (length answer.now) LONGEST_PIECE) (λ p own. meets p (history.ModemPiece answer.now) own) bench.old bench.new result }
 {
     if answer.len() > LONGEST_PIECE {
         return false;
@@ -176,7 +155,7 @@ fn answer_comes<B: Bench>(bench: &mut B, answer: &[u8]) -> bool
 fn collect<B: Bench>(bench: &mut B, conn: u64, bytes: &[u8]) -> bool
     requires { IsReady (B.is_held bench.old) (B.face bench.old) }
     ensures ready { IsReady (B.is_held bench.new) (B.face bench.new) }
-    ensures same { GoesOn B.keeps B.runs (MayCollect conn bytes.now) (λ p own. meets p (history.Took conn (length bytes.now)) own) bench.old bench.new result }
+    ensures same { GoesOn B.keeps B.runs (λ p own. starts_with nat_eq (queue_for p conn own) bytes.now) (λ p own. meets p (history.Took conn (length bytes.now)) own) bench.old bench.new result }
 {
     if !waits(bench, conn, bytes) {
         return false;
@@ -188,16 +167,17 @@ fn collect<B: Bench>(bench: &mut B, conn: u64, bytes: &[u8]) -> bool
 // Whether what waits for the client begins with these bytes.
 fn waits<B: Bench>(bench: &mut B, conn: u64, bytes: &[u8]) -> bool
     requires { B.is_held bench.old ≡ true }
-    ensures waits { IsTrue result ↔ (take (length bytes.now) ((B.face bench.old).queue conn) ≡ bytes.now) }
+    ensures waits { result ≡ starts_with nat_eq ((B.face bench.old).queue conn) bytes.now }
+    ensures within { result ≡ true → length bytes.now ≤ length ((B.face bench.old).queue conn) }
     ensures bench { bench.new ≡ bench.old }
 {
-    begins_with(bench.queued(conn), bytes)
+    bench.queued(conn).starts_with(bytes)
 }
 
 // Whether nothing waits for the client.
 fn nothing_waits<B: Bench>(bench: &mut B, conn: u64) -> bool
     requires { B.is_held bench.old ≡ true }
-    ensures waits { IsTrue result ↔ ((B.face bench.old).queue conn ≡ []) }
+    ensures waits { result ≡ (length ((B.face bench.old).queue conn) == 0) }
     ensures bench { bench.new ≡ bench.old }
 {
     bench.queued(conn).is_empty()
@@ -211,6 +191,5 @@ fn meets<B: Bench>(bench: &mut B, event: Event<'_>)
     ensures met { Moves B.keeps B.runs (λ p own. meets p (event_of event.entry) own) bench.old bench.new }
 {
     meet(bench, event);
-    let count = bench.queued_modem().len();
-    modem_took(bench, count);
+    modem_takes(bench);
 }

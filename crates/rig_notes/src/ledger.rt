@@ -1,6 +1,5 @@
-ghost use Rattle.std.specs.Prelude.{◌≡◌, ◌+◌, OnOk, IfOk};
-ghost use Rattle.rig_story.specs.Rows.{empty, first_with, has_answered, has_passed, has_said, is_same_key, number_at, said_by};
-ghost use Rattle.rig_notes.specs.Ledger.{counted, refuses, asks};
+ghost use Rattle.std.specs.Prelude.{◌≡◌, ◌+◌, ◌∷◌, ◌++◌, [], OnOk, IfOk};
+ghost use Rattle.rig_story.specs.Rows.{empty, first_with, has_answered, has_passed, has_said, is_same_key, more_said, number_at, one_forwarded, one_refused, row_for, said_by};
 
 use crate::counting::{expired, next, one_answered, one_forwarded, one_refused};
 use crate::{Reading, SHORTEST};
@@ -16,7 +15,7 @@ const NAMES: usize = 65;
 /// It fails where memory runs out, a name or a count is too large, or a message has no whole head, and
 /// is then only to be dropped.
 #[derive(Drop)]
-pub struct Ledger<R: Reading> {
+pub(crate) struct Ledger<R: Reading> {
     // in order of asking
     rows: Vec<Row>,
     // how many requests the modem was asked
@@ -124,7 +123,7 @@ impl<R: Reading> Ledger<R> {
     // One more message of a client, and its place.
     fn count(&mut self, conn: u64) -> Result<u64, AllocError>
         ensures place { IfOk result (λ place. place ≡ said_by conn self.old + 1) }
-        ensures counted { OnOk result (self.new ≡ counted conn self.old) }
+        ensures counted { OnOk result (self.new ≡ record self.old { said = more_said conn self.old }) }
     {
         if conn >= NAMES as u64 {
             return Err(AllocError);
@@ -136,7 +135,7 @@ impl<R: Reading> Ledger<R> {
 
     // A client's message was refused, unless it opens the device.
     fn refuse(&mut self, message: &[u8]) -> Result<(), AllocError>
-        ensures { OnOk result (self.new ≡ refuses R.reading message.now self.old) }
+        ensures { OnOk result (self.new ≡ record self.old { counts = one_refused (R.reading.opens message.now) self.old.counts }) }
     {
         if message.len() < SHORTEST {
             return Err(AllocError);
@@ -147,7 +146,11 @@ impl<R: Reading> Ledger<R> {
 
     // A client's message from this place made the proxy ask these bytes.
     fn ask(&mut self, conn: u64, place: u64, asked: &[u8]) -> Result<(), AllocError>
-        ensures { OnOk result (self.new ≡ asks R.reading conn place asked.now self.old) }
+        ensures { OnOk result (self.new ≡ record self.old {
+          rows = self.old.rows ++ record (row_for R.reading conn asked.now self.old) { place = place } ∷ [];
+          asked = self.old.asked + 1;
+          counts = one_forwarded (R.reading.is_own asked.now) self.old.counts;
+        }) }
     {
         if asked.len() < SHORTEST {
             return Err(AllocError);

@@ -13,9 +13,7 @@ mod reading;
 mod slices;
 
 pub use alone::run_alone;
-pub use ledger::Ledger;
 pub use mbim::MbimReading;
-pub use notes::Notes;
 pub use noting::Noting;
 pub use qmi::QmiReading;
 pub use reading::{Reading, SHORTEST};

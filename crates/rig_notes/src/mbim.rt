@@ -11,17 +11,13 @@ use crate::slices::{behind, front};
 use kit_bytes::Octets;
 use mbim_frame::status::SUCCESS;
 use mbim_frame::{MHead, MessageKind, open_done, set_number};
+use mbim_services::Service;
 use rig_story::Key;
 use std::alloc::{AllocError, Global};
 
 /// How the messages of MBIM are read.
 #[derive(Clone, Copy, Debug, PartialEq, Eq)]
 pub struct MbimReading;
-
-/// The UUID of the proxy's own service.
-const PROXY_CONTROL: [u8; 16] = [
-    0x83, 0x8C, 0xF7, 0xFB, 0x8D, 0x0D, 0x4D, 0x7F, 0x87, 0x1E, 0xD7, 0x1D, 0xBE, 0xFB, 0xB3, 0x9B,
-];
 
 impl Reading for MbimReading {
     ghost use Rattle.rig_story.specs.Mbim.{mbim_reading};
@@ -86,5 +82,6 @@ fn is_open(message: &[u8]) -> bool
 fn is_for_proxy(message: &[u8]) -> bool
     ensures { result ≡ bytes_eq (uuid_of (body_of message.now)) proxy_control }
 {
-    front(behind(message, 20), 16) == PROXY_CONTROL.as_slice()
+    let own = Service::ProxyControl.uuid();
+    front(behind(message, 20), 16) == own.as_bytes().as_slice()
 }

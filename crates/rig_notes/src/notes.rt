@@ -3,7 +3,8 @@ ghost use Rattle.proxy_history.specs.Events as history;
 ghost use Rattle.hub_io.specs.Events.{event_of};
 ghost use Rattle.rig_notes.specs.Notes.{NotesEvent, nothing, told, with_event};
 
-use crate::{Ledger, Reading, SHORTEST};
+use crate::ledger::Ledger;
+use crate::{Reading, SHORTEST};
 use hub_io::Event;
 use kit_bytes::Octets;
 use rig_story::{Counts, Met};
@@ -12,7 +13,7 @@ use std::marker::Model;
 
 /// The ledger and the story of what a proxy met.
 #[derive(Drop)]
-pub struct Notes<R: Reading> {
+pub(crate) struct Notes<R: Reading> {
     alloc: Global,
     ledger: Ledger<R>,
     // in its order
@@ -41,7 +42,7 @@ impl<R: Reading> Notes<R> {
         }
     }
 
-    /// Whether memory ran out.
+    /// Whether something couldn't be noted: memory ran out, or the ledger failed.
     pub fn has_failed(&self) -> bool
         ensures { result ≡ self.now.failed }
     {
@@ -55,6 +56,7 @@ impl<R: Reading> Notes<R> {
         self.ledger.counts()
     }
 
+    /// The requests in use, and what became of the others.
     pub fn ledger(&self) -> &Ledger<R>
         ensures { result.now ≡ self.now.ledger }
     {

@@ -7,8 +7,9 @@ ghost use Rattle.rig_story.specs.Story.{story_of};
 ghost use Rattle.rig_notes.specs.Notes.{nothing, NotesEvent};
 ghost use Rattle.rig_notes.specs.Noting.{Keeps};
 
+use crate::Reading;
+use crate::notes::Notes;
 use crate::slices::behind;
-use crate::{Notes, Reading};
 use core_bench::Bench;
 use hub_io::{Event, Limits};
 use kit_bytes::Kind;
@@ -18,7 +19,7 @@ use std::mem::replace;
 
 /// A bench that notes what is met on the bench that it owns.
 ///
-/// Where memory runs out for the notes, all goes on, and `has_failed` tells it.
+/// Where something can't be noted, all goes on, and `has_failed` tells it.
 #[derive(Drop)]
 pub struct Noting<R: Reading, B: Bench> {
     bench: B,
@@ -38,13 +39,6 @@ impl<R: Reading, B: Bench> Noting<R, B> {
         }
     }
 
-    /// The bench inside.
-    pub fn bench(&self) -> &B
-        ensures { result.now ≡ self.now.bench }
-    {
-        &self.bench
-    }
-
     /// Gives the bench back.
     pub fn into_bench(self) -> B
         ensures { result ≡ self.bench }
@@ -52,7 +46,7 @@ impl<R: Reading, B: Bench> Noting<R, B> {
         self.bench
     }
 
-    /// Whether memory ran out since a core was opened.
+    /// Whether something couldn't be noted since a core was opened or the story was taken.
     pub fn has_failed(&self) -> bool
         ensures { result ≡ self.now.notes.failed }
     {

@@ -1,4 +1,4 @@
-ghost use Rattle.std.specs.Prelude.{◌≡◌, ◌↔◌, IsTrue, length, take, drop};
+ghost use Rattle.std.specs.Prelude.{◌≡◌, take, drop};
 
 /// The first so many of these bytes, or all where they are fewer.
 pub(crate) fn front(bytes: &[u8], count: usize) -> &[u8]
@@ -12,11 +12,4 @@ pub(crate) fn behind(bytes: &[u8], count: usize) -> &[u8]
     ensures { result.now ≡ drop count bytes.now }
 {
     &bytes[count.min(bytes.len())..]
-}
-
-/// Whether these bytes begin with those.
-pub(crate) fn begins_with(bytes: &[u8], begin: &[u8]) -> bool
-    ensures { IsTrue result ↔ (take (length begin.now) bytes.now ≡ begin.now) }
-{
-    front(bytes, begin.len()) == begin
 }

@@ -6,5 +6,5 @@ mod messages;
 mod running;
 mod stage;
 
-pub use running::{meet, modem_took};
+pub use running::{meet, modem_takes};
 pub use stage::Stage;

@@ -1,4 +1,4 @@
-ghost use Rattle.std.specs.Prelude.{◌≡◌, ◌∷◌, true, length};
+ghost use Rattle.std.specs.Prelude.{◌≡◌, ◌∷◌, true};
 ghost use Rattle.std.specs.List.{range_with_len};
 ghost use Rattle.hub_io.specs.Events.{event_of};
 ghost use Rattle.hub_io.specs.Record.{taking};
@@ -59,13 +59,14 @@ pub(crate) fn clients_take<B: Bench>(bench: &mut B, clients: u8)
     }
 }
 
-/// The modem took so many bytes, if any.
-pub fn modem_took<B: Bench>(bench: &mut B, count: usize)
-    requires ready { IsReady (B.is_held bench.old) (B.face bench.old) }
-    requires all { count ≡ length (B.face bench.old).modem_queue }
+/// The modem takes all that waits for it, if anything does.
+pub fn modem_takes<B: Bench>(bench: &mut B)
+    requires { IsReady (B.is_held bench.old) (B.face bench.old) }
     ensures ready { StaysReady (B.is_held bench.new) (B.face bench.old) (B.face bench.new) }
     ensures met { Moves B.keeps B.runs rig.modem_takes bench.old bench.new }
 {
+    let queue = bench.queued_modem();
+    let count = queue.len();
     if count == 0 {
         return;
     }

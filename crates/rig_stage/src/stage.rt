@@ -11,7 +11,7 @@ ghost use Rattle.rig_stage.specs.Ready.{IsReady, StaysReady};
 ghost use Rattle.rig_stage.specs.Stage.{Acts, Asks, Stops};
 
 use crate::messages::first_message;
-use crate::running::{clients_take, meet, modem_took};
+use crate::running::{clients_take, meet, modem_takes};
 use core_bench::Bench;
 use framing::LONGEST_PIECE;
 use hub_io::Event;
@@ -87,7 +87,7 @@ impl<S: Sim> Stage<S> {
         self.meet(bench, Event::Joined(conn))
     }
 
-    /// A client says something.
+    /// A client says something, of at most 16,384 bytes.
     pub fn say<B: Bench>(
         &mut self,
         bench: &mut B,
@@ -211,10 +211,8 @@ impl<S: Sim> Stage<S> {
         ensures acts { OnOk result (Acts B.keeps B.runs S.keeps S.Framing.size rig.modem_served self.old bench.old self.new bench.new) }
         ensures stops { OnErr result (Stops B.keeps B.runs S.keeps S.Framing.size rig.modem_served self.old bench.old bench.new) }
     {
-        let queue = bench.queued_modem();
-        let count = queue.len();
-        self.ask_all(queue)?;
-        modem_took(bench, count);
+        self.ask_all(bench.queued_modem())?;
+        modem_takes(bench);
         Ok(())
     }
 

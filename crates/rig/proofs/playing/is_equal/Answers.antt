@@ -17,7 +17,7 @@ pub returns-in_err-open_core-clause-stops : goal.returns-in_err-open_core-clause
 returns-in_err-open_core-clause-stops g c =
     also_on_err c.from_residual.result
     (record {
-      runs = λ equal earlier told.
+      runs = λ earlier told.
           let Told : Noting g.row.R.Denot g.row.B.Denot → Type 0 = λ noting. AreTold (g.B.Bench.runs noting.bench) earlier in
           inl (subst Told (sym c.in_err-open_core.ensures.err) told);
     })
@@ -26,5 +26,5 @@ pub returns-clause-stops : goal.returns-clause-stops
 returns-clause-stops g c =
     let p = g.P.Protocol in
     on_err c.run_alone.result
-    (λ stops. record { runs = λ equal earlier told. inr (stops.cut_short p.proxy (run_of p.kind []) earlier [] (c.in_ok-open_core.ensures.runs earlier told) equal) })
+    (λ stops. record { runs = λ earlier told. inr (stops.cut_short p.proxy (run_of p.kind []) earlier (c.in_ok-open_core.ensures.runs earlier told)) })
     c.run_alone.ensures.stops

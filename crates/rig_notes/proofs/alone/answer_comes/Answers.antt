@@ -1,5 +1,11 @@
-use Rattle.rig_notes.proofs.Meeting.{comes}
+use Rattle.std.proofs.Common.{◌<◌, ◌≤◌, length, sym, rules}
+use Rattle.std.proofs.lemmas.Bool.{le-leb, lt-leb}
+use Rattle.proxy_history.specs.Coming.{piece_limit}
+use Rattle.rig_notes.proofs.Meeting.{comes, refused}
 use Rattle.rig_notes.proofs.alone.answer_comes.Goals as goal
 
+pub returns-then-answer-gt-LONGEST_PIECE-clause-same : goal.returns-then-answer-gt-LONGEST_PIECE-clause-same
+returns-then-answer-gt-LONGEST_PIECE-clause-same g c = let long : piece_limit < length c.args.answer.now = search rules in refused (λ p own kept. sym (lt-leb _ _ long))
+
 pub returns-clause-same : goal.returns-clause-same
-returns-clause-same g c = comes c.meets.ensures.met
+returns-clause-same g c = let short : length c.args.answer.now ≤ piece_limit = search rules in comes (λ p own kept. sym (le-leb _ _ short)) c.meets.ensures.met

@@ -1,4 +1,4 @@
-use Rattle.std.proofs.Common.{◌≡◌, true, subst}
+use Rattle.std.proofs.Common.{◌≡◌, true, refl, subst}
 use Rattle.std.proofs.lemmas.Result.{IfOk-weaker}
 use Rattle.rig_story.specs.declared.Met.{Met}
 use Rattle.rig_notes.specs.Alone.{is_met}
@@ -28,4 +28,4 @@ returns-in-Collected-clause-same g c =
     (collected_goes_on g.R.Reading.reading c.args.conn c.args.fresh c.in-Collected.field-0 c.as_slice-in-Collected.result.now (subst Mine c.in-Collected.is c.requires.own) c.collect.ensures.same)
 
 pub returns-in-Passed-clause-same : goal.returns-in-Passed-clause-same
-returns-in-Passed-clause-same g c = rw c.in-Passed.is (comes c.meets.ensures.met)
+returns-in-Passed-clause-same g c = rw c.in-Passed.is (comes (λ p own kept. refl) c.meets.ensures.met)

@@ -1,11 +1,9 @@
-use Rattle.std.proofs.Common.{◌≡◌, ◌<◌, true, List, length}
-use Rattle.proxy_history.specs.Events.{Event}
+use Rattle.std.proofs.Common.{◌≡◌, ◌<◌, true, List, [], drop}
 use Rattle.proxy_history.specs.Proxy.{Proxy}
 use Rattle.core_bench.specs.Runs.{Run}
 use Rattle.rig_stage.specs.Ready.{IsReady}
 use Rattle.rig_stage.specs.Running.{Runs}
 use Rattle.rig_notes.specs.Noting.{Keeps}
-use Rattle.rig_notes.specs.Alone.{MayMeetAll}
 use Rattle.rig_notes.proofs.Meeting.{HasMet}
 use Rattle.rig_notes.proofs.alone.run_alone.Given as goal
 
@@ -14,9 +12,6 @@ abbrev pub invariant-loop-met : goal.invariant-loop-met
 invariant-loop-met g l = record {
   ready : IsReady (g.B.Bench.is_held l.bench.bench) (g.B.Bench.face l.bench.bench);
   new : l.fresh ≡ true → (g.B.Bench.face l.bench.bench).greatest < l.fn.conn;
-  met : (p : Proxy) (opened : Run) (earlier : List Run) (past : List Event) → Runs (Keeps g.R.Reading.reading g.B.Bench.keeps) (λ s. g.B.Bench.runs s.bench) p opened earlier past l.initial.bench → MayMeetAll g.R.Reading.reading l.fn.conn l.fn.story p past
-      → HasMet (Keeps g.R.Reading.reading g.B.Bench.keeps) (λ s. g.B.Bench.runs s.bench) g.R.Reading.reading l.fn.conn l.fn.story l.rest l.fresh p opened earlier l.bench;
+  met : (p : Proxy) (opened : Run) (earlier : List Run) → Runs (Keeps g.R.Reading.reading g.B.Bench.keeps) (λ s. g.B.Bench.runs s.bench) p opened earlier [] l.initial.bench
+      → HasMet (Keeps g.R.Reading.reading g.B.Bench.keeps) (λ s. g.B.Bench.runs s.bench) g.R.Reading.reading l.fn.conn l.fn.story (drop l.met-index l.fn.story) l.fresh p opened earlier l.bench;
 }
-
-abbrev pub decreases-loop-met : goal.decreases-loop-met
-decreases-loop-met g l = length l.rest
