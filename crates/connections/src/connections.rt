@@ -1,4 +1,4 @@
-ghost use Rattle.std.specs.Prelude.{◌≡◌, ◌<◌, ◌≤◌, ◌==◌, ◌++◌, [], is_some, nat_lt, length, position, get_or, vec_len, vec_capacity, IfOk, IfSome, IsNone};
+ghost use Rattle.std.specs.Prelude.{◌≡◌, ◌<◌, ◌≤◌, ◌==◌, ◌++◌, [], is_some, nat_lt, length, position, get_or, vec_len, vec_capacity, Some, IfOk, IfSome, IsNone};
 ghost use Rattle.std.specs.List.{AllByRecursion};
 ghost use Rattle.connections.specs.Table.{Connection as TableConnection, IsRegular, AreRising, opened, connection_in, joins, leaves, tells, finds_room, collects, asked, first_dropped, queue_of, has_waiting, first_waiting};
 ghost use Rattle.connections.specs.Places.{drops_at};
@@ -110,9 +110,18 @@ impl<F: Framing, T: Drop> Connections<F, T> {
         ensures stays { result ≡ finds_room (head.now ++ rest.now) (connection_in name self.old.present) }
         ensures regular { IsRegular self.old }
     {
-        let Some(place) = self.find(name) else {
-            return true;
-        };
+        match self.find(name) {
+            Some(place) => self.tell_at(place, name, head, rest),
+            None => true,
+        }
+    }
+
+    /// The same for the connection of this name where it is known to stand at this place.
+    pub fn tell_at(&mut self, place: usize, name: u64, head: &[u8], rest: &[u8]) -> bool
+        requires { Some place ≡ position (λ k. name == k.name) self.old.present }
+        ensures told { self.new ≡ tells name (head.now ++ rest.now) self.old }
+        ensures stays { result ≡ finds_room (head.now ++ rest.now) (connection_in name self.old.present) }
+    {
         let connection = &mut self.present[place];
         if connection.put(head, rest) {
             return true;

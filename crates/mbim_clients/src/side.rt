@@ -213,17 +213,23 @@ impl ModemSide {
     }
 
     /// Asks the modem for a list of subscriptions, unless it was last asked for that one, isn't free, or no
-    /// number or no room is there.
-    pub fn send_list(&mut self, list: &PairList)
-        ensures { self.new ≡ transitions.send_list (setup_of self.old) list.now self.old }
+    /// number or no room is there. Says whether it was last asked for that one now.
+    pub fn send_list(&mut self, list: &PairList) -> bool
+        ensures side { self.new ≡ transitions.send_list (setup_of self.old) list.now self.old }
+        ensures asked { result ≡ is_same_list list.now self.new.last_list }
     {
-        if is_same(list.pairs(), self.last_list.pairs()) || !self.is_free() {
-            return;
+        if is_same(list.pairs(), self.last_list.pairs()) {
+            return true;
+        }
+        if !self.is_free() {
+            return false;
         }
         let deadline = self.time.saturating_add(self.time_limit);
-        if send_list(&mut self.traffic, &mut self.writer, list, deadline).is_some() {
-            self.last_list.set(list);
+        if send_list(&mut self.traffic, &mut self.writer, list, deadline).is_none() {
+            return false;
         }
+        self.last_list.set(list);
+        true
     }
 }
 

@@ -1,5 +1,6 @@
 -- A client's messages are heard by what stays the same over the life of a core, whether it is read once or at each of them.
 use Rattle.std.proofs.Common.{◌≡◌, ℕ, Bool, true, false, List, [], ◌∷◌, refl, ap, ◌∙◌, Option, Some, None}
+use Rattle.kit_bytes.specs.Subscriptions.{Pair}
 use Rattle.outbox.specs.Queue.{Queue}
 use Rattle.connections.specs.Table.{Connection, Table, connection_in}
 use Rattle.connections.specs.Hearing.{Hearing, Hearer, hears_all, cut_of, goes_on, Brought, brings_if, brings_to, brings}
@@ -11,6 +12,7 @@ use Rattle.mbim_state.specs.Core.{Client, ModemSide, MbimState, setup_of}
 use Rattle.mbim_state.specs.Transitions.{give_up, hear_client, mbim_handlers}
 use Rattle.mbim_core.specs.State.{state_of}
 use Rattle.mbim_core.proofs.Kept.{heard_client}
+use Rattle.mbim_core.proofs.Kept as kept
 
 -- it is read at each message
 abbrev pub hears : Hearer Client ModemSide
@@ -31,7 +33,7 @@ heard_all s c [] client outbox side same = refl
 heard_all s c (m ∷ messages) client outbox side same =
     let one : Hearing Client ModemSide = hear_client s c m client outbox side in
     ap (λ (t : Setup). behind hears c messages (hear_client t c m client outbox side) (hear_client t c m client outbox side).has_room) same
-    ∙ behind_same s c messages one one.has_room (heard_all s c messages one.client one.outbox one.beside (heard_client s c m client outbox side ∙ same))
+    ∙ behind_same s c messages one one.has_room (heard_all s c messages one.client one.outbox one.beside (ap (λ (l : Setup × List Pair). l.0) (heard_client s c m client outbox side) ∙ same))
 
 brought_to : (o : Option (Connection Client)) (c : ℕ) (piece : List ℕ) (t : Table Client) (side : ModemSide) → brings_to size_of hears o c piece t side ≡ brings_to size_of (hear_client (setup_of side)) o c piece t side
 brought_to None c piece t side = refl
@@ -49,3 +51,8 @@ module _ (c : ℕ) (piece : List ℕ) (x : MbimState) where
       ∙ ap (λ (b : ModemSide). state_of brought.table (given_up_unless give_up stays c b)) side_is
       ∙ ap (λ (b : Bool). state_of brought.table (given_up_unless give_up b c brought.beside)) stays_is
       ∙ ap (λ (b : Brought Client ModemSide). state_of b.table (given_up_unless give_up b.goes_on c b.beside)) (brought_to (connection_in c x.table.present) c piece x.table x.beside)
+
+  pub brought_list : brought.beside.last_list ≡ x.beside.last_list
+  brought_list =
+      let one : Option (Connection Client) = connection_in c x.table.present in
+      ap (λ (b : Brought Client ModemSide). b.beside.last_list) (brought_to one c piece x.table x.beside) ∙ ap (λ (l : Setup × List Pair). l.1) (kept.brought (setup_of x.beside) one c piece x.table x.beside).kept

@@ -105,26 +105,30 @@ heard_all s (m ∷ messages) x = both x (hear_modem s m x) _ (heard s m x) (hear
 
 -- ---- a message of a client ----
 
-acted : (opens : Bool) (s : Setup) (c : ℕ) (m : List ℕ) (number : ℕ) (client : Client) (outbox : Queue) (side : ModemSide) → setup_of (asks_modem opens s c m number client outbox side).beside ≡ setup_of side
+-- what no message of a client changes: the setup, and the list that the modem was last asked for
+abbrev pub lasting : ModemSide → Setup × List Pair
+lasting side = (setup_of side, side.last_list)
+
+acted : (opens : Bool) (s : Setup) (c : ℕ) (m : List ℕ) (number : ℕ) (client : Client) (outbox : Queue) (side : ModemSide) → lasting (asks_modem opens s c m number client outbox side).beside ≡ lasting side
 acted true s c m number client outbox side = refl
 acted false s c m number client outbox side = refl
 
-decided : (s : Setup) (c : ℕ) (m : List ℕ) (decision : Decision) (client : Client) (outbox : Queue) (side : ModemSide) → setup_of (act_on s c m decision client outbox side).beside ≡ setup_of side
+decided : (s : Setup) (c : ℕ) (m : List ℕ) (decision : Decision) (client : Client) (outbox : Queue) (side : ModemSide) → lasting (act_on s c m decision client outbox side).beside ≡ lasting side
 decided s c m (Replies verdict) client outbox side = refl
 decided s c m (Forwards number) client outbox side = acted (is_kind kind.Open m) s c m number client outbox side
 
-pub heard_client : (s : Setup) (c : ℕ) (m : List ℕ) (client : Client) (outbox : Queue) (side : ModemSide) → setup_of (hear_client s c m client outbox side).beside ≡ setup_of side
+pub heard_client : (s : Setup) (c : ℕ) (m : List ℕ) (client : Client) (outbox : Queue) (side : ModemSide) → lasting (hear_client s c m client outbox side).beside ≡ lasting side
 heard_client s c m client outbox side = decided s c m (decision_of s client m side) client outbox side
 
-heard_clients : (s : Setup) (c : ℕ) (messages : List (List ℕ)) (client : Client) (outbox : Queue) (side : ModemSide) → setup_of (hears_all (hear_client s) c messages client outbox side).beside ≡ setup_of side
+heard_clients : (s : Setup) (c : ℕ) (messages : List (List ℕ)) (client : Client) (outbox : Queue) (side : ModemSide) → lasting (hears_all (hear_client s) c messages client outbox side).beside ≡ lasting side
 unfolding hears_all
 heard_clients s c [] client outbox side = refl
 heard_clients s c (m ∷ messages) client outbox side =
     let one : Hearing Client ModemSide = hear_client s c m client outbox side in
     by one (heard_client s c m client outbox side) one.has_room (heard_clients s c messages one.client one.outbox one.beside)
   where
-    by : (one : Hearing Client ModemSide) → setup_of one.beside ≡ setup_of side → (room : Bool) → setup_of (hears_all (hear_client s) c messages one.client one.outbox one.beside).beside ≡ setup_of one.beside
-        → (let both : Hearing Client ModemSide = elim room [ true ↦ hears_all (hear_client s) c messages one.client one.outbox one.beside | false ↦ one ] in setup_of both.beside ≡ setup_of side)
+    by : (one : Hearing Client ModemSide) → lasting one.beside ≡ lasting side → (room : Bool) → lasting (hears_all (hear_client s) c messages one.client one.outbox one.beside).beside ≡ lasting one.beside
+        → (let both : Hearing Client ModemSide = elim room [ true ↦ hears_all (hear_client s) c messages one.client one.outbox one.beside | false ↦ one ] in lasting both.beside ≡ lasting side)
     by one first true rest = rest ∙ first
     by one first false rest = first
 
@@ -132,19 +136,19 @@ given_up : (unless : Bool) (c : ℕ) (side : ModemSide) → setup_of (given_up_u
 given_up true c side = refl
 given_up false c side = refl
 
-record IsBrought (t : Table Client) (side : ModemSide) (later : Table Client) (beside : ModemSide) : Type 0 where
-  greatest : later.greatest ≡ t.greatest
-  setup : setup_of beside ≡ setup_of side
+pub record IsBrought (t : Table Client) (side : ModemSide) (later : Table Client) (beside : ModemSide) : Type 0 where
+  pub greatest : later.greatest ≡ t.greatest
+  pub kept : lasting beside ≡ lasting side
 
-brought : (s : Setup) (o : Option (Connection Client)) (c : ℕ) (piece : List ℕ) (t : Table Client) (side : ModemSide) → IsBrought t side (brings_to size_of (hear_client s) o c piece t side).table (brings_to size_of (hear_client s) o c piece t side).beside
-brought s None c piece t side = record { greatest = refl; setup = refl }
+pub brought : (s : Setup) (o : Option (Connection Client)) (c : ℕ) (piece : List ℕ) (t : Table Client) (side : ModemSide) → IsBrought t side (brings_to size_of (hear_client s) o c piece t side).table (brings_to size_of (hear_client s) o c piece t side).beside
+brought s None c piece t side = record { greatest = refl; kept = refl }
 brought s (Some k) c piece t side =
     let h : Hearing Client ModemSide = hearing_of size_of (hear_client s) piece k side in
     by h (goes_on size_of h piece k) (heard_clients s k.name (cut size_of (k.rest ++ piece)).messages k.client k.outbox side)
   where
-    by : (h : Hearing Client ModemSide) (b : Bool) → setup_of h.beside ≡ setup_of side → IsBrought t side (brings_if size_of b c h piece t).table (brings_if size_of b c h piece t).beside
-    by h true kept = record { greatest = refl; setup = kept }
-    by h false kept = record { greatest = refl; setup = kept }
+    by : (h : Hearing Client ModemSide) (b : Bool) → lasting h.beside ≡ lasting side → IsBrought t side (brings_if size_of b c h piece t).table (brings_if size_of b c h piece t).beside
+    by h true kept = record { greatest = refl; kept = kept }
+    by h false kept = record { greatest = refl; kept = kept }
 
 -- ---- the end of an event ----
 
@@ -177,7 +181,7 @@ met : (event : Event) (core : MbimCore) → Met event core (meet event core)
 met (Joined c) core = record { greatest = joined (nat_lt (length core.state.table.present) core.state.table.limit) c _ core.state.table; setup = refl }
 met (Piece c piece) core =
     let B = brought (setup_in core) (connection_in c core.state.table.present) c piece core.state.table core.state.beside in
-    record { greatest = B.greatest; setup = given_up _ c _ ∙ B.setup }
+    record { greatest = B.greatest; setup = given_up _ c _ ∙ ap (λ (l : Setup × List Pair). l.0) B.kept }
 met (Left c) core = record { greatest = refl; setup = given_up _ c core.state.beside }
 met (ModemPiece piece) core =
     let C = cut_heard (setup_in core) (cut size_of (core.rest ++ piece)) core.state in

@@ -1,5 +1,5 @@
--- What leaves the open clients' lists as they are, taken together.
-use Rattle.std.proofs.Common.{◌≡◌, ℕ, Bool, true, false, cond, ◌==◌, List, [], ◌∷◌, map, refl, ap, sym, ◌∙◌, Option, Some, None, if◌then◌else◌}
+-- What leaves the open clients' lists as they are, taken together, and when the modem isn't asked for them.
+use Rattle.std.proofs.Common.{◌≡◌, ℕ, Bool, true, false, not, ◌&&◌, cond, ◌==◌, List, [], ◌∷◌, map, refl, ap, sym, ◌∙◌, Option, Some, None, if◌then◌else◌}
 use Rattle.std.specs.List.{position}
 use Rattle.kit_bytes.specs.Subscriptions.{Pair, merge}
 use Rattle.outbox.specs.Queue.{has_room}
@@ -11,7 +11,11 @@ use Rattle.proxy_state.specs.Chosen.{StandsAt}
 use Rattle.proxy_state.specs.Telling.{told, tell, tell_to, tell_if}
 use Rattle.proxy_state.proofs.Places.{connection_at, stands_at}
 use Rattle.mbim_state.specs.Core.{Client, ModemSide, MbimState}
-use Rattle.mbim_state.specs.Transitions.{open_ones, merged_in}
+use Rattle.mbim_services.specs.SubscribeLists.{is_same_list}
+use Rattle.mbim_proxy.specs.Setup.{Setup}
+use Rattle.mbim_proxy.specs.Forwarding.{own_subscribe}
+use Rattle.mbim_proxy.proofs.SameLists.{list_itself}
+use Rattle.mbim_state.specs.Transitions.{open_ones, merged_in, with_side, number_at, is_free, send_under, finish}
 use Rattle.mbim_core.specs.State.{wish, wish_in, wish_of, noted}
 
 abbrev lists_in : List (Connection Client) → List (List Pair)
@@ -124,3 +128,18 @@ module _ (hears : Hearer Client ModemSide) (c : ℕ) (piece : List ℕ) (t : Tab
       of : (o : Option (Connection Client)) → (brings_to size_of hears o c piece t side).table.limit ≡ t.limit
       of None = refl
       of (Some k) = let h : Hearing Client ModemSide = hearing_of size_of hears piece k side in by h (goes_on size_of h piece k)
+
+-- ---- what is asked for with it ----
+
+unless : {A : Type 0} (free : Bool) (o : Option A) → (if free && not true then o else None) ≡ None
+unless true o = refl
+unless false o = refl
+
+-- where the modem was last asked for it, the end of an event changes nothing
+pub asked_for : (s : Setup) (x : MbimState) → merged_in x.table.present ≡ x.beside.last_list → finish s x ≡ x
+asked_for s x asked =
+    let list : List Pair = merged_in x.table.present in
+    let number : Option ℕ = number_at s (own_subscribe list) x.beside in
+    let same : is_same_list list x.beside.last_list ≡ true = ap (is_same_list list) (sym asked) ∙ list_itself list in
+    ap (λ (b : Bool). with_side (send_under s list (if is_free x.beside && not b then number else None) x.beside) x) same
+    ∙ ap (λ (o : Option ℕ). with_side (send_under s list o x.beside) x) (unless (is_free x.beside) number)

@@ -1,4 +1,4 @@
-ghost use Rattle.std.specs.Prelude.{◌≡◌, ◌+◌, ◌<◌, ◌≤◌, ◌++◌, ℕ, List, [], false, length, position, slice_get, Some, IfOk, IfSome, IsNone, IsTrue};
+ghost use Rattle.std.specs.Prelude.{◌≡◌, ◌+◌, ◌<◌, ◌≤◌, ◌==◌, ◌++◌, ℕ, List, [], false, length, position, slice_get, Some, IfOk, IfSome, IsNone, IsTrue};
 ghost use Rattle.connections.specs.Table.{Connection as TableConnection, AreRising, connection_in, finds_room, queue_of, first_waiting, first_dropped, asked};
 ghost use Rattle.mbim_frame.specs.declared.kind.MessageKind.TheVariants.{CommandDone, OpenDone, FunctionError, IndicateStatus};
 ghost use Rattle.mbim_frame.specs.Bodies.{is_done, is_indication};
@@ -49,6 +49,8 @@ pub struct State {
     merged: PairList,
     // nothing was changed since that was put together
     current: bool,
+    // the modem was last asked for that
+    asked: bool,
     // what a client subscribed to before it was heard
     noted: PairList,
 }
@@ -65,6 +67,7 @@ impl Model for State {
     ghost invariant = { λ s. record {
       limit : s.connections.limit ≡ 64;
       current : s.current ≡ true → s.merged ≡ merged_in s.connections.present;
+      asked : s.asked ≡ true → s.merged ≡ s.side.last_list;
     } };
 }
 
@@ -82,6 +85,7 @@ impl State {
             merge,
             merged,
             current: false,
+            asked: false,
             noted,
         })
     }
@@ -298,6 +302,7 @@ impl State {
             &mut self.connections,
             &mut self.side,
             &mut self.writer,
+            place,
             name,
             command.number,
             max,
@@ -347,6 +352,7 @@ impl State {
     fn end_opening(&mut self, status: u32)
         ensures { self.new ≡ ends_opening (setup_of self.old.beside) status self.old }
     {
+        self.asked = false;
         self.side.end_opening(status);
         let mut index = 0;
         while index < self.present() {
@@ -434,12 +440,15 @@ impl State {
     pub fn finish(&mut self)
         ensures { self.new ≡ finish (setup_of self.old.beside) self.old }
     {
+        if self.current && self.asked {
+            return;
+        }
         if !self.current {
             gather(&self.connections, &mut self.merge);
             self.merge.finish(&mut self.merged);
             self.current = true;
         }
-        self.side.send_list(&self.merged);
+        self.asked = self.side.send_list(&self.merged);
     }
 
     /// How many connections are there.
@@ -529,42 +538,51 @@ fn put(
     ensures stays { result ≡ finds_room bytes.now (connection_in name connections.old.present) }
     ensures limit { connections.new.limit ≡ connections.old.limit }
     ensures setup { setup_of side.new ≡ setup_of side.old }
+    ensures list { side.new.last_list ≡ side.old.last_list }
 {
-    put_both(connections, side, name, bytes, &[])
+    match connections.find(name) {
+        Some(place) => put_at(connections, side, place, name, bytes, &[]),
+        None => true,
+    }
 }
 
-// A client gets the bytes of both runs, one run behind the other, or is dropped where they find no room.
-// Says whether it wasn't dropped.
-fn put_both(
+// The client of this name, which stands at this place, gets the bytes of both runs, one run behind the
+// other, or is dropped where they find no room. Says whether it wasn't dropped.
+fn put_at(
     connections: &mut Connections<Mbim, Client>,
     side: &mut ModemSide,
+    place: usize,
     name: u64,
     head: &[u8],
     rest: &[u8],
 ) -> bool
+    requires { Some place ≡ position (λ k. name == k.name) connections.old.present }
     ensures told { state_of connections.new side.new ≡ tell give_up (λ _. head.now ++ rest.now) (λ client. client) name (state_of connections.old side.old) }
     ensures stays { result ≡ finds_room (head.now ++ rest.now) (connection_in name connections.old.present) }
     ensures limit { connections.new.limit ≡ connections.old.limit }
     ensures setup { setup_of side.new ≡ setup_of side.old }
+    ensures list { side.new.last_list ≡ side.old.last_list }
 {
-    if connections.tell(name, head, rest) {
+    if connections.tell_at(place, name, head, rest) {
         return true;
     }
     side.give_up(name);
     false
 }
 
-// A client gets the answer with this body under this number, in fragments of at most `max` bytes, or is
-// dropped where it finds no room. Says whether it wasn't dropped.
+// The client of this name, which stands at this place, gets the answer with this body under this number, in
+// fragments of at most `max` bytes, or is dropped where it finds no room. Says whether it wasn't dropped.
 fn put_done(
     connections: &mut Connections<Mbim, Client>,
     side: &mut ModemSide,
     writer: &mut Writer,
+    place: usize,
     name: u64,
     number: u32,
     max: u32,
     body: &[u8],
 ) -> bool
+    requires stands { Some place ≡ position (λ k. name == k.name) connections.old.present }
     requires least { 64 ≤ max }
     requires most { max ≤ 4096 }
     requires short { length body.now ≤ LONGEST_BODY }
@@ -572,13 +590,14 @@ fn put_done(
     ensures stays { result ≡ finds_room (split (kind_number CommandDone) number max body.now) (connection_in name connections.old.present) }
     ensures limit { connections.new.limit ≡ connections.old.limit }
     ensures setup { setup_of side.new ≡ setup_of side.old }
+    ensures list { side.new.last_list ≡ side.old.last_list }
 {
     let kind = MessageKind::CommandDone.number();
     let Some(head) = unsplit_head(kind, number, max, body) else {
         writer.split(kind, number, max, body);
         return put(connections, side, name, writer.text());
     };
-    put_both(connections, side, name, &head, body)
+    put_at(connections, side, place, name, &head, body)
 }
 
 // The lists of the open clients, one behind the other.

@@ -1,14 +1,8 @@
 -- The definitions of an MBIM proxy keep the rules by which it can be served.
-use Rattle.std.proofs.Common.{◌≡◌, ℕ, ◌≤◌, Bool, true, false, not, ◌==◌, nat_lt, if◌then◌else◌, List, [], ◌∷◌, ◌++◌, length, refl, ap, ◌∙◌, arith, length-append, Option, Some, None}
-use Rattle.std.proofs.lemmas.Bool.{eq-eqb, and_parts}
-use Rattle.std.proofs.lemmas.Bool.Decides.{nat_tests}
+use Rattle.std.proofs.Common.{◌≡◌, ℕ, ◌≤◌, Bool, true, false, not, if◌then◌else◌, List, ◌∷◌, ◌++◌, length, refl, ap, arith, length-append, Option, Some, None}
+use Rattle.std.proofs.lemmas.Bool.{and_parts}
 use Rattle.std.proofs.lemmas.List.{length-drop}
-use Rattle.std.specs.Option.{option_cmp}
-use Rattle.std.specs.declared.cmp.Ordering.{Ordering}
-use Rattle.std.specs.declared.cmp.Ordering.TheVariants.{Equal}
-use Rattle.std.specs.Ordering.{nat_cmp, ordering_then, is_eq}
-use Rattle.std.specs.Cmp.Lexicographic.{slice_cmp}
-use Rattle.kit_bytes.specs.Subscriptions.{Pair, pair_cmp}
+use Rattle.kit_bytes.specs.Subscriptions.{Pair}
 use Rattle.proxy_history.specs.Facts.{Fact, Request, EventBegan, Forwarded, ListSent, ModemDrained}
 use Rattle.proxy_history.specs.Connections.{present}
 use Rattle.proxy_history.specs.Modem.{to_modem, modem_drained}
@@ -24,30 +18,9 @@ use Rattle.mbim_proxy.specs.OwnList.{is_free, is_wanted, number_of_list, send_un
 use Rattle.mbim_proxy.specs.History.{mbim_protocol}
 use Rattle.mbim_proxy.specs.Proxy.{own_bytes, proxy_of}
 use Rattle.mbim_proxy.proofs.Lengths.{wire_length}
+use Rattle.mbim_proxy.proofs.SameLists.{list_itself}
 use Rattle.mbim_proxy.proofs.Verdicts.{given_if}
 use Rattle.mbim_proxy.proofs.Walk.{Asks, orderly}
-
--- ---- a list is the same as itself ----
-
-itself : {X : Type 0} (R : X → X → Ordering) → ((x : X) → R x x ≡ Equal) → (xs : List X) → slice_cmp R xs xs ≡ Equal
-itself R each [] = refl
-itself R each (x ∷ xs) = ap (λ (o : Ordering). ordering_then o (slice_cmp R xs xs)) (each x) ∙ itself R each xs
-
-nat_itself : (x : ℕ) → nat_cmp x x ≡ Equal
-nat_itself x =
-    let less : nat_lt x x ≡ false = grind (arith, nat_tests) in
-    let same : (x == x) ≡ true = eq-eqb x x refl in
-    rw (less, same) refl
-
-cid_itself : (o : Option ℕ) → option_cmp nat_cmp o o ≡ Equal
-cid_itself None = refl
-cid_itself (Some x) = nat_itself x
-
-pair_itself : (pair : Pair) → pair_cmp pair pair ≡ Equal
-pair_itself pair = ap (λ (o : Ordering). ordering_then o (option_cmp nat_cmp pair.1 pair.1)) (itself nat_cmp nat_itself pair.0) ∙ cid_itself pair.1
-
-list_itself : (list : List Pair) → is_same_list list list ≡ true
-list_itself list = ap is_eq (itself pair_cmp pair_itself list)
 
 -- ---- what it may still ask by itself ----
 

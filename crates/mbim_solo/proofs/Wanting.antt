@@ -1,10 +1,7 @@
 -- What the proxy's own request for its list hangs on: where none was to be sent, none is as long as that stays.
 use Rattle.std.proofs.Common.{◌≡◌, ℕ, ◌+◌, ◌≤◌, Bool, true, false, not, cond, ◌&&◌, nat_le, nat_lt, if◌then◌else◌, List, [], ◌∷◌, length, map, filter, refl, ap, ap₂, sym, ◌∙◌, arith, Option, Some, None}
-use Rattle.std.specs.Ordering.{is_eq}
-use Rattle.std.proofs.lemmas.Cmp.{tied_itself, lists_total}
 use Rattle.std.proofs.lemmas.Bool.Decides.{nat_tests}
 use Rattle.kit_bytes.specs.Subscriptions.{Pair, merge}
-use Rattle.kit_bytes.proofs.Pairs.{pair_cmp_total}
 use Rattle.mbim_services.specs.SubscribeLists.{is_same_list}
 use Rattle.proxy_history.specs.Facts.{Fact}
 use Rattle.proxy_history.specs.Connections.{present}
@@ -20,6 +17,7 @@ use Rattle.mbim_proxy.specs.Step as step
 use Rattle.mbim_proxy.specs.Lists.{list_of, merged, last_list}
 use Rattle.mbim_proxy.specs.Forwarding.{wire, wire_of, own_subscribe, has_room, number_for}
 use Rattle.mbim_proxy.specs.OwnList.{is_free, number_of_list, send_under, finish}
+use Rattle.mbim_proxy.proofs.SameLists.{list_itself}
 
 -- ---- the list of all open clients ----
 
@@ -48,10 +46,6 @@ module _ (s : Setup) where
   merged_same past after there same =
       ap (λ (conns : List ℕ). merge (map (λ d. list_of s d after) (filter (λ d. (known_now s d after).opened) conns))) there
       ∙ ap merge (lists_same past after same (present past))
-
--- a list is the same as itself
-pub list_itself : (list : List Pair) → is_same_list list list ≡ true
-list_itself list = ap is_eq (tied_itself (lists_total pair_cmp_total) list)
 
 -- ---- numbers ----
 

@@ -17,6 +17,6 @@ returns-in_default-clause-told c =
 -- one in one fragment is its heads, and then its body
 pub returns-clause-told : goal.returns-clause-told
 returns-clause-told c =
-    c.put_both.ensures.told
+    c.put_at.ensures.told
     ∙ ap (λ (l : List ℕ). tell give_up (λ _. l) (λ client. client) c.args.name (state_of c.args.connections.now c.args.side.now))
     (c.in-Some.ensures.head ∙ ap (λ (k : ℕ). split k c.args.number c.args.max c.args.body.now) c.number-kind.ensures)

@@ -1,10 +1,10 @@
-use Rattle.std.proofs.Common.{false, true, ap, sym, ◌∙◌}
+use Rattle.std.proofs.Common.{◌≡◌, false, true, ap, sym, ◌∙◌}
 use Rattle.std.proofs.lemmas.Bool.{and_parts}
 use Rattle.connections.specs.Table.{Table}
-use Rattle.mbim_state.specs.Core.{Client, MbimState}
+use Rattle.mbim_state.specs.Core.{Client, ModemSide, MbimState}
 use Rattle.mbim_state.specs.Transitions.{merged_in}
 use Rattle.mbim_core.specs.State.{state_of, wish_of}
-use Rattle.mbim_core.proofs.Brought.{brought_is, hears}
+use Rattle.mbim_core.proofs.Brought.{brought_is, brought_list, hears}
 use Rattle.mbim_core.proofs.Merged.{brought_merged, brought_limit}
 use Rattle.mbim_core.proofs.state.State.bring.Goals as goal
 
@@ -30,4 +30,17 @@ invariant_of-self-2 c = record {
       (ap (λ (t : Table Client). merged_in t.present) c.bring.ensures.table
       ∙ brought_merged hears c.args.name c.args.piece.now c.self.inside.connections c.self.inside.side (sym c.bring.ensures.stays ∙ c.if-not-bring.false)
       (ap (λ (t : Table Client). wish_of c.args.name t.present) (sym c.bring.ensures.table) ∙ sym (c.is_as_noted-same.ensures parts.1) ∙ c.note-was_open.ensures));
+  asked = λ is.
+      let was : MbimState = state_of c.self.inside.connections c.self.inside.side in
+      c.self.invariant.asked is ∙ sym (ap (λ (side : ModemSide). side.last_list) c.bring.ensures.beside ∙ brought_list c.args.name c.args.piece.now was);
+}
+
+pub invariant_of-self : goal.invariant_of-self
+invariant_of-self c = record {
+  limit = ap (λ (t : Table Client). t.limit) c.bring.ensures.table ∙ brought_limit hears c.args.name c.args.piece.now c.self.inside.connections c.self.inside.side ∙ c.self.invariant.limit;
+  current = λ is. let both : false ≡ true = is in absurd (cc);
+  asked = λ is.
+      let was : MbimState = state_of c.self.inside.connections c.self.inside.side in
+      c.self.invariant.asked is
+      ∙ sym (ap (λ (side : ModemSide). side.last_list) c.give_up.ensures ∙ ap (λ (side : ModemSide). side.last_list) c.bring.ensures.beside ∙ brought_list c.args.name c.args.piece.now was);
 }

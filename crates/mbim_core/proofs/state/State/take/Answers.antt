@@ -9,4 +9,5 @@ pub invariant_of-self : goal.invariant_of-self
 invariant_of-self c = record {
   limit = ap (λ (t : Table Client). t.limit) c.take.ensures ∙ c.self.invariant.limit;
   current = λ is. c.self.invariant.current is ∙ sym (ap (λ (t : Table Client). merged_in t.present) c.take.ensures ∙ merged_kept c.args.name (took c.args.count) (λ k. refl) c.self.inside.connections.present);
+  asked = c.self.invariant.asked;
 }

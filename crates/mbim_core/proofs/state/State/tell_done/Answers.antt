@@ -42,4 +42,5 @@ invariant_of-self c =
           ∙ sym
           (ap (λ (x : MbimState). merged_in x.table.present) c.put_done-stays.ensures.told
           ∙ told_merged give_up text c.args.name was (sym c.put_done-stays.ensures.stays ∙ parts.1));
+      asked = λ is. c.self.invariant.asked is ∙ sym c.put_done-stays.ensures.list;
     }
