@@ -85,6 +85,11 @@ position_within p xs i e = by (nat_lt (position_or_len p xs) (length xs)) refl (
     by true t e = let here : position_or_len p xs ≡ i = cc in let within : position_or_len p xs < length xs = grind (arith, nat_tests, t) in omega (arith, here, within)
     by false t e = absurd (cc)
 
+-- ---- what they have together ----
+
+pub shown_few : (xs : List Client) (counts : List Counted) → CountShown xs counts → length xs ≤ 64 → AllByRecursion (λ c. length c.list ≤ 30) xs → total counts ≤ 1920
+shown_few xs counts counted few all = let short = gathered_short xs all in omega (arith, short, few, counted.in_all)
+
 -- ---- a client changes ----
 
 module _ (xs : List Client) (i : ℕ) (was : Client) (counts : List Counted) (is : was ≡ get_or xs i was) (counted : CountShown xs counts) where

@@ -88,13 +88,18 @@ impl Client {
     pub fn set(&mut self, list: &PairList, counts: &mut Counts)
         requires short { length list.now ≤ LONGEST_CLIENT_LIST }
         requires there { (pair : TablePair) → times_in pair (share self.old) ≤ count_of pair counts.old }
-        requires few { total counts.old + length (share (with_list list.now self.old)) ≤ LONGEST_LIST + length (share self.old) }
+        requires few { total counts.old ≤ LONGEST_LIST }
         ensures client { self.new ≡ with_list list.now self.old }
         ensures counts { AreRecounted self.old self.new counts.old counts.new }
     {
-        self.uncount(counts);
-        self.list.set(list);
-        self.count(counts);
+        let mut next = ClientList::new();
+        next.set(list);
+        if self.shown {
+            // in this order a pair of both lists stays in its place
+            counts.add(&next);
+            counts.remove(&self.list);
+        }
+        self.list = next;
     }
 
     /// Whether it subscribes to the CID of the service of this UUID.

@@ -9,6 +9,10 @@ use crate::pair_list::{LONGEST_LIST, Pair, PairList, is_before, is_same, put};
 use std::alloc::{AllocError, Global};
 use std::marker::Model;
 
+/// How many pairs are counted at most: those of a whole list, and those of a client's list that takes the place of
+/// another one.
+pub const MOST_COUNTED: usize = 1_950;
+
 /// A pair, and how often it was counted.
 #[derive(Clone, Copy)]
 pub struct Counted {
@@ -33,8 +37,8 @@ impl Model for Counts {
 
     ghost invariant = { λ c. record {
       counts : AreCounts c.counts.items;
-      few : total c.counts.items ≤ 1920;
-      room : 1920 ≤ vec_capacity c.counts;
+      few : total c.counts.items ≤ 1950;
+      room : 1950 ≤ vec_capacity c.counts;
     } };
 }
 
@@ -44,13 +48,13 @@ impl Counts {
         ensures { IfOk result (λ counts. counts ≡ []) }
     {
         Ok(Counts {
-            counts: Vec::with_capacity(alloc, LONGEST_LIST)?,
+            counts: Vec::with_capacity(alloc, MOST_COUNTED)?,
         })
     }
 
     /// Counts the pairs of a client's list.
     pub fn add(&mut self, list: &ClientList)
-        requires { total self.old + length list.now ≤ LONGEST_LIST }
+        requires { total self.old + length list.now ≤ MOST_COUNTED }
         ensures counted { (pair : TablePair) → count_of pair self.new ≡ count_of pair self.old + times_in pair list.now }
         ensures total { total self.new ≡ total self.old + length list.now }
     {
@@ -68,6 +72,7 @@ impl Counts {
 
     /// Writes the normal form of the lists that were counted into this list.
     pub fn write(&self, into: &mut PairList)
+        requires { total self.now ≤ LONGEST_LIST }
         ensures { (pairs : List TablePair) → AreCountsOf pairs self.now → into.new ≡ normal_form pairs }
     {
         into.gather(&self.counts);
@@ -76,8 +81,8 @@ impl Counts {
 
 fn count_all(counts: &mut Vec<Counted>, pairs: &[Pair])
     requires counts { AreCounts counts.old.items }
-    requires few { total counts.old.items + length pairs.now ≤ LONGEST_LIST }
-    requires room { LONGEST_LIST ≤ vec_capacity counts.old }
+    requires few { total counts.old.items + length pairs.now ≤ MOST_COUNTED }
+    requires room { MOST_COUNTED ≤ vec_capacity counts.old }
     ensures counts { AreCounts counts.new.items }
     ensures counted { (pair : TablePair) → count_of pair counts.new.items ≡ count_of pair counts.old.items + times_in pair pairs.now }
     ensures total { total counts.new.items ≡ total counts.old.items + length pairs.now }
@@ -104,8 +109,8 @@ fn uncount_all(counts: &mut Vec<Counted>, pairs: &[Pair])
 // Counts a pair once more, which takes no memory.
 fn count(counts: &mut Vec<Counted>, pair: &Pair)
     requires counts { AreCounts counts.old.items }
-    requires few { total counts.old.items < LONGEST_LIST }
-    requires room { LONGEST_LIST ≤ vec_capacity counts.old }
+    requires few { total counts.old.items < MOST_COUNTED }
+    requires room { MOST_COUNTED ≤ vec_capacity counts.old }
     ensures counts { AreCounts counts.new.items }
     ensures counted { (other : TablePair) → count_of other counts.new.items ≡ count_of other counts.old.items + once other pair.now }
     ensures total { total counts.new.items ≡ total counts.old.items + 1 }

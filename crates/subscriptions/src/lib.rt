@@ -10,7 +10,7 @@ mod pair_list;
 mod subscriptions;
 
 pub use client_list::{ClientList, LONGEST_CLIENT_LIST};
-pub use counts::{Counted, Counts};
+pub use counts::{Counted, Counts, MOST_COUNTED};
 pub use laws::{
     clients_are_what_calls_say, hidden_clients_dont_count, merges_are_of_the_shown,
     merges_are_short, merges_want_what_lists_want, normal_forms_want_the_same,

@@ -5,7 +5,16 @@ use Rattle.kit_bytes.proofs.Lists.{all_filter}
 use Rattle.subscriptions.specs.Clients.{Client, is_of, leaves, gathered}
 use Rattle.subscriptions.specs.Counts.{CountShown}
 use Rattle.subscriptions.proofs.NormalForms.{filter_shorter}
+use Rattle.subscriptions.proofs.Recounting.{shown_few}
 use Rattle.subscriptions.proofs.subscriptions.Subscriptions.leave.Goals as goal
+
+pub write-requires : goal.write-requires
+write-requires c =
+    let clients : List Client = c.self.inside.clients.items in
+    let fewer = filter_shorter (λ client. not (is_of c.args.conn client)) clients in
+    shown_few (leaves c.args.conn clients) c.uncount.new.counts (subst (λ (l : List Client). CountShown (leaves c.args.conn l) c.uncount.new.counts) c.deref.ensures.value c.uncount.ensures)
+    (omega (arith, fewer, c.self.invariant.few))
+    (all_filter (λ client. length client.list ≤ 30) (λ client. not (is_of c.args.conn client)) clients c.self.invariant.short)
 
 pub invariant_of-self : goal.invariant_of-self
 invariant_of-self c =

@@ -6,7 +6,7 @@ use Rattle.kit_bytes.proofs.Lists.{all_set}
 use Rattle.subscriptions.specs.Clients.{is_of, is_too_long, with_list, sets, gathered}
 use Rattle.subscriptions.specs.Counts.{CountShown}
 use Rattle.subscriptions.proofs.Clients.{changed_place, changed_none, sets_short}
-use Rattle.subscriptions.proofs.Recounting.{position_within, recounted, share_fits, share_there}
+use Rattle.subscriptions.proofs.Recounting.{position_within, recounted, share_there, shown_few}
 use Rattle.subscriptions.proofs.subscriptions.Subscriptions.set.Goals as goal
 
 pub set-requires-clause-there : goal.set-requires-clause-there
@@ -16,10 +16,17 @@ set-requires-clause-there c =
     share_there c.self.inside.clients.items c.in-Some.place c.index_mut-client.result.now c.self.inside.counts c.index_mut-client.ensures.value c.self.invariant.counted within
 
 pub set-requires-clause-few : goal.set-requires-clause-few
-set-requires-clause-few c =
+set-requires-clause-few c = shown_few c.self.inside.clients.items c.self.inside.counts c.self.invariant.counted c.self.invariant.few c.self.invariant.short
+
+pub write-requires : goal.write-requires
+write-requires c =
     let place : Some c.in-Some.place ≡ position (is_of c.args.conn) c.self.inside.clients.items = sym c.in-Some.is ∙ c.find.ensures ∙ ap (position (is_of c.args.conn)) c.deref.ensures.value in
     let within : c.in-Some.place < length c.self.inside.clients.items = position_within (is_of c.args.conn) c.self.inside.clients.items c.in-Some.place place in
-    share_fits c.self.inside.clients.items c.in-Some.place c.index_mut-client.result.now c.self.inside.counts c.index_mut-client.ensures.value c.self.invariant.counted (with_list c.args.list.now c.index_mut-client.result.now) within c.self.invariant.few c.self.invariant.short (omega (arith, c.len.ensures.count, c.if-len-gt-LONGEST_CLIENT_LIST.false))
+    shown_few (set c.self.inside.clients.items c.in-Some.place c.set.new.self) c.set.new.counts
+    (recounted c.self.inside.clients.items c.in-Some.place c.index_mut-client.result.now c.self.inside.counts c.index_mut-client.ensures.value c.self.invariant.counted c.set.new.self c.set.new.counts within c.set.ensures.counts)
+    (omega (arith, length-set c.self.inside.clients.items c.in-Some.place c.set.new.self, c.self.invariant.few))
+    (all_set (λ client. length client.list ≤ 30) c.self.inside.clients.items c.in-Some.place c.set.new.self c.index_mut-client.result.now
+    (λ old. subst (λ client. length client.list ≤ 30) (sym c.set.ensures.client) (omega (arith, c.len.ensures.count, c.if-len-gt-LONGEST_CLIENT_LIST.false))) c.self.invariant.short)
 
 pub invariant_of-self : goal.invariant_of-self
 invariant_of-self c =
