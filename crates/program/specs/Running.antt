@@ -1,5 +1,5 @@
 -- What the program does: to its link, its hub, its children, its files and its bench, and what it prints.
-use Rattle.std.specs.Prelude.{◌≡◌, ◌⊎◌, ℕ, Bool, true, false, List, [], Option, Some, None, Result, Ok, Err}
+use Rattle.std.specs.Prelude.{◌≡◌, ◌⊎◌, ℕ, Bool, true, false, List, [], Option, Some, None, Result, Ok, Err, if◌then◌else◌}
 use Rattle.std.specs.Str.{encode_utf8_all}
 use Rattle.kit_io.specs.Told.{Grows}
 use Rattle.link_io.specs.Calls as link
@@ -20,6 +20,7 @@ use Rattle.mbim_session.specs.declared.plan.MbimPlan.{MbimPlan}
 use Rattle.tool_words.specs.declared.command.ToolCommand.{ToolCommand}
 use Rattle.tool_words.specs.declared.command.ToolCommand.TheVariants.{Qmicli, Mbimcli, Describe, Proxy, Simulator, Pump, Rig}
 use Rattle.tool_words.specs.declared.fault.UsageKind.{UsageKind}
+use Rattle.tool_words.specs.declared.fault.UsageKind.TheVariants as usage
 use Rattle.tool_runs.specs.Asking.{AsksModem, Asked}
 use Rattle.tool_runs.specs.Asking as asking
 use Rattle.tool_runs.specs.Qmi.{qmi_asked}
@@ -101,6 +102,34 @@ abbrev pub RunsWords : Result ToolCommand UsageKind → Told → Told → Status
 RunsWords (Ok command) before after result = RunsCommand command before after result
 RunsWords (Err why) before after result = result ≡ status.Usage why
 
+-- the tools that ask a modem
+abbrev pub is_of_tool : ToolCommand → Bool
+is_of_tool (Qmicli device proxied cid keep request socket bridge) = true
+is_of_tool (Mbimcli device proxied close request socket bridge) = true
+is_of_tool (Describe path) = true
+is_of_tool _ = false
+
+abbrev pub is_of_proxy : ToolCommand → Bool
+is_of_proxy (Proxy kind device socket bridge empty time turns) = true
+is_of_proxy _ = false
+
+abbrev pub is_of_simulator : ToolCommand → Bool
+is_of_simulator (Simulator kind socket profile turns keep) = true
+is_of_simulator _ = false
+
+abbrev pub is_of_pump : ToolCommand → Bool
+is_of_pump (Pump read node bridge) = true
+is_of_pump _ = false
+
+abbrev pub is_of_rig : ToolCommand → Bool
+is_of_rig (Rig kind clients messages number) = true
+is_of_rig _ = false
+
+-- what the words of some tools ask for; the words of others are refused, as those of an unknown one
+abbrev pub words_for : (ToolCommand → Bool) → Result ToolCommand UsageKind → Result ToolCommand UsageKind
+words_for is_mine (Ok command) = if is_mine command then Ok command else Err usage.UnknownTool
+words_for is_mine (Err why) = Err why
+
 -- unless there was no memory to read them
 abbrev pub Runs : Result ToolCommand UsageKind → Told → Told → Status → Type 0
 Runs words before after result = RunsWords words before after result ⊎ ((result ≡ status.OutOfMemory) × Untouched before after)
@@ -115,6 +144,10 @@ pub record Objects (L H P F O B : Type 0) : Type 0 where
   pub files : F
   pub out : O
   pub bench : B
+
+-- in the place of an object that isn't there
+pub data NoObject : Type 0 where
+  Absent : NoObject
 
 -- what a command has no use for is left as it was: hub, files and bench by one that asks a modem, all but files and output by one that describes a file, all but hub and children by a proxy, all but hub and files by a simulated modem, the files too where no profile is named, all but children by one that is kept running, all but link and files by a pump, and all but bench and output by a rig
 abbrev pub CommandLeavesAlone : {L H P F O B : Type 0} → ToolCommand → Objects L H P F O B → Objects L H P F O B → Type 0

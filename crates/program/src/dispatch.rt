@@ -6,10 +6,10 @@ ghost use Rattle.tool_words.specs.Rig.{IsWithinLimits};
 ghost use Rattle.program.specs.Running.{CommandFailsOnLink, CommandLeavesAlone, FailsOnLink, LeavesAlone, Runs, RunsCommand};
 ghost use Rattle.program.specs.Status.{line_of};
 
-use crate::proxy::run_proxy;
-use crate::pumping::run_pump;
+use crate::proxy::proxy_modem;
+use crate::pumping::pump_bytes;
 use crate::report::report;
-use crate::rigging::run_rig;
+use crate::rigging::print_rig;
 use crate::simulator::{keep_modem, simulate_modem};
 use crate::status::Status;
 use crate::tool::{ask_mbim, ask_qmi, describe_file};
@@ -119,7 +119,7 @@ fn run_command<O: Sink, L: Link, H: Hub, P: Spawner, F: Files, B: Bench>(
             empty,
             time,
             turns,
-        } => run_proxy(
+        } => proxy_modem(
             alloc, kind, &device, &socket, &bridge, empty, time, turns, hub, spawner,
         ),
         ToolCommand::Simulator {
@@ -135,13 +135,13 @@ fn run_command<O: Sink, L: Link, H: Hub, P: Spawner, F: Files, B: Bench>(
             }
         },
         ToolCommand::Pump { read, node, bridge } => {
-            run_pump(alloc, read, &node, &bridge, link, files)
+            pump_bytes(alloc, read, &node, &bridge, link, files)
         }
         ToolCommand::Rig {
             kind,
             clients,
             messages,
             number,
-        } => run_rig(alloc, kind, clients, messages, number, out, bench),
+        } => print_rig(alloc, kind, clients, messages, number, out, bench),
     }
 }

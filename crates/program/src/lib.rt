@@ -10,7 +10,9 @@ mod rigging;
 mod simulator;
 mod status;
 mod tool;
+mod tools;
 
 pub use dispatch::run;
 pub use report::{give_up, refuse};
 pub use status::Status;
+pub use tools::{run_proxy, run_pump, run_rig, run_simulator, run_tool};

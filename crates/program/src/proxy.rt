@@ -39,7 +39,7 @@ fn settings_of(
 // Serves a device to the clients of a socket as the words of a proxy want it, over a bridge where it
 // is a node.
 #[tactic(auto, using(crate::proofs::Opened::without_memory))]
-pub fn run_proxy<H: Hub, P: Spawner>(
+pub fn proxy_modem<H: Hub, P: Spawner>(
     alloc: Global,
     kind: Kind,
     device: &PathText,

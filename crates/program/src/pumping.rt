@@ -11,7 +11,7 @@ use pump::pump_node;
 use std::alloc::{AllocError, Global};
 
 // Passes on what comes from a device node, or what is to go to it.
-pub fn run_pump<L: Link, F: Files>(
+pub fn pump_bytes<L: Link, F: Files>(
     alloc: Global,
     read: bool,
     node: &PathText,

@@ -12,7 +12,7 @@ use std::alloc::{AllocError, Global};
 
 // Runs a core on the bench, with so many clients and for so many turns, which are drawn from the number,
 // and then with each client alone. Prints the lines of it.
-pub fn run_rig<O: Sink, B: Bench>(
+pub fn print_rig<O: Sink, B: Bench>(
     alloc: Global,
     kind: Kind,
     clients: u8,

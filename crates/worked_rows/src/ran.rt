@@ -6,7 +6,7 @@ use file_io::MemFiles;
 use hub_io::MemHub;
 use kit_io::MemSink;
 use link_io::MemLink;
-use program::{Status, refuse, run};
+use program::{Status, refuse, run, run_proxy, run_pump, run_rig, run_simulator, run_tool};
 use std::alloc::{AllocError, Global};
 
 /// What a run of the program left behind.
@@ -21,7 +21,7 @@ pub struct Ran {
 }
 
 /// Runs the program over a bench and an outside that answers as the row tells. What its link gives
-/// comes in one piece a take, or byte by byte.
+/// comes in one piece a take; or byte by byte, and then the call is that of the tool alone.
 pub fn run_row(
     alloc: Global,
     row: &ToolRow,
@@ -36,8 +36,13 @@ pub fn run_row(
     let mut err = MemSink::new(alloc, Vec::new(alloc), 1_000)?;
     let status = if row.unread {
         refuse(&mut err)
-    } else {
+    } else if whole {
         run(
+            alloc, &row.words, &mut out, &mut err, &mut link, &mut hub, &mut kids, &mut files,
+            bench,
+        )
+    } else {
+        run_as_tool(
             alloc, &row.words, &mut out, &mut err, &mut link, &mut hub, &mut kids, &mut files,
             bench,
         )
@@ -50,6 +55,28 @@ pub fn run_row(
         kids,
         files,
     })
+}
+
+// What the first word names, by the call of this tool alone.
+fn run_as_tool(
+    alloc: Global,
+    words: &[String],
+    out: &mut MemSink,
+    err: &mut MemSink,
+    link: &mut MemLink,
+    hub: &mut MemHub,
+    kids: &mut MemSpawner,
+    files: &mut MemFiles,
+    bench: &mut MemBench,
+) -> Status {
+    match words.first().map(|word| word.as_str()) {
+        Some("qmicli" | "mbimcli") => run_tool(alloc, words, out, err, link, kids, files),
+        Some("qmi-proxy" | "mbim-proxy") => run_proxy(alloc, words, err, hub, kids),
+        Some("modem-sim") => run_simulator(alloc, words, err, hub, kids, files),
+        Some("pump") => run_pump(alloc, words, err, link, files),
+        Some("rig") => run_rig(alloc, words, out, err, bench),
+        _ => run(alloc, words, out, err, link, hub, kids, files, bench),
+    }
 }
 
 // A link with room for all calls that the row tells of, and some more.

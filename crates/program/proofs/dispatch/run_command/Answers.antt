@@ -8,7 +8,7 @@ pub returns-in-Mbimcli-clause-write_fault : goal.returns-in-Mbimcli-clause-write
 returns-in-Mbimcli-clause-write_fault g c = λ e. inl (c.ask_mbim.ensures.write_fault e)
 
 pub returns-in-Pump-clause-runs : goal.returns-in-Pump-clause-runs
-returns-in-Pump-clause-runs g c = rw c.in-Pump.is c.run_pump.ensures.pumps
+returns-in-Pump-clause-runs g c = rw c.in-Pump.is c.pump_bytes.ensures.pumps
 
 pub returns-clause-runs : goal.returns-clause-runs
-returns-clause-runs g c = rw c.in-Rig.is c.run_rig.ensures.rigs
+returns-clause-runs g c = rw c.in-Rig.is c.print_rig.ensures.rigs

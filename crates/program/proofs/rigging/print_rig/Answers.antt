@@ -1,7 +1,7 @@
 use Rattle.std.proofs.Common.{refl}
 use Rattle.kit_io.proofs.Told.{Grows-none}
 use Rattle.program.specs.Rigging.{no_memory}
-use Rattle.program.proofs.rigging.run_rig.Goals as goal
+use Rattle.program.proofs.rigging.print_rig.Goals as goal
 
 -- memory ran out
 pub returns-in-Err-clause-rigs : goal.returns-in-Err-clause-rigs

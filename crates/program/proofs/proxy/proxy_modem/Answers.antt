@@ -2,7 +2,7 @@ use Rattle.std.proofs.Common.{subst}
 use Rattle.std.specs.Str.{encode_utf8_all}
 use Rattle.modem_ways.specs.Ways.{place_of}
 use Rattle.program.specs.Serving.{Asked, ServesProxy}
-use Rattle.program.proofs.proxy.run_proxy.Goals as goal
+use Rattle.program.proofs.proxy.proxy_modem.Goals as goal
 
 -- the proxy of the words served
 pub returns-in-Ok-clause-serves : goal.returns-in-Ok-clause-serves

@@ -1,0 +1,366 @@
+//! Each tool by itself, for a program that has no more of the outside than this tool needs.
+ghost use Rattle.std.specs.Prelude.{◌≡◌, None, Ok, map, string_bytes};
+ghost use Rattle.kit_io.specs.Causes.{Rose};
+ghost use Rattle.kit_io.specs.Told.{Grows};
+ghost use Rattle.tool_words.specs.Command.{command_in};
+ghost use Rattle.tool_words.specs.Rig.{IsWithinLimits};
+ghost use Rattle.program.specs.Running.{Absent, FailsOnLink, LeavesAlone, Runs, RunsWords, is_of_proxy, is_of_pump, is_of_rig, is_of_simulator, is_of_tool, words_for};
+ghost use Rattle.program.specs.Status.{line_of};
+
+use crate::proxy::proxy_modem;
+use crate::pumping::pump_bytes;
+use crate::report::report;
+use crate::rigging::print_rig;
+use crate::simulator::{keep_modem, simulate_modem};
+use crate::status::Status;
+use crate::tool::{ask_mbim, ask_qmi, describe_file};
+use child_io::Spawner;
+use core_bench::Bench;
+use file_io::Files;
+use hub_io::Hub;
+use kit_io::Sink;
+use link_io::Link;
+use std::alloc::Global;
+use tool_words::{ToolCommand, UsageKind, WordFault, command_of};
+
+// The words are those of another tool.
+const OTHER: Status = Status::Usage {
+    kind: UsageKind::UnknownTool,
+};
+
+/// What `qmicli` and `mbimcli` do: as `run` with their words. The words of other tools are refused, as those of an
+/// unknown one.
+pub fn run_tool<O: Sink, E: Sink, L: Link, P: Spawner, F: Files>(
+    alloc: Global,
+    words: &[String],
+    out: &mut O,
+    err: &mut E,
+    link: &mut L,
+    spawner: &mut P,
+    files: &mut F,
+) -> Status
+    ensures runs { Runs (words_for is_of_tool (command_in (map string_bytes words.now)))
+        (record { link = L.calls link.old; hub = None; spawner = P.calls spawner.old; files = F.calls files.old; out = O.taken out.old; bench = None })
+        (record { link = L.calls link.new; hub = None; spawner = P.calls spawner.new; files = F.calls files.new; out = O.taken out.new; bench = None })
+        result }
+    ensures apart { LeavesAlone (words_for is_of_tool (command_in (map string_bytes words.now)))
+        (record { link = link.old; hub = Absent; spawner = spawner.old; files = files.old; out = out.old; bench = Absent })
+        (record { link = link.new; hub = Absent; spawner = spawner.new; files = files.new; out = out.new; bench = Absent }) }
+    ensures link_fault { result ≡ Status.LinkFault → FailsOnLink (words_for is_of_tool (command_in (map string_bytes words.now))) L.faults L.open_faults link.old link.new }
+    ensures start_fault { result ≡ Status.StartFault → Rose (P.faults spawner.old) (P.faults spawner.new) }
+    ensures read_fault { result ≡ Status.ReadFault → Rose (F.read_faults files.old) (F.read_faults files.new) }
+    ensures write_fault { result ≡ Status.WriteFault → Rose (O.faults out.old) (O.faults out.new) }
+    ensures line { ¬ Rose (E.faults err.old) (E.faults err.new) → Grows (E.taken err.old) (line_of result) (E.taken err.new) }
+{
+    let status = match command_of(alloc, words) {
+        Ok(command) => run_command_of_tool(alloc, command, out, link, spawner, files),
+        Err(WordFault::Usage(kind)) => Status::Usage { kind },
+        Err(WordFault::OutOfMemory) => Status::OutOfMemory,
+    };
+    report(status, err);
+    status
+}
+
+fn run_command_of_tool<O: Sink, L: Link, P: Spawner, F: Files>(
+    alloc: Global,
+    command: ToolCommand,
+    out: &mut O,
+    link: &mut L,
+    spawner: &mut P,
+    files: &mut F,
+) -> Status
+    ensures runs { RunsWords (words_for is_of_tool (Ok command))
+        (record { link = L.calls link.old; hub = None; spawner = P.calls spawner.old; files = F.calls files.old; out = O.taken out.old; bench = None })
+        (record { link = L.calls link.new; hub = None; spawner = P.calls spawner.new; files = F.calls files.new; out = O.taken out.new; bench = None })
+        result }
+    ensures apart { LeavesAlone (words_for is_of_tool (Ok command))
+        (record { link = link.old; hub = Absent; spawner = spawner.old; files = files.old; out = out.old; bench = Absent })
+        (record { link = link.new; hub = Absent; spawner = spawner.new; files = files.new; out = out.new; bench = Absent }) }
+    ensures link_fault { result ≡ Status.LinkFault → FailsOnLink (words_for is_of_tool (Ok command)) L.faults L.open_faults link.old link.new }
+    ensures start_fault { result ≡ Status.StartFault → Rose (P.faults spawner.old) (P.faults spawner.new) }
+    ensures read_fault { result ≡ Status.ReadFault → Rose (F.read_faults files.old) (F.read_faults files.new) }
+    ensures write_fault { result ≡ Status.WriteFault → Rose (O.faults out.old) (O.faults out.new) }
+{
+    match command {
+        ToolCommand::Qmicli {
+            device,
+            proxied,
+            cid,
+            keep,
+            request,
+            socket,
+            bridge,
+        } => ask_qmi(
+            alloc, device, proxied, cid, keep, request, &socket, &bridge, out, link, spawner,
+        ),
+        ToolCommand::Mbimcli {
+            device,
+            proxied,
+            close,
+            request,
+            socket,
+            bridge,
+        } => ask_mbim(
+            alloc, device, proxied, close, request, &socket, &bridge, out, link, spawner,
+        ),
+        ToolCommand::Describe { file } => describe_file(alloc, &file, out, files),
+        ToolCommand::Proxy { .. }
+        | ToolCommand::Simulator { .. }
+        | ToolCommand::Pump { .. }
+        | ToolCommand::Rig { .. } => OTHER,
+    }
+}
+
+/// What `qmi-proxy` and `mbim-proxy` do: as `run` with their words. The words of other tools are refused, as those of an
+/// unknown one.
+pub fn run_proxy<E: Sink, H: Hub, P: Spawner>(
+    alloc: Global,
+    words: &[String],
+    err: &mut E,
+    hub: &mut H,
+    spawner: &mut P,
+) -> Status
+    ensures runs { Runs (words_for is_of_proxy (command_in (map string_bytes words.now)))
+        (record { link = None; hub = H.calls hub.old; spawner = P.calls spawner.old; files = None; out = None; bench = None })
+        (record { link = None; hub = H.calls hub.new; spawner = P.calls spawner.new; files = None; out = None; bench = None })
+        result }
+    ensures apart { LeavesAlone (words_for is_of_proxy (command_in (map string_bytes words.now)))
+        (record { link = Absent; hub = hub.old; spawner = spawner.old; files = Absent; out = Absent; bench = Absent })
+        (record { link = Absent; hub = hub.new; spawner = spawner.new; files = Absent; out = Absent; bench = Absent }) }
+    ensures start_fault { result ≡ Status.StartFault → Rose (P.faults spawner.old) (P.faults spawner.new) }
+    ensures hub_fault { result ≡ Status.HubFault → Rose (H.faults hub.old) (H.faults hub.new) }
+    ensures line { ¬ Rose (E.faults err.old) (E.faults err.new) → Grows (E.taken err.old) (line_of result) (E.taken err.new) }
+{
+    let status = match command_of(alloc, words) {
+        Ok(command) => run_command_of_proxy(alloc, command, hub, spawner),
+        Err(WordFault::Usage(kind)) => Status::Usage { kind },
+        Err(WordFault::OutOfMemory) => Status::OutOfMemory,
+    };
+    report(status, err);
+    status
+}
+
+fn run_command_of_proxy<H: Hub, P: Spawner>(
+    alloc: Global,
+    command: ToolCommand,
+    hub: &mut H,
+    spawner: &mut P,
+) -> Status
+    ensures runs { RunsWords (words_for is_of_proxy (Ok command))
+        (record { link = None; hub = H.calls hub.old; spawner = P.calls spawner.old; files = None; out = None; bench = None })
+        (record { link = None; hub = H.calls hub.new; spawner = P.calls spawner.new; files = None; out = None; bench = None })
+        result }
+    ensures apart { LeavesAlone (words_for is_of_proxy (Ok command))
+        (record { link = Absent; hub = hub.old; spawner = spawner.old; files = Absent; out = Absent; bench = Absent })
+        (record { link = Absent; hub = hub.new; spawner = spawner.new; files = Absent; out = Absent; bench = Absent }) }
+    ensures start_fault { result ≡ Status.StartFault → Rose (P.faults spawner.old) (P.faults spawner.new) }
+    ensures hub_fault { result ≡ Status.HubFault → Rose (H.faults hub.old) (H.faults hub.new) }
+{
+    match command {
+        ToolCommand::Proxy {
+            kind,
+            device,
+            socket,
+            bridge,
+            empty,
+            time,
+            turns,
+        } => proxy_modem(
+            alloc, kind, &device, &socket, &bridge, empty, time, turns, hub, spawner,
+        ),
+        ToolCommand::Qmicli { .. }
+        | ToolCommand::Mbimcli { .. }
+        | ToolCommand::Describe { .. }
+        | ToolCommand::Simulator { .. }
+        | ToolCommand::Pump { .. }
+        | ToolCommand::Rig { .. } => OTHER,
+    }
+}
+
+/// What `modem-sim` does: as `run` with its words. The words of other tools are refused, as those of an unknown one.
+pub fn run_simulator<E: Sink, H: Hub, P: Spawner, F: Files>(
+    alloc: Global,
+    words: &[String],
+    err: &mut E,
+    hub: &mut H,
+    spawner: &mut P,
+    files: &mut F,
+) -> Status
+    ensures runs { Runs (words_for is_of_simulator (command_in (map string_bytes words.now)))
+        (record { link = None; hub = H.calls hub.old; spawner = P.calls spawner.old; files = F.calls files.old; out = None; bench = None })
+        (record { link = None; hub = H.calls hub.new; spawner = P.calls spawner.new; files = F.calls files.new; out = None; bench = None })
+        result }
+    ensures apart { LeavesAlone (words_for is_of_simulator (command_in (map string_bytes words.now)))
+        (record { link = Absent; hub = hub.old; spawner = spawner.old; files = files.old; out = Absent; bench = Absent })
+        (record { link = Absent; hub = hub.new; spawner = spawner.new; files = files.new; out = Absent; bench = Absent }) }
+    ensures start_fault { result ≡ Status.StartFault → Rose (P.faults spawner.old) (P.faults spawner.new) }
+    ensures hub_fault { result ≡ Status.HubFault → Rose (H.faults hub.old) (H.faults hub.new) }
+    ensures read_fault { result ≡ Status.ReadFault → Rose (F.read_faults files.old) (F.read_faults files.new) }
+    ensures line { ¬ Rose (E.faults err.old) (E.faults err.new) → Grows (E.taken err.old) (line_of result) (E.taken err.new) }
+{
+    let status = match command_of(alloc, words) {
+        Ok(command) => run_command_of_simulator(alloc, command, hub, spawner, files),
+        Err(WordFault::Usage(kind)) => Status::Usage { kind },
+        Err(WordFault::OutOfMemory) => Status::OutOfMemory,
+    };
+    report(status, err);
+    status
+}
+
+fn run_command_of_simulator<H: Hub, P: Spawner, F: Files>(
+    alloc: Global,
+    command: ToolCommand,
+    hub: &mut H,
+    spawner: &mut P,
+    files: &mut F,
+) -> Status
+    ensures runs { RunsWords (words_for is_of_simulator (Ok command))
+        (record { link = None; hub = H.calls hub.old; spawner = P.calls spawner.old; files = F.calls files.old; out = None; bench = None })
+        (record { link = None; hub = H.calls hub.new; spawner = P.calls spawner.new; files = F.calls files.new; out = None; bench = None })
+        result }
+    ensures apart { LeavesAlone (words_for is_of_simulator (Ok command))
+        (record { link = Absent; hub = hub.old; spawner = spawner.old; files = files.old; out = Absent; bench = Absent })
+        (record { link = Absent; hub = hub.new; spawner = spawner.new; files = files.new; out = Absent; bench = Absent }) }
+    ensures start_fault { result ≡ Status.StartFault → Rose (P.faults spawner.old) (P.faults spawner.new) }
+    ensures hub_fault { result ≡ Status.HubFault → Rose (H.faults hub.old) (H.faults hub.new) }
+    ensures read_fault { result ≡ Status.ReadFault → Rose (F.read_faults files.old) (F.read_faults files.new) }
+{
+    match command {
+        ToolCommand::Simulator {
+            kind,
+            socket,
+            profile,
+            turns,
+            keep,
+        } => match keep {
+            None => simulate_modem(alloc, kind, &socket, profile.as_ref(), turns, hub, files),
+            Some(most) => {
+                keep_modem(alloc, kind, &socket, profile.as_ref(), turns, most, spawner)
+            }
+        },
+        ToolCommand::Qmicli { .. }
+        | ToolCommand::Mbimcli { .. }
+        | ToolCommand::Describe { .. }
+        | ToolCommand::Proxy { .. }
+        | ToolCommand::Pump { .. }
+        | ToolCommand::Rig { .. } => OTHER,
+    }
+}
+
+/// What `pump` does: as `run` with its words. The words of other tools are refused, as those of an unknown one.
+pub fn run_pump<E: Sink, L: Link, F: Files>(
+    alloc: Global,
+    words: &[String],
+    err: &mut E,
+    link: &mut L,
+    files: &mut F,
+) -> Status
+    ensures runs { Runs (words_for is_of_pump (command_in (map string_bytes words.now)))
+        (record { link = L.calls link.old; hub = None; spawner = None; files = F.calls files.old; out = None; bench = None })
+        (record { link = L.calls link.new; hub = None; spawner = None; files = F.calls files.new; out = None; bench = None })
+        result }
+    ensures apart { LeavesAlone (words_for is_of_pump (command_in (map string_bytes words.now)))
+        (record { link = link.old; hub = Absent; spawner = Absent; files = files.old; out = Absent; bench = Absent })
+        (record { link = link.new; hub = Absent; spawner = Absent; files = files.new; out = Absent; bench = Absent }) }
+    ensures link_fault { result ≡ Status.LinkFault → FailsOnLink (words_for is_of_pump (command_in (map string_bytes words.now))) L.faults L.open_faults link.old link.new }
+    ensures read_fault { result ≡ Status.ReadFault → Rose (F.read_faults files.old) (F.read_faults files.new) }
+    ensures write_fault { result ≡ Status.WriteFault → Rose (F.write_faults files.old) (F.write_faults files.new) }
+    ensures line { ¬ Rose (E.faults err.old) (E.faults err.new) → Grows (E.taken err.old) (line_of result) (E.taken err.new) }
+{
+    let status = match command_of(alloc, words) {
+        Ok(command) => run_command_of_pump(alloc, command, link, files),
+        Err(WordFault::Usage(kind)) => Status::Usage { kind },
+        Err(WordFault::OutOfMemory) => Status::OutOfMemory,
+    };
+    report(status, err);
+    status
+}
+
+fn run_command_of_pump<L: Link, F: Files>(
+    alloc: Global,
+    command: ToolCommand,
+    link: &mut L,
+    files: &mut F,
+) -> Status
+    ensures runs { RunsWords (words_for is_of_pump (Ok command))
+        (record { link = L.calls link.old; hub = None; spawner = None; files = F.calls files.old; out = None; bench = None })
+        (record { link = L.calls link.new; hub = None; spawner = None; files = F.calls files.new; out = None; bench = None })
+        result }
+    ensures apart { LeavesAlone (words_for is_of_pump (Ok command))
+        (record { link = link.old; hub = Absent; spawner = Absent; files = files.old; out = Absent; bench = Absent })
+        (record { link = link.new; hub = Absent; spawner = Absent; files = files.new; out = Absent; bench = Absent }) }
+    ensures link_fault { result ≡ Status.LinkFault → FailsOnLink (words_for is_of_pump (Ok command)) L.faults L.open_faults link.old link.new }
+    ensures read_fault { result ≡ Status.ReadFault → Rose (F.read_faults files.old) (F.read_faults files.new) }
+    ensures write_fault { result ≡ Status.WriteFault → Rose (F.write_faults files.old) (F.write_faults files.new) }
+{
+    match command {
+        ToolCommand::Pump { read, node, bridge } => {
+            pump_bytes(alloc, read, &node, &bridge, link, files)
+        }
+        ToolCommand::Qmicli { .. }
+        | ToolCommand::Mbimcli { .. }
+        | ToolCommand::Describe { .. }
+        | ToolCommand::Proxy { .. }
+        | ToolCommand::Simulator { .. }
+        | ToolCommand::Rig { .. } => OTHER,
+    }
+}
+
+/// What `rig` does: as `run` with its words. The words of other tools are refused, as those of an unknown one.
+pub fn run_rig<O: Sink, E: Sink, B: Bench>(
+    alloc: Global,
+    words: &[String],
+    out: &mut O,
+    err: &mut E,
+    bench: &mut B,
+) -> Status
+    ensures runs { Runs (words_for is_of_rig (command_in (map string_bytes words.now)))
+        (record { link = None; hub = None; spawner = None; files = None; out = O.taken out.old; bench = B.runs bench.old })
+        (record { link = None; hub = None; spawner = None; files = None; out = O.taken out.new; bench = B.runs bench.new })
+        result }
+    ensures apart { LeavesAlone (words_for is_of_rig (command_in (map string_bytes words.now)))
+        (record { link = Absent; hub = Absent; spawner = Absent; files = Absent; out = out.old; bench = bench.old })
+        (record { link = Absent; hub = Absent; spawner = Absent; files = Absent; out = out.new; bench = bench.new }) }
+    ensures write_fault { result ≡ Status.WriteFault → Rose (O.faults out.old) (O.faults out.new) }
+    ensures line { ¬ Rose (E.faults err.old) (E.faults err.new) → Grows (E.taken err.old) (line_of result) (E.taken err.new) }
+{
+    let status = match command_of(alloc, words) {
+        Ok(command) => run_command_of_rig(alloc, command, out, bench),
+        Err(WordFault::Usage(kind)) => Status::Usage { kind },
+        Err(WordFault::OutOfMemory) => Status::OutOfMemory,
+    };
+    report(status, err);
+    status
+}
+
+fn run_command_of_rig<O: Sink, B: Bench>(
+    alloc: Global,
+    command: ToolCommand,
+    out: &mut O,
+    bench: &mut B,
+) -> Status
+    requires { IsWithinLimits command }
+    ensures runs { RunsWords (words_for is_of_rig (Ok command))
+        (record { link = None; hub = None; spawner = None; files = None; out = O.taken out.old; bench = B.runs bench.old })
+        (record { link = None; hub = None; spawner = None; files = None; out = O.taken out.new; bench = B.runs bench.new })
+        result }
+    ensures apart { LeavesAlone (words_for is_of_rig (Ok command))
+        (record { link = Absent; hub = Absent; spawner = Absent; files = Absent; out = out.old; bench = bench.old })
+        (record { link = Absent; hub = Absent; spawner = Absent; files = Absent; out = out.new; bench = bench.new }) }
+    ensures write_fault { result ≡ Status.WriteFault → Rose (O.faults out.old) (O.faults out.new) }
+{
+    match command {
+        ToolCommand::Rig {
+            kind,
+            clients,
+            messages,
+            number,
+        } => print_rig(alloc, kind, clients, messages, number, out, bench),
+        ToolCommand::Qmicli { .. }
+        | ToolCommand::Mbimcli { .. }
+        | ToolCommand::Describe { .. }
+        | ToolCommand::Proxy { .. }
+        | ToolCommand::Simulator { .. }
+        | ToolCommand::Pump { .. } => OTHER,
+    }
+}
