@@ -47,10 +47,9 @@ class Proxy:
             time.sleep(0.5 if not under else 2)
 
     def pid(self):
-        """Of the proxy itself, where it runs under another program."""
-        if not self.under:
-            return self.process.pid
-        return int(open(f"/proc/{self.process.pid}/task/{self.process.pid}/children").read().split()[0])
+        """Of the proxy itself, also where another program has it as a child."""
+        children = open(f"/proc/{self.process.pid}/task/{self.process.pid}/children").read().split() if self.under else []
+        return int(children[0]) if children else self.process.pid
 
     def load(self, clients, in_flight, count, silent=0):
         words = [f"{folder}/{kind}_load", self.socket, self.device, str(clients), str(in_flight), str(count), str(silent)]
