@@ -174,6 +174,18 @@ use Rattle.time_lists.proofs.join_all.Given as goal
 abbrev pub invariant-loop-client : goal.invariant-loop-client
 invariant-loop-client l = length l.table ≤ l.client
 P
+cat >"$program/proofs/join_all/Answers.antt" <<'P'
+use Rattle.std.proofs.Common.{◌≡◌, ℕ, ◌+◌, ◌∷◌, [], List, not, length, ap, arith, length-append}
+use Rattle.subscriptions.specs.Clients.{Client, is_of, leaves, newcomer}
+use Rattle.subscriptions.proofs.NormalForms.{filter_shorter}
+use Rattle.time_lists.proofs.join_all.Goals as goal
+
+pub loop-client-preserved : goal.loop-client-preserved
+loop-client-preserved c =
+    let conn : ℕ = c.loop-client.client + 1 in
+    let was : List Client = c.loop-client.table in
+    omega (arith, ap (λ (l : List Client). length l) c.joined.ensures, length-append (leaves conn was) (newcomer conn ∷ []), filter_shorter (λ client. not (is_of conn client)) was, c.loop-client.invariant)
+P
 cat >"$program/proofs/put_together/Invariants.antt" <<'P'
 use Rattle.std.proofs.Common.{◌≤◌, ◌*◌, length}
 use Rattle.time_lists.proofs.put_together.Given as goal
