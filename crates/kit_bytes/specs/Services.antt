@@ -4,6 +4,6 @@ use Rattle.std.specs.Prelude.{ℕ, List, [], ◌∷◌, None}
 use Rattle.kit_bytes.specs.declared.services.TheConstants.{BASIC_CONNECT, SMS, USSD, PHONEBOOK, STK}
 use Rattle.kit_bytes.specs.Subscriptions.{Pair}
 
--- all CIDs of each of the specification's five services
+-- all CIDs of five of the specification's services, and none of AUTH and DSS
 abbrev pub starting_list : List Pair
 starting_list = (PHONEBOOK, None) ∷ (SMS, None) ∷ (BASIC_CONNECT, None) ∷ (STK, None) ∷ (USSD, None) ∷ []
