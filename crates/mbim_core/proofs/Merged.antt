@@ -1,5 +1,6 @@
 -- What leaves the open clients' lists as they are, taken together, and when the modem isn't asked for them.
 use Rattle.std.proofs.Common.{◌≡◌, ℕ, Bool, true, false, not, ◌&&◌, cond, ◌==◌, List, [], ◌∷◌, map, refl, ap, sym, ◌∙◌, Option, Some, None, if◌then◌else◌}
+use Rattle.std.proofs.lemmas.Bool.{and_parts}
 use Rattle.std.specs.List.{position}
 use Rattle.kit_bytes.specs.Subscriptions.{Pair, merge}
 use Rattle.outbox.specs.Queue.{has_room}
@@ -15,7 +16,7 @@ use Rattle.mbim_services.specs.SubscribeLists.{is_same_list}
 use Rattle.mbim_proxy.specs.Setup.{Setup}
 use Rattle.mbim_proxy.specs.Forwarding.{own_subscribe}
 use Rattle.mbim_proxy.proofs.SameLists.{list_itself}
-use Rattle.mbim_state.specs.Transitions.{open_ones, merged_in, with_side, number_at, is_free, send_under, finish}
+use Rattle.mbim_state.specs.Transitions.{give_up, open_ones, merged_in, with_side, number_at, is_free, send_under, finish}
 use Rattle.mbim_core.specs.State.{wish, wish_in, wish_of, noted}
 
 abbrev lists_in : List (Connection Client) → List (List Pair)
@@ -97,6 +98,13 @@ told_merged give_up bytes c x = to (connection_in c x.table.present)
     to : (o : Option (Connection Client)) → finds_room bytes o ≡ true → merged_in (tell_to give_up (λ _. bytes) (λ client. client) o c x).table.present ≡ merged_in x.table.present
     to None room = refl
     to (Some k) room = by_room k (has_room bytes k.outbox) room
+
+-- where the merge was current, it is still so behind bytes that found room
+pub merged_still : (bytes : List ℕ) (c : ℕ) (current stays : Bool) (merged : List Pair) (x y : MbimState) → y ≡ tell give_up (λ _. bytes) (λ client. client) c x → stays ≡ finds_room bytes (connection_in c x.table.present)
+    → (current ≡ true → merged ≡ merged_in x.table.present) → (current && stays) ≡ true → merged ≡ merged_in y.table.present
+merged_still bytes c current stays merged x y tells room was both =
+    let parts : (current ≡ true) × (stays ≡ true) = and_parts current stays both in
+    was parts.0 ∙ sym (ap (λ (z : MbimState). merged_in z.table.present) tells ∙ told_merged give_up bytes c x (sym room ∙ parts.1))
 
 -- a piece that its client's messages were heard of, and left what it wishes
 module _ (hears : Hearer Client ModemSide) (c : ℕ) (piece : List ℕ) (t : Table Client) (side : ModemSide) where

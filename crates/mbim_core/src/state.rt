@@ -320,8 +320,8 @@ impl State {
         let mut error = [0; 16];
         error.copy_from_slice(message);
         set_number(&mut error, command.number);
-        self.current = false;
-        put(&mut self.connections, &mut self.side, name, &error);
+        let stays = put(&mut self.connections, &mut self.side, name, &error);
+        self.current &= stays;
     }
 
     // A client is told that no answer to its command comes.
@@ -338,13 +338,9 @@ impl State {
             status: status::FAILURE,
         };
         self.writer.done(command.number, max, &done);
-        self.current = false;
-        put(
-            &mut self.connections,
-            &mut self.side,
-            name,
-            self.writer.text(),
-        );
+        let text = self.writer.text();
+        let stays = put(&mut self.connections, &mut self.side, name, text);
+        self.current &= stays;
     }
 
     // The proxy's own request to open the modem ends with this status, which each client that waits
@@ -428,10 +424,10 @@ impl State {
         let kind = MessageKind::IndicateStatus.number();
         self.writer.split(kind, 0, max, body);
         let text = self.writer.text();
-        self.current = false;
         if put(&mut self.connections, &mut self.side, name, text) {
             return index + 1;
         }
+        self.current = false;
         index
     }
 

@@ -12,8 +12,11 @@ use Rattle.proxy_history.specs.HungUp.{hung_up_by, is_beginning}
 use Rattle.proxy_history.specs.Sound.{IsSound, IsPresent, IsParty, Differ, begins_anew, EndsWithItsEnd}
 use Rattle.proxy_history.specs.Adding.{IsOrderly}
 use Rattle.proxy_history.specs.Orderly.{Anything, time_then}
-use Rattle.mbim_proxy.specs.Setup.{Setup}
+use Rattle.proxy_history.specs.View.{Entry}
+use Rattle.proxy_history.specs.Wording.{text_behind}
+use Rattle.mbim_proxy.specs.Setup.{Setup, mbim_setup}
 use Rattle.mbim_proxy.specs.Step.{view_of}
+use Rattle.mbim_proxy.specs.Text.{mbim_wording}
 use Rattle.mbim_proxy.specs.Lists.{waiting}
 use Rattle.mbim_proxy.specs.OwnList.{is_free}
 use Rattle.mbim_proxy.specs.History.{mbim_protocol, history, text_for, to_modem, modem_queue}
@@ -72,6 +75,11 @@ EventsHangUpTheirOwn = (s : Setup) (event : Event) (events : List Event) → Add
 -- whatever another client does, they stay as they are
 abbrev pub OthersChangeNothing : Type 0
 OthersChangeNothing = (s : Setup) (c : ℕ) (event : Event) (events : List Event) → is_anothers c event ≡ true → text_for s c (event ∷ events) ≡ text_for s c events
+
+-- the bytes of an entry are of the client's view and of the device's path: equal views get equal bytes, however long requests wait and wherever the modem was at the opening
+abbrev pub EqualViewsGetEqualBytes : Type 0
+EqualViewsGetEqualBytes = (device : List ℕ) (time_limit other_limit : ℕ) (starts_away other_away : Bool) (entries : List Entry) (entry : Entry)
+    → text_behind (mbim_wording (mbim_setup device time_limit starts_away)) entries entry ≡ text_behind (mbim_wording (mbim_setup device other_limit other_away)) entries entry
 
 -- where the client doesn't join and its socket takes nothing, its bytes stay, and more may come behind them
 abbrev pub BytesOnlyGrow : Type 0

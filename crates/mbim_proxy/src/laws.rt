@@ -1,7 +1,7 @@
 ghost use Rattle.mbim_proxy.specs.Asked.{RequestsAreAsked};
 ghost use Rattle.mbim_proxy.specs.Configuration.{NamesByItsLayout};
 ghost use Rattle.mbim_proxy.specs.Delivered.{FragmentsAreHeardWhole, HearingGoesOn};
-ghost use Rattle.mbim_proxy.specs.Laws.{AskersArePresent, AwayAgrees, BytesOnlyGrow, EndsAreLast, EventsHangUpTheirOwn, FewAreInUse, FewArePresent, HistoriesAreSound, JoiningStartsWithNone, LossLeavesNone, MbimIsOrderly, ModemBytesOnlyGrow, ModemTakesTheFirst, NoMoreWaitForTheModemThanMay, NoMoreWaitThanMay, NobodyThereIsOver, NothingFollowsAnEnd, NumbersInUseDiffer, OthersChangeNothing, TakingTakesTheFirst, TakingsBringOneRequest, TimeIsTheGreatest, WaitingArePresent};
+ghost use Rattle.mbim_proxy.specs.Laws.{AskersArePresent, AwayAgrees, BytesOnlyGrow, EndsAreLast, EqualViewsGetEqualBytes, EventsHangUpTheirOwn, FewAreInUse, FewArePresent, HistoriesAreSound, JoiningStartsWithNone, LossLeavesNone, MbimIsOrderly, ModemBytesOnlyGrow, ModemTakesTheFirst, NoMoreWaitForTheModemThanMay, NoMoreWaitThanMay, NobodyThereIsOver, NothingFollowsAnEnd, NumbersInUseDiffer, OthersChangeNothing, TakingTakesTheFirst, TakingsBringOneRequest, TimeIsTheGreatest, WaitingArePresent};
 ghost use Rattle.mbim_proxy.specs.Merging.{LastListIsMerged};
 ghost use Rattle.mbim_proxy.specs.Proxy.{ProxiesAreLawful};
 ghost use Rattle.mbim_proxy.specs.Verdicts.{ForwardedHaveTheNextNumber, NoReplyIsForwarded, OwnRepliesAreOfTheView};
@@ -46,6 +46,12 @@ pub fn nothing_follows_an_end()
 /// are those of the connections that they end, but for those that went by themselves.
 pub fn events_hang_up_their_own()
     ensures { EventsHangUpTheirOwn }
+{}
+
+/// The law that a client's bytes are made of its view and of the device's path, and of nothing else that a
+/// proxy is set up with.
+pub fn equal_views_get_equal_bytes()
+    ensures { EqualViewsGetEqualBytes }
 {}
 
 /// The law that the bytes for a client stay as they are whatever others do, and only grow: there are

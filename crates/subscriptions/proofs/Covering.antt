@@ -75,6 +75,19 @@ form_joined xs ys = same_form (normal_form xs ++ ys) (xs ++ ys) to from
         (λ (behind : Contains ys q). (q, Contains-append_right (normal_form xs) ys q behind, covers_itself q))
         (Contains-append_cases xs ys q at)
 
+form_swapped : (xs ys : List Pair) → normal_form (xs ++ ys) ≡ normal_form (ys ++ xs)
+form_swapped xs ys = same_form (xs ++ ys) (ys ++ xs) (covered_within (xs ++ ys) (ys ++ xs) (swapped xs ys)) (covered_within (ys ++ xs) (xs ++ ys) (swapped ys xs))
+  where
+    swapped : (xs ys : List Pair) (q : Pair) → Contains (xs ++ ys) q → Contains (ys ++ xs) q
+    swapped xs ys q at =
+        ⊎_elim
+        (λ (front : Contains xs q). Contains-append_right ys xs q front)
+        (λ (behind : Contains ys q). Contains-append_left ys xs q behind)
+        (Contains-append_cases xs ys q at)
+
+pub form_pushed : (pairs pushed : List Pair) → normal_form (pushed ++ normal_form pairs) ≡ normal_form (pushed ++ pairs)
+form_pushed pairs pushed = form_swapped pushed (normal_form pairs) ∙ form_joined pairs pushed ∙ form_swapped pairs pushed
+
 -- ---- how long lists in order are ----
 
 shorter_within : (xs ys : List Pair) → AreInOrder xs → AreInOrder ys → ((q : Pair) → Contains xs q → Contains ys q) → length xs ≤ length ys

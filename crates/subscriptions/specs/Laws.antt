@@ -10,6 +10,10 @@ use Rattle.subscriptions.specs.Calls.{Call, clients_after, client_if, is_there, 
 abbrev pub NormalFormsWantTheSame : Type 0
 NormalFormsWantTheSame = (list : List Pair) (uuid : List ℕ) (cid : ℕ) → wants (normal_form list) uuid cid ≡ wants list uuid cid
 
+-- a list to which pairs are pushed is that of all pairs pushed so far, in whatever portions they come
+abbrev pub ListsAreOfAllPushed : Type 0
+ListsAreOfAllPushed = (pairs pushed : List Pair) → normal_form (pushed ++ normal_form pairs) ≡ normal_form (pushed ++ pairs)
+
 -- a merge wants what one of its lists wants, and nothing else
 abbrev pub MergesWantWhatListsWant : Type 0
 MergesWantWhatListsWant = (lists : List (List Pair)) (uuid : List ℕ) (cid : ℕ) → wants (merge lists) uuid cid ≡ list_any (λ list. wants list uuid cid) lists

@@ -1,8 +1,13 @@
-ghost use Rattle.subscriptions.specs.Laws.{ClientsAreWhatCallsSay, HiddenClientsDontCount, MergesAreOfTheShown, MergesAreShort, MergesWantWhatListsWant, NormalFormsWantTheSame};
+ghost use Rattle.subscriptions.specs.Laws.{ClientsAreWhatCallsSay, HiddenClientsDontCount, ListsAreOfAllPushed, MergesAreOfTheShown, MergesAreShort, MergesWantWhatListsWant, NormalFormsWantTheSame};
 
 /// The law that a list's normal form wants what the list wants.
 pub fn normal_forms_want_the_same()
     ensures { NormalFormsWantTheSame }
+{}
+
+/// The law that a list is the normal form of all pairs that were pushed to it, in whatever portions they came.
+pub fn lists_are_of_all_pushed()
+    ensures { ListsAreOfAllPushed }
 {}
 
 /// The law that a merge wants what one of its lists wants, and nothing else.

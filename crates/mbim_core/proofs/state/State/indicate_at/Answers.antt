@@ -1,7 +1,8 @@
-use Rattle.std.proofs.Common.{true, false, sym, ◌∙◌}
+use Rattle.std.proofs.Common.{true, false, ap, sym, ◌∙◌}
 use Rattle.mbim_state.specs.Core.{Client, MbimState}
-use Rattle.mbim_state.specs.Transitions.{give_up}
+use Rattle.mbim_state.specs.Transitions.{give_up, merged_in}
 use Rattle.mbim_core.specs.State.{state_of}
+use Rattle.mbim_core.proofs.Merged.{told_merged}
 use Rattle.mbim_core.proofs.Texts.{indication_text, indication_written, is_receiver, opened_not, opened_wants}
 use Rattle.mbim_core.proofs.Turns.{seen_as, passed, dropped, got}
 use Rattle.mbim_core.proofs.state.State.indicate_at.Goals as goal
@@ -46,3 +47,17 @@ returns c =
     (state_of c.put.new.connections c.put.new.side) c.put.ensures.told (sym c.if-put.false ∙ c.put.ensures.stays)
     in
     rw (← c.self.view_is) (record { told = turned.0; fewer = turned.1 })
+
+-- its bytes leave the lists of all clients as they are
+pub invariant_of-self : goal.invariant_of-self
+invariant_of-self c =
+    let was : MbimState = state_of c.self.inside.connections c.self.inside.side in
+    record {
+      limit = c.put.ensures.limit ∙ c.self.invariant.limit;
+      current = λ is.
+          c.self.invariant.current is
+          ∙ sym
+          (ap (λ (x : MbimState). merged_in x.table.present) c.put.ensures.told
+          ∙ told_merged give_up c.text-text.result.now c.name_at-name.result was (sym c.put.ensures.stays ∙ c.if-put.true));
+      asked = λ is. c.self.invariant.asked is ∙ sym c.put.ensures.list;
+    }

@@ -1,14 +1,13 @@
-use Rattle.std.proofs.Common.{◌≡◌, ℕ, true, List, ap, sym, ◌∙◌}
-use Rattle.std.proofs.lemmas.Bool.{and_parts}
+use Rattle.std.proofs.Common.{◌≡◌, ℕ, List, ap, sym, ◌∙◌}
 use Rattle.mbim_frame.specs.declared.kind.MessageKind.TheVariants.{CommandDone}
 use Rattle.mbim_frame.specs.Kinds.{kind_number}
 use Rattle.mbim_fragments.specs.Splitting.{split}
 use Rattle.mbim_proxy.specs.Text.{response_text}
 use Rattle.mbim_state.specs.Asked.{ask_by}
 use Rattle.mbim_state.specs.Core.{known_by, MbimState}
-use Rattle.mbim_state.specs.Transitions.{give_up, tell_answer, merged_in}
+use Rattle.mbim_state.specs.Transitions.{give_up, tell_answer}
 use Rattle.mbim_core.specs.State.{state_of}
-use Rattle.mbim_core.proofs.Merged.{told_merged}
+use Rattle.mbim_core.proofs.Merged.{merged_still}
 use Rattle.mbim_core.proofs.Texts.{done_text_is}
 use Rattle.mbim_core.proofs.Turns.{nobody_told, one_told}
 use Rattle.mbim_core.proofs.state.State.tell_done.Goals as goal
@@ -36,11 +35,6 @@ invariant_of-self c =
     let text : List ℕ = split (kind_number CommandDone) c.args.command.now.number c.fragment-max.result c.args.body.now in
     record {
       limit = c.put_done-stays.ensures.limit ∙ c.self.invariant.limit;
-      current = λ is.
-          let parts : (c.self.inside.current ≡ true) × (c.put_done-stays.result ≡ true) = and_parts c.self.inside.current c.put_done-stays.result is in
-          c.self.invariant.current parts.0
-          ∙ sym
-          (ap (λ (x : MbimState). merged_in x.table.present) c.put_done-stays.ensures.told
-          ∙ told_merged give_up text c.args.name was (sym c.put_done-stays.ensures.stays ∙ parts.1));
+      current = merged_still text c.args.name _ _ _ was _ c.put_done-stays.ensures.told c.put_done-stays.ensures.stays c.self.invariant.current;
       asked = λ is. c.self.invariant.asked is ∙ sym c.put_done-stays.ensures.list;
     }

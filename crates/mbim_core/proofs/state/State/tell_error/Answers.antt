@@ -7,6 +7,7 @@ use Rattle.mbim_state.specs.Asked.{ask_by}
 use Rattle.mbim_state.specs.Core.{known_by, MbimState}
 use Rattle.mbim_state.specs.Transitions.{give_up, tell_answer}
 use Rattle.mbim_core.specs.State.{state_of}
+use Rattle.mbim_core.proofs.Merged.{merged_still}
 use Rattle.mbim_core.proofs.Texts.{error_text_is}
 use Rattle.mbim_core.proofs.state.State.tell_error.Goals as goal
 
@@ -16,8 +17,17 @@ returns c =
     let m : List ℕ = c.args.message.now in
     let error : List ℕ = with_number c.args.command.now.number m in
     let written : c.set_number.new.message ≡ error = c.set_number.ensures ∙ ap (with_number c.args.command.now.number) c.copy_from_slice.ensures.after in
-    c.put.ensures.told
+    c.put-stays.ensures.told
     ∙ ap (λ (l : List ℕ). tell give_up (λ _. l) (λ client. client) c.args.name was) written
     ∙ tell_is give_up (λ _. error) c.args.name error was (λ k at. refl)
     ∙ sym (tell_is give_up (λ client. response_text (known_by client) (ask_by c.args.command.now) m) c.args.name error was (λ k at. sym (error_text_is m c.requires.kind k.client c.args.command.now)))
     ∙ ap (tell_answer c.args.command.now m c.args.name) c.self.view_is
+
+pub invariant_of-self : goal.invariant_of-self
+invariant_of-self c =
+    let was : MbimState = state_of c.self.inside.connections c.self.inside.side in
+    record {
+      limit = c.put-stays.ensures.limit ∙ c.self.invariant.limit;
+      current = merged_still c.set_number.new.message c.args.name _ _ _ was _ c.put-stays.ensures.told c.put-stays.ensures.stays c.self.invariant.current;
+      asked = λ is. c.self.invariant.asked is ∙ sym c.put-stays.ensures.list;
+    }
