@@ -1,7 +1,7 @@
 -- Examples of commands and what becomes of them.
 use Rattle.std.specs.Prelude.{◌≡◌, ℕ, true, List, [], ◌∷◌, ◌++◌, length, codes, Option, Some, None, is_some}
 use Rattle.kit_bytes.specs.Hex.{hex}
-use Rattle.proxy_history.specs.Events.{Event, Piece, Left, ModemPiece, Now, ModemTook}
+use Rattle.proxy_history.specs.Events.{Event, Piece, Left, ModemPiece, ModemGone, Now, ModemTook}
 use Rattle.proxy_history.specs.Connections.{present}
 use Rattle.proxy_history.specs.Requests.{in_use, number_after}
 use Rattle.proxy_history.specs.Modem.{modem_queue}
@@ -21,6 +21,17 @@ pub record NoAnswerInTime : Type 0 where
   pub at_deadline : bytes_for 1 (expires 31000) ≡ configured ++ opened_6 ++ failed_7
   pub late : bytes_for 1 answered_late ≡ configured ++ opened_6 ++ failed_7
   pub free : in_use (history answered_late) ≡ []
+
+-- two commands of a client get no answer: they are refused in the order in which they came, once their time is over and where the modem is lost
+abbrev pub failed_9 : List ℕ
+failed_9 = hex (codes "03 00 00 80 30 00 00 00 09 00 00 00 01 00 00 00 00 00 00 00 A2 89 CC 33 BC BB 8B 4F B6 B0 13 3E C2 AA E6 DF 03 00 00 00 02 00 00 00 00 00 00 00")
+
+abbrev pub asks_twice : Event → List Event
+asks_twice event = one_open (Piece 1 (hex (codes "03 00 00 00 30 00 00 00 09 00 00 00 01 00 00 00 00 00 00 00 A2 89 CC 33 BC BB 8B 4F B6 B0 13 3E C2 AA E6 DF 03 00 00 00 00 00 00 00 00 00 00 00")) ∷ Piece 1 query_7 ∷ event ∷ [])
+
+pub record RefusedInOrder : Type 0 where
+  pub expired : bytes_for 1 (asks_twice (Now 30000)) ≡ configured ++ opened_6 ++ failed_9 ++ failed_7
+  pub lost : bytes_for 1 (asks_twice ModemGone) ≡ configured ++ opened_6 ++ failed_9 ++ failed_7
 
 -- an error in place of the answer is passed on with the client's number; one of 17 bytes is for nobody, and so is one with another number
 abbrev pub errs : List Event

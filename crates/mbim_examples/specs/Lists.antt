@@ -1,12 +1,14 @@
 -- Examples of subscriptions: the modem gets the list of all open clients together, and each client hears of its own.
-use Rattle.std.specs.Prelude.{◌≡◌, ℕ, List, [], ◌∷◌, ◌++◌, codes, Some, None}
+use Rattle.std.specs.Prelude.{◌≡◌, ℕ, List, [], ◌∷◌, ◌++◌, map, codes, Some, None}
+use Rattle.std.specs.List.{range_with_len}
 use Rattle.kit_bytes.specs.Hex.{hex}
 use Rattle.kit_bytes.specs.declared.services.TheConstants.{SMS, PHONEBOOK}
 use Rattle.kit_bytes.specs.Services.{starting_list}
-use Rattle.kit_bytes.specs.Subscriptions.{normal_form}
+use Rattle.kit_bytes.specs.Subscriptions.{Pair, normal_form}
 use Rattle.proxy_history.specs.Events.{Event, Piece, Left, ModemPiece, ModemGone, ModemBack, ModemTook, Now}
 use Rattle.mbim_services.specs.SubscribeLists.{list_buffer}
-use Rattle.mbim_examples.specs.Story.{configured, open_6, opened_6, open_1, opened_1, query_7, close_8, closed_8, one_configured, both_configured, one_open, both_open, bytes_for, to_modem, small_bytes_for, small_to_modem}
+use Rattle.mbim_proxy.specs.OwnReplies.{Refuses, Subscribes, reply_to_pairs}
+use Rattle.mbim_examples.specs.Story.{setup, configured, open_6, opened_6, open_1, opened_1, opened_2, query_7, close_8, closed_8, one_configured, both_configured, one_open, both_open, bytes_for, to_modem, small_bytes_for, small_to_modem}
 
 -- a client sets SMS 2 with number 9, and what it gets
 abbrev pub set_two : List ℕ
@@ -96,6 +98,14 @@ pub record ListsOutOfForm : Type 0 where
   pub client : bytes_for 1 sets_nothing ≡ configured ++ opened_6 ++ hex (codes "03 00 00 80 30 00 00 00 09 00 00 00 01 00 00 00 00 00 00 00 A2 89 CC 33 BC BB 8B 4F B6 B0 13 3E C2 AA E6 DF 13 00 00 00 15 00 00 00 00 00 00 00") ++ hex (codes "03 00 00 80 30 00 00 00 09 00 00 00 01 00 00 00 00 00 00 00 A2 89 CC 33 BC BB 8B 4F B6 B0 13 3E C2 AA E6 DF 13 00 00 00 15 00 00 00 00 00 00 00") ++ hex (codes "03 00 00 80 30 00 00 00 09 00 00 00 01 00 00 00 00 00 00 00 A2 89 CC 33 BC BB 8B 4F B6 B0 13 3E C2 AA E6 DF 13 00 00 00 15 00 00 00 00 00 00 00") ++ hex (codes "03 00 00 80 30 00 00 00 09 00 00 00 01 00 00 00 00 00 00 00 A2 89 CC 33 BC BB 8B 4F B6 B0 13 3E C2 AA E6 DF 13 00 00 00 15 00 00 00 00 00 00 00")
   pub modem : to_modem sets_nothing ≡ open_1
 
+-- CID 19 of SMS is no list: the modem gets it
+abbrev pub asks_of_sms : List Event
+asks_of_sms = one_open (Piece 1 (hex (codes "03 00 00 00 30 00 00 00 09 00 00 00 01 00 00 00 00 00 00 00 53 3F BE EB 14 FE 44 67 9F 90 33 A2 23 E5 6C 3F 13 00 00 00 00 00 00 00 00 00 00 00")) ∷ [])
+
+pub record ListsAreOfBasicConnect : Type 0 where
+  pub modem : to_modem asks_of_sms ≡ open_1 ++ hex (codes "03 00 00 00 30 00 00 00 02 00 00 00 01 00 00 00 00 00 00 00 53 3F BE EB 14 FE 44 67 9F 90 33 A2 23 E5 6C 3F 13 00 00 00 00 00 00 00 00 00 00 00")
+  pub client : bytes_for 1 asks_of_sms ≡ configured ++ opened_6
+
 -- the small proxy has lists of 3 pairs; 4 pairs of which one stands twice are 3
 abbrev pub sets_in_small : List ℕ → List Event
 sets_in_small list = one_configured (Piece 1 open_6 ∷ ModemPiece opened_1 ∷ Piece 1 list ∷ [])
@@ -103,6 +113,15 @@ sets_in_small list = one_configured (Piece 1 open_6 ∷ ModemPiece opened_1 ∷ 
 pub record LongLists : Type 0 where
   pub four : small_bytes_for 1 (sets_in_small (hex (codes "03 00 00 00 60 00 00 00 09 00 00 00 01 00 00 00 00 00 00 00 A2 89 CC 33 BC BB 8B 4F B6 B0 13 3E C2 AA E6 DF 13 00 00 00 01 00 00 00 30 00 00 00 01 00 00 00 0C 00 00 00 24 00 00 00 53 3F BE EB 14 FE 44 67 9F 90 33 A2 23 E5 6C 3F 04 00 00 00 01 00 00 00 02 00 00 00 03 00 00 00 04 00 00 00"))) ≡ configured ++ opened_6 ++ hex (codes "03 00 00 80 30 00 00 00 09 00 00 00 01 00 00 00 00 00 00 00 A2 89 CC 33 BC BB 8B 4F B6 B0 13 3E C2 AA E6 DF 13 00 00 00 15 00 00 00 00 00 00 00")
   pub three : small_bytes_for 1 (sets_in_small (hex (codes "03 00 00 00 60 00 00 00 09 00 00 00 01 00 00 00 00 00 00 00 A2 89 CC 33 BC BB 8B 4F B6 B0 13 3E C2 AA E6 DF 13 00 00 00 01 00 00 00 30 00 00 00 01 00 00 00 0C 00 00 00 24 00 00 00 53 3F BE EB 14 FE 44 67 9F 90 33 A2 23 E5 6C 3F 04 00 00 00 01 00 00 00 02 00 00 00 03 00 00 00 01 00 00 00"))) ≡ configured ++ opened_6 ++ hex (codes "03 00 00 80 54 00 00 00 09 00 00 00 02 00 00 00 00 00 00 00 A2 89 CC 33 BC BB 8B 4F B6 B0 13 3E C2 AA E6 DF 13 00 00 00 00 00 00 00 2C 00 00 00 01 00 00 00 0C 00 00 00 20 00 00 00 53 3F BE EB 14 FE 44 67 9F 90 33 A2 23 E5 6C 3F 03 00 00 00 01 00 00 00 03 00 00 80 1C 00 00 00 09 00 00 00 02 00 00 00 01 00 00 00 02 00 00 00 03 00 00 00")
+
+-- the proxy that is served has lists of 30 pairs, each counted once
+abbrev pub sms_to : ℕ → List Pair
+sms_to count = map (λ cid. (SMS, Some cid)) (range_with_len 1 count)
+
+pub record ListsOfThirty : Type 0 where
+  pub thirty : reply_to_pairs setup [] (Some (sms_to 30)) ≡ Subscribes [] (sms_to 30)
+  pub more : reply_to_pairs setup [] (Some (sms_to 31)) ≡ Refuses [] 21
+  pub twice : reply_to_pairs setup [] (Some (sms_to 16 ++ sms_to 16)) ≡ Subscribes [] (sms_to 16)
 
 -- ---- indications ----
 
@@ -146,12 +165,18 @@ is_refused = one_open (Piece 1 set_two ∷ ModemPiece (hex (codes "03 00 00 80 3
 abbrev pub is_unanswered : List Event
 is_unanswered = one_open (Piece 1 set_two ∷ Now 30000 ∷ Piece 1 set_all ∷ [])
 
+-- an OPEN_DONE to the list is for nobody, and an error answers it
+abbrev pub is_answered_by : List ℕ → List Event
+is_answered_by answer = one_open (Piece 1 set_two ∷ ModemPiece answer ∷ Piece 1 set_all ∷ [])
+
 pub record OneListAtATime : Type 0 where
   pub waits : to_modem (one_open (Piece 1 set_two ∷ Piece 1 set_all ∷ [])) ≡ open_1 ++ own_two
   pub changed : to_modem changes_twice ≡ open_1 ++ own_two ++ hex (codes "03 00 00 00 54 00 00 00 03 00 00 00 01 00 00 00 00 00 00 00 A2 89 CC 33 BC BB 8B 4F B6 B0 13 3E C2 AA E6 DF 13 00 00 00 01 00 00 00 24 00 00 00 01 00 00 00 0C 00 00 00 18 00 00 00 53 3F BE EB 14 FE 44 67 9F 90 33 A2 23 E5 6C 3F 01 00 00 00 04 00 00 00")
   pub refused : to_modem is_refused ≡ open_1 ++ own_two ++ hex (codes "03 00 00 00 30 00 00 00 03 00 00 00 01 00 00 00 00 00 00 00 A2 89 CC 33 BC BB 8B 4F B6 B0 13 3E C2 AA E6 DF 03 00 00 00 00 00 00 00 00 00 00 00")
   pub unanswered : to_modem is_unanswered ≡ open_1 ++ own_two ++ hex (codes "03 00 00 00 50 00 00 00 03 00 00 00 01 00 00 00 00 00 00 00 A2 89 CC 33 BC BB 8B 4F B6 B0 13 3E C2 AA E6 DF 13 00 00 00 01 00 00 00 20 00 00 00 01 00 00 00 0C 00 00 00 14 00 00 00 53 3F BE EB 14 FE 44 67 9F 90 33 A2 23 E5 6C 3F 00 00 00 00")
   pub client : bytes_for 1 is_unanswered ≡ configured ++ opened_6 ++ has_two ++ has_all
+  pub opened : to_modem (is_answered_by opened_2) ≡ open_1 ++ own_two
+  pub erred : to_modem (is_answered_by (hex (codes "04 00 00 80 10 00 00 00 02 00 00 00 05 00 00 00"))) ≡ open_1 ++ own_two ++ hex (codes "03 00 00 00 50 00 00 00 03 00 00 00 01 00 00 00 00 00 00 00 A2 89 CC 33 BC BB 8B 4F B6 B0 13 3E C2 AA E6 DF 13 00 00 00 01 00 00 00 20 00 00 00 01 00 00 00 0C 00 00 00 14 00 00 00 53 3F BE EB 14 FE 44 67 9F 90 33 A2 23 E5 6C 3F 00 00 00 00")
 
 -- after a loss the modem has its starting list again, and the client the list that it set
 abbrev pub opens_again : List Event
@@ -159,6 +184,14 @@ opens_again = one_open (Piece 1 set_two ∷ ModemPiece own_two_done ∷ ModemGon
 
 pub record ListsOutliveALoss : Type 0 where
   pub modem : to_modem opens_again ≡ hex (codes "01 00 00 00 10 00 00 00 03 00 00 00 00 10 00 00") ++ hex (codes "03 00 00 00 54 00 00 00 04 00 00 00 01 00 00 00 00 00 00 00 A2 89 CC 33 BC BB 8B 4F B6 B0 13 3E C2 AA E6 DF 13 00 00 00 01 00 00 00 24 00 00 00 01 00 00 00 0C 00 00 00 18 00 00 00 53 3F BE EB 14 FE 44 67 9F 90 33 A2 23 E5 6C 3F 01 00 00 00 02 00 00 00")
+
+-- a client that closes keeps the list that it set: once it opens again, it counts
+abbrev pub closes_and_opens : List Event
+closes_and_opens = one_open (Piece 1 set_two ∷ ModemPiece own_two_done ∷ Piece 1 close_8 ∷ ModemPiece own_start_done ∷ Piece 1 open_6 ∷ ModemPiece indication_2 ∷ ModemPiece indication_3 ∷ [])
+
+pub record ListsOutliveAClose : Type 0 where
+  pub modem : to_modem closes_and_opens ≡ open_1 ++ own_two ++ hex (codes "03 00 00 00 34 00 00 00 03 00 00 00 01 00 00 00 00 00 00 00 A2 89 CC 33 BC BB 8B 4F B6 B0 13 3E C2 AA E6 DF 13 00 00 00 01 00 00 00 04 00 00 00 00 00 00 00") ++ hex (codes "03 00 00 00 54 00 00 00 04 00 00 00 01 00 00 00 00 00 00 00 A2 89 CC 33 BC BB 8B 4F B6 B0 13 3E C2 AA E6 DF 13 00 00 00 01 00 00 00 24 00 00 00 01 00 00 00 0C 00 00 00 18 00 00 00 53 3F BE EB 14 FE 44 67 9F 90 33 A2 23 E5 6C 3F 01 00 00 00 02 00 00 00")
+  pub client : bytes_for 1 closes_and_opens ≡ configured ++ opened_6 ++ has_two ++ closed_8 ++ opened_6 ++ told_2
 
 -- 150 bytes of room for the modem: while the OPEN and two queries wait, the list isn't asked for; once the modem took them it is
 abbrev pub waits_for_room : List Event → List Event

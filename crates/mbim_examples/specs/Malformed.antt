@@ -4,7 +4,8 @@ use Rattle.kit_bytes.specs.Hex.{hex}
 use Rattle.proxy_history.specs.Events.{Event, Joined, Piece}
 use Rattle.mbim_proxy.specs.Setup.{Setup}
 use Rattle.mbim_proxy.specs.History as proxy
-use Rattle.mbim_examples.specs.Story.{setup, configured, open_6, opened_6, open_1, query_7, subscribe_none_2, one_open, bytes_for, to_modem}
+use Rattle.mbim_examples.specs.Story.{setup, configured, open_6, opened_6, open_1, query_7, subscribe_none_2, one_configured, one_open, bytes_for, to_modem}
+use Rattle.mbim_examples.specs.Lists.{set_two}
 
 -- OPEN of 17 bytes, CLOSE of 13, COMMAND of 19: error 3; HOST_ERROR: nothing; kinds that no client sends: error 6
 abbrev pub bad_messages : List Event
@@ -33,6 +34,14 @@ bad_commands =
 pub record CommandsOutOfForm : Type 0 where
   pub client : bytes_for 1 bad_commands ≡ configured ++ opened_6 ++ hex (codes "04 00 00 80 10 00 00 00 09 00 00 00 03 00 00 00") ++ hex (codes "04 00 00 80 10 00 00 00 09 00 00 00 03 00 00 00") ++ hex (codes "04 00 00 80 10 00 00 00 09 00 00 00 03 00 00 00") ++ hex (codes "04 00 00 80 10 00 00 00 09 00 00 00 03 00 00 00")
   pub modem : to_modem bad_commands ≡ open_1
+
+-- a client isn't open: a command out of form is error 3 for it too, and a list that it sets error 5
+abbrev pub unopened : List Event
+unopened = one_configured (Piece 1 (hex (codes "03 00 00 00 30 00 00 00 09 00 00 00 01 00 00 00 00 00 00 00 A2 89 CC 33 BC BB 8B 4F B6 B0 13 3E C2 AA E6 DF 03 00 00 00 02 00 00 00 00 00 00 00")) ∷ Piece 1 set_two ∷ [])
+
+pub record CommandsBeforeTheOpening : Type 0 where
+  pub client : bytes_for 1 unopened ≡ configured ++ hex (codes "04 00 00 80 10 00 00 00 09 00 00 00 03 00 00 00") ++ hex (codes "04 00 00 80 10 00 00 00 09 00 00 00 05 00 00 00")
+  pub modem : to_modem unopened ≡ []
 
 -- proxy control: another CID, a query, another device: status 21, and the client named none
 abbrev pub bad_configurations : List Event

@@ -2,6 +2,7 @@
 use Rattle.std.specs.Prelude.{◌≡◌, true, List, [], ◌∷◌, ◌++◌, reverse, codes}
 use Rattle.kit_bytes.specs.Hex.{hex}
 use Rattle.proxy_history.specs.Events.{Event, Joined, Piece, Left, ModemPiece, ModemGone, ModemBack, Now}
+use Rattle.proxy_history.specs.Requests.{in_use}
 use Rattle.mbim_proxy.specs.Setup.{Setup}
 use Rattle.mbim_proxy.specs.Lists.{waiting}
 use Rattle.mbim_proxy.specs.History as proxy
@@ -24,7 +25,7 @@ pub record MustConfigureAndOpen : Type 0 where
   pub client : bytes_for 1 unconfigured ≡ hex (codes "01 00 00 80 10 00 00 00 06 00 00 00 0E 00 00 00") ++ not_opened_7
   pub modem : to_modem unconfigured ≡ []
 
--- once the modem is open, a client is open at once; until then each waits, in order of arrival
+-- once the modem is open, a client is open at once; until then each waits, in order of joining
 abbrev pub opens_late : List Event
 opens_late = both_configured (Piece 1 open_6 ∷ ModemPiece opened_1 ∷ Piece 2 open_6 ∷ Piece 2 query_7 ∷ [])
 
@@ -88,9 +89,9 @@ pub record RefusedOpenings : Type 0 where
   pub blundered : bytes_for 1 modem_blunders ≡ configured
   pub waits_still : waiting setup (history modem_blunders) ≡ 1 ∷ []
 
--- an OPEN_DONE to a command is for nobody, and the answer still comes
+-- an OPEN_DONE and a CLOSE_DONE to a command are for nobody, and the answer still comes
 abbrev pub opened_for_a_command : List Event
-opened_for_a_command = one_open (Piece 1 query_7 ∷ ModemPiece opened_2 ∷ ModemPiece answer_2 ∷ [])
+opened_for_a_command = one_open (Piece 1 query_7 ∷ ModemPiece opened_2 ∷ ModemPiece (hex (codes "02 00 00 80 10 00 00 00 02 00 00 00 00 00 00 00")) ∷ ModemPiece answer_2 ∷ [])
 
 pub record AnswersFitTheirRequests : Type 0 where
   pub client : bytes_for 1 opened_for_a_command ≡ configured ++ opened_6 ++ answer_7
@@ -102,10 +103,16 @@ opening_expires = one_configured (Piece 1 open_6 ∷ Now 29999 ∷ Now 30000 ∷
 abbrev pub opening_goes_on : List Event
 opening_goes_on = one_configured (Piece 1 open_6 ∷ Now 29999 ∷ [])
 
+-- a late error ends no other opening
+abbrev pub opening_errs_late : List Event
+opening_errs_late = one_configured (Piece 1 open_6 ∷ Now 30000 ∷ Piece 1 open_6 ∷ ModemPiece (hex (codes "04 00 00 80 10 00 00 00 01 00 00 00 03 00 00 00")) ∷ ModemPiece opened_2 ∷ [])
+
 pub record ExpiredOpening : Type 0 where
   pub before : bytes_for 1 opening_goes_on ≡ configured
   pub client : bytes_for 1 opening_expires ≡ configured ++ failed_6
   pub modem : to_modem opening_expires ≡ open_1 ++ open_2
+  pub errs_late : bytes_for 1 opening_errs_late ≡ configured ++ failed_6 ++ opened_6
+  pub free : in_use (history opening_errs_late) ≡ []
 
 -- the modem is away: status 2; once it is back it is opened with the next number
 abbrev pub opens_while_away : List Event

@@ -1,7 +1,11 @@
-ghost use Rattle.mbim_examples.specs.Answers.{NoAnswerInTime, ErrorsAndBadAnswers, OrphansKeepTheirNumber, ClosedClients, NobodySubscribes, NoNumberIsFree, NoRoomToTheModem, OpeningWithoutANumber, NumbersOfASpace, NoRoomForTheClient};
+ghost use Rattle.mbim_examples.specs.Answers.{NoAnswerInTime, RefusedInOrder, ErrorsAndBadAnswers, OrphansKeepTheirNumber, ClosedClients, NobodySubscribes, NoNumberIsFree, NoRoomToTheModem, OpeningWithoutANumber, NumbersOfASpace, NoRoomForTheClient};
 
 pub fn no_answer_in_time()
     ensures { NoAnswerInTime }
+{}
+
+pub fn refused_in_order()
+    ensures { RefusedInOrder }
 {}
 
 pub fn errors_and_bad_answers()

@@ -1,4 +1,4 @@
-ghost use Rattle.mbim_examples.specs.Fragments.{BothArriveWhole, DroppedAnswers, LongAnswers, CommandsAreJoined, SkippedFragmentIsRefused, LongCommands, AnswersComeInTheClientsFragments, OpeningsOutOfForm, FragmentsOfTheSmallProxy};
+ghost use Rattle.mbim_examples.specs.Fragments.{BothArriveWhole, DroppedAnswers, TwoAnswersAtOnce, AnswersGoOnWithoutTheirClient, LongAnswers, CommandsAreJoined, HalfACommandGoesWithItsClient, SkippedFragmentIsRefused, LongCommands, AnswersComeInTheClientsFragments, OpeningsOutOfForm, FragmentsOfTheSmallProxy};
 
 pub fn both_arrive_whole()
     ensures { BothArriveWhole }
@@ -8,12 +8,24 @@ pub fn dropped_answers()
     ensures { DroppedAnswers }
 {}
 
+pub fn two_answers_at_once()
+    ensures { TwoAnswersAtOnce }
+{}
+
+pub fn answers_go_on_without_their_client()
+    ensures { AnswersGoOnWithoutTheirClient }
+{}
+
 pub fn long_answers()
     ensures { LongAnswers }
 {}
 
 pub fn commands_are_joined()
     ensures { CommandsAreJoined }
+{}
+
+pub fn half_a_command_goes_with_its_client()
+    ensures { HalfACommandGoesWithItsClient }
 {}
 
 pub fn skipped_fragment_is_refused()

@@ -1,4 +1,4 @@
-ghost use Rattle.mbim_examples.specs.Malformed.{MessagesOutOfForm, CommandsOutOfForm, ConfigurationsThatNameNothing, PathsLieInTheBuffer, BadStreamsEndTheirClient};
+ghost use Rattle.mbim_examples.specs.Malformed.{MessagesOutOfForm, CommandsOutOfForm, CommandsBeforeTheOpening, ConfigurationsThatNameNothing, PathsLieInTheBuffer, BadStreamsEndTheirClient};
 
 pub fn messages_out_of_form()
     ensures { MessagesOutOfForm }
@@ -6,6 +6,10 @@ pub fn messages_out_of_form()
 
 pub fn commands_out_of_form()
     ensures { CommandsOutOfForm }
+{}
+
+pub fn commands_before_the_opening()
+    ensures { CommandsBeforeTheOpening }
 {}
 
 pub fn configurations_that_name_nothing()

@@ -18,4 +18,5 @@ pub returns : goal.returns
 unfolding cut_from stream modem_stream present message_count in_use pending forward_count last_number free_from now to_modem modem_drained view render told_by end_overfull each_pending add_all history heard_from state last_list
 returns c = record {
   client = refl;
+  twice = refl;
 }

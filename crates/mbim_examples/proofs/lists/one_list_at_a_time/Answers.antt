@@ -22,4 +22,6 @@ returns c = record {
   refused = refl;
   unanswered = refl;
   client = refl;
+  opened = refl;
+  erred = refl;
 }

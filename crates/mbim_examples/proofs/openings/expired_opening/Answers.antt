@@ -20,4 +20,6 @@ returns c = record {
   before = refl;
   client = refl;
   modem = refl;
+  errs_late = refl;
+  free = refl;
 }
