@@ -1,6 +1,6 @@
 use kit_bytes::{Octets, ShortOctets, Text, services, utf16_from_text};
 use mbim_requests::MbimRequest;
-use mbim_services::{Events, LONGEST_LIST, command, config_path_is, done, write_events};
+use mbim_services::{EventList, Events, LONGEST_LIST, command, config_path_is, done, write_events};
 use mbimcli_print::mbim_text;
 use std::test::Fail;
 use uuid::Uuid;
@@ -12,6 +12,13 @@ const LIST: [u8; 72] = [
     0xC2, 0xAA, 0xE6, 0xDF, 0x02, 0x00, 0x00, 0x00, 0x0B, 0x00, 0x00, 0x00, 0x09, 0x00, 0x00, 0x00,
     0x53, 0x3F, 0xBE, 0xEB, 0x14, 0xFE, 0x44, 0x67, 0x9F, 0x90, 0x33, 0xA2, 0x23, 0xE5, 0x6C, 0x3F,
     0x01, 0x00, 0x00, 0x00, 0x02, 0x00, 0x00, 0x00,
+];
+
+// A list of two events that have one structure: one CID of SMS.
+const TWICE: [u8; 44] = [
+    0x02, 0x00, 0x00, 0x00, 0x14, 0x00, 0x00, 0x00, 0x18, 0x00, 0x00, 0x00, 0x14, 0x00, 0x00, 0x00,
+    0x18, 0x00, 0x00, 0x00, 0x53, 0x3F, 0xBE, 0xEB, 0x14, 0xFE, 0x44, 0x67, 0x9F, 0x90, 0x33, 0xA2,
+    0x23, 0xE5, 0x6C, 0x3F, 0x01, 0x00, 0x00, 0x00, 0x02, 0x00, 0x00, 0x00,
 ];
 
 #[test]
@@ -81,10 +88,15 @@ fn a_list_is_written_and_read(rt: HostRuntime) -> Result<(), Fail> {
     assert_eq!(rt; events.next(), Some(basic_connect(9)));
     assert_eq!(rt; events.next(), Some(sms(2)));
     assert_eq!(rt; events.next(), None);
+    Ok(())
+}
 
-    let mut events = Events::read(&LIST).expect(&rt, "a list");
-    assert_eq!(rt; events.next(), Some(basic_connect(11)));
-    events.skip_cids(Uuid::from_bytes(services::BASIC_CONNECT));
-    assert_eq!(rt; events.next(), Some(sms(2)));
+#[test]
+fn a_structure_is_read_once(rt: HostRuntime) -> Result<(), Fail> {
+    let events = EventList::read(&TWICE).expect(&rt, "a list");
+    assert!(rt; 1 < events.len());
+    assert_eq!(rt; events.unread(0).cids.next(), Some(2));
+    assert_eq!(rt; events.at(1).cids.next(), Some(2));
+    assert_eq!(rt; events.unread(1).cids.next(), None);
     Ok(())
 }

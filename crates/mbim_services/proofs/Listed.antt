@@ -80,14 +80,14 @@ numbers-count (suc count) (a ∷ b ∷ c ∷ d ∷ bytes) long = omega (arith, n
 abbrev event_item : Item
 event_item = structure_of (layout_of event)
 
-structure-some : (bytes : List ℕ) → 20 + 4 * number_at bytes 16 4 ≤ length bytes
+pub structure-some : (bytes : List ℕ) → 20 + 4 * number_at bytes 16 4 ≤ length bytes
     → pairs_of_structure bytes ≡ Some (pairs_of (slice_range bytes 0 16) (numbers_of (slice_range bytes 20 (20 + 4 * number_at bytes 16 4))))
 structure-some bytes fits = search rules
 
 structure-none : (bytes : List ℕ) → length bytes < 20 + 4 * number_at bytes 16 4 → pairs_of_structure bytes ≡ None
 structure-none bytes past = search rules
 
-at-some : (buffer : List ℕ) (offset size : ℕ) → offset + size ≤ length buffer → pairs_at buffer offset size ≡ pairs_of_structure (slice_range buffer offset (offset + size))
+pub at-some : (buffer : List ℕ) (offset size : ℕ) → offset + size ≤ length buffer → pairs_at buffer offset size ≡ pairs_of_structure (slice_range buffer offset (offset + size))
 at-some buffer offset size fits = search rules
 
 at-none : (buffer : List ℕ) (offset size : ℕ) → length buffer < offset + size → pairs_at buffer offset size ≡ None

@@ -3,20 +3,6 @@ use Rattle.std.proofs.Common.{◌≡◌, ℕ, ◌<◌, ◌≤◌, List, [], ◌�
 use Rattle.kit_bytes.specs.Numbers.{number_at}
 use Rattle.mbim_services.specs.SubscribeLists.{numbers_of, pairs_at, both, pairs_referred}
 
-pub numbers_more : (bytes : List ℕ) → 4 ≤ length bytes → numbers_of bytes ≡ number_at bytes 0 4 ∷ numbers_of (drop 4 bytes)
-numbers_more [] long = absurd (omega arith)
-numbers_more (a ∷ []) long = absurd (omega arith)
-numbers_more (a ∷ b ∷ []) long = absurd (omega arith)
-numbers_more (a ∷ b ∷ c ∷ []) long = absurd (omega arith)
-numbers_more (a ∷ b ∷ c ∷ d ∷ bytes) long = refl
-
-pub numbers_none : (bytes : List ℕ) → length bytes < 4 → numbers_of bytes ≡ []
-numbers_none [] short = refl
-numbers_none (a ∷ []) short = refl
-numbers_none (a ∷ b ∷ []) short = refl
-numbers_none (a ∷ b ∷ c ∷ []) short = refl
-numbers_none (a ∷ b ∷ c ∷ d ∷ bytes) short = absurd (omega arith)
-
 pub references_more : (buffer bytes : List ℕ) → 8 ≤ length bytes → pairs_referred buffer (numbers_of bytes) ≡ both (pairs_at buffer (number_at bytes 0 4) (number_at bytes 4 4)) (pairs_referred buffer (numbers_of (drop 8 bytes)))
 references_more buffer [] long = absurd (omega arith)
 references_more buffer (a ∷ []) long = absurd (omega arith)

@@ -242,9 +242,6 @@ structures-put at end next count left run behind all old now new is run_is behin
 
 -- ---- tests ----
 
-pub differ : (a b : List ℕ) (test : Bool) → test ≡ not (bytes_eq a b) → test ≡ true → a ≢ b
-differ a b test is holds = λ same. (let h = sym holds ∙ is ∙ ap not ((bytes_eq-Decides a b).1 same) in absurd cc)
-
 pub agree : (a b : List ℕ) (test : Bool) → test ≡ not (bytes_eq a b) → test ≡ false → a ≡ b
 agree a b test is fails = elim (true_or (bytes_eq a b)) [
   | inl eq ↦ (bytes_eq-Decides a b).0 eq

@@ -5,6 +5,7 @@ pub mod Answers
 pub mod Paths
 pub mod SubscribeLists
 pub mod Events
+pub mod EventLists
 pub mod Writing
 pub mod Laws
 pub mod Examples

@@ -1,6 +1,6 @@
 -- The buffer of a list of subscriptions: how many services, a reference to a structure for each, and the structures: a UUID and its CIDs, none for all of them.
 -- Source: the USB-IF MBIM specification 1.0, MBIM_DEVICE_SERVICE_SUBSCRIBE_LIST and MBIM_EVENT_ENTRY.
-use Rattle.std.specs.Prelude.{◌≡◌, Bool, ℕ, ◌+◌, ◌*◌, ◌^◌, ◌<◌, nat_lt, bytes_eq, List, [], ◌∷◌, ◌++◌, length, slice_range, map, Option, Some, None, if◌then◌else◌}
+use Rattle.std.specs.Prelude.{◌≡◌, Bool, ℕ, ◌+◌, ◌*◌, ◌^◌, ◌<◌, nat_lt, List, [], ◌∷◌, ◌++◌, length, slice_range, map, Option, Some, None, if◌then◌else◌}
 use Rattle.std.specs.List.{flat_map}
 use Rattle.std.specs.Ordering.{is_eq}
 use Rattle.std.specs.Cmp.Lexicographic.{slice_cmp}
@@ -60,12 +60,6 @@ abbrev pub list_of_buffer : List ℕ → Option (List Pair)
 list_of_buffer buffer =
     if nat_lt (length buffer) (4 + 8 * number_at buffer 0 4) then None
     else pairs_referred buffer (numbers_of (slice_range buffer 4 (4 + 8 * number_at buffer 0 4)))
-
--- without the single CIDs of a service that stand in front
-abbrev pub behind_cids : (uuid : List ℕ) → List Pair → List Pair
-behind_cids uuid [] = []
-behind_cids uuid ((other, None) ∷ pairs) = (other, None) ∷ pairs
-behind_cids uuid ((other, Some cid) ∷ pairs) = if bytes_eq other uuid then behind_cids uuid pairs else (other, Some cid) ∷ pairs
 
 -- ---- the same as the fields of the table's layout ----
 

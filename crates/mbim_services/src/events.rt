@@ -1,7 +1,8 @@
-ghost use Rattle.std.specs.Prelude.{◌≡◌, ◌≤◌, [], ◌∷◌, length, option_map, unwrap_or, is_some, IsSome, IfSome, IsNone};
+ghost use Rattle.std.specs.Prelude.{◌≡◌, ◌+◌, ◌*◌, ◌<◌, ◌≤◌, [], ◌∷◌, length, option_map, is_some, IfSome, IsNone};
 ghost use Rattle.kit_bytes.specs.Numbers.{number_at};
 ghost use Rattle.kit_bytes.specs.Subscriptions.{pairs_of};
-ghost use Rattle.mbim_services.specs.SubscribeLists.{behind_cids, list_of_buffer, numbers_of, pairs_at, pairs_of_structure, pairs_referred};
+ghost use Rattle.mbim_services.specs.EventLists.{IsRange, cids_in, subscription_at, subscription_of_range};
+ghost use Rattle.mbim_services.specs.SubscribeLists.{list_of_buffer, numbers_of, pairs_at, pairs_referred};
 
 use kit_bytes::{u32_at, uuid_at};
 use std::marker::Model;
@@ -37,17 +38,7 @@ impl<'a> Events<'a> {
     pub fn read(buffer: &'a [u8]) -> Option<Self>
         ensures { result ≡ list_of_buffer buffer.now }
     {
-        if buffer.len() < 4 {
-            return None;
-        }
-        let room = 8 * u32_at(buffer, 0) as usize;
-        if buffer.len() < 4 + room {
-            return None;
-        }
-        let references = &buffer[4..4 + room];
-        if !are_whole(buffer, references) {
-            return None;
-        }
+        let references = references_of(buffer)?;
         Some(Events {
             buffer,
             references,
@@ -68,58 +59,69 @@ impl<'a> Events<'a> {
         if self.references.len() < 8 {
             return None;
         }
-        let Some(Event { uuid, cids }) = event_at(self.buffer, self.references) else {
-            return None;
-        };
+        let range = range_at(self.buffer, self.references)?;
         self.references = &self.references[8..];
-        self.uuid = uuid;
-        let Some((cid, cids)) = first_number(cids) else {
-            return Some((uuid, None));
+        self.uuid = range.uuid;
+        let Some((cid, cids)) = first_number(&self.buffer[range.start..range.end]) else {
+            return Some((range.uuid, None));
         };
         self.cids = cids;
-        Some((uuid, Some(cid)))
-    }
-
-    /// Passes over the single CIDs of a service that come next, in time for each event, however many CIDs
-    /// they have.
-    pub fn skip_cids(&mut self, uuid: Uuid)
-        ensures { self.new ≡ behind_cids uuid self.old }
-    {
-        if self.cids.len() < 4 {
-            self.references = behind_events(self.buffer, self.references, uuid);
-            return;
-        }
-        if self.uuid != uuid {
-            return;
-        }
-        self.cids = &[];
-        self.references = behind_events(self.buffer, self.references, uuid);
+        Some((range.uuid, Some(cid)))
     }
 }
 
-// A service, and those of its CIDs that are subscribed to, none for all of them.
+/// The references of a list's buffer, if it is the buffer of a list: if each points at a whole event.
+pub(crate) fn references_of(buffer: &[u8]) -> Option<&[u8]>
+    ensures pairs { IfSome result (λ references. pairs_referred buffer.now (numbers_of references.now) ≡ list_of_buffer buffer.now) }
+    ensures whole { is_some result ≡ is_some (list_of_buffer buffer.now) }
+{
+    if buffer.len() < 4 {
+        return None;
+    }
+    let room = 8 * u32_at(buffer, 0) as usize;
+    if buffer.len() < 4 + room {
+        return None;
+    }
+    let references = &buffer[4..4 + room];
+    if !are_whole(buffer, references) {
+        return None;
+    }
+    Some(references)
+}
+
+/// Where in a buffer the CIDs of a service stand, none for all of them.
 #[derive(Clone, Copy)]
-struct Event<'a> {
-    uuid: Uuid,
-    cids: &'a [u8],
+pub(crate) struct CidRange {
+    pub(crate) uuid: Uuid,
+    pub(crate) start: usize,
+    pub(crate) end: usize,
 }
 
-// The event at which the first of these references points, if it is whole.
-fn event_at<'a>(buffer: &'a [u8], references: &[u8]) -> Option<Event<'a>>
+// Where the CIDs of the event stand at which the first of these references points, if it is whole.
+pub(crate) fn range_at(buffer: &[u8], references: &[u8]) -> Option<CidRange>
     requires { 8 ≤ length references.now }
-    ensures { option_map (λ event. pairs_of event.uuid (numbers_of event.cids.now)) result ≡ pairs_at buffer.now (number_at references.now 0 4) (number_at references.now 4 4) }
+    ensures pairs { option_map (λ range. pairs_of range.uuid (cids_in buffer.now range)) result ≡ pairs_at buffer.now (number_at references.now 0 4) (number_at references.now 4 4) }
+    ensures event { IfSome result (λ range. subscription_of_range buffer.now range ≡ subscription_at buffer.now (number_at references.now 0 4) (number_at references.now 4 4)) }
+    ensures range { IfSome result (λ range. IsRange buffer.now range) }
 {
     let offset = u32_at(references, 0) as usize;
     let size = u32_at(references, 4) as usize;
     if buffer.len() < offset + size {
         return None;
     }
-    event_in(&buffer[offset..offset + size])
+    let room = room_of(&buffer[offset..offset + size])?;
+    let start = offset + 20;
+    Some(CidRange {
+        uuid: uuid_at(buffer, offset),
+        start,
+        end: start + room,
+    })
 }
 
-// The event of a structure, if it is whole.
-fn event_in(structure: &[u8]) -> Option<Event<'_>>
-    ensures { option_map (λ event. pairs_of event.uuid (numbers_of event.cids.now)) result ≡ pairs_of_structure structure.now }
+// How many bytes the CIDs of a structure have, if it is whole.
+fn room_of(structure: &[u8]) -> Option<usize>
+    ensures some { IfSome result (λ room. (room ≡ 4 * number_at structure.now 16 4) × (20 + room ≤ length structure.now)) }
+    ensures none { IsNone result → length structure.now < 20 + 4 * number_at structure.now 16 4 }
 {
     if structure.len() < 20 {
         return None;
@@ -128,32 +130,7 @@ fn event_in(structure: &[u8]) -> Option<Event<'_>>
     if structure.len() < 20 + room {
         return None;
     }
-    Some(Event {
-        uuid: uuid_at(structure, 0),
-        cids: &structure[20..20 + room],
-    })
-}
-
-// The references behind those that come first and point at single CIDs of a service.
-fn behind_events<'a>(buffer: &[u8], references: &'a [u8], uuid: Uuid) -> &'a [u8]
-    requires { IsSome (pairs_referred buffer.now (numbers_of references.now)) }
-    ensures whole { IsSome (pairs_referred buffer.now (numbers_of result.now)) }
-    ensures behind { unwrap_or (pairs_referred buffer.now (numbers_of result.now)) [] ≡ behind_cids uuid (unwrap_or (pairs_referred buffer.now (numbers_of references.now)) []) }
-{
-    let mut left = references;
-    while 8 <= left.len() {
-        let Some(event) = event_at(buffer, left) else {
-            return left;
-        };
-        if event.uuid != uuid {
-            return left;
-        }
-        if event.cids.len() < 4 {
-            return left;
-        }
-        left = &left[8..];
-    }
-    left
+    Some(room)
 }
 
 // Whether each of these references points at a whole event.
@@ -162,7 +139,7 @@ fn are_whole(buffer: &[u8], references: &[u8]) -> bool
 {
     let mut left = references;
     while 8 <= left.len() {
-        if event_at(buffer, left).is_none() {
+        if range_at(buffer, left).is_none() {
             return false;
         }
         left = &left[8..];
@@ -171,7 +148,7 @@ fn are_whole(buffer: &[u8], references: &[u8]) -> bool
 }
 
 // The first of the numbers that bytes spell, and the bytes behind it.
-fn first_number(bytes: &[u8]) -> Option<(u32, &[u8])>
+pub(crate) fn first_number(bytes: &[u8]) -> Option<(u32, &[u8])>
     ensures some { IfSome result (λ first. numbers_of bytes.now ≡ first.0 ∷ numbers_of first.1.now) }
     ensures none { IsNone result → numbers_of bytes.now ≡ [] }
 {

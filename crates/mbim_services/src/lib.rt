@@ -6,6 +6,7 @@
 
 mod answers;
 mod commands;
+mod event_list;
 mod events;
 pub mod examples;
 mod laws;
@@ -16,6 +17,7 @@ mod sent;
 mod table;
 
 pub use answers::{AnswerFault, MbimAnswer, done};
+pub use event_list::{Cids, Event, EventList};
 pub use events::Events;
 pub use laws::{each_command_stands_once, each_layout_is_well_made, each_request_has_a_buffer};
 pub use lists::{LONGEST_LIST, MOST_PAIRS, run_length, write_events};

@@ -1,17 +1,19 @@
 -- Pairs that are added one after another.
-use Rattle.std.proofs.Common.{◌≡◌, ℕ, ◌≤◌, Bool, true, false, is_none, nat_le, List, [], ◌∷◌, ◌++◌, length, refl, ap, sym, ◌∙◌, ⊎_elim, subst, arith, Contains, None}
+use Rattle.std.proofs.Common.{◌≡◌, ℕ, ◌+◌, ◌≤◌, Bool, true, false, is_none, nat_le, List, [], ◌∷◌, ◌++◌, length, take, drop, refl, ap, sym, ◌∙◌, ⊎_elim, subst, arith, Contains, Some, None}
 use Rattle.std.specs.Prelude.{if◌then◌else◌}
 use Rattle.std.proofs.lemmas.Bool.Decides.{nat_tests}
 use Rattle.std.proofs.lemmas.List.{append-nil}
+use Rattle.std.proofs.lemmas.Grind.{flat_map-append}
 use Rattle.std.proofs.lemmas.List.Elements.{Contains-append_left, Contains-append_right, Contains-append_cases}
-use Rattle.kit_bytes.specs.Subscriptions.{Pair, has_all, normal_form}
+use Rattle.kit_bytes.specs.Subscriptions.{Pair, Subscription, normal_form, pairs_of}
 use Rattle.kit_bytes.proofs.Members.{Contains-nil, Contains-filter, Contains-filter_from, Contains-filter_passes}
-use Rattle.mbim_services.specs.SubscribeLists.{behind_cids}
+use Rattle.mbim_services.specs.EventLists.{IsEventAt, HasUnread, pairs_in}
 use Rattle.subscriptions.specs.Lists.{IsNormal, fits, pushed}
-use Rattle.subscriptions.proofs.NormalForms.{IsFree, all_in, all_covers, covers_itself, normal_again, normal_from, normal_free, normal_has}
-use Rattle.subscriptions.proofs.Covering.{AreCovered, covered_within, same_form, form_joined, form_shorter}
-use Rattle.subscribe_lists.specs.ClientLists.{services}
-use Rattle.subscribe_lists.proofs.Skipping.{behind_within, behind_cases, services_behind, services_first}
+use Rattle.subscriptions.proofs.NormalForms.{IsFree, covers_itself, normal_again, normal_from, normal_free, normal_has}
+use Rattle.subscriptions.proofs.Covering.{AreCovered, covered_within, same_form, form_covers, form_joined, form_shorter}
+use Rattle.subscribe_lists.specs.ClientLists.{services, singles}
+use Rattle.mbim_services.proofs.Ranges.{single, single-in, pair-in}
+use Rattle.subscribe_lists.proofs.Events.{covered_more, pair_cases, services_next, single_cases, singles_single, take_next}
 
 -- some of the pairs were added to the list, and these are left
 pub record Adds (pairs list left : List Pair) : Type 0 where
@@ -122,62 +124,175 @@ module _ (pairs : List Pair) where
   pub adds_from_services : (list : List Pair) → list ≡ normal_form (services pairs) → Adds pairs list pairs
   adds_from_services list is = subst (λ (l : List Pair). Adds pairs l pairs) (sym is) adds_services
 
--- one more, and the single CIDs of its service that come next are passed over
-pub adds_service : (pairs : List Pair) {list events left new next : List Pair} (p : Pair) → Adds (services pairs) list (services events) → events ≡ p ∷ left → new ≡ normal_form (services (p ∷ []) ++ list) → next ≡ behind_cids p.0 left
-    → Adds (services pairs) new (services next)
-adds_service pairs {list} {events} {left} {new} {next} p adds are new_is next_is =
-    let before : Adds (services pairs) list (services (p ∷ []) ++ services left) = subst (λ (l : List Pair). Adds (services pairs) list l) (ap services are ∙ services_first p left) adds in
-    let after : Adds (services pairs) (normal_form (services (p ∷ []) ++ list)) (services left) = adds_front (services (p ∷ [])) (services left) before in
-    let passed : services left ≡ services next = sym (ap services next_is ∙ services_behind p.0 left) in
-    subst (λ (l : List Pair). Adds (services pairs) new l) passed (subst (λ (l : List Pair). Adds (services pairs) l (services left)) (sym new_is) after)
+-- those of one event more
+pub adds_service : {list new : List Pair} (events : List Subscription) (place : ℕ) (uuid cids : List ℕ) → Adds (services (pairs_in events)) list (services (pairs_in (drop place events))) → IsEventAt events place uuid cids
+    → new ≡ normal_form (services (pairs_of uuid cids) ++ list) → Adds (services (pairs_in events)) new (services (pairs_in (drop (place + 1) events)))
+adds_service {list} {new} events place uuid cids adds there new_is =
+    let left : List Pair = services (pairs_in (drop (place + 1) events)) in
+    subst (λ (l : List Pair). Adds (services (pairs_in events)) l left) (sym new_is) (adds_front (services (pairs_of uuid cids)) left (subst (λ (l : List Pair). Adds (services (pairs_in events)) list l) (services_next events place uuid cids there) adds))
 
-pub service_shorter : (pairs : List Pair) {list events left : List Pair} (p : Pair) → Adds (services pairs) list (services events) → events ≡ p ∷ left → length (normal_form (services (p ∷ []) ++ list)) ≤ length (normal_form (services pairs))
-service_shorter pairs {list} {events} {left} p adds are =
-    adds_shorter (services (p ∷ [])) (services left) (subst (λ (l : List Pair). Adds (services pairs) list l) (ap services are ∙ services_first p left) adds)
+pub service_shorter : {list : List Pair} (events : List Subscription) (place : ℕ) (uuid cids : List ℕ) → Adds (services (pairs_in events)) list (services (pairs_in (drop place events))) → IsEventAt events place uuid cids
+    → length (normal_form (services (pairs_of uuid cids) ++ list)) ≤ length (normal_form (services (pairs_in events)))
+service_shorter {list} events place uuid cids adds there =
+    adds_shorter (services (pairs_of uuid cids)) (services (pairs_in (drop (place + 1) events))) (subst (λ (l : List Pair). Adds (services (pairs_in events)) list l) (services_next events place uuid cids there) adds)
+
+-- ---- single CIDs ----
+
+module _ (uuid cids : List ℕ) (list : List Pair) where
+  swapped : (q : Pair) → Contains (singles uuid cids ++ list) q → Contains (list ++ singles uuid cids) q
+  swapped q at =
+      ⊎_elim
+      (λ (new : Contains (singles uuid cids) q). Contains-append_right list (singles uuid cids) q new)
+      (λ (old : Contains list q). Contains-append_left list (singles uuid cids) q old)
+      (Contains-append_cases (singles uuid cids) list q at)
+
+  swapped_back : (q : Pair) → Contains (list ++ singles uuid cids) q → Contains (singles uuid cids ++ list) q
+  swapped_back q at =
+      ⊎_elim
+      (λ (old : Contains list q). Contains-append_right (singles uuid cids) list q old)
+      (λ (new : Contains (singles uuid cids) q). Contains-append_left (singles uuid cids) list q new)
+      (Contains-append_cases list (singles uuid cids) q at)
+
+  pub adds_no_cid : IsNormal list → Adds (singles uuid cids ++ list) list (singles uuid cids)
+  adds_no_cid normal = record {
+    form = same_form (list ++ singles uuid cids) (singles uuid cids ++ list) (covered_within (list ++ singles uuid cids) (singles uuid cids ++ list) swapped_back) (covered_within (singles uuid cids ++ list) (list ++ singles uuid cids) swapped);
+    within = λ q at. Contains-append_right (singles uuid cids) list q at;
+    left_within = λ q at. Contains-append_left (singles uuid cids) list q at;
+    alone = λ q at free single all.
+        ⊎_elim
+        (λ (new : Contains (singles uuid cids) (q.0, None)). singles_single uuid cids (q.0, None) new refl)
+        (λ (old : Contains list (q.0, None)). free single old)
+        (Contains-append_cases (singles uuid cids) list (q.0, None) all);
+    normal = normal;
+  }
+
+pub adds_cid : {pairs list new : List Pair} (uuid : List ℕ) (cid : ℕ) {left cids : List ℕ} → Adds pairs list (singles uuid cids) → cids ≡ cid ∷ left → new ≡ normal_form ((uuid, Some cid) ∷ list) → Adds pairs new (singles uuid left)
+adds_cid {pairs} {list} {new} uuid cid {left} {cids} adds are new_is =
+    let before : Adds pairs list (singles uuid (cid ∷ left)) = subst (λ (l : List ℕ). Adds pairs list (singles uuid l)) are adds in
+    subst (λ (l : List Pair). Adds pairs l (singles uuid left)) (sym new_is) (adds_front ((uuid, Some cid) ∷ []) (singles uuid left) before)
+
+pub cid_shorter : {pairs list : List Pair} (uuid : List ℕ) (cid : ℕ) {left cids : List ℕ} → Adds pairs list (singles uuid cids) → cids ≡ cid ∷ left → length (normal_form ((uuid, Some cid) ∷ list)) ≤ length (normal_form pairs)
+cid_shorter {pairs} {list} uuid cid {left} {cids} adds are = adds_shorter ((uuid, Some cid) ∷ []) (singles uuid left) (subst (λ (l : List ℕ). Adds pairs list (singles uuid l)) are adds)
 
 -- ---- all pairs ----
 
--- the CIDs of a service that the list has whole may be passed over
-module _ {pairs list left : List Pair} (uuid : List ℕ) (adds : Adds pairs list left) (whole : has_all list uuid ≡ true) where
-  covered_here : AreCovered (list ++ left) (list ++ behind_cids uuid left)
+-- of the pairs that are left, those in front are passed over where the list or others of them stand for them
+module _ {pairs list : List Pair} (front part left : List Pair) (adds : Adds pairs list (front ++ left)) (within : (q : Pair) → Contains part q → Contains front q) (covered : AreCovered front (part ++ list)) where
+  covered_here : AreCovered (list ++ (front ++ left)) (list ++ (part ++ left))
   covered_here q at =
       ⊎_elim
-      (λ (old : Contains list q). (q, Contains-append_left list (behind_cids uuid left) q old, covers_itself q))
-      (λ (coming : Contains left q).
+      (λ (old : Contains list q). (q, Contains-append_left list (part ++ left) q old, covers_itself q))
+      (λ (coming : Contains (front ++ left) q).
       ⊎_elim
-      (λ (same : uuid ≡ q.0). ((uuid, None), Contains-append_left list (behind_cids uuid left) (uuid, None) (all_in list uuid whole), all_covers uuid q same))
-      (λ (behind : Contains (behind_cids uuid left) q). (q, Contains-append_right list (behind_cids uuid left) q behind, covers_itself q))
-      (behind_cases uuid left q coming))
-      (Contains-append_cases list left q at)
+      (λ (first : Contains front q). let some = covered q first in (some.0, moved_part some.0 some.1, some.2))
+      (λ (behind : Contains left q). (q, Contains-append_right list (part ++ left) q (Contains-append_right part left q behind), covers_itself q))
+      (Contains-append_cases front left q coming))
+      (Contains-append_cases list (front ++ left) q at)
+    where
+      moved_part : (r : Pair) → Contains (part ++ list) r → Contains (list ++ (part ++ left)) r
+      moved_part r there =
+          ⊎_elim
+          (λ (new : Contains part r). Contains-append_right list (part ++ left) r (Contains-append_left part left r new))
+          (λ (old : Contains list r). Contains-append_left list (part ++ left) r old)
+          (Contains-append_cases part list r there)
 
-  still_here : (q : Pair) → Contains (list ++ behind_cids uuid left) q → Contains (list ++ left) q
+  part_within : (q : Pair) → Contains (part ++ left) q → Contains (front ++ left) q
+  part_within q at =
+      ⊎_elim
+      (λ (new : Contains part q). Contains-append_left front left q (within q new))
+      (λ (behind : Contains left q). Contains-append_right front left q behind)
+      (Contains-append_cases part left q at)
+
+  still_here : (q : Pair) → Contains (list ++ (part ++ left)) q → Contains (list ++ (front ++ left)) q
   still_here q at =
       ⊎_elim
-      (λ (old : Contains list q). Contains-append_left list left q old)
-      (λ (behind : Contains (behind_cids uuid left) q). Contains-append_right list left q (behind_within uuid left q behind))
-      (Contains-append_cases list (behind_cids uuid left) q at)
+      (λ (old : Contains list q). Contains-append_left list (front ++ left) q old)
+      (λ (coming : Contains (part ++ left) q). Contains-append_right list (front ++ left) q (part_within q coming))
+      (Contains-append_cases list (part ++ left) q at)
 
-  adds_behind : Adds pairs list (behind_cids uuid left)
-  adds_behind = record {
-    form = same_form (list ++ behind_cids uuid left) (list ++ left) (covered_within (list ++ behind_cids uuid left) (list ++ left) still_here) covered_here ∙ adds.form;
+  adds_part : Adds pairs list (part ++ left)
+  adds_part = record {
+    form = same_form (list ++ (part ++ left)) (list ++ (front ++ left)) (covered_within (list ++ (part ++ left)) (list ++ (front ++ left)) still_here) covered_here ∙ adds.form;
     within = adds.within;
-    left_within = λ q at. adds.left_within q (behind_within uuid left q at);
+    left_within = λ q at. adds.left_within q (part_within q at);
     alone = adds.alone;
     normal = adds.normal;
   }
 
-adds_if_behind : {pairs list left : List Pair} (uuid : List ℕ) (b : Bool) → has_all list uuid ≡ b → Adds pairs list left → Adds pairs list (if b then behind_cids uuid left else left)
-adds_if_behind uuid true whole adds = adds_behind uuid adds whole
-adds_if_behind uuid false part adds = adds
+-- the events in front of a place were read: the list stands for their pairs, and for each service that is subscribed to whole
+pub record Reads (events : List Subscription) (place : ℕ) (list : List Pair) : Type 0 where
+  pub adds : Adds (pairs_in events) list (pairs_in (drop place events))
+  pub whole : AreCovered (services (pairs_in events)) list
+  pub known : AreCovered (pairs_in (take place events)) list
 
-pub adds_pair : {pairs list events left new next : List Pair} (p : Pair) → Adds pairs list events → events ≡ p ∷ left → new ≡ normal_form (p ∷ list) → next ≡ (if has_all new p.0 then behind_cids p.0 left else left) → Adds pairs new next
-adds_pair {pairs} {list} {events} {left} {new} {next} p adds are new_is next_is =
-    let before : Adds pairs list (p ∷ left) = subst (λ (l : List Pair). Adds pairs list l) are adds in
-    let after : Adds pairs new left = subst (λ (l : List Pair). Adds pairs l left) (sym new_is) (adds_front (p ∷ []) left before) in
-    subst (λ (l : List Pair). Adds pairs new l) (sym next_is) (adds_if_behind p.0 (has_all new p.0) refl after)
+pub reads_nothing : (events : List Subscription) (list : List Pair) → list ≡ normal_form (services (pairs_in events)) → Reads events 0 list
+reads_nothing events list is = record {
+  adds = adds_from_services (pairs_in events) list is;
+  whole = subst (λ (l : List Pair). AreCovered (services (pairs_in events)) l) (sym is) (form_covers (services (pairs_in events)));
+  known = λ q at. absurd (Contains-nil q at);
+}
 
-pub pair_shorter : {pairs list events left : List Pair} (p : Pair) → Adds pairs list events → events ≡ p ∷ left → length (normal_form (p ∷ list)) ≤ length (normal_form pairs)
-pair_shorter {pairs} {list} {events} {left} p adds are = adds_shorter (p ∷ []) left (subst (λ (l : List Pair). Adds pairs list l) are adds)
+module _ (events : List Subscription) (place : ℕ) (uuid cids : List ℕ) {list : List Pair} (reads : Reads events place list) (unread : HasUnread events place uuid cids) where
+  abbrev event : List Pair
+  event = pairs_of uuid unread.all
+
+  abbrev left : List Pair
+  left = pairs_in (drop (place + 1) events)
+
+  event_there : (q : Pair) → Contains event q → Contains (pairs_in events) q
+  event_there q at = reads.adds.left_within q (subst (λ (l : List Pair). Contains l q) (sym (ap pairs_in unread.there)) (Contains-append_left event left q at))
+
+  event_covered : AreCovered event (singles uuid cids ++ list)
+  event_covered q at =
+      ⊎_elim
+      (λ (all : q ≡ (uuid, None)).
+      let some = reads.whole q (Contains-filter (λ (p : Pair). is_none p.1) (pairs_in events) q (event_there q at) (ap (λ (p : Pair). is_none p.1) all)) in
+      (some.0, Contains-append_right (singles uuid cids) list some.0 some.1, some.2))
+      (λ (one : (cid : ℕ) × Contains unread.all cid × (single uuid cid ≡ q)).
+      ⊎_elim
+      (λ (new : Contains cids one.0). (q, Contains-append_left (singles uuid cids) list q (subst (λ (p : Pair). Contains (singles uuid cids) p) one.2 (single-in uuid cids one.0 new)), covers_itself q))
+      (λ (old : Contains (pairs_in (take place events)) (single uuid one.0)).
+      let some = reads.known q (subst (λ (p : Pair). Contains (pairs_in (take place events)) p) one.2 old) in
+      (some.0, Contains-append_right (singles uuid cids) list some.0 some.1, some.2))
+      (unread.others one.0 one.1))
+      (pair_cases uuid unread.all q at)
+
+  unread_within : (q : Pair) → Contains (singles uuid cids) q → Contains event q
+  unread_within q at =
+      let one = single_cases uuid cids q at in
+      subst (λ (p : Pair). Contains event p) one.2 (pair-in uuid unread.all one.0 (unread.within one.0 one.1))
+
+  adds_unread : Adds (pairs_in events) list (singles uuid cids ++ left)
+  adds_unread = adds_part event (singles uuid cids) left (subst (λ (l : List Pair). Adds (pairs_in events) list l) (ap pairs_in unread.there) reads.adds) unread_within event_covered
+
+  covered_then : (xs : List Pair) → AreCovered xs (singles uuid cids ++ list) → AreCovered xs (normal_form (singles uuid cids ++ list))
+  covered_then xs covered = covered_more xs (singles uuid cids ++ list) (normal_form (singles uuid cids ++ list)) covered (form_covers (singles uuid cids ++ list))
+
+  covered_still : (xs : List Pair) → AreCovered xs list → AreCovered xs (singles uuid cids ++ list)
+  covered_still xs covered q at = let some = covered q at in (some.0, Contains-append_right (singles uuid cids) list some.0 some.1, some.2)
+
+  front_is : pairs_in (take (place + 1) events) ≡ pairs_in (take place events) ++ event
+  front_is =
+      ap pairs_in (take_next events place (record { uuid = uuid; cids = unread.all }) (drop (place + 1) events) unread.there)
+      ∙ flat_map-append (λ (s : Subscription). pairs_of s.uuid s.cids) (take place events) (record { uuid = uuid; cids = unread.all } ∷ [])
+      ∙ ap (λ (l : List Pair). pairs_in (take place events) ++ l) (append-nil event)
+
+  front_covered : AreCovered (pairs_in (take place events) ++ event) (singles uuid cids ++ list)
+  front_covered q at =
+      ⊎_elim
+      (λ (before : Contains (pairs_in (take place events)) q). covered_still (pairs_in (take place events)) reads.known q before)
+      (λ (here : Contains event q). event_covered q here)
+      (Contains-append_cases (pairs_in (take place events)) event q at)
+
+  pub reads_event : {new : List Pair} → new ≡ normal_form (singles uuid cids ++ list) → Reads events (place + 1) new
+  reads_event {new} new_is = subst (λ (l : List Pair). Reads events (place + 1) l) (sym new_is) (record {
+    adds = adds_front (singles uuid cids) left adds_unread;
+    whole = covered_then (services (pairs_in events)) (covered_still (services (pairs_in events)) reads.whole);
+    known = covered_then (pairs_in (take (place + 1) events)) (subst (λ (l : List Pair). AreCovered l (singles uuid cids ++ list)) (sym front_is) front_covered);
+  })
+
+  pub event_shorter : length (normal_form (singles uuid cids ++ list)) ≤ length (normal_form (pairs_in events))
+  event_shorter = adds_shorter (singles uuid cids) left adds_unread
 
 -- ---- short lists ----
 

@@ -1,10 +1,10 @@
-ghost use Rattle.std.specs.Prelude.{◌≡◌, ◌≤◌, ◌∷◌, ◌++◌, [], true, length, is_some, IfSome, if◌then◌else◌};
-ghost use Rattle.kit_bytes.specs.Subscriptions.{has_all, normal_form};
-ghost use Rattle.mbim_services.specs.SubscribeLists.{behind_cids};
+ghost use Rattle.std.specs.Prelude.{◌≡◌, ◌≤◌, ◌∷◌, ◌++◌, [], true, length, is_some, IfSome};
+ghost use Rattle.kit_bytes.specs.Subscriptions.{normal_form, pairs_of};
+ghost use Rattle.mbim_services.specs.EventLists.{pairs_in};
 ghost use Rattle.subscriptions.specs.Lists.{IsNormal, fits};
-ghost use Rattle.subscribe_lists.specs.ClientLists.{client_list, services};
+ghost use Rattle.subscribe_lists.specs.ClientLists.{client_list, services, singles};
 
-use mbim_services::Events;
+use mbim_services::{Event, EventList};
 use subscriptions::{LONGEST_CLIENT_LIST, PairList};
 use uuid::Uuid;
 
@@ -14,70 +14,80 @@ pub fn read_list(buffer: &[u8], into: &mut PairList) -> bool
     ensures few { result ≡ is_some (client_list buffer.now) }
     ensures list { IfSome (client_list buffer.now) (λ list. into.new ≡ list) }
 {
-    let Some(mut services) = Events::read(buffer) else {
+    let Some(events) = EventList::read(buffer) else {
         return false;
     };
-    let Some(mut all) = Events::read(buffer) else {
-        return false;
-    };
-    add_few(&mut services, &mut all, into)
+    add_few(&events, into)
 }
 
-// The normal form of pairs, if it is short. All CIDs of a service are added first: what is added then
-// makes the list no shorter, and the CIDs of such a service are passed over.
-fn add_few(services: &mut Events<'_>, all: &mut Events<'_>, into: &mut PairList) -> bool
-    requires { services.old ≡ all.old }
-    ensures few { result ≡ fits LONGEST_CLIENT_LIST all.old }
-    ensures list { result ≡ true → into.new ≡ normal_form all.old }
+// The normal form of the pairs of events, if it is short. All CIDs of a service are added first: what is
+// added then makes the list no shorter.
+fn add_few(events: &EventList<'_>, into: &mut PairList) -> bool
+    ensures few { result ≡ fits LONGEST_CLIENT_LIST (pairs_in events.now) }
+    ensures list { result ≡ true → into.new ≡ normal_form (pairs_in events.now) }
 {
-    if !add_services(services, into) {
+    if !add_services(events, into) {
         return false;
     }
-    add_all(all, into)
+    add_all(events, into)
 }
 
 // Adds the pairs that stand for all CIDs of a service to an empty list.
-fn add_services(events: &mut Events<'_>, into: &mut PairList) -> bool
-    ensures few { result ≡ fits LONGEST_CLIENT_LIST (services events.old) }
-    ensures list { result ≡ true → into.new ≡ normal_form (services events.old) }
+fn add_services(events: &EventList<'_>, into: &mut PairList) -> bool
+    ensures few { result ≡ fits LONGEST_CLIENT_LIST (services (pairs_in events.now)) }
+    ensures list { result ≡ true → into.new ≡ normal_form (services (pairs_in events.now)) }
 {
     into.clear();
-    'events: while let Some(pair) = events.next() {
-        if !add_service(into, pair.0, pair.1) {
+    for place in 0..events.len() {
+        if !add_service(into, &events.at(place)) {
             return false;
         }
-        events.skip_cids(pair.0);
     }
     true
 }
 
 // Adds all pairs to a list that has those that stand for all CIDs of a service.
-fn add_all(events: &mut Events<'_>, into: &mut PairList) -> bool
-    requires services { into.old ≡ normal_form (services events.old) }
+fn add_all(events: &EventList<'_>, into: &mut PairList) -> bool
+    requires services { into.old ≡ normal_form (services (pairs_in events.now)) }
     requires few { length into.old ≤ LONGEST_CLIENT_LIST }
-    ensures few { result ≡ fits LONGEST_CLIENT_LIST events.old }
-    ensures list { result ≡ true → into.new ≡ normal_form events.old }
+    ensures few { result ≡ fits LONGEST_CLIENT_LIST (pairs_in events.now) }
+    ensures list { result ≡ true → into.new ≡ normal_form (pairs_in events.now) }
 {
-    'events: while let Some(pair) = events.next() {
-        if !add(into, pair.0, pair.1) {
+    for place in 0..events.len() {
+        if !add_cids(into, events.unread(place)) {
             return false;
         }
-        skip_covered(events, into, pair.0);
     }
     true
 }
 
-// Adds the pair, if it stands for all CIDs of the service.
-fn add_service(into: &mut PairList, uuid: Uuid, cid: Option<u32>) -> bool
+// Adds all CIDs of the service, if the event stands for them.
+fn add_service(into: &mut PairList, event: &Event<'_>) -> bool
     requires normal { IsNormal into.old }
     requires few { length into.old ≤ LONGEST_CLIENT_LIST }
-    ensures few { result ≡ fits LONGEST_CLIENT_LIST (services ((uuid, cid) ∷ []) ++ into.old) }
-    ensures list { result ≡ true → into.new ≡ normal_form (services ((uuid, cid) ∷ []) ++ into.old) }
+    ensures few { result ≡ fits LONGEST_CLIENT_LIST (services (pairs_of event.now.uuid event.now.cids) ++ into.old) }
+    ensures list { result ≡ true → into.new ≡ normal_form (services (pairs_of event.now.uuid event.now.cids) ++ into.old) }
 {
-    match cid {
-        Some(_) => true,
-        None => add(into, uuid, None),
+    if !event.cids.is_empty() {
+        return true;
     }
+    add(into, event.uuid, None)
+}
+
+// Adds the single CIDs of an event, and nothing if it has none.
+fn add_cids(into: &mut PairList, event: Event<'_>) -> bool
+    requires normal { IsNormal into.old }
+    requires few { length into.old ≤ LONGEST_CLIENT_LIST }
+    ensures few { result ≡ fits LONGEST_CLIENT_LIST (singles event.entry.uuid event.entry.cids ++ into.old) }
+    ensures list { result ≡ true → into.new ≡ normal_form (singles event.entry.uuid event.entry.cids ++ into.old) }
+{
+    let Event { uuid, mut cids } = event;
+    'cids: while let Some(cid) = cids.next() {
+        if !add(into, uuid, Some(cid)) {
+            return false;
+        }
+    }
+    true
 }
 
 // Adds the pair, and says whether the list is short with it.
@@ -89,13 +99,4 @@ fn add(into: &mut PairList, uuid: Uuid, cid: Option<u32>) -> bool
         return false;
     }
     into.len() <= LONGEST_CLIENT_LIST
-}
-
-// Passes over the single CIDs that come next of a service that the list has whole.
-fn skip_covered(events: &mut Events<'_>, list: &PairList, uuid: Uuid)
-    ensures { events.new ≡ (if has_all list.now uuid then behind_cids uuid events.old else events.old) }
-{
-    if list.has_all(uuid) {
-        events.skip_cids(uuid);
-    }
 }

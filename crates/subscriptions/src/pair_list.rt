@@ -1,7 +1,7 @@
-ghost use Rattle.std.specs.Prelude.{◌≡◌, ◌+◌, ◌<◌, ◌≤◌, ◌||◌, ◌&&◌, bytes_eq, false, nat_lt, ◌∷◌, ◌++◌, [], not, filter, is_none, length, take, drop, slice_index_or, vec_len, vec_capacity, IfOk};
+ghost use Rattle.std.specs.Prelude.{◌≡◌, ◌+◌, ◌<◌, ◌≤◌, ◌||◌, false, nat_lt, ◌∷◌, ◌++◌, [], not, filter, length, take, drop, slice_index_or, vec_len, vec_capacity, IfOk};
 ghost use Rattle.std.specs.List.{dedup, list_any};
 ghost use Rattle.std.specs.Ordering.{is_lt};
-ghost use Rattle.kit_bytes.specs.Subscriptions.{has_all, normal_form, pair_cmp};
+ghost use Rattle.kit_bytes.specs.Subscriptions.{normal_form, pair_cmp};
 ghost use Rattle.subscriptions.specs.Counts.{AreCounts, is_same, pairs_in};
 ghost use Rattle.subscriptions.specs.Lists.{IsNormal, covers, fits, pushed};
 
@@ -127,13 +127,6 @@ impl PairList {
         let _ = self.pairs.extend_from_slice(list.pairs());
     }
 
-    /// Whether it has all CIDs of the service of this UUID.
-    pub fn has_all(&self, uuid: Uuid) -> bool
-        ensures { result ≡ has_all self.now uuid }
-    {
-        self.pairs.iter().any(|pair| is_all_of(pair, uuid))
-    }
-
     /// All pairs.
     pub fn pairs(&self) -> &[Pair]
         ensures pairs { result.now ≡ self.now }
@@ -179,13 +172,6 @@ fn append_counted(pairs: &mut Vec<Pair>, counts: &[Counted])
     for counted in counts {
         pairs.push_reserved(counted.pair);
     }
-}
-
-// Whether the pair stands for all CIDs of the service.
-fn is_all_of(pair: &Pair, uuid: Uuid) -> bool
-    ensures { result ≡ bytes_eq pair.now.0 uuid && is_none pair.now.1 }
-{
-    pair.0 == uuid && pair.1.is_none()
 }
 
 // Whether the pair is the other one, or all CIDs of its service.

@@ -1,12 +1,9 @@
 use Rattle.std.proofs.Common.{◌≤◌, length}
-use Rattle.subscribe_lists.proofs.Adding.{Adds}
+use Rattle.subscribe_lists.proofs.Adding.{Reads}
 use Rattle.subscribe_lists.proofs.reading.add_all.Given as goal
 
-abbrev pub invariant-events : goal.invariant-events
-invariant-events l = record {
-  adds : Adds l.fn.events l.into l.events;
+abbrev pub invariant-loop-place : goal.invariant-loop-place
+invariant-loop-place l = record {
+  reads : Reads l.events l.place l.into;
   few : length l.into ≤ 30;
 }
-
-abbrev pub decreases-events : goal.decreases-events
-decreases-events l = length l.events

@@ -1,13 +1,11 @@
-use Rattle.std.proofs.Common.{◌≤◌, length}
+use Rattle.std.proofs.Common.{◌≤◌, length, drop}
+use Rattle.mbim_services.specs.EventLists.{pairs_in}
 use Rattle.subscribe_lists.specs.ClientLists.{services}
 use Rattle.subscribe_lists.proofs.Adding.{Adds}
 use Rattle.subscribe_lists.proofs.reading.add_services.Given as goal
 
-abbrev pub invariant-events : goal.invariant-events
-invariant-events l = record {
-  adds : Adds (services l.fn.events) l.into (services l.events);
+abbrev pub invariant-loop-place : goal.invariant-loop-place
+invariant-loop-place l = record {
+  adds : Adds (services (pairs_in l.events)) l.into (services (pairs_in (drop l.place l.events)));
   few : length l.into ≤ 30;
 }
-
-abbrev pub decreases-events : goal.decreases-events
-decreases-events l = length l.events
