@@ -14,7 +14,7 @@ BASIC_CONNECT = uuid.UUID("a289cc33-bcbb-8b4f-b6b0-133ec2aae6df").bytes
 SMS = uuid.UUID("533fbeeb-14fe-4467-9f90-33a223e56c3f").bytes
 PROXY_CONTROL = uuid.UUID("838cf7fb-8d0d-4d7f-871e-d71dbefbb39b").bytes
 OPEN, COMMAND, INDICATION, DONE = 1, 3, 0x80000007, 0x80000000
-# Thousands at once, as many as fit the queue of a client that reads slowly; or each once the one before has come.
+# A thousand at once, which fit the queue of a client; or each once the one before has come.
 WAYS = {"at once": (1000, count), "one by one": (1, count // 10)}
 
 

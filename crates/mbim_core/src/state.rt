@@ -47,7 +47,7 @@ pub struct State {
     // all that the open clients subscribe to
     merge: Merge,
     merged: PairList,
-    // nothing was changed since that was put together
+    // that is the merge of the open clients' lists as they are
     current: bool,
     // the modem was last asked for that
     asked: bool,

@@ -11,7 +11,7 @@ use Rattle.mbim_services.specs.SubscribeLists.{numbers_of, pairs_at, both, pairs
 use Rattle.mbim_services.specs.EventLists.{IsRange, Leaves, IsEventAt, HasUnread, cids_in, subscription_at, subscription_of_range, events_referred, pairs_in}
 use Rattle.mbim_services.specs.declared.events.CidRange.{CidRange}
 use Rattle.mbim_services.proofs.Listed.{at-some, structure-some}
-use Rattle.mbim_services.proofs.References.{references_more}
+use Rattle.mbim_services.proofs.References.{numbers_few, numbers_two, references_more}
 
 -- ---- slices ----
 
@@ -104,26 +104,10 @@ leaves-front buffer range other is other_is service same before cut behind =
 -- ---- events ----
 
 events-more : (buffer bytes : List ℕ) → 8 ≤ length bytes → events_referred buffer (numbers_of bytes) ≡ subscription_at buffer (number_at bytes 0 4) (number_at bytes 4 4) ∷ events_referred buffer (numbers_of (drop 8 bytes))
-events-more buffer [] long = absurd (omega arith)
-events-more buffer (a ∷ []) long = absurd (omega arith)
-events-more buffer (a ∷ b ∷ []) long = absurd (omega arith)
-events-more buffer (a ∷ b ∷ c ∷ []) long = absurd (omega arith)
-events-more buffer (a ∷ b ∷ c ∷ d ∷ []) long = absurd (omega arith)
-events-more buffer (a ∷ b ∷ c ∷ d ∷ e ∷ []) long = absurd (omega arith)
-events-more buffer (a ∷ b ∷ c ∷ d ∷ e ∷ f ∷ []) long = absurd (omega arith)
-events-more buffer (a ∷ b ∷ c ∷ d ∷ e ∷ f ∷ g ∷ []) long = absurd (omega arith)
-events-more buffer (a ∷ b ∷ c ∷ d ∷ e ∷ f ∷ g ∷ h ∷ bytes) long = refl
+events-more buffer bytes long = ap (events_referred buffer) (numbers_two bytes long)
 
 events-none : (buffer bytes : List ℕ) → length bytes < 8 → events_referred buffer (numbers_of bytes) ≡ []
-events-none buffer [] short = refl
-events-none buffer (a ∷ []) short = refl
-events-none buffer (a ∷ b ∷ []) short = refl
-events-none buffer (a ∷ b ∷ c ∷ []) short = refl
-events-none buffer (a ∷ b ∷ c ∷ d ∷ []) short = refl
-events-none buffer (a ∷ b ∷ c ∷ d ∷ e ∷ []) short = refl
-events-none buffer (a ∷ b ∷ c ∷ d ∷ e ∷ f ∷ []) short = refl
-events-none buffer (a ∷ b ∷ c ∷ d ∷ e ∷ f ∷ g ∷ []) short = refl
-events-none buffer (a ∷ b ∷ c ∷ d ∷ e ∷ f ∷ g ∷ h ∷ bytes) short = absurd (omega arith)
+events-none buffer bytes short = numbers_few (events_referred buffer) [] refl (λ n. refl) bytes short
 
 -- the subscription at which the first reference points
 abbrev pub first_at : (buffer bytes : List ℕ) → Subscription

@@ -1,26 +1,34 @@
--- Numbers one after another, and the references that they are.
-use Rattle.std.proofs.Common.{◌≡◌, ℕ, ◌<◌, ◌≤◌, List, [], ◌∷◌, length, drop, refl, Some, arith}
+-- Numbers two by two, and the references that they are.
+use Rattle.std.proofs.Common.{◌≡◌, ℕ, ◌<◌, ◌≤◌, List, [], ◌∷◌, length, drop, refl, ap, Some, arith}
 use Rattle.kit_bytes.specs.Numbers.{number_at}
 use Rattle.mbim_services.specs.SubscribeLists.{numbers_of, pairs_at, both, pairs_referred}
 
+-- eight bytes spell two numbers
+pub numbers_two : (bytes : List ℕ) → 8 ≤ length bytes → numbers_of bytes ≡ number_at bytes 0 4 ∷ number_at bytes 4 4 ∷ numbers_of (drop 8 bytes)
+numbers_two [] long = absurd (omega arith)
+numbers_two (a ∷ []) long = absurd (omega arith)
+numbers_two (a ∷ b ∷ []) long = absurd (omega arith)
+numbers_two (a ∷ b ∷ c ∷ []) long = absurd (omega arith)
+numbers_two (a ∷ b ∷ c ∷ d ∷ []) long = absurd (omega arith)
+numbers_two (a ∷ b ∷ c ∷ d ∷ e ∷ []) long = absurd (omega arith)
+numbers_two (a ∷ b ∷ c ∷ d ∷ e ∷ f ∷ []) long = absurd (omega arith)
+numbers_two (a ∷ b ∷ c ∷ d ∷ e ∷ f ∷ g ∷ []) long = absurd (omega arith)
+numbers_two (a ∷ b ∷ c ∷ d ∷ e ∷ f ∷ g ∷ h ∷ bytes) long = refl
+
+-- fewer spell one number at most
+pub numbers_few : {X : Type 0} (meaning : List ℕ → X) (x : X) → meaning [] ≡ x → ((n : ℕ) → meaning (n ∷ []) ≡ x) → (bytes : List ℕ) → length bytes < 8 → meaning (numbers_of bytes) ≡ x
+numbers_few meaning x none one [] short = none
+numbers_few meaning x none one (a ∷ []) short = none
+numbers_few meaning x none one (a ∷ b ∷ []) short = none
+numbers_few meaning x none one (a ∷ b ∷ c ∷ []) short = none
+numbers_few meaning x none one (a ∷ b ∷ c ∷ d ∷ []) short = one (number_at (a ∷ b ∷ c ∷ d ∷ []) 0 4)
+numbers_few meaning x none one (a ∷ b ∷ c ∷ d ∷ e ∷ []) short = one (number_at (a ∷ b ∷ c ∷ d ∷ []) 0 4)
+numbers_few meaning x none one (a ∷ b ∷ c ∷ d ∷ e ∷ f ∷ []) short = one (number_at (a ∷ b ∷ c ∷ d ∷ []) 0 4)
+numbers_few meaning x none one (a ∷ b ∷ c ∷ d ∷ e ∷ f ∷ g ∷ []) short = one (number_at (a ∷ b ∷ c ∷ d ∷ []) 0 4)
+numbers_few meaning x none one (a ∷ b ∷ c ∷ d ∷ e ∷ f ∷ g ∷ h ∷ bytes) short = absurd (omega arith)
+
 pub references_more : (buffer bytes : List ℕ) → 8 ≤ length bytes → pairs_referred buffer (numbers_of bytes) ≡ both (pairs_at buffer (number_at bytes 0 4) (number_at bytes 4 4)) (pairs_referred buffer (numbers_of (drop 8 bytes)))
-references_more buffer [] long = absurd (omega arith)
-references_more buffer (a ∷ []) long = absurd (omega arith)
-references_more buffer (a ∷ b ∷ []) long = absurd (omega arith)
-references_more buffer (a ∷ b ∷ c ∷ []) long = absurd (omega arith)
-references_more buffer (a ∷ b ∷ c ∷ d ∷ []) long = absurd (omega arith)
-references_more buffer (a ∷ b ∷ c ∷ d ∷ e ∷ []) long = absurd (omega arith)
-references_more buffer (a ∷ b ∷ c ∷ d ∷ e ∷ f ∷ []) long = absurd (omega arith)
-references_more buffer (a ∷ b ∷ c ∷ d ∷ e ∷ f ∷ g ∷ []) long = absurd (omega arith)
-references_more buffer (a ∷ b ∷ c ∷ d ∷ e ∷ f ∷ g ∷ h ∷ bytes) long = refl
+references_more buffer bytes long = ap (pairs_referred buffer) (numbers_two bytes long)
 
 pub references_none : (buffer bytes : List ℕ) → length bytes < 8 → pairs_referred buffer (numbers_of bytes) ≡ Some []
-references_none buffer [] short = refl
-references_none buffer (a ∷ []) short = refl
-references_none buffer (a ∷ b ∷ []) short = refl
-references_none buffer (a ∷ b ∷ c ∷ []) short = refl
-references_none buffer (a ∷ b ∷ c ∷ d ∷ []) short = refl
-references_none buffer (a ∷ b ∷ c ∷ d ∷ e ∷ []) short = refl
-references_none buffer (a ∷ b ∷ c ∷ d ∷ e ∷ f ∷ []) short = refl
-references_none buffer (a ∷ b ∷ c ∷ d ∷ e ∷ f ∷ g ∷ []) short = refl
-references_none buffer (a ∷ b ∷ c ∷ d ∷ e ∷ f ∷ g ∷ h ∷ bytes) short = absurd (omega arith)
+references_none buffer bytes short = numbers_few (pairs_referred buffer) (Some []) refl (λ n. refl) bytes short

@@ -10,7 +10,7 @@ use Rattle.kit_bytes.proofs.Members.{Contains-nil, Contains-filter, Contains-fil
 use Rattle.mbim_services.specs.EventLists.{IsEventAt, HasUnread, pairs_in}
 use Rattle.subscriptions.specs.Lists.{IsNormal, fits, pushed}
 use Rattle.subscriptions.proofs.NormalForms.{IsFree, covers_itself, normal_again, normal_from, normal_free, normal_has}
-use Rattle.subscriptions.proofs.Covering.{AreCovered, covered_within, same_form, form_covers, form_joined, form_shorter}
+use Rattle.subscriptions.proofs.Covering.{AreCovered, covered_within, same_form, form_covers, form_joined, form_shorter, form_swapped}
 use Rattle.subscribe_lists.specs.ClientLists.{services, singles}
 use Rattle.mbim_services.proofs.Ranges.{single, single-in, pair-in}
 use Rattle.subscribe_lists.proofs.Events.{covered_more, pair_cases, services_next, single_cases, singles_single, take_next}
@@ -138,33 +138,18 @@ service_shorter {list} events place uuid cids adds there =
 
 -- ---- single CIDs ----
 
-module _ (uuid cids : List ℕ) (list : List Pair) where
-  swapped : (q : Pair) → Contains (singles uuid cids ++ list) q → Contains (list ++ singles uuid cids) q
-  swapped q at =
+pub adds_no_cid : (uuid cids : List ℕ) (list : List Pair) → IsNormal list → Adds (singles uuid cids ++ list) list (singles uuid cids)
+adds_no_cid uuid cids list normal = record {
+  form = form_swapped list (singles uuid cids);
+  within = λ q at. Contains-append_right (singles uuid cids) list q at;
+  left_within = λ q at. Contains-append_left (singles uuid cids) list q at;
+  alone = λ q at free single all.
       ⊎_elim
-      (λ (new : Contains (singles uuid cids) q). Contains-append_right list (singles uuid cids) q new)
-      (λ (old : Contains list q). Contains-append_left list (singles uuid cids) q old)
-      (Contains-append_cases (singles uuid cids) list q at)
-
-  swapped_back : (q : Pair) → Contains (list ++ singles uuid cids) q → Contains (singles uuid cids ++ list) q
-  swapped_back q at =
-      ⊎_elim
-      (λ (old : Contains list q). Contains-append_right (singles uuid cids) list q old)
-      (λ (new : Contains (singles uuid cids) q). Contains-append_left (singles uuid cids) list q new)
-      (Contains-append_cases list (singles uuid cids) q at)
-
-  pub adds_no_cid : IsNormal list → Adds (singles uuid cids ++ list) list (singles uuid cids)
-  adds_no_cid normal = record {
-    form = same_form (list ++ singles uuid cids) (singles uuid cids ++ list) (covered_within (list ++ singles uuid cids) (singles uuid cids ++ list) swapped_back) (covered_within (singles uuid cids ++ list) (list ++ singles uuid cids) swapped);
-    within = λ q at. Contains-append_right (singles uuid cids) list q at;
-    left_within = λ q at. Contains-append_left (singles uuid cids) list q at;
-    alone = λ q at free single all.
-        ⊎_elim
-        (λ (new : Contains (singles uuid cids) (q.0, None)). singles_single uuid cids (q.0, None) new refl)
-        (λ (old : Contains list (q.0, None)). free single old)
-        (Contains-append_cases (singles uuid cids) list (q.0, None) all);
-    normal = normal;
-  }
+      (λ (new : Contains (singles uuid cids) (q.0, None)). singles_single uuid cids (q.0, None) new refl)
+      (λ (old : Contains list (q.0, None)). free single old)
+      (Contains-append_cases (singles uuid cids) list (q.0, None) all);
+  normal = normal;
+}
 
 pub adds_cid : {pairs list new : List Pair} (uuid : List ℕ) (cid : ℕ) {left cids : List ℕ} → Adds pairs list (singles uuid cids) → cids ≡ cid ∷ left → new ≡ normal_form ((uuid, Some cid) ∷ list) → Adds pairs new (singles uuid left)
 adds_cid {pairs} {list} {new} uuid cid {left} {cids} adds are new_is =

@@ -1,6 +1,7 @@
 -- The pairs of events, and what covers them.
-use Rattle.std.proofs.Common.{◌≡◌, ◌⊎◌, ℕ, zero, suc, ◌+◌, Bool, true, false, cond, is_none, List, [], ◌∷◌, ◌++◌, length, take, drop, get_or, refl, arith, ap, sym, ◌∙◌, inl, inr, ⊎_elim, subst, Contains, None, ◌==◌}
+use Rattle.std.proofs.Common.{◌≡◌, ◌⊎◌, ℕ, zero, suc, ◌+◌, true, false, is_none, List, [], ◌∷◌, ◌++◌, length, take, drop, get_or, refl, arith, ap, sym, ◌∙◌, inl, inr, ⊎_elim, subst, Contains, None, ◌==◌}
 use Rattle.std.proofs.Math.Seq.{drop-nil}
+use Rattle.std.proofs.lemmas.List.Elements.{filter-append}
 use Rattle.kit_bytes.specs.Subscriptions.{Pair, Subscription, pairs_of}
 use Rattle.kit_bytes.proofs.Members.{Contains-cons, Contains-cons_cases, Contains-nil}
 use Rattle.mbim_services.specs.EventLists.{IsEventAt, pairs_in}
@@ -39,16 +40,8 @@ services_some uuid (cid ∷ cids) some = services_singles uuid (cid ∷ cids)
 
 -- ---- events ----
 
-services_append : (xs ys : List Pair) → services (xs ++ ys) ≡ services xs ++ services ys
-services_append [] ys = refl
-services_append (p ∷ xs) ys = by (is_none p.1) (services_append xs ys)
-  where
-    by : (b : Bool) → services (xs ++ ys) ≡ services xs ++ services ys → cond b (p ∷ services (xs ++ ys)) (services (xs ++ ys)) ≡ cond b (p ∷ services xs) (services xs) ++ services ys
-    by true others = ap (λ (l : List Pair). p ∷ l) others
-    by false others = others
-
 pub services_next : (events : List Subscription) (place : ℕ) (uuid cids : List ℕ) → IsEventAt events place uuid cids → services (pairs_in (drop place events)) ≡ services (pairs_of uuid cids) ++ services (pairs_in (drop (place + 1) events))
-services_next events place uuid cids there = ap (λ (l : List Subscription). services (pairs_in l)) there ∙ services_append (pairs_of uuid cids) (pairs_in (drop (place + 1) events))
+services_next events place uuid cids there = ap (λ (l : List Subscription). services (pairs_in l)) there ∙ filter-append (λ (p : Pair). is_none p.1) (pairs_of uuid cids) (pairs_in (drop (place + 1) events))
 
 pub take_next : (events : List Subscription) (place : ℕ) (event : Subscription) (behind : List Subscription) → drop place events ≡ event ∷ behind → take (place + 1) events ≡ take place events ++ event ∷ []
 take_next [] place event behind there = absurd (let none = sym (drop-nil place) ∙ there in cc)

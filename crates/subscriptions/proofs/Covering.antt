@@ -75,7 +75,7 @@ form_joined xs ys = same_form (normal_form xs ++ ys) (xs ++ ys) to from
         (λ (behind : Contains ys q). (q, Contains-append_right (normal_form xs) ys q behind, covers_itself q))
         (Contains-append_cases xs ys q at)
 
-form_swapped : (xs ys : List Pair) → normal_form (xs ++ ys) ≡ normal_form (ys ++ xs)
+pub form_swapped : (xs ys : List Pair) → normal_form (xs ++ ys) ≡ normal_form (ys ++ xs)
 form_swapped xs ys = same_form (xs ++ ys) (ys ++ xs) (covered_within (xs ++ ys) (ys ++ xs) (swapped xs ys)) (covered_within (ys ++ xs) (xs ++ ys) (swapped ys xs))
   where
     swapped : (xs ys : List Pair) (q : Pair) → Contains (xs ++ ys) q → Contains (ys ++ xs) q
