@@ -40,7 +40,8 @@ impl Bench for Cores {
         limits: &Limits,
         device: &str,
     ) -> Result<(), AllocError> {
-        self.held = Held::open(alloc, kind, limits, device)?;
+        let held = Held::open(alloc, kind, limits, device)?;
+        drop(replace(&mut self.held, held));
         Ok(())
     }
 

@@ -45,9 +45,10 @@ impl MemBench {
         ensures room { IfOk result (λ bench. room ≤ bench.log.room) }
         ensures bytes_room { IfOk result (λ bench. bytes_room ≤ bench.log.bytes_room) }
     {
+        let log = Log::new(alloc, room, bytes_room)?;
         Ok(MemBench {
             cores: Cores::none(),
-            log: Log::new(alloc, room, bytes_room)?,
+            log,
         })
     }
 
