@@ -1,13 +1,13 @@
 #!/bin/sh
-# Proves and builds the program where that wasn't done since the last change, which takes tens of minutes
-# the first time, and prints its path. To a terminal it tells which crate is being proved.
+# Proves and builds the program where that wasn't done since the last change, and prints its path. The program's crates alone
+# are proved, several side by side, on a copy that stays in the user's cache folder (MODEMKIT_BUILD names another), so that a
+# later build proves only what changed. To a terminal it tells how far it is: in crates, in the processor minutes that
+# docs/GATE.md has for them, and how long the rest may take.
 top=$(CDPATH= cd -- "$(dirname -- "$0")/.." && pwd) || exit 70
-program=$top/crates/modemkit/out/modemkit
-changed() {
-    find "$top/crates.txt" "$top/crates" -name out -prune -o -type f -newer "$program" \
-        \( -name '*.rt' -o -name '*.antt' -o -name crates.txt \) -print -quit
-}
-# The program's crates, each behind those that it uses: the order in which they are proved.
+build=${MODEMKIT_BUILD:-${XDG_CACHE_HOME:-$HOME/.cache}/modemkit/$(printf %s "$top" | cksum | tr ' ' -)}
+program=$build/crates/modemkit/out/modemkit
+
+# The program's crates, each behind those that it uses.
 crates() {
     awk '/^[a-z]/ { uses[substr($1, 1, length($1) - 1)] = $0 }
         function visit(name, words, count, at) {
@@ -18,30 +18,72 @@ crates() {
         }
         END { visit("modemkit") }' "$top/crates.txt"
 }
-# Hands on what rt writes, and tells a person of each crate that it begins to prove.
+# What of the program's crates changed since it was built, or that it isn't built.
+changed() {
+    [ -x "$program" ] || { echo "$program"; return; }
+    find "$top/crates.txt" $(crates | sed "s|^|$top/crates/|") -newer "$program" \
+        \( -name '*.rt' -o -name '*.antt' -o -name crates.txt \) -print -quit
+}
+copy() {
+    mkdir -p "$build/crates" || return
+    for crate in "$build"/crates/*; do
+        [ ! -d "$crate" ] || rm -rf "$crate/src" "$crate/specs" "$crate/proofs" || return
+    done
+    crates | while read -r crate; do
+        mkdir -p "$build/crates/$crate" || return
+        for part in src specs proofs; do
+            [ ! -d "$top/crates/$crate/$part" ] || cp -r "$top/crates/$crate/$part" "$build/crates/$crate/" || return
+        done
+        grep "^$crate:" "$top/crates.txt" || return
+    done >"$build/crates.txt"
+}
+# The processor minutes, in hundredths, of these crates, which come one a line, as docs/GATE.md has them.
+minutes() {
+    awk -F '|' 'NR == FNR { if ($2 ~ /`/) { gsub(/[` ]/, "", $2); of[$2] = $6 } next }
+        { sum += $1 in of ? of[$1] : 0.5 } END { printf "%d\n", sum * 100 }' "$top/docs/GATE.md" -
+}
+# As many checks side by side as there are processors, and memory at 3 GB each.
+lanes() {
+    processors=$(getconf _NPROCESSORS_ONLN 2>/dev/null || echo 1)
+    memory=$(awk '/^MemAvailable:/ { print int($2 / 3000000) }' /proc/meminfo 2>/dev/null)
+    [ "${memory:-1}" -ge "$processors" ] && echo "$processors" || echo "$((${memory:-1} > 0 ? ${memory:-1} : 1))"
+}
+# Hands on what rt writes, and tells a person of each crate that is proved, and where rt waits for another build.
 tell() {
+    count=$(crates | wc -l) all=$(crates | minutes) proved=0 spent=0 begun=$(date +%s)
     while IFS= read -r line; do
         printf '%s\n' "$line"
         case $line in
-        "rt: chose --jobs "*) [ ! -t 2 ] || crates | grep -nx "${line##* }" | sed "s/:/ of $(crates | wc -l): /; s/^/proving /" >&2 ;;
+        *"waiting for"*) printf '%s\n' "${line#rt: }" >&2 ;;
+        "== summary") ;;
+        "== "*)
+            proved=$((proved + 1)) spent=$((spent + $(echo "${line#== }" | minutes)))
+            [ -t 2 ] && [ "$spent" -gt 0 ] || continue
+            left=$((($(date +%s) - begun) * (all - spent) / spent))
+            echo "proved ${line#== }: $proved of $count crates, $((spent / 100)) of $((all / 100)) processor minutes; some $(((left + 59) / 60)) minutes left" >&2
+            ;;
         esac
     done
 }
+
 # One build at a time: who comes meanwhile waits, and finds the program.
 exec 9<"$top/crates.txt"
 if command -v flock >/dev/null 2>&1 && ! flock -n 9; then
-    echo "the program is being built already; waiting for that .." >&2
+    echo "the program is being built already, from $top; waiting for that .." >&2
     flock 9
 fi
-if [ ! -x "$program" ] || [ -n "$(changed)" ]; then
+if [ -n "$(changed)" ]; then
     command -v rt >/dev/null 2>&1 || { echo "rt, the command of the Rattle kit, isn't on the PATH" >&2; exit 70; }
-    echo "proving and building the program; the first time this takes tens of minutes .." >&2
+    lanes=$(lanes)
+    echo "proving and building the program, $lanes crates at a time; the first time this takes $(($(crates | minutes) / 100)) processor minutes .." >&2
     log=$(mktemp) || exit 70
     trap 'rm -f "$log"' EXIT
     trap 'exit 130' INT TERM
+    copy || exit 70
     rm -f "$program"
-    # `rt run` proves, builds and runs; without words the program only refuses them
-    (cd "$top/crates/modemkit" && rt run 9<&-) 2>&1 | tell >"$log"
+    (cd "$build" && rt all check --jobs "$lanes" 9<&-) 2>&1 | tell >"$log"
+    # `rt run` builds what was proved, and runs it; without words the program only refuses them
+    (cd "$build/crates/modemkit" && rt run 9<&-) >>"$log" 2>&1
     [ -x "$program" ] || { tail -n 20 "$log" >&2; exit 70; }
 fi
 echo "$program"
