@@ -1,8 +1,7 @@
 #!/bin/sh
 # Proves and builds the program where that wasn't done since the last change, and prints its path. The program's crates alone
-# are proved, several side by side, on a copy that stays in the user's cache folder (MODEMKIT_BUILD names another), so that a
-# later build proves only what changed. To a terminal it tells how far it is: in crates, in the processor minutes that
-# docs/GATE.md has for them, and how long the rest may take.
+# are proved, several side by side, on a copy that stays in the user's cache folder (MODEMKIT_BUILD names another). To a
+# terminal it tells how far it is: in crates, in the processor minutes that docs/GATE.md has for them, and how long the rest may take.
 top=$(CDPATH= cd -- "$(dirname -- "$0")/.." && pwd) || exit 70
 build=${MODEMKIT_BUILD:-${XDG_CACHE_HOME:-$HOME/.cache}/modemkit/$(printf %s "$top" | cksum | tr ' ' -)}
 program=$build/crates/modemkit/out/modemkit
@@ -18,21 +17,20 @@ crates() {
         }
         END { visit("modemkit") }' "$top/crates.txt"
 }
-# What of the program's crates changed since it was built, or that it isn't built.
+# What of the program's crates changed since it was built, or the program itself where it isn't built.
 changed() {
     [ -x "$program" ] || { echo "$program"; return; }
     find "$top/crates.txt" $(crates | sed "s|^|$top/crates/|") -newer "$program" \
         \( -name '*.rt' -o -name '*.antt' -o -name crates.txt \) -print -quit
 }
+# The program's crates as they stand, without tests of a crate's own and without must-fail edits.
 copy() {
-    mkdir -p "$build/crates" || return
-    for crate in "$build"/crates/*; do
-        [ ! -d "$crate" ] || rm -rf "$crate/src" "$crate/specs" "$crate/proofs" || return
-    done
+    # (rt takes the folder for the top of a checkout by its .git)
+    rm -rf "$build/crates" && mkdir -p "$build/crates" "$build/.git" && cp "$top/HANDLES" "$build/" || return
     crates | while read -r crate; do
-        mkdir -p "$build/crates/$crate" || return
-        for part in src specs proofs; do
-            [ ! -d "$top/crates/$crate/$part" ] || cp -r "$top/crates/$crate/$part" "$build/crates/$crate/" || return
+        mkdir "$build/crates/$crate" || return
+        for part in src specs proofs args status stdout; do
+            [ ! -e "$top/crates/$crate/$part" ] || cp -r "$top/crates/$crate/$part" "$build/crates/$crate/" || return
         done
         grep "^$crate:" "$top/crates.txt" || return
     done >"$build/crates.txt"
@@ -42,27 +40,21 @@ minutes() {
     awk -F '|' 'NR == FNR { if ($2 ~ /`/) { gsub(/[` ]/, "", $2); of[$2] = $6 } next }
         { sum += $1 in of ? of[$1] : 0.5 } END { printf "%d\n", sum * 100 }' "$top/docs/GATE.md" -
 }
-# As many checks side by side as there are processors, and memory at 3 GB each.
-lanes() {
-    processors=$(getconf _NPROCESSORS_ONLN 2>/dev/null || echo 1)
-    memory=$(awk '/^MemAvailable:/ { print int($2 / 3000000) }' /proc/meminfo 2>/dev/null)
-    [ "${memory:-1}" -ge "$processors" ] && echo "$processors" || echo "$((${memory:-1} > 0 ? ${memory:-1} : 1))"
-}
 # Hands on what rt writes, and tells a person of each crate that is proved, and where rt waits for another build.
 tell() {
-    count=$(crates | wc -l) all=$(crates | minutes) proved=0 spent=0 begun=$(date +%s)
+    count=$(crates | wc -l) all=$(crates | minutes) proved=0 spent=0 fresh=0 begun=$(date +%s)
     while IFS= read -r line; do
         printf '%s\n' "$line"
         case $line in
-        *"waiting for"*) printf '%s\n' "${line#rt: }" >&2 ;;
-        "== summary") ;;
-        "== "*)
-            proved=$((proved + 1)) spent=$((spent + $(echo "${line#== }" | minutes)))
-            [ -t 2 ] && [ "$spent" -gt 0 ] || continue
-            left=$((($(date +%s) - begun) * (all - spent) / spent))
-            echo "proved ${line#== }: $proved of $count crates, $((spent / 100)) of $((all / 100)) processor minutes; some $(((left + 59) / 60)) minutes left" >&2
-            ;;
+        *"waiting for"*) printf '%s\n' "${line#rt: }" >&2; continue ;;
+        "rt: "*" proved" | "rt: "*" is kept: "*) crate=${line#rt: } crate=${crate%% *} ;;
+        *) continue ;;
         esac
+        cost=$(echo "$crate" | minutes) proved=$((proved + 1)) spent=$((spent + cost))
+        case $line in *" proved") fresh=$((fresh + cost)) ;; esac
+        [ -t 2 ] && [ "$fresh" -gt 0 ] || continue
+        left=$((($(date +%s) - begun) * (all - spent) / fresh))
+        echo "proved $crate: $proved of $count crates, $((spent / 100)) of $((all / 100)) processor minutes; some $(((left + 59) / 60)) minutes left" >&2
     done
 }
 
@@ -74,16 +66,13 @@ if command -v flock >/dev/null 2>&1 && ! flock -n 9; then
 fi
 if [ -n "$(changed)" ]; then
     command -v rt >/dev/null 2>&1 || { echo "rt, the command of the Rattle kit, isn't on the PATH" >&2; exit 70; }
-    lanes=$(lanes)
-    echo "proving and building the program, $lanes crates at a time; the first time this takes $(($(crates | minutes) / 100)) processor minutes .." >&2
+    echo "proving and building the program; on a new machine that takes some $(($(crates | minutes) / 100)) processor minutes, shared by its processors .." >&2
     log=$(mktemp) || exit 70
     trap 'rm -f "$log"' EXIT
     trap 'exit 130' INT TERM
     copy || exit 70
-    rm -f "$program"
-    (cd "$build" && rt all check --jobs "$lanes" 9<&-) 2>&1 | tell >"$log"
-    # `rt run` builds what was proved, and runs it; without words the program only refuses them
-    (cd "$build/crates/modemkit" && rt run 9<&-) >>"$log" 2>&1
-    [ -x "$program" ] || { tail -n 20 "$log" >&2; exit 70; }
+    # `rt ci` proves the copy's crates side by side, and keeps what it passed, also for the gate. As root it runs programs as nobody
+    (cd "$build" && rt ci 9<&-) 2>&1 | tell >"$log"
+    [ -x "$program" ] || { grep -a 'NOT PROVED' "$log" >&2; tail -n 20 "$log" >&2; exit 70; }
 fi
 echo "$program"

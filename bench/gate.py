@@ -13,6 +13,7 @@ import signal
 import subprocess
 import sys
 import tempfile
+import threading
 import time
 
 COSTS, PROVER = "GATE_COSTS", "GATE_PROVER"
@@ -79,17 +80,48 @@ def edits_of(crate):
 
 
 def crates_of():
+    """The crates in the order of crates.txt, each with those that it uses."""
     with open("crates.txt", encoding="utf-8") as text:
-        return [it.split(":")[0].strip() for it in text if ":" in it and not it.startswith("#")]
+        lines = [it.partition(":") for it in text if ":" in it and not it.startswith("#")]
+    return {name.split()[0]: uses.split() for name, _, uses in lines}
 
 
-def tell(rows, clock, whole):
+def program_of(crates):
+    """The crates that the program is built of."""
+    found = ["modemkit"]
+    for crate in found:
+        found += [it for it in crates.get(crate, ()) if it in crates and it not in found]
+    return found
+
+
+class Pace(threading.Thread):
+    """How long a fixed loop takes while the gate runs: on a host with other guests one minute of a processor does more or
+    less than another, and figures of two runs compare only beside this."""
+
+    def __init__(self):
+        super().__init__(daemon=True)
+        self.seconds = []
+
+    def run(self):
+        while True:
+            begun = time.thread_time()
+            sum(it * it % 7 for it in range(500_000))
+            self.seconds.append(time.thread_time() - begun)
+            time.sleep(15)
+
+    def __str__(self):
+        mean = sum(self.seconds) / len(self.seconds)
+        return f"a loop of 500,000 steps took {min(self.seconds):.3f} to {max(self.seconds):.3f} s meanwhile, {mean:.3f} on average"
+
+
+def tell(rows, clock, whole, pace):
     minutes, seeded = collections.defaultdict(lambda: collections.Counter()), collections.Counter()
     for row in rows:
         minutes[row["crate"]][part_of(row, seeded)] += row["seconds"] / 60
     print("\n| Crate | Code | Specs | Proofs | Proof | Tests | Edits | Minutes of edits |")
     print("|---|---|---|---|---|---|---|---|")
-    for crate in crates_of():
+    crates = crates_of()
+    for crate in crates:
         cost = minutes[crate]
         if not cost:
             continue
@@ -98,9 +130,11 @@ def tell(rows, clock, whole):
         texts = [f"{it:,}" for it in counts] + [f"{cost['proof'] + cost['compilers']:.2f}", f"{cost['tests']:.2f}", str(edits_of(crate)), f"{of_edits:.2f}"]
         print(f"| `{crate}` | {' | '.join(texts)} |")
     sums = {part: sum(it[part] for it in minutes.values()) for part in PARTS}
-    print(f"\n{len(rows)} runs of the prover, {clock / 60:.1f} minutes of the clock on {os.cpu_count()} processors")
+    print(f"\n{len(rows)} runs of the prover, {clock / 60:.1f} minutes of the clock on {os.cpu_count()} processors; {pace}")
     for part in PARTS:
         print(f"{part:10} {sums[part]:7.1f} processor minutes")
+    build = sum(minutes[it]["proof"] + minutes[it]["compilers"] for it in program_of(crates))
+    print(f"{'program':10} {build:7.1f} of these, for the proofs and the compilers of its crates alone")
     print(f"{'together':10} {sum(sums.values()):7.1f} processor minutes of the prover, {whole / 60:.1f} with all else that the gate runs")
 
 
@@ -112,13 +146,14 @@ def main(words):
     with tempfile.TemporaryDirectory(prefix="gate-") as room:
         os.environ[PROVER], os.environ[COSTS] = rt.rtlib.RATTLE, f"{room}/costs"
         rt.rtlib.RATTLE = os.path.realpath(__file__)
-        begun = time.monotonic()
+        begun, pace = time.monotonic(), Pace()
+        pace.start()
         status = rt.main(["ci", *words])
         clock = time.monotonic() - begun
         whole = sum(it.ru_utime + it.ru_stime for it in map(resource.getrusage, (resource.RUSAGE_SELF, resource.RUSAGE_CHILDREN)))
         with open(f"{room}/costs", encoding="utf-8") as costs:
             rows = [json.loads(it) for it in costs]
-    tell([it for it in rows if it["crate"] or it["verb"] == "fmt"], clock, whole)
+    tell([it for it in rows if it["crate"] or it["verb"] == "fmt"], clock, whole, pace)
     print("passed" if status == 0 else "failed")
     return status
 
