@@ -4,8 +4,9 @@ use qmux_frame::Qmux;
 
 #[test]
 fn clients_join_and_leave(rt: HostRuntime) {
-    let mut table: Connections<Qmux, Client> =
-        Connections::open(rt.alloc(), 1, 8).expect(&rt, "memory");
+    let mut table: Connections<Qmux, Client> = Connections::open(rt.alloc(), 1, 8).expect(
+        &rt, "memory",
+    );
     assert!(rt; table.next_dropped().is_none() && table.greatest() < 3 && table.join(3));
     assert!(rt; table.tell(3, &[1, 2], &[3, 4, 5]) && table.waiting_from(0) == Some(0));
     assert!(rt; table.queued(3) == [1, 2, 3, 4, 5].as_slice());
