@@ -1,22 +1,16 @@
-//! Tests of the outside, over real sockets and by turns: what no contract says.
+//! Tests of the outside, each adapter over the real thing: what no contract says.
 #![tactic(auto)]
 
 #[cfg(test)]
-mod bridges;
-#[cfg(test)]
 mod children;
+#[cfg(test)]
+mod fakes;
 #[cfg(test)]
 mod files;
 #[cfg(test)]
 mod hubs;
 #[cfg(test)]
 mod links;
-#[cfg(test)]
-mod mbim_proxies;
-#[cfg(test)]
-mod proxies;
-#[cfg(test)]
-mod pumps;
 #[cfg(test)]
 mod sinks;
 #[cfg(test)]

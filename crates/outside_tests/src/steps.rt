@@ -1,75 +1,43 @@
-use hub_io::{Hub, HubTurn};
 use kit_bytes::Text;
-use kit_io::Log;
-use link_io::Target;
-use std::alloc::{AllocError, Global};
-use std::fmt::Debug;
-use std::io::Read;
+use std::alloc::Global;
+use std::io::{Read, Write};
+use std::net::Net;
 use std::os::unix::net::{UnixListener, UnixStream};
 use std::process::Abort;
-use std::test::Fail;
 
 // What the tests of more than one module do. A check takes time for each value that a function owns
-// at each of its exits, and each assertion is one: so a test's steps stand in small functions that
-// borrow.
+// at each of its exits: so a test's steps stand in small functions that borrow, and end in no other way.
 
-/// The modem or proxy whose socket is at this path.
-pub fn target(alloc: Global, path: &str) -> Result<Target, AllocError> {
-    Ok(Target::Socket(Text::from_str(alloc, path)?))
+/// The path of a socket.
+pub fn path<R: Abort>(rt: &R, alloc: Global, path: &str) -> Text {
+    Text::from_str(alloc, path).expect(rt, "memory")
 }
 
-/// These calls were made in this order, the oldest first.
-pub fn assert_calls<C: Copy + PartialEq + Debug, R: Abort>(
-    rt: &R,
-    log: &Log<C>,
-    calls: &[(C, &[u8])],
-) {
-    for (at, (call, bytes)) in calls.iter().enumerate() {
-        assert_eq!(rt; log.at(at), Some((*call, *bytes)), "call {at}");
-    }
-}
-
-/// The bytes that came are the wanted ones.
-pub fn assert_bytes<R: Abort>(rt: &R, got: &[u8], wanted: &[u8]) {
-    assert_eq!(rt; got, wanted);
+/// A stream to whoever listens at this path.
+pub fn connect<R: Abort + Net>(rt: &R, path: &str) -> UnixStream {
+    UnixStream::connect(rt, path).expect(rt, "somebody listens")
 }
 
 /// The stream to who has connected first.
-pub fn accept(listener: &UnixListener) -> Result<UnixStream, Fail> {
-    let (stream, _) = listener.accept()?;
-    Ok(stream)
+pub fn accept<R: Abort>(rt: &R, listener: &UnixListener) -> UnixStream {
+    let (stream, _) = listener.accept().expect(rt, "somebody connects");
+    stream
 }
 
-/// Waits for so many bytes.
-pub fn read(alloc: Global, stream: &mut UnixStream, count: usize) -> Result<Vec<u8>, Fail> {
-    let mut got = Vec::from_elem(alloc, 0u8, count)?;
-    stream.read_exact(&mut got)?;
-    Ok(got)
+/// A stream to a bridge that begins with this letter.
+pub fn pump<R: Abort + Net>(rt: &R, path: &str, letter: u8) -> UnixStream {
+    let mut stream = connect(rt, path);
+    assert!(rt; writes(&mut stream, &[letter]));
+    stream
 }
 
-/// These bytes are the next that come over the stream.
-pub fn assert_reads<R: Abort>(
-    rt: &R,
-    alloc: Global,
-    stream: &mut UnixStream,
-    wanted: &[u8],
-) -> Result<(), Fail> {
-    let got = read(alloc, stream, wanted.len())?;
-    assert_bytes(rt, &got, wanted);
-    Ok(())
+/// These bytes go into the stream.
+pub fn writes(stream: &mut UnixStream, bytes: &[u8]) -> bool {
+    stream.write_all(bytes).is_ok()
 }
 
-/// The hub listens at this path, and opens its modem where one is named.
-pub fn assert_listens<H: Hub, R: Abort>(rt: &R, hub: &mut H, path: &str, modem: Option<&Target>) {
-    assert!(rt; hub.open(path, modem).is_ok());
-}
-
-/// A turn of the hub in memory: it gives these bytes of a client.
-pub fn gives(alloc: Global, conn: u64, bytes: &[u8]) -> Result<HubTurn, AllocError> {
-    Ok(HubTurn::Gives(conn, Vec::from_slice(alloc, bytes)?))
-}
-
-/// A turn of the hub in memory: it gives these bytes of the modem.
-pub fn modem_gives(alloc: Global, bytes: &[u8]) -> Result<HubTurn, AllocError> {
-    Ok(HubTurn::ModemGives(Vec::from_slice(alloc, bytes)?))
+/// These are the next bytes that come over the stream.
+pub fn reads(stream: &mut UnixStream, wanted: [u8; 3]) -> bool {
+    let mut got = [0; 3];
+    stream.read_exact(&mut got).is_ok() && got == wanted
 }
