@@ -12,10 +12,6 @@ mod hubs;
 #[cfg(test)]
 mod links;
 #[cfg(test)]
-mod mbim_proxies;
-#[cfg(test)]
-mod proxies;
-#[cfg(test)]
 mod pumps;
 #[cfg(test)]
 mod sinks;
