@@ -1,7 +1,6 @@
 use crate::found::{Place, is};
 use crate::proxy::{Proxy, mbim_proxy, qmi_proxy};
-use anyhow::{Context, Result, bail, ensure};
-use core_bench::{BenchNote, MemBench};
+use core_bench::BenchNote;
 use framing::{Framing, Size};
 use hub_io::Event;
 use kit_bytes::Kind;
@@ -9,6 +8,7 @@ use kit_io::Log;
 use mbim_frame::Mbim;
 use proxy_serving::ProxyCore;
 use qmux_frame::Qmux;
+use row_text::RowFault;
 use std::alloc::Global;
 
 /// A client, and all bytes that it took.
@@ -32,24 +32,41 @@ pub fn is_same_alone<R: Print>(
     rt: &R,
     alloc: Global,
     place: Place<'_>,
-    bench: &MemBench,
+    log: &Log<BenchNote>,
     lines: &str,
-) -> Result<bool> {
-    let runs = runs_again(alloc, bench.log()).context(place)?;
-    let (all, alone) = runs.split_first().context(place)?;
-    let mut equal = 0u64;
-    for (client, run) in all.clients.iter().zip(alone) {
-        if run.clients.len() == 1 && run.clients.first() == Some(client) {
-            equal = equal.saturating_add(1);
-        }
-    }
-    let requests = requests_in(all.kind, &all.asked).context(place)?;
-    let forwarded = format!(in alloc; "forwarded {requests}")?;
-    let equal = format!(in alloc; "equal {equal} of {}", alone.len())?;
-    Ok(
-        is_line(rt, place, lines, "forwarded ", &forwarded)?
-            && is_line(rt, place, lines, "equal ", &equal)?,
-    )
+) -> Result<bool, RowFault> {
+    let runs = runs_again(alloc, log)?;
+    let Some((all, alone)) = runs.split_first() else {
+        return Err(RowFault::new("nothing was run"));
+    };
+    let told = is_forwarded(rt, alloc, place, lines, all);
+    let equal = is_equal(rt, alloc, place, lines, all, alone);
+    Ok(told? && equal?)
+}
+
+fn is_forwarded<R: Print>(
+    rt: &R,
+    alloc: Global,
+    place: Place<'_>,
+    lines: &str,
+    all: &Run,
+) -> Result<bool, RowFault> {
+    let requests = requests_in(all.kind, &all.asked)?;
+    let found = format!(in alloc; "forwarded {requests}")?;
+    is_line(rt, place, lines, "forwarded ", &found)
+}
+
+fn is_equal<R: Print>(
+    rt: &R,
+    alloc: Global,
+    place: Place<'_>,
+    lines: &str,
+    all: &Run,
+    alone: &[Run],
+) -> Result<bool, RowFault> {
+    let equal = equal_in(all, alone);
+    let found = format!(in alloc; "equal {equal} of {}", alone.len())?;
+    is_line(rt, place, lines, "equal ", &found)
 }
 
 // Whether the line that begins so is this one.
@@ -59,63 +76,80 @@ fn is_line<R: Print>(
     lines: &str,
     begins: &str,
     found: &str,
-) -> Result<bool> {
+) -> Result<bool, RowFault> {
     for line in lines.lines() {
         if line.starts_with(begins) {
-            return Ok(is(rt, place, "same alone", line, found)?);
+            return Ok(is(rt, place, "same alone", line, found));
         }
     }
-    bail!("{place}: no line begins with {begins}")
+    Err(RowFault::new("a line is missing that tells what is the same alone"))
 }
 
-fn runs_again(alloc: Global, log: &Log<BenchNote>) -> Result<Vec<Run>> {
-    let mut runs = Vec::new(alloc);
-    for at in 0..log.len().context("too much to be told")? {
-        if let Some((BenchNote::Opened { kind, .. }, _)) = log.at(at) {
-            let start = at.saturating_add(1);
-            runs.push(match kind {
-                Kind::Qmi => qmi_again(alloc, log, start)?,
-                Kind::Mbim => mbim_again(alloc, log, start)?,
-            })?;
+// How many clients took the same bytes alone.
+fn equal_in(all: &Run, alone: &[Run]) -> u64 {
+    let mut equal = 0u64;
+    for (client, run) in all.clients.iter().zip(alone) {
+        if run.clients.len() == 1 && run.clients.first() == Some(client) {
+            equal = equal.saturating_add(1);
         }
     }
+    equal
+}
+
+fn runs_again(alloc: Global, log: &Log<BenchNote>) -> Result<Vec<Run>, RowFault> {
+    let mut runs = Vec::new(alloc);
+    push_runs(alloc, &mut runs, log)?;
     Ok(runs)
 }
 
-fn qmi_again(alloc: Global, log: &Log<BenchNote>, start: usize) -> Result<Run> {
-    let mut proxy = qmi_proxy(alloc, "rig")?;
-    run_again(alloc, log, start, Kind::Qmi, &mut proxy)
+fn push_runs(alloc: Global, runs: &mut Vec<Run>, log: &Log<BenchNote>) -> Result<(), RowFault> {
+    let Some(count) = log.len() else {
+        return Err(RowFault::new("too much to be told"));
+    };
+    for at in 0..count {
+        if let Some((BenchNote::Opened { kind, .. }, _)) = log.at(at) {
+            runs.push(again(alloc, log, at.saturating_add(1), kind)?)?;
+        }
+    }
+    Ok(())
 }
 
-fn mbim_again(alloc: Global, log: &Log<BenchNote>, start: usize) -> Result<Run> {
-    let mut proxy = mbim_proxy(alloc, "rig")?;
-    run_again(alloc, log, start, Kind::Mbim, &mut proxy)
-}
-
-// What is taken of a core that meets the events from this place on, up to the next opening.
-fn run_again<C: ProxyCore>(
-    alloc: Global,
-    log: &Log<BenchNote>,
-    start: usize,
-    kind: Kind,
-    proxy: &mut Proxy<C>,
-) -> Result<Run> {
+// What is taken of a new core of this kind that meets the events from this place on.
+fn again(alloc: Global, log: &Log<BenchNote>, start: usize, kind: Kind) -> Result<Run, RowFault> {
     let mut run = Run {
         kind,
         clients: Vec::new(alloc),
         asked: Vec::new(alloc),
     };
-    for at in start..log.len().unwrap_or(0) {
-        let Some((note, bytes)) = log.at(at) else {
-            break;
-        };
-        let Some(event) = event_of(note, bytes) else {
-            break;
-        };
-        run.take(alloc, proxy, event)?;
-        proxy.meet(event)?;
+    match kind {
+        Kind::Qmi => qmi_again(alloc, log, start, &mut run)?,
+        Kind::Mbim => mbim_again(alloc, log, start, &mut run)?,
     }
     Ok(run)
+}
+
+fn qmi_again(
+    alloc: Global,
+    log: &Log<BenchNote>,
+    start: usize,
+    run: &mut Run,
+) -> Result<(), RowFault> {
+    let mut proxy = qmi_proxy(alloc, "rig")?;
+    let met = run.meet_all(alloc, log, start, &mut proxy);
+    drop(proxy);
+    met
+}
+
+fn mbim_again(
+    alloc: Global,
+    log: &Log<BenchNote>,
+    start: usize,
+    run: &mut Run,
+) -> Result<(), RowFault> {
+    let mut proxy = mbim_proxy(alloc, "rig")?;
+    let met = run.meet_all(alloc, log, start, &mut proxy);
+    drop(proxy);
+    met
 }
 
 // The event of a note, where it isn't an opening.
@@ -135,36 +169,59 @@ fn event_of(note: BenchNote, bytes: &[u8]) -> Option<Event<'_>> {
 }
 
 impl Run {
+    // Takes what a core gives that meets the events from this place on, up to the next opening.
+    fn meet_all<C: ProxyCore>(
+        &mut self,
+        alloc: Global,
+        log: &Log<BenchNote>,
+        start: usize,
+        proxy: &mut Proxy<C>,
+    ) -> Result<(), RowFault> {
+        for at in start..log.len().unwrap_or(0) {
+            let Some((note, bytes)) = log.at(at) else {
+                break;
+            };
+            let Some(event) = event_of(note, bytes) else {
+                break;
+            };
+            self.take(alloc, proxy, event)?;
+            proxy.meet(event)?;
+        }
+        Ok(())
+    }
+
     // Notes a client that joins, and the bytes that are taken.
     fn take<C: ProxyCore>(
         &mut self,
         alloc: Global,
         proxy: &mut Proxy<C>,
         event: Event<'_>,
-    ) -> Result<()> {
+    ) -> Result<(), RowFault> {
         match event {
-            Event::Joined(name) => {
-                let taken = Vec::new(alloc);
-                self.clients.push(Client { name, taken })?;
-            }
-            Event::Took(name, count) => self.take_as(name, first(proxy.waiting(name), count))?,
+            Event::Joined(name) => self.join(alloc, name),
+            Event::Took(name, count) => self.take_as(name, first(proxy.waiting(name), count)),
             Event::ModemTook(count) => {
-                self.asked
-                    .extend_from_slice(first(proxy.modem_waiting(), count))?;
+                let bytes = first(proxy.modem_waiting(), count);
+                Ok(self.asked.extend_from_slice(bytes)?)
             }
-            _ => {}
+            _ => Ok(()),
         }
+    }
+
+    fn join(&mut self, alloc: Global, name: u64) -> Result<(), RowFault> {
+        let taken = Vec::new(alloc);
+        self.clients.push(Client { name, taken })?;
         Ok(())
     }
 
-    fn take_as(&mut self, name: u64, bytes: &[u8]) -> Result<()> {
+    fn take_as(&mut self, name: u64, bytes: &[u8]) -> Result<(), RowFault> {
         for client in self.clients.iter_mut() {
             if client.name == name {
                 client.taken.extend_from_slice(bytes)?;
                 return Ok(());
             }
         }
-        bail!("no client has this name")
+        Err(RowFault::new("no client has this name"))
     }
 }
 
@@ -174,7 +231,7 @@ fn first(bytes: &[u8], count: usize) -> &[u8] {
 }
 
 // How many requests of clients a stream to the modem has. By itself a proxy asks the modem to open alone.
-fn requests_in(kind: Kind, stream: &[u8]) -> Result<u64> {
+fn requests_in(kind: Kind, stream: &[u8]) -> Result<u64, RowFault> {
     let mut rest = stream;
     let mut count = 0u64;
     for _ in 0..stream.len() {
@@ -187,7 +244,9 @@ fn requests_in(kind: Kind, stream: &[u8]) -> Result<u64> {
         }
         rest = &rest[length..];
     }
-    ensure!(rest.is_empty(), "the modem took less than a message");
+    if !rest.is_empty() {
+        return Err(RowFault::new("the modem took less than a message"));
+    }
     Ok(count)
 }
 

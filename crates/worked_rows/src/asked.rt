@@ -1,15 +1,15 @@
-use anyhow::Result;
+use row_text::RowFault;
 use std::alloc::Global;
 use tool_words::{ToolCommand, command_of};
 
 /// What words ask for, as text.
-pub fn asked(alloc: Global, words: &[String]) -> Result<String> {
+pub fn asked(alloc: Global, words: &[String]) -> Result<String, RowFault> {
     let command = command_of(alloc, words);
     Ok(format!(in alloc; "{command:?}")?)
 }
 
 /// The request that words ask for, as text, where they ask a modem.
-pub fn requested(alloc: Global, words: &[String]) -> Result<Option<String>> {
+pub fn requested(alloc: Global, words: &[String]) -> Result<Option<String>, RowFault> {
     match command_of(alloc, words) {
         Ok(ToolCommand::Qmicli { request, .. }) => Ok(Some(format!(in alloc; "{request:?}")?)),
         Ok(ToolCommand::Mbimcli { request, .. }) => Ok(Some(format!(in alloc; "{request:?}")?)),

@@ -1,9 +1,8 @@
 use crate::found::differs_at;
-use anyhow::{Context, Result, bail};
 use core_bench::{BenchNote, MemBench};
 use hub_io::Limits;
 use kit_bytes::Kind;
-use row_text::Rows;
+use row_text::{RowFault, Rows};
 use std::alloc::{AllocError, Global};
 
 /// What is run on the bench, as a row tells it, and whether the clients take the same bytes alone.
@@ -23,12 +22,18 @@ impl BenchRuns {
     }
 
     /// Adds what a key of a row tells of, where the key is one of these.
-    pub fn add(&mut self, alloc: Global, rows: &Rows<'_>, key: &str, value: &str) -> Result<bool> {
+    pub fn add(
+        &mut self,
+        alloc: Global,
+        rows: &Rows<'_>,
+        key: &str,
+        value: &str,
+    ) -> Result<bool, RowFault> {
         match key {
             "same alone" => self.same_alone = true,
             "runs" => self.note(opening_of(value)?, Vec::from_slice(alloc, b"rig")?)?,
             "piece" => {
-                let (conn, bytes) = value.split_once(' ').context("no client and bytes")?;
+                let (conn, bytes) = pair_of(value)?;
                 let note = BenchNote::Piece(conn.parse::<u64>()?);
                 self.note(note, rows.bytes_of(bytes)?)?;
             }
@@ -41,7 +46,7 @@ impl BenchRuns {
         Ok(true)
     }
 
-    fn note(&mut self, note: BenchNote, bytes: Vec<u8>) -> Result<(), AllocError> {
+    fn note(&mut self, note: BenchNote, bytes: Vec<u8>) -> Result<(), RowFault> {
         self.notes.push((note, bytes))?;
         Ok(())
     }
@@ -65,26 +70,33 @@ impl BenchRuns {
 }
 
 // A core for the device `rig` is opened, with 30 seconds for an answer.
-fn opening_of(kind: &str) -> Result<BenchNote> {
+fn opening_of(kind: &str) -> Result<BenchNote, RowFault> {
     let kind = match kind {
         "qmi" => Kind::Qmi,
         "mbim" => Kind::Mbim,
-        _ => bail!("no kind"),
+        _ => return Err(RowFault::new("no kind")),
     };
     let limits = Limits { time: 30_000 };
     Ok(BenchNote::Opened { kind, limits })
 }
 
 // What a key of a row tells of that has no bytes.
-fn note_of(key: &str, value: &str) -> Result<Option<BenchNote>> {
+fn note_of(key: &str, value: &str) -> Result<Option<BenchNote>, RowFault> {
     Ok(Some(match key {
         "joined" => BenchNote::Joined(value.parse::<u64>()?),
         "took" => {
-            let (conn, count) = value.split_once(' ').context("no client and count")?;
+            let (conn, count) = pair_of(value)?;
             BenchNote::Took(conn.parse::<u64>()?, count.parse::<usize>()?)
         }
         "modem took" => BenchNote::ModemTook(value.parse::<usize>()?),
         "now" => BenchNote::Now(value.parse::<u64>()?),
         _ => return Ok(None),
     }))
+}
+
+// What stands before and behind the first space.
+fn pair_of(value: &str) -> Result<(&str, &str), RowFault> {
+    value
+        .split_once(' ')
+        .ok_or(RowFault::new("nothing behind a client"))
 }

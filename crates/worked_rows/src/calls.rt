@@ -1,5 +1,6 @@
 use kit_io::Log;
-use link_io::{LinkAnswer, Made, TAKE_ROOM};
+use link_io::{LinkAnswer, Made, MemLink, TAKE_ROOM};
+use row_text::RowFault;
 use std::alloc::{AllocError, Global};
 
 /// A call on the link, with its bytes: the path, or what is sent or given.
@@ -36,19 +37,28 @@ pub fn push_calls(
     made: Made,
     bytes: &[u8],
     times: u32,
-) -> Result<(), AllocError> {
+) -> Result<(), RowFault> {
     if made == Made::Took {
-        let mut stream = Vec::new(alloc);
-        for _ in 0..times {
-            stream.extend_from_slice(bytes)?;
-        }
-        for piece in stream.chunks(TAKE_ROOM) {
-            push_call(alloc, calls, made, piece)?;
-        }
-    } else {
-        for _ in 0..times {
-            push_call(alloc, calls, made, bytes)?;
-        }
+        let stream = repeated(alloc, bytes, times)?;
+        return push_takes(alloc, calls, &stream);
+    }
+    for _ in 0..times {
+        push_call(alloc, calls, made, bytes)?;
+    }
+    Ok(())
+}
+
+fn repeated(alloc: Global, bytes: &[u8], times: u32) -> Result<Vec<u8>, RowFault> {
+    let mut stream = Vec::new(alloc);
+    for _ in 0..times {
+        stream.extend_from_slice(bytes)?;
+    }
+    Ok(stream)
+}
+
+fn push_takes(alloc: Global, calls: &mut Vec<Call>, stream: &[u8]) -> Result<(), RowFault> {
+    for piece in stream.chunks(TAKE_ROOM) {
+        push_call(alloc, calls, Made::Took, piece)?;
     }
     Ok(())
 }
@@ -58,20 +68,31 @@ fn push_call(
     calls: &mut Vec<Call>,
     made: Made,
     bytes: &[u8],
-) -> Result<(), AllocError> {
+) -> Result<(), RowFault> {
     let bytes = Vec::from_slice(alloc, bytes)?;
     calls.push(Call { made, bytes })?;
     Ok(())
 }
 
-/// The script of a link on which these calls are made. Its takes give what they do in one piece, or
-/// byte by byte.
-pub fn link_script(
+/// A link on which these calls are made, with room for all of them, and some more. Its takes give what
+/// they do in one piece, or byte by byte.
+pub fn link_of(alloc: Global, calls: &[Call], whole: bool) -> Result<MemLink, AllocError> {
+    let mut script = Vec::new(alloc);
+    push_answers(alloc, &mut script, calls, whole)?;
+    let mut bytes = 10_000usize;
+    for call in calls {
+        bytes = bytes.saturating_add(call.bytes.len());
+    }
+    let room = script.len().saturating_add(1_000);
+    MemLink::new(alloc, script, room, bytes)
+}
+
+fn push_answers(
     alloc: Global,
+    script: &mut Vec<LinkAnswer>,
     calls: &[Call],
     whole: bool,
-) -> Result<Vec<LinkAnswer>, AllocError> {
-    let mut script = Vec::new(alloc);
+) -> Result<(), AllocError> {
     for call in calls {
         match call.made {
             Made::Opened { ok: false }
@@ -79,12 +100,12 @@ pub fn link_script(
             | Made::Paired { ok: false }
             | Made::Sent { ok: false }
             | Made::TakeFailed => script.push(LinkAnswer::Fails)?,
-            Made::Took => push_gives(alloc, &mut script, &call.bytes, whole)?,
+            Made::Took => push_gives(alloc, script, &call.bytes, whole)?,
             Made::WasEnd => script.push(LinkAnswer::Ends)?,
             _ => script.push(LinkAnswer::Does)?,
         }
     }
-    Ok(script)
+    Ok(())
 }
 
 fn push_gives(
@@ -112,20 +133,22 @@ pub fn told_calls(
     closes: bool,
 ) -> Result<Vec<Noted<'_>>, AllocError> {
     let mut told = Vec::new(alloc);
-    let mut is_open = false;
     for call in calls {
-        is_open |= matches!(
-            call.made,
-            Made::Opened { ok: true } | Made::OpenedBridge { ok: true }
-        );
         if whole || call.made != Made::Took {
             told.push((call.made, call.bytes.as_slice()))?;
         }
     }
-    if is_open && closes {
+    if closes && calls.iter().any(|call| is_opening(call.made)) {
         told.push((Made::Closed, &[]))?;
     }
     Ok(told)
+}
+
+fn is_opening(made: Made) -> bool {
+    matches!(
+        made,
+        Made::Opened { ok: true } | Made::OpenedBridge { ok: true }
+    )
 }
 
 /// The calls that were made. Where takes are in pieces, they are left out.

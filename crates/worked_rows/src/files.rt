@@ -1,7 +1,6 @@
 use crate::found::differs_at;
-use anyhow::Result;
 use file_io::{FileAnswer, Made, MemFiles, READ_ROOM, Side};
-use row_text::Rows;
+use row_text::{RowFault, Rows};
 use std::alloc::{AllocError, Global};
 
 /// The calls that a run makes on files: how they answer, and what their log tells.
@@ -25,7 +24,13 @@ impl FileCalls {
     }
 
     /// Adds the call that a key of a row tells of, where the key is one of these.
-    pub fn add(&mut self, alloc: Global, rows: &Rows<'_>, key: &str, value: &str) -> Result<bool> {
+    pub fn add(
+        &mut self,
+        alloc: Global,
+        rows: &Rows<'_>,
+        key: &str,
+        value: &str,
+    ) -> Result<bool, RowFault> {
         match key {
             "opens to read" => self.add_opening(alloc, Side::Read, true, value)?,
             "open to read fails" => self.add_opening(alloc, Side::Read, false, value)?,
@@ -33,10 +38,10 @@ impl FileCalls {
             "open to write fails" => self.add_opening(alloc, Side::Write, false, value)?,
             "file open fails" => self.push(alloc, opened(Side::Read, false), &[])?,
             "file" => self.add_reads(alloc, value.as_bytes())?,
-            "file bytes" => self.add_reads(alloc, &rows.bytes_of(value)?)?,
+            "file bytes" => self.add_bytes(alloc, rows, value)?,
             "file ends" => self.add_call(alloc, Made::Gave, &[])?,
             "read fails" => self.add_call(alloc, Made::ReadFailed, &[])?,
-            "writes" => self.add_call(alloc, Made::Took, &rows.bytes_of(value)?)?,
+            "writes" => self.add_write(alloc, rows, value)?,
             "write fails" => self.add_call(alloc, Made::WriteFailed, &[])?,
             "file calls" => self.count = Some(value.parse::<usize>()?),
             _ => return Ok(false),
@@ -63,6 +68,16 @@ impl FileCalls {
         Ok(())
     }
 
+    fn add_bytes(&mut self, alloc: Global, rows: &Rows<'_>, value: &str) -> Result<(), RowFault> {
+        let bytes = rows.bytes_of(value)?;
+        Ok(self.add_reads(alloc, &bytes)?)
+    }
+
+    fn add_write(&mut self, alloc: Global, rows: &Rows<'_>, value: &str) -> Result<(), RowFault> {
+        let bytes = rows.bytes_of(value)?;
+        Ok(self.add_call(alloc, Made::Took, &bytes)?)
+    }
+
     // Adds a call behind an opening.
     fn add_call(&mut self, alloc: Global, made: Made, bytes: &[u8]) -> Result<(), AllocError> {
         if self.calls.is_empty() {
@@ -80,10 +95,15 @@ impl FileCalls {
     /// Files that answer so, with room to tell of so much.
     pub fn files(&self, alloc: Global) -> Result<MemFiles, AllocError> {
         let mut script = Vec::new(alloc);
+        self.push_answers(alloc, &mut script)?;
+        MemFiles::new(alloc, script, 2_000, 20_000_000)
+    }
+
+    fn push_answers(&self, alloc: Global, script: &mut Vec<FileAnswer>) -> Result<(), AllocError> {
         for (made, bytes) in &self.calls {
             script.push(answer_of(alloc, *made, bytes)?)?;
         }
-        MemFiles::new(alloc, script, 2_000, 20_000_000)
+        Ok(())
     }
 
     /// Which call on the files isn't as it is told, if one isn't and each is told.

@@ -1,12 +1,23 @@
 use kit_io::Log;
+use row_text::{Line, Row, RowFault};
+use std::alloc::Global;
 use std::fmt::{self, Debug};
-use std::io;
 
 /// A line of a file.
 #[derive(Clone, Copy)]
 pub struct Place<'a> {
     pub file: &'a str,
     pub number: usize,
+}
+
+impl<'a> Place<'a> {
+    /// The place of a line of the same file.
+    pub fn of(self, line: &Line<'_>) -> Place<'a> {
+        Place {
+            file: self.file,
+            number: line.number,
+        }
+    }
 }
 
 impl fmt::Display for Place<'_> {
@@ -22,12 +33,12 @@ pub fn is<R: Print, T: Debug + PartialEq + Drop>(
     part: &str,
     told: T,
     found: T,
-) -> io::Result<bool> {
+) -> bool {
     let same = told == found;
     if !same {
-        println!(rt; "{place}: {part} is {found:?}, not {told:?}")?;
+        let _ = println!(rt; "{place}: {part} is {found:?}, not {told:?}");
     }
-    Ok(same)
+    same
 }
 
 /// Bytes by two hex digits each.
@@ -50,13 +61,44 @@ pub fn are_bytes<R: Print>(
     part: &str,
     told: &[u8],
     found: &[u8],
-) -> io::Result<bool> {
+) -> bool {
     let same = told == found;
     if !same {
         let (told, found) = (Spelled(told), Spelled(found));
-        println!(rt; "{place}: {part} is{found}, not{told}")?;
+        let _ = println!(rt; "{place}: {part} is{found}, not{told}");
     }
-    Ok(same)
+    same
+}
+
+/// Tells why a row isn't read or can't be run.
+pub fn tell<R: Print>(rt: &R, place: Place<'_>, fault: RowFault) {
+    let number = fault.number.unwrap_or(place.number);
+    let _ = println!(rt; "{}:{number}: {}", place.file, fault.reason);
+}
+
+/// The values of the lines with this key, each with a line's end, and of those with this key and `begins`,
+/// without it.
+pub fn lines_of(alloc: Global, row: &Row<'_>, key: &str) -> Result<String, RowFault> {
+    let mut text = String::new(alloc);
+    push_lines(&mut text, row, key)?;
+    Ok(text)
+}
+
+fn push_lines(text: &mut String, row: &Row<'_>, key: &str) -> Result<(), RowFault> {
+    for line in &row.rest {
+        if line.key == key {
+            text.push_str(line.value)?;
+            text.push('\n')?;
+        } else if line.key.strip_suffix(" begins") == Some(key) {
+            text.push_str(line.value)?;
+        }
+    }
+    Ok(())
+}
+
+/// Bytes as text.
+pub fn text_of(bytes: &[u8]) -> &str {
+    str::from_utf8(bytes).unwrap_or("no text")
 }
 
 /// Which note of a log isn't as it is told, if one isn't.

@@ -1,7 +1,6 @@
 use crate::found::differs_at;
-use anyhow::{Context, Result};
 use child_io::{Made, MemSpawner, SpawnerAnswer};
-use row_text::words_of;
+use row_text::{RowFault, words_of};
 use std::alloc::{AllocError, Global};
 
 /// The children that a run starts, waits for and stops: how the spawner answers, and what its log tells.
@@ -32,23 +31,21 @@ impl KidCalls {
     }
 
     /// Adds the call that a key of a row tells of, where the key is one of these.
-    pub fn add(&mut self, alloc: Global, key: &str, value: &str) -> Result<bool> {
+    pub fn add(&mut self, alloc: Global, key: &str, value: &str) -> Result<bool, RowFault> {
         match key {
             "starts" => self.add_start(alloc, value, true)?,
             "start fails" => self.add_start(alloc, value, false)?,
-            "stops" => self.add_stop(alloc, value.parse::<u32>()?, true)?,
-            "stop fails" => self.add_stop(alloc, value.parse::<u32>()?, false)?,
+            "stops" => self.add_stop(alloc, value, true)?,
+            "stop fails" => self.add_stop(alloc, value, false)?,
             "child ends" => self.add_end(alloc, value)?,
             _ => return Ok(false),
         }
         Ok(true)
     }
 
-    fn add_start(&mut self, alloc: Global, words: &str, ok: bool) -> Result<()> {
+    fn add_start(&mut self, alloc: Global, words: &str, ok: bool) -> Result<(), RowFault> {
         self.note(alloc, Made::Starts, &[])?;
-        for word in &words_of(alloc, words)? {
-            self.note(alloc, Made::Word, word.as_bytes())?;
-        }
+        self.note_words(alloc, words)?;
         let made = if ok {
             self.started = self.started.saturating_add(1);
             Made::Started {
@@ -57,26 +54,40 @@ impl KidCalls {
         } else {
             Made::StartFailed
         };
-        self.note(alloc, made, &[])?;
-        self.answers.push(does(ok))?;
+        self.answer(alloc, made, does(ok))
+    }
+
+    fn note_words(&mut self, alloc: Global, words: &str) -> Result<(), RowFault> {
+        for word in &words_of(alloc, words)? {
+            self.note(alloc, Made::Word, word.as_bytes())?;
+        }
         Ok(())
     }
 
-    fn add_stop(&mut self, alloc: Global, child: u32, ok: bool) -> Result<(), AllocError> {
-        self.note(alloc, Made::Stopped { child, ok }, &[])?;
-        self.answers.push(does(ok))?;
-        Ok(())
+    fn add_stop(&mut self, alloc: Global, child: &str, ok: bool) -> Result<(), RowFault> {
+        let child = child.parse::<u32>()?;
+        self.answer(alloc, Made::Stopped { child, ok }, does(ok))
     }
 
-    fn add_end(&mut self, alloc: Global, value: &str) -> Result<()> {
-        let (child, status) = value.split_once(' ').context("no child and status")?;
+    fn add_end(&mut self, alloc: Global, value: &str) -> Result<(), RowFault> {
+        let Some((child, status)) = value.split_once(' ') else {
+            return Err(RowFault::new("no child and status"));
+        };
         let (child, status) = (child.parse::<u32>()?, status.parse::<i32>()?);
-        self.note(alloc, Made::Ended { child, status }, &[])?;
-        self.answers.push(SpawnerAnswer::EndsWith(status))?;
-        Ok(())
+        self.answer(
+            alloc,
+            Made::Ended { child, status },
+            SpawnerAnswer::EndsWith(status),
+        )
     }
 
-    fn note(&mut self, alloc: Global, made: Made, bytes: &[u8]) -> Result<(), AllocError> {
+    // Notes a call with no bytes that is answered so.
+    fn answer(&mut self, alloc: Global, made: Made, answer: SpawnerAnswer) -> Result<(), RowFault> {
+        self.answers.push(answer)?;
+        self.note(alloc, made, &[])
+    }
+
+    fn note(&mut self, alloc: Global, made: Made, bytes: &[u8]) -> Result<(), RowFault> {
         let bytes = Vec::from_slice(alloc, bytes)?;
         self.notes.push((made, bytes))?;
         Ok(())

@@ -10,6 +10,7 @@ mod calls;
 mod files;
 mod format;
 mod found;
+mod hub;
 mod kids;
 mod modem;
 mod proxy;
@@ -18,16 +19,16 @@ mod story;
 mod tables;
 mod tool;
 
-use crate::found::Place;
+use crate::found::{Place, tell};
 use crate::proxy::{mbim_proxy, qmi_proxy};
-use anyhow::{Context, Result, bail};
-use row_text::{Row, Rows, read_rows};
+use row_text::{Row, RowFault, Rows, joined_lines, read_rows};
 use sim_mbim::MbimSim;
 use sim_qmi::QmiSim;
+use std::alloc::Global;
 use std::process::ExitCode;
-use std::{env, fs};
+use std::{env, fs, io};
 
-fn main(rt: HostRuntime) -> Result<ExitCode> {
+fn main(rt: HostRuntime) -> io::Result<ExitCode> {
     let mut differ = false;
     for file in env::args(&rt)?.skip(1) {
         differ |= !run_file(&rt, &file)?;
@@ -40,12 +41,23 @@ fn main(rt: HostRuntime) -> Result<ExitCode> {
 }
 
 // Whether each row of a file is what is found.
-fn run_file(rt: &HostRuntime, file: &str) -> Result<bool> {
-    let text = fs::read_to_string(rt, file).context(format_args!("{file}"))?;
-    let rows = read_rows(rt.alloc(), file, &text)?;
+fn run_file(rt: &HostRuntime, file: &str) -> io::Result<bool> {
+    let text = fs::read_to_string(rt, file)?;
+    let lines = joined_lines(rt.alloc(), &text)?;
+    match read_rows(rt.alloc(), &lines) {
+        Ok(rows) => run_rows(rt, file, &rows),
+        Err(fault) => {
+            tell(rt, Place { file, number: 0 }, fault);
+            Ok(false)
+        }
+    }
+}
+
+fn run_rows(rt: &HostRuntime, file: &str, rows: &Rows<'_>) -> io::Result<bool> {
     let mut differing = 0u64;
     for row in rows.as_slice() {
-        if !run_row(rt, file, &rows, row)? {
+        let number = row.first.number;
+        if !is_as_told(rt, Place { file, number }, rows, row) {
             differing = differing.saturating_add(1);
         }
     }
@@ -54,62 +66,99 @@ fn run_file(rt: &HostRuntime, file: &str) -> Result<bool> {
     Ok(differing == 0)
 }
 
-// Whether a row is what is found.
-fn run_row(rt: &HostRuntime, file: &str, rows: &Rows<'_>, row: &Row<'_>) -> Result<bool> {
-    let place = Place {
-        file,
-        number: row.first.number,
-    };
+// Whether a row is what is found. One that can't be run isn't.
+fn is_as_told(rt: &HostRuntime, place: Place<'_>, rows: &Rows<'_>, row: &Row<'_>) -> bool {
+    match run_row(rt, place, rows, row) {
+        Ok(same) => same,
+        Err(fault) => {
+            tell(rt, place, fault);
+            false
+        }
+    }
+}
+
+fn run_row(
+    rt: &HostRuntime,
+    place: Place<'_>,
+    rows: &Rows<'_>,
+    row: &Row<'_>,
+) -> Result<bool, RowFault> {
     match row.first.key {
         "words" => tool::is_as_told(rt, rt.alloc(), place, rows, row),
         "story" => {
-            Ok(qmi_story(rt, file, rows, row, true)? && qmi_story(rt, file, rows, row, false)?)
+            Ok(qmi_story(rt, place, rows, row, true)? && qmi_story(rt, place, rows, row, false)?)
         }
         "mbim-story" => {
-            Ok(mbim_story(rt, file, rows, row, true)? && mbim_story(rt, file, rows, row, false)?)
+            Ok(mbim_story(rt, place, rows, row, true)? && mbim_story(rt, place, rows, row, false)?)
         }
-        "qmi-modem" => qmi_modem(rt, file, rows, row),
-        "mbim-modem" => mbim_modem(rt, file, rows, row),
+        "qmi-modem" => qmi_modem(rt, place, rows, row),
+        "mbim-modem" => mbim_modem(rt, place, rows, row),
         "format" => format::is_as_told(rt, rt.alloc(), place, rows, row),
-        "tables" => tables::is_as_told(rt, rt.alloc(), file, row),
-        _ => bail!("{place}: no kind of a row"),
+        "tables" => tables::is_as_told(rt, rt.alloc(), place, row),
+        _ => Err(RowFault::new("no kind of a row")),
     }
 }
 
 // Whether a story of a QMI proxy is what is found.
 fn qmi_story(
     rt: &HostRuntime,
-    file: &str,
+    place: Place<'_>,
     rows: &Rows<'_>,
     row: &Row<'_>,
     whole: bool,
-) -> Result<bool> {
-    let proxy = qmi_proxy(rt.alloc(), "/dev/cdc-wdm0")?;
-    story::is_as_told(rt, rt.alloc(), file, rows, row, proxy, whole)
+) -> Result<bool, RowFault> {
+    let mut proxy = qmi_proxy(rt.alloc(), "/dev/cdc-wdm0")?;
+    let same = story::is_as_told(rt, rt.alloc(), place, rows, row, &mut proxy, whole);
+    drop(proxy);
+    same
 }
 
 // And of an MBIM proxy.
 fn mbim_story(
     rt: &HostRuntime,
-    file: &str,
+    place: Place<'_>,
     rows: &Rows<'_>,
     row: &Row<'_>,
     whole: bool,
-) -> Result<bool> {
-    let proxy = mbim_proxy(rt.alloc(), "/dev/cdc-wdm0")?;
-    story::is_as_told(rt, rt.alloc(), file, rows, row, proxy, whole)
+) -> Result<bool, RowFault> {
+    let mut proxy = mbim_proxy(rt.alloc(), "/dev/cdc-wdm0")?;
+    let same = story::is_as_told(rt, rt.alloc(), place, rows, row, &mut proxy, whole);
+    drop(proxy);
+    same
 }
 
 // Whether a simulated QMI modem says what a row tells.
-fn qmi_modem(rt: &HostRuntime, file: &str, rows: &Rows<'_>, row: &Row<'_>) -> Result<bool> {
-    let profile = modem::profile_of(rt.alloc(), rows, row).context(format_args!("{file}"))?;
-    let sim = QmiSim::open(rt.alloc(), &profile)?;
-    modem::is_as_told(rt, rt.alloc(), file, rows, row, sim)
+fn qmi_modem(
+    rt: &HostRuntime,
+    place: Place<'_>,
+    rows: &Rows<'_>,
+    row: &Row<'_>,
+) -> Result<bool, RowFault> {
+    let mut sim = qmi_sim(rt.alloc(), rows, row)?;
+    let same = modem::is_as_told(rt, rt.alloc(), place, rows, row, &mut sim);
+    drop(sim);
+    same
+}
+
+fn qmi_sim(alloc: Global, rows: &Rows<'_>, row: &Row<'_>) -> Result<QmiSim, RowFault> {
+    let profile = modem::profile_of(alloc, rows, row)?;
+    Ok(QmiSim::open(alloc, &profile)?)
 }
 
 // And an MBIM modem.
-fn mbim_modem(rt: &HostRuntime, file: &str, rows: &Rows<'_>, row: &Row<'_>) -> Result<bool> {
-    let profile = modem::profile_of(rt.alloc(), rows, row).context(format_args!("{file}"))?;
-    let sim = MbimSim::open(rt.alloc(), &profile)?;
-    modem::is_as_told(rt, rt.alloc(), file, rows, row, sim)
+fn mbim_modem(
+    rt: &HostRuntime,
+    place: Place<'_>,
+    rows: &Rows<'_>,
+    row: &Row<'_>,
+) -> Result<bool, RowFault> {
+    let mut sim = mbim_sim(rt.alloc(), rows, row)?;
+    let same = modem::is_as_told(rt, rt.alloc(), place, rows, row, &mut sim);
+    drop(sim);
+    same
+}
+
+fn mbim_sim(alloc: Global, rows: &Rows<'_>, row: &Row<'_>) -> Result<MbimSim, RowFault> {
+    let profile = modem::profile_of(alloc, rows, row)?;
+    Ok(MbimSim::open(alloc, &profile)?)
 }

@@ -2,11 +2,10 @@ ghost use Rattle.std.specs.Prelude.{IsTrue};
 ghost use Rattle.framing.specs.Framing.{IsMessage};
 
 use crate::found::{Place, are_bytes};
-use anyhow::{Context, Result, bail, ensure};
 use framing::{Framing, Size};
 use kit_bytes::Octets;
 use modem_profile::{Profile, read_profile};
-use row_text::{Line, Row, Rows};
+use row_text::{Line, Row, RowFault, Rows};
 use sim_modem::Sim;
 use std::alloc::Global;
 
@@ -17,8 +16,8 @@ use std::alloc::Global;
 ///     gets: BYTES           what the modem says to the message before
 ///     repeats: COUNT        how often the next message is sent
 #[derive(Drop)]
-struct Talk<S: Sim> {
-    sim: S,
+struct Talk<'a, S: Sim> {
+    sim: &'a mut S,
     // How often the next message is sent.
     times: u32,
     // What the modem said to the last message.
@@ -26,23 +25,25 @@ struct Talk<S: Sim> {
 }
 
 /// The profile that a row names, or the default one.
-pub fn profile_of(alloc: Global, rows: &Rows<'_>, row: &Row<'_>) -> Result<Profile> {
-    let text = rows.bytes_of(&row.first.value)?;
-    if text.is_empty() {
-        return Ok(Profile::defaults(alloc)?);
-    }
-    Ok(read_profile(alloc, &text)?)
+pub fn profile_of(alloc: Global, rows: &Rows<'_>, row: &Row<'_>) -> Result<Profile, RowFault> {
+    let text = rows.bytes_of(row.first.value)?;
+    let profile = if text.is_empty() {
+        Profile::defaults(alloc).ok()
+    } else {
+        read_profile(alloc, &text).ok()
+    };
+    profile.ok_or(RowFault::new("no profile"))
 }
 
 /// Whether a modem says what a row tells. Tells what differs.
 pub fn is_as_told<R: Print, S: Sim>(
     rt: &R,
     alloc: Global,
-    file: &str,
+    place: Place<'_>,
     rows: &Rows<'_>,
     row: &Row<'_>,
-    sim: S,
-) -> Result<bool> {
+    sim: &mut S,
+) -> Result<bool, RowFault> {
     let mut talk = Talk {
         sim,
         times: 1,
@@ -50,38 +51,44 @@ pub fn is_as_told<R: Print, S: Sim>(
     };
     let mut same = true;
     for line in &row.rest {
-        let place = Place {
-            file,
-            number: line.number,
-        };
-        same &= talk.follow(rt, place, rows, line).context(place)?;
+        match talk.follow(rt, place.of(line), rows, line) {
+            Ok(so) => same &= so,
+            Err(fault) => return Err(fault.at(line.number)),
+        }
     }
     Ok(same)
 }
 
-impl<S: Sim> Talk<S> {
+impl<S: Sim> Talk<'_, S> {
     fn follow<R: Print>(
         &mut self,
         rt: &R,
         place: Place<'_>,
         rows: &Rows<'_>,
         line: &Line<'_>,
-    ) -> Result<bool> {
-        let value = line.value.as_str();
+    ) -> Result<bool, RowFault> {
         match line.key {
-            "gets" => {
-                let told = rows.bytes_of(value)?;
-                return Ok(are_bytes(rt, place, line.key, &told, self.said.as_slice())?);
+            "repeats" => {
+                self.times = line.value.parse::<u32>()?;
+                Ok(true)
             }
-            "sends" => self.send(&rows.bytes_of(value)?)?,
-            "repeats" => self.times = value.parse::<u32>()?,
-            _ => bail!("no key of a row"),
+            "gets" => {
+                let told = rows.bytes_of(line.value)?;
+                Ok(are_bytes(rt, place, line.key, &told, self.said.as_slice()))
+            }
+            "sends" => {
+                let message = rows.bytes_of(line.value)?;
+                self.send(&message)?;
+                Ok(true)
+            }
+            _ => Err(RowFault::new("no key of a row")),
         }
-        Ok(true)
     }
 
-    fn send(&mut self, message: &[u8]) -> Result<()> {
-        ensure!(is_whole::<S::Framing>(message), "not one message");
+    fn send(&mut self, message: &[u8]) -> Result<(), RowFault> {
+        if !is_whole::<S::Framing>(message) {
+            return Err(RowFault::new("not one message"));
+        }
         for _ in 0..self.times {
             self.said = self.sim.ask(message)?;
         }

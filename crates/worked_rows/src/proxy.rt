@@ -3,13 +3,13 @@ ghost use Rattle.hub_io.specs.Events.{event_of};
 ghost use Rattle.proxy_history.specs.Events.{greatest_after};
 ghost use Rattle.proxy_serving.specs.Face.{MayCome};
 
-use anyhow::{Result, ensure};
 use framing::LONGEST_PIECE;
 use hub_io::{Event, Limits};
 use kit_bytes::Text;
 use mbim_core::MbimCore;
 use proxy_serving::ProxyCore;
 use qmi_core::QmiCore;
+use row_text::RowFault;
 use std::alloc::{AllocError, Global};
 
 /// A proxy that is told what happens.
@@ -48,10 +48,16 @@ pub fn mbim_proxy(alloc: Global, device: &str) -> Result<Proxy<MbimCore>, AllocE
 
 impl<C: ProxyCore> Proxy<C> {
     /// Meets an event. Whoever was dropped must have been asked for.
-    pub fn meet(&mut self, event: Event<'_>) -> Result<()> {
-        ensure!(self.sound, "memory ran out");
-        ensure!(self.core.next_dropped().is_none(), "a client was dropped");
-        ensure!(self.may_come(event), "this can't come now");
+    pub fn meet(&mut self, event: Event<'_>) -> Result<(), RowFault> {
+        if !self.sound {
+            return Err(RowFault::new("memory ran out"));
+        }
+        if self.core.next_dropped().is_some() {
+            return Err(RowFault::new("a client was dropped"));
+        }
+        if !self.may_come(event) {
+            return Err(RowFault::new("this can't come now"));
+        }
         self.sound = false;
         self.core.step(event)?;
         self.greatest = greatest_behind(event, self.greatest);

@@ -1,4 +1,4 @@
-use crate::calls::link_script;
+use crate::calls::link_of;
 use crate::tool::ToolRow;
 use child_io::MemSpawner;
 use core_bench::MemBench;
@@ -16,6 +16,7 @@ pub struct Ran {
     pub out: MemSink,
     pub err: MemSink,
     pub link: MemLink,
+    pub hub: MemHub,
     pub kids: MemSpawner,
     pub files: MemFiles,
 }
@@ -24,68 +25,67 @@ pub struct Ran {
 /// comes in one piece a take; or byte by byte, and then the call is that of the tool alone.
 pub fn run_row(
     alloc: Global,
-    row: &ToolRow,
+    row: &ToolRow<'_>,
     whole: bool,
     bench: &mut MemBench,
 ) -> Result<Ran, AllocError> {
-    let mut link = link_of(alloc, row, whole)?;
-    let mut files = row.files.files(alloc)?;
-    let mut hub = MemHub::new(alloc, Vec::new(alloc), Vec::new(alloc), 10, 10_000)?;
-    let mut kids = row.kids.spawner(alloc)?;
-    let mut out = MemSink::new(alloc, Vec::from_slice(alloc, &row.sink)?, 10_000)?;
-    let mut err = MemSink::new(alloc, Vec::new(alloc), 1_000)?;
-    let status = if row.unread {
-        refuse(&mut err)
+    let mut ran = outside_of(alloc, row, whole)?;
+    ran.status = if row.ends.unread {
+        refuse(&mut ran.err)
     } else if whole {
-        run(
-            alloc, &row.words, &mut out, &mut err, &mut link, &mut hub, &mut kids, &mut files,
-            bench,
-        )
+        ran.run(alloc, &row.words, bench)
     } else {
-        run_as_tool(
-            alloc, &row.words, &mut out, &mut err, &mut link, &mut hub, &mut kids, &mut files,
-            bench,
-        )
+        ran.run_as_tool(alloc, &row.words, bench)
     };
+    Ok(ran)
+}
+
+// An outside that answers as the row tells, before the run.
+fn outside_of(alloc: Global, row: &ToolRow<'_>, whole: bool) -> Result<Ran, AllocError> {
+    let out = MemSink::new(alloc, Vec::from_slice(alloc, &row.sink)?, 10_000)?;
+    let err = MemSink::new(alloc, Vec::new(alloc), 1_000)?;
+    let link = link_of(alloc, &row.calls, whole)?;
+    let hub = row.hub.hub(alloc)?;
+    let kids = row.kids.spawner(alloc)?;
+    let files = row.files.files(alloc)?;
     Ok(Ran {
-        status,
+        status: Status::Done,
         out,
         err,
         link,
+        hub,
         kids,
         files,
     })
 }
 
-// What the first word names, by the call of this tool alone.
-fn run_as_tool(
-    alloc: Global,
-    words: &[String],
-    out: &mut MemSink,
-    err: &mut MemSink,
-    link: &mut MemLink,
-    hub: &mut MemHub,
-    kids: &mut MemSpawner,
-    files: &mut MemFiles,
-    bench: &mut MemBench,
-) -> Status {
-    match words.first().map(|word| word.as_str()) {
-        Some("qmicli" | "mbimcli") => run_tool(alloc, words, out, err, link, kids, files),
-        Some("qmi-proxy" | "mbim-proxy") => run_proxy(alloc, words, err, hub, kids),
-        Some("modem-sim") => run_simulator(alloc, words, err, hub, kids, files),
-        Some("pump") => run_pump(alloc, words, err, link, files),
-        Some("rig") => run_rig(alloc, words, out, err, bench),
-        _ => run(alloc, words, out, err, link, hub, kids, files, bench),
+impl Ran {
+    fn run(&mut self, alloc: Global, words: &[String], bench: &mut MemBench) -> Status {
+        run(
+            alloc,
+            words,
+            &mut self.out,
+            &mut self.err,
+            &mut self.link,
+            &mut self.hub,
+            &mut self.kids,
+            &mut self.files,
+            bench,
+        )
     }
-}
 
-// A link with room for all calls that the row tells of, and some more.
-fn link_of(alloc: Global, row: &ToolRow, whole: bool) -> Result<MemLink, AllocError> {
-    let script = link_script(alloc, &row.calls, whole)?;
-    let mut bytes = 10_000usize;
-    for call in &row.calls {
-        bytes = bytes.saturating_add(call.bytes.len());
+    // What the first word names, by the call of this tool alone.
+    fn run_as_tool(&mut self, alloc: Global, words: &[String], bench: &mut MemBench) -> Status {
+        let (out, err) = (&mut self.out, &mut self.err);
+        let (link, hub) = (&mut self.link, &mut self.hub);
+        let (kids, files) = (&mut self.kids, &mut self.files);
+        match words.first().map(|word| word.as_str()) {
+            Some("qmicli" | "mbimcli") => run_tool(alloc, words, out, err, link, kids, files),
+            Some("qmi-proxy" | "mbim-proxy") => run_proxy(alloc, words, err, hub, kids),
+            Some("modem-sim") => run_simulator(alloc, words, err, hub, kids, files),
+            Some("pump") => run_pump(alloc, words, err, link, files),
+            Some("rig") => run_rig(alloc, words, out, err, bench),
+            _ => run(alloc, words, out, err, link, hub, kids, files, bench),
+        }
     }
-    let room = script.len().saturating_add(1_000);
-    MemLink::new(alloc, script, room, bytes)
 }

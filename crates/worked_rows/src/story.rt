@@ -1,10 +1,9 @@
 use crate::found::{Place, are_bytes, is};
 use crate::proxy::Proxy;
-use anyhow::{Context, Result, bail};
 use framing::LONGEST_PIECE;
 use hub_io::Event;
 use proxy_serving::ProxyCore;
-use row_text::{Line, Row, Rows};
+use row_text::{Line, Row, RowFault, Rows};
 use std::alloc::{AllocError, Global};
 
 /// What happens in turn to a new proxy of /dev/cdc-wdm0:
@@ -20,8 +19,8 @@ use std::alloc::{AllocError, Global};
 ///     there: 1 2            away: yes             who is there; whether the modem is away
 ///     dropped: 3                                  who is hung up next
 #[derive(Drop)]
-struct Story<C: ProxyCore> {
-    proxy: Proxy<C>,
+struct Story<'a, C: ProxyCore> {
+    proxy: &'a mut Proxy<C>,
     // Whether bytes come in one piece, and up to 1,024 not byte by byte.
     whole: bool,
     // How often the next event happens.
@@ -40,37 +39,31 @@ enum Whom {
 pub fn is_as_told<R: Print, C: ProxyCore>(
     rt: &R,
     alloc: Global,
-    file: &str,
+    place: Place<'_>,
     rows: &Rows<'_>,
     row: &Row<'_>,
-    proxy: Proxy<C>,
+    proxy: &mut Proxy<C>,
     whole: bool,
-) -> Result<bool> {
+) -> Result<bool, RowFault> {
     let mut story = Story {
         proxy,
         whole,
         times: 1,
     };
     let mut same = true;
-    let mut number = row.first.number;
+    let mut place = place;
     for line in &row.rest {
-        number = line.number;
-        let place = Place { file, number };
-        same &= story.follow(rt, alloc, place, rows, line).context(place)?;
+        place = place.of(line);
+        match story.follow(rt, alloc, place, rows, line) {
+            Ok(so) => same &= so,
+            Err(fault) => return Err(fault.at(line.number)),
+        }
     }
     let dropped = story.proxy.next_dropped();
-    Ok(
-        is(
-            rt,
-            Place { file, number },
-            "dropped behind it",
-            None,
-            dropped,
-        )? && same,
-    )
+    Ok(is(rt, place, "dropped behind it", None, dropped) && same)
 }
 
-impl<C: ProxyCore> Story<C> {
+impl<C: ProxyCore> Story<'_, C> {
     fn follow<R: Print>(
         &mut self,
         rt: &R,
@@ -78,34 +71,44 @@ impl<C: ProxyCore> Story<C> {
         place: Place<'_>,
         rows: &Rows<'_>,
         line: &Line<'_>,
-    ) -> Result<bool> {
+    ) -> Result<bool, RowFault> {
         let (verb, whom) = line.key.split_once(' ').unwrap_or((line.key, ""));
-        let value = line.value.as_str();
+        let value = line.value;
         match verb {
             "to" => {
+                let whom = whom_of(whom)?;
                 let told = rows.bytes_of(value)?;
-                let found = self.waiting(whom_of(whom)?);
-                Ok(are_bytes(rt, place, line.key, &told, found)?)
+                return Ok(are_bytes(rt, place, line.key, &told, self.waiting(whom)));
             }
             "waits" => {
                 let told = value.parse::<usize>()?;
                 let found = self.waiting(whom_of(whom)?).len();
-                Ok(is(rt, place, line.key, told, found)?)
+                return Ok(is(rt, place, line.key, told, found));
             }
-            "there" | "away" | "dropped" => self.is_so(rt, alloc, place, verb, value),
-            "repeats" => {
-                self.times = value.parse::<u32>()?;
-                Ok(true)
+            "there" | "away" | "dropped" => return self.is_so(rt, alloc, place, verb, value),
+            "repeats" => self.times = value.parse::<u32>()?,
+            "from" => {
+                let bytes = rows.bytes_of(value)?;
+                self.repeat(verb, whom, value, &bytes)?;
             }
-            _ => {
-                let bytes = rows.bytes_of(if verb == "from" { value } else { "" })?;
-                for _ in 0..self.times {
-                    self.meet(verb, whom, value, &bytes)?;
-                }
-                self.times = 1;
-                Ok(true)
-            }
+            _ => self.repeat(verb, whom, value, &[])?,
         }
+        Ok(true)
+    }
+
+    // The event happens as often as it is to.
+    fn repeat(
+        &mut self,
+        verb: &str,
+        whom: &str,
+        value: &str,
+        bytes: &[u8],
+    ) -> Result<(), RowFault> {
+        for _ in 0..self.times {
+            self.meet(verb, whom, value, bytes)?;
+        }
+        self.times = 1;
+        Ok(())
     }
 
     fn is_so<R: Print>(
@@ -115,32 +118,28 @@ impl<C: ProxyCore> Story<C> {
         place: Place<'_>,
         key: &str,
         value: &str,
-    ) -> Result<bool> {
+    ) -> Result<bool, RowFault> {
         match key {
             "there" => {
                 let found = self.there(alloc)?;
-                Ok(is(rt, place, key, value, found.as_str())?)
+                Ok(is(rt, place, key, value, found.as_str()))
             }
             "away" => {
                 let found = if self.proxy.is_away() { "yes" } else { "no" };
-                Ok(is(rt, place, key, value, found)?)
+                Ok(is(rt, place, key, value, found))
             }
             _ => {
                 let told = Some(value.parse::<u64>()?);
-                Ok(is(rt, place, key, told, self.proxy.next_dropped())?)
+                Ok(is(rt, place, key, told, self.proxy.next_dropped()))
             }
         }
     }
 
     // The clients that are there, with a space between.
-    fn there(&self, alloc: Global) -> Result<String, AllocError> {
+    fn there(&self, alloc: Global) -> Result<String, RowFault> {
+        let names = self.proxy.present(alloc)?;
         let mut text = String::new(alloc);
-        for name in &self.proxy.present(alloc)? {
-            if !text.is_empty() {
-                text.push(' ')?;
-            }
-            text.push_str(&format!(in alloc; "{name}")?)?;
-        }
+        push_names(&mut text, &names)?;
         Ok(text)
     }
 
@@ -151,7 +150,7 @@ impl<C: ProxyCore> Story<C> {
         }
     }
 
-    fn meet(&mut self, verb: &str, whom: &str, value: &str, bytes: &[u8]) -> Result<()> {
+    fn meet(&mut self, verb: &str, whom: &str, value: &str, bytes: &[u8]) -> Result<(), RowFault> {
         match verb {
             "from" => self.receive(whom_of(whom)?, bytes),
             "took" => self.hand_over(whom_of(whom)?, value),
@@ -160,18 +159,18 @@ impl<C: ProxyCore> Story<C> {
             "clock" => self.proxy.meet(Event::Now(value.parse::<u64>()?)),
             "lost" => self.proxy.meet(Event::ModemGone),
             "back" => self.proxy.meet(Event::ModemBack),
-            _ => bail!("no key of a row"),
+            _ => Err(RowFault::new("no key of a row")),
         }
     }
 
-    fn join(&mut self, names: &str) -> Result<()> {
+    fn join(&mut self, names: &str) -> Result<(), RowFault> {
         for name in names.split_whitespace() {
             self.proxy.meet(Event::Joined(name.parse::<u64>()?))?;
         }
         Ok(())
     }
 
-    fn receive(&mut self, whom: Whom, bytes: &[u8]) -> Result<()> {
+    fn receive(&mut self, whom: Whom, bytes: &[u8]) -> Result<(), RowFault> {
         if bytes.is_empty() {
             return self.proxy.meet(piece_of(whom, bytes));
         }
@@ -187,7 +186,7 @@ impl<C: ProxyCore> Story<C> {
         Ok(())
     }
 
-    fn hand_over(&mut self, whom: Whom, value: &str) -> Result<()> {
+    fn hand_over(&mut self, whom: Whom, value: &str) -> Result<(), RowFault> {
         let count = match value {
             "all" => self.waiting(whom).len(),
             _ => value.parse::<usize>()?,
@@ -199,6 +198,17 @@ impl<C: ProxyCore> Story<C> {
     }
 }
 
+fn push_names(text: &mut String, names: &[u64]) -> Result<(), RowFault> {
+    for name in names {
+        if text.is_empty() {
+            write!(text, "{name}")?;
+        } else {
+            write!(text, " {name}")?;
+        }
+    }
+    Ok(())
+}
+
 fn piece_of(whom: Whom, bytes: &[u8]) -> Event<'_> {
     match whom {
         Whom::Modem => Event::ModemPiece(bytes),
@@ -206,7 +216,7 @@ fn piece_of(whom: Whom, bytes: &[u8]) -> Event<'_> {
     }
 }
 
-fn whom_of(text: &str) -> Result<Whom> {
+fn whom_of(text: &str) -> Result<Whom, RowFault> {
     Ok(match text {
         "modem" => Whom::Modem,
         _ => Whom::Client(text.parse::<u64>()?),

@@ -1,8 +1,7 @@
 use crate::found::{Place, is};
-use anyhow::{Context, Result, bail, ensure};
 use message_tables::{Tables, read_tables};
 use qmi_services::built_in;
-use row_text::Row;
+use row_text::{Row, RowFault};
 use std::alloc::Global;
 
 /// Whether the messages that a text describes, or the built-in ones, are those of a row:
@@ -12,30 +11,49 @@ use std::alloc::Global;
 ///     output N: TLVS                           those of the answer or the indication of message N
 ///
 /// Tells what differs.
-pub fn is_as_told<R: Print>(rt: &R, alloc: Global, file: &str, row: &Row<'_>) -> Result<bool> {
-    let tables = tables_of(alloc, &row.first.value)?;
+pub fn is_as_told<R: Print>(
+    rt: &R,
+    alloc: Global,
+    place: Place<'_>,
+    row: &Row<'_>,
+) -> Result<bool, RowFault> {
+    let tables = tables_of(alloc, row.first.value)?;
+    let same = are_as_told(rt, alloc, place, row, &tables);
+    drop(tables);
+    same
+}
+
+fn are_as_told<R: Print>(
+    rt: &R,
+    alloc: Global,
+    place: Place<'_>,
+    row: &Row<'_>,
+    tables: &Tables,
+) -> Result<bool, RowFault> {
     let mut same = true;
     for line in &row.rest {
-        let place = Place {
-            file,
-            number: line.number,
-        };
-        let found = found(alloc, &tables, line.key).context(place)?;
-        same &= is(rt, place, line.key, line.value.as_str(), found.as_str())?;
+        match found(alloc, tables, line.key) {
+            Ok(text) => same &= is(rt, place.of(line), line.key, line.value, text.as_str()),
+            Err(fault) => return Err(fault.at(line.number)),
+        }
     }
     Ok(same)
 }
 
-fn tables_of(alloc: Global, text: &str) -> Result<Tables> {
+fn tables_of(alloc: Global, text: &str) -> Result<Tables, RowFault> {
     if text == "built in" {
         return Ok(built_in(alloc)?);
     }
     let text = text.as_bytes();
-    ensure!(text.len() <= 16_777_216, "too long a description");
-    Ok(read_tables(alloc, text)?)
+    if text.len() > 16_777_216 {
+        return Err(RowFault::new("too long a description"));
+    }
+    read_tables(alloc, text)
+        .ok()
+        .ok_or(RowFault::new("no description"))
 }
 
-fn found(alloc: Global, tables: &Tables, key: &str) -> Result<String> {
+fn found(alloc: Global, tables: &Tables, key: &str) -> Result<String, RowFault> {
     if key == "count" {
         return Ok(format!(in alloc; "{}", tables.len())?);
     }
@@ -44,27 +62,31 @@ fn found(alloc: Global, tables: &Tables, key: &str) -> Result<String> {
     }
     match key.strip_prefix("output ") {
         Some(index) => output(alloc, tables, index.parse::<usize>()?),
-        None => bail!("no key of a row"),
+        None => Err(RowFault::new("no key of a row")),
     }
 }
 
-fn message(alloc: Global, tables: &Tables, key: &str) -> Result<String> {
-    let (service, key) = key.split_once(' ').context("no id")?;
-    let (id, kind) = key.split_once(' ').context("no kind")?;
+fn message(alloc: Global, tables: &Tables, key: &str) -> Result<String, RowFault> {
+    let Some((service, key)) = key.split_once(' ') else {
+        return Err(RowFault::new("no id"));
+    };
+    let Some((id, kind)) = key.split_once(' ') else {
+        return Err(RowFault::new("no kind"));
+    };
     let service = service.parse::<u8>()?;
     let id = u16::from_str_radix(id, 16)?;
-    match tables.message(service, id, kind == "indication") {
-        Some(message) => {
-            let name = message.name.as_str();
-            let input = message.input.as_slice().len();
-            let output = message.output.as_slice().len();
-            Ok(format!(in alloc; "{name}, {input} in, {output} out")?)
-        }
-        None => Ok(String::from_str(alloc, "none")?),
-    }
+    let Some(message) = tables.message(service, id, kind == "indication") else {
+        return Ok(String::from_str(alloc, "none")?);
+    };
+    let name = message.name.as_str();
+    let input = message.input.as_slice().len();
+    let output = message.output.as_slice().len();
+    Ok(format!(in alloc; "{name}, {input} in, {output} out")?)
 }
 
-fn output(alloc: Global, tables: &Tables, index: usize) -> Result<String> {
-    ensure!(index < tables.len(), "no message {index}");
+fn output(alloc: Global, tables: &Tables, index: usize) -> Result<String, RowFault> {
+    if index >= tables.len() {
+        return Err(RowFault::new("no message of this number"));
+    }
     Ok(format!(in alloc; "{:?}", tables.at(index).output.as_slice())?)
 }

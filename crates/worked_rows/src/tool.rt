@@ -3,15 +3,14 @@ use crate::asked::{asked, requested};
 use crate::bench::BenchRuns;
 use crate::calls::{Call, Noted, made_by, made_calls, push_calls, told_calls};
 use crate::files::FileCalls;
-use crate::found::{Place, Spelled, is};
+use crate::found::{Place, Spelled, is, lines_of, text_of};
+use crate::hub::HubCalls;
 use crate::kids::KidCalls;
 use crate::ran::{Ran, run_row};
-use anyhow::{Context, Result};
 use core_bench::MemBench;
 use kit_io::SinkAnswer;
-use row_text::{Line, Row, Rows, words_of};
-use std::alloc::{AllocError, Global};
-use std::io;
+use row_text::{Line, Row, RowFault, Rows, words_of};
+use std::alloc::Global;
 
 /// A run of the program as a tool: its words, how its outside answers, and all that it does. Its
 /// lines tell of the calls on the link, but for the last one, which closes it:
@@ -41,30 +40,46 @@ use std::io;
 ///     unread:                                  the words can't be read
 ///     uncut:                                   what the link gives can't come byte by byte
 ///
-/// A row may tell all that is run on the bench:
+/// A row may tell all calls on the hub:
+///
+///     hub opens, hub open fails: PATH         its socket, with that of its device, or of its bridge,
+///     device: PATH        bridge: PATH        in the next line
+///     hub pairs:          hub pair fails:
+///     joins: N            leaves: N           lost:       clock: MILLISECONDS     what it tells
+///     from N: BYTES       from modem: BYTES   what it gives
+///     hub ends:           hub fails:          it tells to stop, or can't tell anything
+///     to N: BYTES         to modem: BYTES     what is sent, and is taken whole
+///     reopens:            hangs up: N
+///
+/// and all that is run on the bench:
 ///
 ///     runs: KIND          a core of the device `rig` is opened, and meets what follows
 ///     joined: N           piece: N BYTES       took: N COUNT
 ///     modem took: COUNT   modem piece: BYTES   now: MILLISECONDS
 ///     same alone:                              cores that meet what was run give what the lines say
 #[derive(Drop)]
-pub struct ToolRow {
+pub struct ToolRow<'a> {
     pub words: Vec<String>,
-    pub unread: bool,
     pub calls: Vec<Call>,
     pub sink: Vec<SinkAnswer>,
     pub files: FileCalls,
     pub kids: KidCalls,
+    pub hub: HubCalls,
     pub bench: BenchRuns,
-    asks: Option<String>,
-    requests: Option<String>,
-    out: String,
-    err: String,
-    status: u8,
-    uncut: bool,
-    stays_open: bool,
+    pub ends: Ends<'a>,
     // How often the next call is made.
     times: u32,
+}
+
+/// How a run ends, what else a row tells of it, and what it tells in place of a run.
+#[derive(Clone, Copy)]
+pub struct Ends<'a> {
+    pub unread: bool,
+    uncut: bool,
+    stays_open: bool,
+    status: u8,
+    asks: Option<&'a str>,
+    requests: Option<&'a str>,
 }
 
 /// Whether a row is what is found. Tells what differs.
@@ -74,88 +89,135 @@ pub fn is_as_told<R: Print>(
     place: Place<'_>,
     rows: &Rows<'_>,
     row: &Row<'_>,
-) -> Result<bool> {
-    let row = read_tool_row(alloc, place.file, rows, row)?;
-    if let Some(asks) = &row.asks {
-        let found = asked(alloc, &row.words)?;
-        return Ok(is(rt, place, "asks", asks.as_str(), found.as_str())?);
+) -> Result<bool, RowFault> {
+    let told = read_tool_row(alloc, rows, row)?;
+    let same = is_found(rt, alloc, place, row, &told);
+    drop(told);
+    same
+}
+
+fn is_found<R: Print>(
+    rt: &R,
+    alloc: Global,
+    place: Place<'_>,
+    row: &Row<'_>,
+    told: &ToolRow<'_>,
+) -> Result<bool, RowFault> {
+    if let Some(asks) = told.ends.asks {
+        let found = asked(alloc, &told.words)?;
+        return Ok(is(rt, place, "asks", asks, found.as_str()));
     }
-    if let Some(told) = &row.requests {
-        let found = requested(alloc, &row.words)?;
-        let told = Some(told.as_str());
-        return Ok(is(rt, place, "requests", told, found.as_deref())?);
+    if let Some(requests) = told.ends.requests {
+        let found = requested(alloc, &told.words)?;
+        return Ok(is(rt, place, "requests", Some(requests), found.as_deref()));
     }
+    let is_again = !told.ends.uncut && !(told.calls.is_empty() && told.hub.is_empty());
     Ok(
-        runs_as_told(rt, alloc, place, &row, true)?
-            && (row.uncut || row.calls.is_empty() || runs_as_told(rt, alloc, place, &row, false)?),
+        runs_as_told(rt, alloc, place, row, told, true)?
+            && (!is_again || runs_as_told(rt, alloc, place, row, told, false)?),
     )
 }
 
-fn read_tool_row(alloc: Global, file: &str, rows: &Rows<'_>, lines: &Row<'_>) -> Result<ToolRow> {
-    let mut row = ToolRow {
-        words: words_of(alloc, &lines.first.value)?,
-        unread: false,
+fn read_tool_row<'a>(
+    alloc: Global,
+    rows: &Rows<'a>,
+    row: &Row<'a>,
+) -> Result<ToolRow<'a>, RowFault> {
+    let mut told = ToolRow {
+        words: words_of(alloc, row.first.value)?,
         calls: Vec::new(alloc),
         sink: Vec::new(alloc),
         files: FileCalls::none(alloc),
         kids: KidCalls::none(alloc),
+        hub: HubCalls::none(alloc),
         bench: BenchRuns::none(alloc),
-        asks: None,
-        requests: None,
-        out: String::new(alloc),
-        err: String::new(alloc),
-        status: 0,
-        uncut: false,
-        stays_open: false,
+        ends: Ends {
+            unread: false,
+            uncut: false,
+            stays_open: false,
+            status: 0,
+            asks: None,
+            requests: None,
+        },
         times: 1,
     };
-    for line in &lines.rest {
-        row.add(alloc, rows, line)
-            .context(format_args!("{file}:{}", line.number))?;
-    }
-    Ok(row)
+    told.add_lines(alloc, rows, row)?;
+    Ok(told)
 }
 
-impl ToolRow {
-    fn add(&mut self, alloc: Global, rows: &Rows<'_>, line: &Line<'_>) -> Result<()> {
-        let value = line.value.as_str();
-        match line.key {
-            "asks" => self.asks = Some(String::from_str(alloc, value)?),
-            "requests" => self.requests = Some(String::from_str(alloc, value)?),
-            "words repeat" => self.lengthen_word(value)?,
-            "repeats" => self.times = value.parse::<u32>()?,
-            "stdout takes" => self.sink.push(SinkAnswer::Takes(value.parse::<usize>()?))?,
-            "stdout fails" => self.sink.push(SinkAnswer::Fails)?,
-            "out" => add_line(&mut self.out, value)?,
-            "out begins" => self.out.push_str(value)?,
-            "err" => add_line(&mut self.err, value)?,
+impl<'a> Ends<'a> {
+    // Adds what a key of a row tells of, where the key is one of these.
+    fn add(&mut self, key: &str, value: &'a str) -> Result<bool, RowFault> {
+        match key {
+            "asks" => self.asks = Some(value),
+            "requests" => self.requests = Some(value),
+            "out" | "out begins" | "err" => {}
             "status" => self.status = value.parse::<u8>()?,
             "unread" => self.unread = true,
             "uncut" => self.uncut = true,
             "stays open" => self.stays_open = true,
-            key => {
-                if !self.kids.add(alloc, key, value)?
-                    && !self.files.add(alloc, rows, key, value)?
-                    && !self.bench.add(alloc, rows, key, value)?
-                {
-                    self.add_calls(alloc, rows, key, value)?;
-                }
+            _ => return Ok(false),
+        }
+        Ok(true)
+    }
+}
+
+impl<'a> ToolRow<'a> {
+    fn add_lines(&mut self, alloc: Global, rows: &Rows<'_>, row: &Row<'a>) -> Result<(), RowFault> {
+        for line in &row.rest {
+            if let Err(fault) = self.add(alloc, rows, line) {
+                return Err(fault.at(line.number));
             }
         }
         Ok(())
     }
 
-    fn add_calls(&mut self, alloc: Global, rows: &Rows<'_>, key: &str, value: &str) -> Result<()> {
-        let made = made_by(key).context("no key of a row")?;
+    fn add(&mut self, alloc: Global, rows: &Rows<'_>, line: &Line<'a>) -> Result<(), RowFault> {
+        let (key, value) = (line.key, line.value);
+        if self.ends.add(key, value)?
+            || self.add_own(key, value)?
+            || self.kids.add(alloc, key, value)?
+            || self.files.add(alloc, rows, key, value)?
+            || self.hub.add(alloc, rows, key, value)?
+            || self.bench.add(alloc, rows, key, value)?
+        {
+            return Ok(());
+        }
+        self.add_calls(alloc, rows, key, value)
+    }
+
+    fn add_own(&mut self, key: &str, value: &str) -> Result<bool, RowFault> {
+        match key {
+            "words repeat" => self.lengthen_word(value)?,
+            "repeats" => self.times = value.parse::<u32>()?,
+            "stdout takes" => self.sink.push(SinkAnswer::Takes(value.parse::<usize>()?))?,
+            "stdout fails" => self.sink.push(SinkAnswer::Fails)?,
+            _ => return Ok(false),
+        }
+        Ok(true)
+    }
+
+    fn add_calls(
+        &mut self,
+        alloc: Global,
+        rows: &Rows<'_>,
+        key: &str,
+        value: &str,
+    ) -> Result<(), RowFault> {
+        let made = made_by(key).ok_or(RowFault::new("no key of a row"))?;
         let bytes = rows.bytes_of(value)?;
         push_calls(alloc, &mut self.calls, made, &bytes, self.times)?;
         self.times = 1;
         Ok(())
     }
 
-    fn lengthen_word(&mut self, value: &str) -> Result<()> {
-        let (count, text) = value.split_once(' ').context("no count and text")?;
-        let word = self.words.last_mut().context("no word")?;
+    fn lengthen_word(&mut self, value: &str) -> Result<(), RowFault> {
+        let Some((count, text)) = value.split_once(' ') else {
+            return Err(RowFault::new("no count and text"));
+        };
+        let Some(word) = self.words.last_mut() else {
+            return Err(RowFault::new("no word"));
+        };
         for _ in 0..count.parse::<u32>()? {
             word.push_str(text)?;
         }
@@ -163,99 +225,137 @@ impl ToolRow {
     }
 }
 
-fn add_line(text: &mut String, line: &str) -> Result<(), AllocError> {
-    text.push_str(line)?;
-    text.push('\n')?;
-    Ok(())
-}
-
 fn runs_as_told<R: Print>(
     rt: &R,
     alloc: Global,
     place: Place<'_>,
-    row: &ToolRow,
+    row: &Row<'_>,
+    told: &ToolRow<'_>,
     whole: bool,
-) -> Result<bool> {
-    let mut bench = row.bench.bench(alloc)?;
-    runs_on_bench(rt, alloc, place, row, whole, &mut bench)
+) -> Result<bool, RowFault> {
+    let mut bench = told.bench.bench(alloc)?;
+    let same = runs_on_bench(rt, alloc, place, row, told, whole, &mut bench);
+    drop(bench);
+    same
 }
 
 fn runs_on_bench<R: Print>(
     rt: &R,
     alloc: Global,
     place: Place<'_>,
-    row: &ToolRow,
+    row: &Row<'_>,
+    told: &ToolRow<'_>,
     whole: bool,
     bench: &mut MemBench,
-) -> Result<bool> {
-    let ran = run_row(alloc, row, whole, bench)?;
-    let ends = ends_as_told(rt, place, row, &ran)?
-        && bench_as_told(rt, place, row, bench)?
-        && (!row.bench.same_alone || is_same_alone(rt, alloc, place, bench, &row.out)?);
-    let told = told_calls(alloc, &row.calls, whole, !row.stays_open)?;
-    let made = made_calls(alloc, ran.link.log(), whole)?;
-    Ok(are_calls(rt, place, &told, &made)? && ends)
+) -> Result<bool, RowFault> {
+    let ran = run_row(alloc, told, whole, bench)?;
+    let ends = ends_as_told(rt, alloc, place, row, told, &ran);
+    let calls = calls_as_told(rt, alloc, place, told, &ran, whole);
+    drop(ran);
+    let runs = bench_as_told(rt, alloc, place, row, told, bench)?;
+    Ok(calls? && ends? && runs)
 }
 
-fn ends_as_told<R: Print>(rt: &R, place: Place<'_>, row: &ToolRow, ran: &Ran) -> io::Result<bool> {
-    let status = is(rt, place, "status", row.status, ran.status.code())?;
-    let out = is(rt, place, "out", row.out.as_str(), text(ran.out.taken()))?;
-    let err = is(rt, place, "err", row.err.as_str(), text(ran.err.taken()))?;
-    let files = files_as_told(rt, place, row, ran)?;
-    let kids = is(
-        rt,
-        place,
-        "the child call that differs",
-        None,
-        row.kids.differs_at(&ran.kids),
-    )?;
-    Ok(status && out && err && files && kids)
+fn ends_as_told<R: Print>(
+    rt: &R,
+    alloc: Global,
+    place: Place<'_>,
+    row: &Row<'_>,
+    told: &ToolRow<'_>,
+    ran: &Ran,
+) -> Result<bool, RowFault> {
+    let status = is(rt, place, "status", told.ends.status, ran.status.code());
+    let out = is_printed(rt, alloc, place, row, "out", ran.out.taken())?;
+    let err = is_printed(rt, alloc, place, row, "err", ran.err.taken())?;
+    Ok(status && out && err)
 }
 
-fn files_as_told<R: Print>(rt: &R, place: Place<'_>, row: &ToolRow, ran: &Ran) -> io::Result<bool> {
-    let made = ran.files.log().len();
-    let count = row.files.count.is_none() || is(rt, place, "file calls", row.files.count, made)?;
-    let differs = row.files.differs_at(&ran.files);
-    Ok(is(rt, place, "the file call that differs", None, differs)? && count)
+// Whether what was printed are the lines of this key.
+fn is_printed<R: Print>(
+    rt: &R,
+    alloc: Global,
+    place: Place<'_>,
+    row: &Row<'_>,
+    key: &str,
+    taken: Option<&[u8]>,
+) -> Result<bool, RowFault> {
+    let told = lines_of(alloc, row, key)?;
+    let found = match taken {
+        Some(bytes) => text_of(bytes),
+        None => "too long to be told",
+    };
+    Ok(is(rt, place, key, told.as_str(), found))
+}
+
+fn calls_as_told<R: Print>(
+    rt: &R,
+    alloc: Global,
+    place: Place<'_>,
+    told: &ToolRow<'_>,
+    ran: &Ran,
+    whole: bool,
+) -> Result<bool, RowFault> {
+    let files = told.files.differs_at(&ran.files);
+    let kids = told.kids.differs_at(&ran.kids);
+    let hub = told.hub.differs_at(&ran.hub);
+    let same = is(rt, place, "the file call that differs", None, files)
+        && is(rt, place, "the child call that differs", None, kids)
+        && is(rt, place, "the hub call that differs", None, hub);
+    Ok(is_count(rt, place, told, ran) && link_as_told(rt, alloc, place, told, ran, whole)? && same)
+}
+
+// Whether as many calls on files were made as a row tells, where it tells that.
+fn is_count<R: Print>(rt: &R, place: Place<'_>, told: &ToolRow<'_>, ran: &Ran) -> bool {
+    let count = told.files.count;
+    count.is_none() || is(rt, place, "file calls", count, ran.files.log().len())
 }
 
 fn bench_as_told<R: Print>(
     rt: &R,
+    alloc: Global,
     place: Place<'_>,
-    row: &ToolRow,
+    row: &Row<'_>,
+    told: &ToolRow<'_>,
     bench: &MemBench,
-) -> io::Result<bool> {
-    is(
+) -> Result<bool, RowFault> {
+    let differs = told.bench.differs_at(bench);
+    let same = is(
         rt,
         place,
         "the note of the bench that differs",
         None,
-        row.bench.differs_at(bench),
-    )
+        differs,
+    );
+    if !told.bench.same_alone {
+        return Ok(same);
+    }
+    let lines = lines_of(alloc, row, "out")?;
+    Ok(is_same_alone(rt, alloc, place, bench.log(), &lines)? && same)
 }
 
-fn text(taken: Option<&[u8]>) -> &str {
-    match taken {
-        Some(bytes) => str::from_utf8(bytes).unwrap_or("no text"),
-        None => "too long to be told",
-    }
+fn link_as_told<R: Print>(
+    rt: &R,
+    alloc: Global,
+    place: Place<'_>,
+    told: &ToolRow<'_>,
+    ran: &Ran,
+    whole: bool,
+) -> Result<bool, RowFault> {
+    let calls = told_calls(alloc, &told.calls, whole, !told.ends.stays_open)?;
+    let made = made_calls(alloc, ran.link.log(), whole)?;
+    Ok(are_calls(rt, place, &calls, &made))
 }
 
 // Whether the calls that are told are those that were made. Tells the first that differs.
-fn are_calls<R: Print>(
-    rt: &R,
-    place: Place<'_>,
-    told: &[Noted<'_>],
-    made: &[Noted<'_>],
-) -> io::Result<bool> {
+fn are_calls<R: Print>(rt: &R, place: Place<'_>, told: &[Noted<'_>], made: &[Noted<'_>]) -> bool {
     for (told, made) in told.iter().zip(made) {
         if told != made {
             let (told_bytes, made_bytes) = (Spelled(told.1), Spelled(made.1));
-            println!(rt;
+            let _ = println!(rt;
                 "{place}: calls {:?}{made_bytes}, not {:?}{told_bytes}",
                 made.0, told.0
-            )?;
-            return Ok(false);
+            );
+            return false;
         }
     }
     is(rt, place, "count of calls", told.len(), made.len())
