@@ -91,12 +91,8 @@ judge_command number = λ before message.
 abbrev pub opening : ℕ → Asked
 opening number = record { size = size_of; text = open_request number longest_sent; judge = judge_by kind.OpenDone number }
 
--- these messages of a command with this number
-abbrev pub sending : List ℕ → ℕ → Asked
-sending messages number = record { size = size_of; text = messages; judge = judge_command number }
-
 abbrev pub commanding : MbimRequest → ℕ → Asked
-commanding request number = sending (command_message request number) number
+commanding request number = record { size = size_of; text = command_message request number; judge = judge_command number }
 
 abbrev pub closing : ℕ → Asked
 closing number = record { size = size_of; text = close_request number; judge = judge_by kind.CloseDone number }

@@ -4,7 +4,7 @@ ghost use Rattle.mbim_frame.specs.Frame.{size_of};
 ghost use Rattle.mbim_fragments.specs.Assembling.{fresh};
 ghost use Rattle.link_session.specs.Waiting.{Heard};
 ghost use Rattle.link_session.specs.Hearing.{AsksFor, RepliesTo, Stands};
-ghost use Rattle.mbim_session.specs.Requests.{closing, commanding, sending};
+ghost use Rattle.mbim_session.specs.Requests.{closing, commanding, judge_command};
 ghost use Rattle.mbim_session.specs.Answers.{Reads};
 ghost use Rattle.mbim_session.specs.Hearing.{KeepsNothing};
 
@@ -58,7 +58,7 @@ fn hear<L: Link>(
 ) -> Result<Reply<MbimEnd>, SessionFault>
     requires { coming.old ≡ record { number = number; assembly = fresh; body = []; first = None } }
     ensures asks { (heard : Heard) → Stands size_of incoming.old heard
-        → RepliesTo (sending messages.now number) (Reads request.now number) heard result incoming.new (L.calls link.old) (L.calls link.new) }
+        → RepliesTo (record { size = size_of; text = messages.now; judge = judge_command number }) (Reads request.now number) heard result incoming.new (L.calls link.old) (L.calls link.new) }
     ensures link_fault { result ≡ Err SessionFault.LinkFault → Rose (L.faults link.old) (L.faults link.new) }
     ensures later { L.faults link.old ≤ L.faults link.new }
     ensures later_open { L.open_faults link.old ≤ L.open_faults link.new }
