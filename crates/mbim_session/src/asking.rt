@@ -1,9 +1,10 @@
-ghost use Rattle.std.specs.Prelude.{◌≡◌, ◌≤◌, Err, IfOk};
+ghost use Rattle.std.specs.Prelude.{◌≡◌, ◌≤◌, [], None, Err, IfOk};
 ghost use Rattle.kit_io.specs.Causes.{Rose};
 ghost use Rattle.mbim_frame.specs.Frame.{size_of};
+ghost use Rattle.mbim_fragments.specs.Assembling.{fresh};
 ghost use Rattle.link_session.specs.Waiting.{Heard};
 ghost use Rattle.link_session.specs.Hearing.{AsksFor, RepliesTo, Stands};
-ghost use Rattle.mbim_session.specs.Requests.{closing, commanding};
+ghost use Rattle.mbim_session.specs.Requests.{closing, commanding, judge_command};
 ghost use Rattle.mbim_session.specs.Answers.{Reads};
 ghost use Rattle.mbim_session.specs.Hearing.{KeepsNothing};
 
@@ -33,7 +34,36 @@ pub(crate) fn ask<L: Link>(
 {
     let messages = command_message(alloc, request, number)?;
     let mut coming = CommandAnswer::open(alloc, number)?;
-    let found = exchange(link, incoming, messages.as_slice(), &mut coming)?;
+    let messages = messages.as_slice();
+    hear(
+        alloc,
+        link,
+        incoming,
+        request,
+        messages,
+        number,
+        &mut coming,
+    )
+}
+
+// Sends the messages of a request under this number, and reads the answer as it comes in.
+fn hear<L: Link>(
+    alloc: Global,
+    link: &mut L,
+    incoming: &mut Incoming<Mbim>,
+    request: &MbimRequest,
+    messages: &[u8],
+    number: u32,
+    coming: &mut CommandAnswer,
+) -> Result<Reply<MbimEnd>, SessionFault>
+    requires { coming.old ≡ record { number = number; assembly = fresh; body = []; first = None } }
+    ensures asks { (heard : Heard) → Stands size_of incoming.old heard
+        → RepliesTo (record { size = size_of; text = messages.now; judge = judge_command number }) (Reads request.now number) heard result incoming.new (L.calls link.old) (L.calls link.new) }
+    ensures link_fault { result ≡ Err SessionFault.LinkFault → Rose (L.faults link.old) (L.faults link.new) }
+    ensures later { L.faults link.old ≤ L.faults link.new }
+    ensures later_open { L.open_faults link.old ≤ L.open_faults link.new }
+{
+    let found = exchange(link, incoming, messages, coming)?;
     let answer = coming.read(alloc, request, found.place, incoming.bytes(found))?;
     Ok(Reply { found, answer })
 }

@@ -2,15 +2,19 @@ ghost use Rattle.std.specs.Prelude.{◌≡◌, ◌≤◌, Err};
 ghost use Rattle.kit_io.specs.Causes.{Rose};
 ghost use Rattle.mbim_frame.specs.Frame.{size_of};
 ghost use Rattle.link_session.specs.Asking.{Makes};
-ghost use Rattle.link_session.specs.Waiting.{Heard};
-ghost use Rattle.link_session.specs.Hearing.{Stands};
+ghost use Rattle.link_session.specs.Waiting.{Heard, nothing_heard};
+ghost use Rattle.link_session.specs.Hearing.{RepliesTo, Stands};
+ghost use Rattle.mbim_requests.specs.declared.MbimRequest.TheVariants.{ProxyConfiguration};
+ghost use Rattle.mbim_session.specs.Requests.{commanding};
+ghost use Rattle.mbim_session.specs.Answers.{Reads};
 ghost use Rattle.mbim_session.specs.Session.{Closes, Commands, Opens, Session};
 
 use crate::asking::{ask, close};
 use crate::opening::open;
 use crate::plan::{MbimEnd, MbimPlan};
+use kit_bytes::PathText;
 use link_io::Link;
-use link_session::{Incoming, SessionFault};
+use link_session::{Incoming, Reply, SessionFault};
 use mbim_frame::Mbim;
 use mbim_requests::MbimRequest;
 use std::alloc::Global;
@@ -31,15 +35,46 @@ pub fn mbim_session<L: Link>(
     ensures later_open { L.open_faults link.old ≤ L.open_faults link.new }
 {
     let mut incoming = Incoming::open(alloc)?;
+    ask_all(alloc, link, &mut incoming, plan)
+}
+
+/// All that a plan asks, where nothing has come yet.
+fn ask_all<L: Link>(
+    alloc: Global,
+    link: &mut L,
+    incoming: &mut Incoming<Mbim>,
+    plan: &MbimPlan,
+) -> Result<MbimEnd, SessionFault>
+    ensures session { Stands size_of incoming.old nothing_heard → Makes (λ calls. Session plan.now calls result) (L.calls link.old) (L.calls link.new) }
+    ensures link_fault { result ≡ Err SessionFault.LinkFault → Rose (L.faults link.old) (L.faults link.new) }
+    ensures later { L.faults link.old ≤ L.faults link.new }
+    ensures later_open { L.open_faults link.old ≤ L.open_faults link.new }
+{
     if !plan.proxied {
-        return open_modem(alloc, link, &mut incoming, plan, 1);
+        return open_modem(alloc, link, incoming, plan, 1);
     }
-    let configuration = MbimRequest::ProxyConfiguration(plan.device.copy(alloc)?);
-    let reply = ask(alloc, link, &mut incoming, &configuration, 1)?;
+    let reply = configure(alloc, link, incoming, &plan.device)?;
     if let Some(refusal) = reply.answer.refusal() {
         return Ok(refusal);
     }
-    open_modem(alloc, link, &mut incoming, plan, 2)
+    open_modem(alloc, link, incoming, plan, 2)
+}
+
+/// Asks the proxy behind the link for the device of this path.
+fn configure<L: Link>(
+    alloc: Global,
+    link: &mut L,
+    incoming: &mut Incoming<Mbim>,
+    device: &PathText,
+) -> Result<Reply<MbimEnd>, SessionFault>
+    ensures asks { (heard : Heard) → Stands size_of incoming.old heard
+        → RepliesTo (commanding (ProxyConfiguration device.now) 1) (Reads (ProxyConfiguration device.now) 1) heard result incoming.new (L.calls link.old) (L.calls link.new) }
+    ensures link_fault { result ≡ Err SessionFault.LinkFault → Rose (L.faults link.old) (L.faults link.new) }
+    ensures later { L.faults link.old ≤ L.faults link.new }
+    ensures later_open { L.open_faults link.old ≤ L.open_faults link.new }
+{
+    let configuration = MbimRequest::ProxyConfiguration(device.copy(alloc)?);
+    ask(alloc, link, incoming, &configuration, 1)
 }
 
 /// Goes on once the link leads to the modem: opens it. The next request has this number.

@@ -6,13 +6,12 @@ ghost use Rattle.tool_words.specs.Rig.{IsWithinLimits};
 ghost use Rattle.program.specs.Running.{CommandFailsOnLink, CommandLeavesAlone, FailsOnLink, LeavesAlone, Runs, RunsCommand};
 ghost use Rattle.program.specs.Status.{line_of};
 
-use crate::proxy::proxy_modem;
-use crate::pumping::pump_bytes;
 use crate::report::report;
-use crate::rigging::print_rig;
-use crate::simulator::{keep_modem, simulate_modem};
 use crate::status::Status;
-use crate::tool::{ask_mbim, ask_qmi, describe_file};
+use crate::tools::{
+    run_command_of_proxy, run_command_of_pump, run_command_of_rig, run_command_of_simulator,
+    run_command_of_tool,
+};
 use child_io::Spawner;
 use core_bench::Bench;
 use file_io::Files;
@@ -89,59 +88,16 @@ fn run_command<O: Sink, L: Link, H: Hub, P: Spawner, F: Files, B: Bench>(
     ensures write_fault { result ≡ Status.WriteFault → Rose (O.faults out.old) (O.faults out.new) ⊎ Rose (F.write_faults files.old) (F.write_faults files.new) }
 {
     match command {
-        ToolCommand::Qmicli {
-            device,
-            proxied,
-            cid,
-            keep,
-            request,
-            socket,
-            bridge,
-        } => ask_qmi(
-            alloc, device, proxied, cid, keep, request, &socket, &bridge, out, link, spawner,
-        ),
-        ToolCommand::Mbimcli {
-            device,
-            proxied,
-            close,
-            request,
-            socket,
-            bridge,
-        } => ask_mbim(
-            alloc, device, proxied, close, request, &socket, &bridge, out, link, spawner,
-        ),
-        ToolCommand::Describe { file } => describe_file(alloc, &file, out, files),
-        ToolCommand::Proxy {
-            kind,
-            device,
-            socket,
-            bridge,
-            empty,
-            time,
-            turns,
-        } => proxy_modem(
-            alloc, kind, &device, &socket, &bridge, empty, time, turns, hub, spawner,
-        ),
-        ToolCommand::Simulator {
-            kind,
-            socket,
-            profile,
-            turns,
-            keep,
-        } => match keep {
-            None => simulate_modem(alloc, kind, &socket, profile.as_ref(), turns, hub, files),
-            Some(most) => {
-                keep_modem(alloc, kind, &socket, profile.as_ref(), turns, most, spawner)
-            }
-        },
-        ToolCommand::Pump { read, node, bridge } => {
-            pump_bytes(alloc, read, &node, &bridge, link, files)
+        ToolCommand::Qmicli { .. }
+        | ToolCommand::Mbimcli { .. }
+        | ToolCommand::Describe { .. } => {
+            run_command_of_tool(alloc, command, out, link, spawner, files)
         }
-        ToolCommand::Rig {
-            kind,
-            clients,
-            messages,
-            number,
-        } => print_rig(alloc, kind, clients, messages, number, out, bench),
+        ToolCommand::Proxy { .. } => run_command_of_proxy(alloc, command, hub, spawner),
+        ToolCommand::Simulator { .. } => {
+            run_command_of_simulator(alloc, command, hub, spawner, files)
+        }
+        ToolCommand::Pump { .. } => run_command_of_pump(alloc, command, link, files),
+        ToolCommand::Rig { .. } => run_command_of_rig(alloc, command, out, bench),
     }
 }

@@ -68,9 +68,6 @@ pub fn ask_qmi<O: Sink, L: Link, P: Spawner>(
     ensures start_fault { result ≡ Status.StartFault → Rose (P.faults spawner.old) (P.faults spawner.new) }
     ensures write_fault { result ≡ Status.WriteFault → Rose (O.faults out.old) (O.faults out.new) }
 {
-    let Ok(way) = way_to(alloc, Kind::Qmi, proxied, &device, socket, bridge) else {
-        return Status::OutOfMemory;
-    };
     let plan = QmiPlan {
         device,
         proxied,
@@ -78,7 +75,21 @@ pub fn ask_qmi<O: Sink, L: Link, P: Spawner>(
         keep,
         request,
     };
-    ask_modem(alloc, &way, &plan, out, link, spawner)
+    let device = &plan.device;
+    let status = ask_device(
+        alloc,
+        Kind::Qmi,
+        proxied,
+        device,
+        socket,
+        bridge,
+        &plan,
+        out,
+        link,
+        spawner,
+    );
+    drop(plan);
+    status
 }
 
 // Asks an MBIM modem what the words of `mbimcli` want, over the link that leads to it.
@@ -103,16 +114,55 @@ pub fn ask_mbim<O: Sink, L: Link, P: Spawner>(
     ensures start_fault { result ≡ Status.StartFault → Rose (P.faults spawner.old) (P.faults spawner.new) }
     ensures write_fault { result ≡ Status.WriteFault → Rose (O.faults out.old) (O.faults out.new) }
 {
-    let Ok(way) = way_to(alloc, Kind::Mbim, proxied, &device, socket, bridge) else {
-        return Status::OutOfMemory;
-    };
     let plan = MbimPlan {
         device,
         proxied,
         close,
         request,
     };
-    ask_modem(alloc, &way, &plan, out, link, spawner)
+    let device = &plan.device;
+    let status = ask_device(
+        alloc,
+        Kind::Mbim,
+        proxied,
+        device,
+        socket,
+        bridge,
+        &plan,
+        out,
+        link,
+        spawner,
+    );
+    drop(plan);
+    status
+}
+
+// Asks the modem at a device, which is reached as the words of a tool say, and prints its answer.
+fn ask_device<S: Session, O: Sink, L: Link, P: Spawner>(
+    alloc: Global,
+    kind: Kind,
+    proxied: bool,
+    device: &PathText,
+    socket: &PathText,
+    bridge: &PathText,
+    plan: &S,
+    out: &mut O,
+    link: &mut L,
+    spawner: &mut P,
+) -> Status
+    ensures asks { Asks (way_to kind proxied device.now socket.now bridge.now) (asked_of S.session S.refused S.printed plan.now)
+        (record { link = L.calls link.old; spawner = P.calls spawner.old; out = O.taken out.old })
+        (record { link = L.calls link.new; spawner = P.calls spawner.new; out = O.taken out.new })
+        result }
+    ensures own { IsOfTool result }
+    ensures link_fault { result ≡ Status.LinkFault → LinkFails (way_to kind proxied device.now socket.now bridge.now) L.faults L.open_faults link.old link.new }
+    ensures start_fault { result ≡ Status.StartFault → Rose (P.faults spawner.old) (P.faults spawner.new) }
+    ensures write_fault { result ≡ Status.WriteFault → Rose (O.faults out.old) (O.faults out.new) }
+{
+    let Ok(way) = way_to(alloc, kind, proxied, device, socket, bridge) else {
+        return Status::OutOfMemory;
+    };
+    ask_modem(alloc, &way, plan, out, link, spawner)
 }
 
 // Asks a modem on this way, and prints its answer.

@@ -61,7 +61,8 @@ pub fn run_tool<O: Sink, E: Sink, L: Link, P: Spawner, F: Files>(
     status
 }
 
-fn run_command_of_tool<O: Sink, L: Link, P: Spawner, F: Files>(
+// What a command of `qmicli` or `mbimcli` asks is done, and those of other tools are refused.
+pub fn run_command_of_tool<O: Sink, L: Link, P: Spawner, F: Files>(
     alloc: Global,
     command: ToolCommand,
     out: &mut O,
@@ -80,6 +81,7 @@ fn run_command_of_tool<O: Sink, L: Link, P: Spawner, F: Files>(
     ensures start_fault { result ≡ Status.StartFault → Rose (P.faults spawner.old) (P.faults spawner.new) }
     ensures read_fault { result ≡ Status.ReadFault → Rose (F.read_faults files.old) (F.read_faults files.new) }
     ensures write_fault { result ≡ Status.WriteFault → Rose (O.faults out.old) (O.faults out.new) }
+    ensures hub_fault { ¬ (result ≡ Status.HubFault) }
 {
     match command {
         ToolCommand::Qmicli {
@@ -104,10 +106,10 @@ fn run_command_of_tool<O: Sink, L: Link, P: Spawner, F: Files>(
             alloc, device, proxied, close, request, &socket, &bridge, out, link, spawner,
         ),
         ToolCommand::Describe { file } => describe_file(alloc, &file, out, files),
-        ToolCommand::Proxy { .. }
-        | ToolCommand::Simulator { .. }
-        | ToolCommand::Pump { .. }
-        | ToolCommand::Rig { .. } => OTHER,
+        other => {
+            drop(other);
+            OTHER
+        }
     }
 }
 
@@ -140,7 +142,8 @@ pub fn run_proxy<E: Sink, H: Hub, P: Spawner>(
     status
 }
 
-fn run_command_of_proxy<H: Hub, P: Spawner>(
+// The same for a command of a proxy.
+pub fn run_command_of_proxy<H: Hub, P: Spawner>(
     alloc: Global,
     command: ToolCommand,
     hub: &mut H,
@@ -155,6 +158,9 @@ fn run_command_of_proxy<H: Hub, P: Spawner>(
         (record { link = Absent; hub = hub.new; spawner = spawner.new; files = Absent; out = Absent; bench = Absent }) }
     ensures start_fault { result ≡ Status.StartFault → Rose (P.faults spawner.old) (P.faults spawner.new) }
     ensures hub_fault { result ≡ Status.HubFault → Rose (H.faults hub.old) (H.faults hub.new) }
+    ensures link_fault { ¬ (result ≡ Status.LinkFault) }
+    ensures read_fault { ¬ (result ≡ Status.ReadFault) }
+    ensures write_fault { ¬ (result ≡ Status.WriteFault) }
 {
     match command {
         ToolCommand::Proxy {
@@ -168,12 +174,10 @@ fn run_command_of_proxy<H: Hub, P: Spawner>(
         } => proxy_modem(
             alloc, kind, &device, &socket, &bridge, empty, time, turns, hub, spawner,
         ),
-        ToolCommand::Qmicli { .. }
-        | ToolCommand::Mbimcli { .. }
-        | ToolCommand::Describe { .. }
-        | ToolCommand::Simulator { .. }
-        | ToolCommand::Pump { .. }
-        | ToolCommand::Rig { .. } => OTHER,
+        other => {
+            drop(other);
+            OTHER
+        }
     }
 }
 
@@ -207,7 +211,8 @@ pub fn run_simulator<E: Sink, H: Hub, P: Spawner, F: Files>(
     status
 }
 
-fn run_command_of_simulator<H: Hub, P: Spawner, F: Files>(
+// The same for a command of a simulated modem.
+pub fn run_command_of_simulator<H: Hub, P: Spawner, F: Files>(
     alloc: Global,
     command: ToolCommand,
     hub: &mut H,
@@ -224,6 +229,8 @@ fn run_command_of_simulator<H: Hub, P: Spawner, F: Files>(
     ensures start_fault { result ≡ Status.StartFault → Rose (P.faults spawner.old) (P.faults spawner.new) }
     ensures hub_fault { result ≡ Status.HubFault → Rose (H.faults hub.old) (H.faults hub.new) }
     ensures read_fault { result ≡ Status.ReadFault → Rose (F.read_faults files.old) (F.read_faults files.new) }
+    ensures link_fault { ¬ (result ≡ Status.LinkFault) }
+    ensures write_fault { ¬ (result ≡ Status.WriteFault) }
 {
     match command {
         ToolCommand::Simulator {
@@ -238,12 +245,10 @@ fn run_command_of_simulator<H: Hub, P: Spawner, F: Files>(
                 keep_modem(alloc, kind, &socket, profile.as_ref(), turns, most, spawner)
             }
         },
-        ToolCommand::Qmicli { .. }
-        | ToolCommand::Mbimcli { .. }
-        | ToolCommand::Describe { .. }
-        | ToolCommand::Proxy { .. }
-        | ToolCommand::Pump { .. }
-        | ToolCommand::Rig { .. } => OTHER,
+        other => {
+            drop(other);
+            OTHER
+        }
     }
 }
 
@@ -276,7 +281,8 @@ pub fn run_pump<E: Sink, L: Link, F: Files>(
     status
 }
 
-fn run_command_of_pump<L: Link, F: Files>(
+// The same for a command of a pump.
+pub fn run_command_of_pump<L: Link, F: Files>(
     alloc: Global,
     command: ToolCommand,
     link: &mut L,
@@ -292,17 +298,17 @@ fn run_command_of_pump<L: Link, F: Files>(
     ensures link_fault { result ≡ Status.LinkFault → FailsOnLink (words_for is_of_pump (Ok command)) L.faults L.open_faults link.old link.new }
     ensures read_fault { result ≡ Status.ReadFault → Rose (F.read_faults files.old) (F.read_faults files.new) }
     ensures write_fault { result ≡ Status.WriteFault → Rose (F.write_faults files.old) (F.write_faults files.new) }
+    ensures hub_fault { ¬ (result ≡ Status.HubFault) }
+    ensures start_fault { ¬ (result ≡ Status.StartFault) }
 {
     match command {
         ToolCommand::Pump { read, node, bridge } => {
             pump_bytes(alloc, read, &node, &bridge, link, files)
         }
-        ToolCommand::Qmicli { .. }
-        | ToolCommand::Mbimcli { .. }
-        | ToolCommand::Describe { .. }
-        | ToolCommand::Proxy { .. }
-        | ToolCommand::Simulator { .. }
-        | ToolCommand::Rig { .. } => OTHER,
+        other => {
+            drop(other);
+            OTHER
+        }
     }
 }
 
@@ -333,7 +339,8 @@ pub fn run_rig<O: Sink, E: Sink, B: Bench>(
     status
 }
 
-fn run_command_of_rig<O: Sink, B: Bench>(
+// The same for a command of a rig.
+pub fn run_command_of_rig<O: Sink, B: Bench>(
     alloc: Global,
     command: ToolCommand,
     out: &mut O,
@@ -348,6 +355,10 @@ fn run_command_of_rig<O: Sink, B: Bench>(
         (record { link = Absent; hub = Absent; spawner = Absent; files = Absent; out = out.old; bench = bench.old })
         (record { link = Absent; hub = Absent; spawner = Absent; files = Absent; out = out.new; bench = bench.new }) }
     ensures write_fault { result ≡ Status.WriteFault → Rose (O.faults out.old) (O.faults out.new) }
+    ensures link_fault { ¬ (result ≡ Status.LinkFault) }
+    ensures start_fault { ¬ (result ≡ Status.StartFault) }
+    ensures hub_fault { ¬ (result ≡ Status.HubFault) }
+    ensures read_fault { ¬ (result ≡ Status.ReadFault) }
 {
     match command {
         ToolCommand::Rig {
@@ -356,11 +367,9 @@ fn run_command_of_rig<O: Sink, B: Bench>(
             messages,
             number,
         } => print_rig(alloc, kind, clients, messages, number, out, bench),
-        ToolCommand::Qmicli { .. }
-        | ToolCommand::Mbimcli { .. }
-        | ToolCommand::Describe { .. }
-        | ToolCommand::Proxy { .. }
-        | ToolCommand::Simulator { .. }
-        | ToolCommand::Pump { .. } => OTHER,
+        other => {
+            drop(other);
+            OTHER
+        }
     }
 }

@@ -1,8 +1,6 @@
-use Rattle.std.proofs.Common.{ℕ, List, sym, ◌∙◌, ap, subst}
 use Rattle.std.proofs.lemmas.Result.{err_from_is_err_and}
-use Rattle.link_session.proofs.Steps.{AsksFor-unmade, RepliesTo-fails, RepliesTo-reads, RepliesTo-unread}
-use Rattle.mbim_session.specs.declared.command_answer.CommandAnswer.{CommandAnswer}
-use Rattle.mbim_session.specs.Hearing.{HasReply, KeepsNothing}
+use Rattle.link_session.proofs.Steps.{AsksFor-unmade, RepliesTo-fails}
+use Rattle.mbim_session.specs.Hearing.{KeepsNothing}
 use Rattle.mbim_session.proofs.asking.ask.Goals as goal
 
 pub returns-in_err-messages-clause-asks : goal.returns-in_err-messages-clause-asks
@@ -13,24 +11,5 @@ pub returns-in_err-coming-clause-asks : goal.returns-in_err-coming-clause-asks
 returns-in_err-coming-clause-asks g c = λ heard stands.
     let p = err_from_is_err_and c.from_residual-in_err-coming.result c.from_residual-in_err-coming.ensures.1 in rw (p.1, p.2) (RepliesTo-fails (AsksFor-unmade _ KeepsNothing _ _ _))
 
-pub returns-in_err-found-clause-asks : goal.returns-in_err-found-clause-asks
-returns-in_err-found-clause-asks g c = λ heard stands.
-    let p = err_from_is_err_and c.from_residual-in_err-found.result c.from_residual-in_err-found.ensures.1 in
-    rw (p.1, p.2) (RepliesTo-fails (rw (c.in_ok-coming.ensures, c.as_slice.ensures, c.in_ok-messages.ensures) at (c.in_err-found.ensures.asks heard stands)))
-
-pub returns-in_err-answer-clause-asks : goal.returns-in_err-answer-clause-asks
-returns-in_err-answer-clause-asks g c = λ heard stands.
-    let p = err_from_is_err_and c.from_residual-in_err-answer.result c.from_residual-in_err-answer.ensures.1 in
-    let asks = rw (c.in_ok-coming.ensures, c.as_slice.ensures, c.in_ok-messages.ensures) at (c.in_ok-found.ensures.asks heard stands) in
-    let number = c.in_ok-found.ensures.number ∙ ap (λ (a : CommandAnswer). a.number) c.in_ok-coming.ensures in
-    let has : HasReply c.exchange.new.awaiting asks.passed (record { place = c.in_ok-found.found.place; bytes = c.bytes.result.now }) =
-    subst (λ (l : List ℕ). HasReply c.exchange.new.awaiting asks.passed (record { place = c.in_ok-found.found.place; bytes = l })) (sym c.bytes.ensures) asks.answered.answer in
-    rw (p.1, p.2) (RepliesTo-unread asks c.bytes.ensures (rw number at (c.in_err-answer.ensures.reads asks.passed has)))
-
 pub returns-clause-asks : goal.returns-clause-asks
-returns-clause-asks g c = λ heard stands.
-    let asks = rw (c.in_ok-coming.ensures, c.as_slice.ensures, c.in_ok-messages.ensures) at (c.in_ok-found.ensures.asks heard stands) in
-    let number = c.in_ok-found.ensures.number ∙ ap (λ (a : CommandAnswer). a.number) c.in_ok-coming.ensures in
-    let has : HasReply c.exchange.new.awaiting asks.passed (record { place = c.in_ok-found.found.place; bytes = c.bytes.result.now }) =
-    subst (λ (l : List ℕ). HasReply c.exchange.new.awaiting asks.passed (record { place = c.in_ok-found.found.place; bytes = l })) (sym c.bytes.ensures) asks.answered.answer in
-    RepliesTo-reads asks c.bytes.ensures (rw number at (c.in_ok-answer.ensures.reads asks.passed has))
+returns-clause-asks g c = λ heard stands. rw (c.as_slice-messages.ensures, c.in_ok-messages.ensures) at (c.hear.ensures.asks heard stands)

@@ -1,6 +1,6 @@
 use Rattle.std.proofs.Common.{inl, inr, refl}
 use Rattle.kit_io.proofs.Told.{Grows-none}
-use Rattle.program.proofs.tool.ask_qmi.Goals as goal
+use Rattle.program.proofs.tool.ask_device.Goals as goal
 
 -- the modem on the way of the words was asked
 pub returns-clause-asks : goal.returns-clause-asks
