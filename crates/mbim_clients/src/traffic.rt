@@ -48,10 +48,9 @@ impl Traffic {
     pub fn open(alloc: Global) -> Result<Self, AllocError>
         ensures { IfOk result (λ traffic. traffic ≡ record { numbers = numbers.opened 256 4294967295; outbox = queue.opened OUTBOX_LIMIT }) }
     {
-        Ok(Traffic {
-            numbers: Space::open(alloc, NUMBER_LIMIT, u32::MAX)?,
-            outbox: Outbox::open(alloc, OUTBOX_LIMIT)?,
-        })
+        let outbox = Outbox::open(alloc, OUTBOX_LIMIT)?;
+        let numbers = Space::open(alloc, NUMBER_LIMIT, u32::MAX)?;
+        Ok(Traffic { numbers, outbox })
     }
 
     /// Gives a request of so many bytes the next number, where one is free and they find room.

@@ -1,5 +1,7 @@
 -- Numbers two by two, and the references that they are.
-use Rattle.std.proofs.Common.{◌≡◌, ℕ, ◌<◌, ◌≤◌, List, [], ◌∷◌, length, drop, refl, ap, Some, arith}
+use Rattle.std.proofs.Common.{◌≡◌, ℕ, ◌<◌, ◌≤◌, List, [], ◌∷◌, ◌++◌, length, drop, slice_range, Option, Some, None, IsSome, unwrap_or, refl, sym, ◌∙◌, ap, subst, arith}
+use Rattle.std.proofs.lemmas.Slice.{between_to_end}
+use Rattle.kit_bytes.specs.Subscriptions.{Pair}
 use Rattle.kit_bytes.specs.Numbers.{number_at}
 use Rattle.mbim_services.specs.SubscribeLists.{numbers_of, pairs_at, both, pairs_referred}
 
@@ -32,3 +34,28 @@ references_more buffer bytes long = ap (pairs_referred buffer) (numbers_two byte
 
 pub references_none : (buffer bytes : List ℕ) → length bytes < 8 → pairs_referred buffer (numbers_of bytes) ≡ Some []
 references_none buffer bytes short = numbers_few (pairs_referred buffer) (Some []) refl (λ n. refl) bytes short
+
+-- ---- a reference taken from the front ----
+
+both-parts : (pairs : List Pair) (more : Option (List Pair)) → IsSome (both (Some pairs) more) → IsSome more × (unwrap_or (both (Some pairs) more) [] ≡ pairs ++ unwrap_or more [])
+both-parts pairs None some = absurd (cc)
+both-parts pairs (Some more) some = (refl, refl)
+
+both-none : (more : Option (List Pair)) → IsSome (both None more) → ⊥
+both-none more some = absurd (cc)
+
+-- its pairs stand in front of the others'
+pub pairs-taken : (buffer references : List ℕ) (pairs : List Pair) → 8 ≤ length references → Some pairs ≡ pairs_at buffer (number_at references 0 4) (number_at references 4 4) → IsSome (pairs_referred buffer (numbers_of references))
+    → IsSome (pairs_referred buffer (numbers_of (slice_range references 8 (length references))))
+    × (unwrap_or (pairs_referred buffer (numbers_of references)) [] ≡ pairs ++ unwrap_or (pairs_referred buffer (numbers_of (slice_range references 8 (length references)))) [])
+pairs-taken buffer references pairs long first whole =
+    let more = pairs_referred buffer (numbers_of (drop 8 references)) in
+    let is : pairs_referred buffer (numbers_of references) ≡ both (Some pairs) more = references_more buffer references long ∙ ap (λ (found : Option (List Pair)). both found more) (sym first) in
+    rw (between_to_end references 8 (length references) (omega arith), is) (both-parts pairs more (subst IsSome is whole))
+
+-- one that points at no whole structure isn't there
+pub pairs-missing : (buffer references : List ℕ) → 8 ≤ length references → None ≡ pairs_at buffer (number_at references 0 4) (number_at references 4 4) → IsSome (pairs_referred buffer (numbers_of references)) → ⊥
+pairs-missing buffer references long first whole =
+    let more = pairs_referred buffer (numbers_of (drop 8 references)) in
+    let is : pairs_referred buffer (numbers_of references) ≡ both None more = references_more buffer references long ∙ ap (λ (found : Option (List Pair)). both found more) (sym first) in
+    both-none more (subst IsSome is whole)

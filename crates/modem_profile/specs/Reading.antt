@@ -8,7 +8,8 @@ use Rattle.modem_profile.specs.declared.fault.MemberName.{MemberName}
 use Rattle.modem_profile.specs.declared.fault.MemberName.TheVariants.{Manufacturer, Model, Revision, Msisdn, Imei, Operator, Mcc, Mnc, Signal, Sms, Phonebook}
 use Rattle.modem_profile.specs.declared.fault.ProfileFault.{ProfileFault}
 use Rattle.modem_profile.specs.declared.fault.ProfileFault.TheVariants.{Json, Member}
-use Rattle.modem_profile.specs.declared.parts.Texts.{Texts}
+use Rattle.modem_profile.specs.declared.parts.DeviceTexts.{DeviceTexts}
+use Rattle.modem_profile.specs.declared.parts.NetworkTexts.{NetworkTexts}
 use Rattle.modem_profile.specs.declared.parts.Numbers.{Numbers}
 use Rattle.modem_profile.specs.Members.{value_in}
 use Rattle.modem_profile.specs.Profile.{Profile, default_profile}
@@ -32,16 +33,21 @@ given_or name read default (Some value) = or_faulty name (read value)
 unfoldable pub member_or : {A : Type 0} → MemberName → (Data → Option A) → A → Data → Result A MemberName
 member_or name read default value = given_or name read default (value_in name value)
 
--- the texts of an object, or the first of their members that has another value
-unfoldable pub texts_of : Data → Result Texts MemberName
-texts_of value = do
+-- what an object says of the device, or the first of the members that has another value
+unfoldable pub device_of : Data → Result DeviceTexts MemberName
+device_of value = do
   manufacturer ← member_or Manufacturer ascii_text default_profile.manufacturer value
   model ← member_or Model ascii_text default_profile.model value
   revision ← member_or Revision ascii_text default_profile.revision value
+  Ok (record { manufacturer = manufacturer; model = model; revision = revision })
+
+-- of the subscriber and the network
+unfoldable pub network_of : Data → Result NetworkTexts MemberName
+network_of value = do
   msisdn ← member_or Msisdn ascii_text default_profile.msisdn value
   imei ← member_or Imei ascii_text default_profile.imei value
   operator ← member_or Operator ascii_text default_profile.operator value
-  Ok (record { manufacturer = manufacturer; model = model; revision = revision; msisdn = msisdn; imei = imei; operator = operator })
+  Ok (record { msisdn = msisdn; imei = imei; operator = operator })
 
 -- and the numbers
 unfoldable pub numbers_of : Data → Result Numbers MemberName
@@ -54,17 +60,18 @@ numbers_of value = do
 -- the profile of an object, or the first of the members, in this order, that has another value
 unfoldable pub profile_of : Data → Result Profile MemberName
 profile_of value = do
-  texts ← texts_of value
+  device ← device_of value
+  network ← network_of value
   numbers ← numbers_of value
   sms ← member_or Sms pdus default_profile.sms value
   phonebook ← member_or Phonebook phonebook_entries default_profile.phonebook value
   Ok (record {
-    manufacturer = texts.manufacturer;
-    model = texts.model;
-    revision = texts.revision;
-    msisdn = texts.msisdn;
-    imei = texts.imei;
-    operator = texts.operator;
+    manufacturer = device.manufacturer;
+    model = device.model;
+    revision = device.revision;
+    msisdn = network.msisdn;
+    imei = network.imei;
+    operator = network.operator;
     mcc = numbers.mcc;
     mnc = numbers.mnc;
     signal = numbers.signal;

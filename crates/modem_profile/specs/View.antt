@@ -4,15 +4,15 @@ use Rattle.modem_profile.specs.Profile.{Profile}
 
 abbrev pub profile_view : Inside → Profile
 profile_view profile = record {
-  manufacturer = profile.manufacturer;
-  model = profile.model;
-  revision = profile.revision;
-  msisdn = profile.msisdn;
-  imei = profile.imei;
-  operator = profile.operator;
-  mcc = profile.mcc;
-  mnc = profile.mnc;
-  signal = profile.signal;
+  manufacturer = profile.device.manufacturer;
+  model = profile.device.model;
+  revision = profile.device.revision;
+  msisdn = profile.network.msisdn;
+  imei = profile.network.imei;
+  operator = profile.network.operator;
+  mcc = profile.numbers.mcc;
+  mnc = profile.numbers.mnc;
+  signal = profile.numbers.signal;
   sms = profile.sms.items;
   phonebook = profile.phonebook.items;
 }

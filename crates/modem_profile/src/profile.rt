@@ -1,4 +1,5 @@
 use crate::copies::{copy_entries, copy_pdus};
+use crate::parts::{DeviceTexts, NetworkTexts, Numbers};
 use crate::{AsciiText, PhonebookEntry};
 use kit_bytes::Octets;
 use std::alloc::{AllocError, Global};
@@ -20,18 +21,18 @@ pub(crate) const NETWORK_CODE: u16 = 1;
 
 pub(crate) const SIGNAL: i8 = -70;
 
+const NUMBERS: Numbers = Numbers {
+    mcc: NETWORK_CODE,
+    mnc: NETWORK_CODE,
+    signal: SIGNAL,
+};
+
 /// What a simulated modem tells of itself and of its network.
 #[derive(Debug, Drop)]
 pub struct Profile {
-    pub(crate) manufacturer: AsciiText,
-    pub(crate) model: AsciiText,
-    pub(crate) revision: AsciiText,
-    pub(crate) msisdn: AsciiText,
-    pub(crate) imei: AsciiText,
-    pub(crate) operator: AsciiText,
-    pub(crate) mcc: u16,
-    pub(crate) mnc: u16,
-    pub(crate) signal: i8,
+    pub(crate) device: DeviceTexts,
+    pub(crate) network: NetworkTexts,
+    pub(crate) numbers: Numbers,
     pub(crate) sms: Vec<Octets>,
     pub(crate) phonebook: Vec<PhonebookEntry>,
 }
@@ -59,16 +60,12 @@ impl Profile {
     pub fn defaults(alloc: Global) -> Result<Self, AllocError>
         ensures { IfOk result (λ profile. profile ≡ default_profile) }
     {
+        let device = DeviceTexts::defaults(alloc)?;
+        let network = NetworkTexts::defaults(alloc)?;
         Ok(Profile {
-            manufacturer: AsciiText::from_str(alloc, MANUFACTURER)?,
-            model: AsciiText::from_str(alloc, MODEL)?,
-            revision: AsciiText::from_str(alloc, REVISION)?,
-            msisdn: AsciiText::from_str(alloc, MSISDN)?,
-            imei: AsciiText::from_str(alloc, IMEI)?,
-            operator: AsciiText::from_str(alloc, OPERATOR)?,
-            mcc: NETWORK_CODE,
-            mnc: NETWORK_CODE,
-            signal: SIGNAL,
+            device,
+            network,
+            numbers: NUMBERS,
             sms: Vec::new(alloc),
             phonebook: Vec::new(alloc),
         })
@@ -77,39 +74,39 @@ impl Profile {
     pub fn manufacturer(&self) -> &AsciiText
         ensures { result.now ≡ self.now.manufacturer }
     {
-        &self.manufacturer
+        &self.device.manufacturer
     }
 
     pub fn model(&self) -> &AsciiText
         ensures { result.now ≡ self.now.model }
     {
-        &self.model
+        &self.device.model
     }
 
     pub fn revision(&self) -> &AsciiText
         ensures { result.now ≡ self.now.revision }
     {
-        &self.revision
+        &self.device.revision
     }
 
     /// The modem's own telephone number.
     pub fn msisdn(&self) -> &AsciiText
         ensures { result.now ≡ self.now.msisdn }
     {
-        &self.msisdn
+        &self.network.msisdn
     }
 
     pub fn imei(&self) -> &AsciiText
         ensures { result.now ≡ self.now.imei }
     {
-        &self.imei
+        &self.network.imei
     }
 
     /// The network's name.
     pub fn operator(&self) -> &AsciiText
         ensures { result.now ≡ self.now.operator }
     {
-        &self.operator
+        &self.network.operator
     }
 
     /// The mobile country code.
@@ -117,7 +114,7 @@ impl Profile {
         ensures same { result ≡ self.now.mcc }
         ensures limit { result ≤ 999 }
     {
-        self.mcc
+        self.numbers.mcc
     }
 
     /// The mobile network code.
@@ -125,7 +122,7 @@ impl Profile {
         ensures same { result ≡ self.now.mnc }
         ensures limit { result ≤ 999 }
     {
-        self.mnc
+        self.numbers.mnc
     }
 
     /// The strength of the signal, in dBm.
@@ -133,7 +130,7 @@ impl Profile {
         ensures same { result ≡ self.now.signal }
         ensures limit { result ≤ℤ pos 0 }
     {
-        self.signal
+        self.numbers.signal
     }
 
     /// The short messages that the modem holds.
@@ -158,18 +155,16 @@ impl Profile {
         ensures same { IfOk result (λ copy. copy ≡ self.now) }
         ensures limits { IsWithin self.now }
     {
+        let device = self.device.copy(alloc)?;
+        let network = self.network.copy(alloc)?;
+        let sms = copy_pdus(alloc, &self.sms)?;
+        let phonebook = copy_entries(alloc, &self.phonebook)?;
         Ok(Profile {
-            manufacturer: self.manufacturer.copy(alloc)?,
-            model: self.model.copy(alloc)?,
-            revision: self.revision.copy(alloc)?,
-            msisdn: self.msisdn.copy(alloc)?,
-            imei: self.imei.copy(alloc)?,
-            operator: self.operator.copy(alloc)?,
-            mcc: self.mcc,
-            mnc: self.mnc,
-            signal: self.signal,
-            sms: copy_pdus(alloc, &self.sms)?,
-            phonebook: copy_entries(alloc, &self.phonebook)?,
+            device,
+            network,
+            numbers: self.numbers,
+            sms,
+            phonebook,
         })
     }
 }

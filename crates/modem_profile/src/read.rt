@@ -4,7 +4,7 @@ ghost use Rattle.modem_profile.specs.Answers.{Answers, Gives, IsValue};
 ghost use Rattle.modem_profile.specs.Reading.{profile_in, profile_of, value_of};
 
 use crate::members::{pdus_in, phonebook_in};
-use crate::parts::{numbers_of, texts_of};
+use crate::parts::{device_of, network_of, numbers_of};
 use crate::{MemberName, Profile, ProfileFault};
 use serde_json::Value;
 use std::alloc::Global;
@@ -39,20 +39,15 @@ fn json_value(alloc: Global, json: &[u8]) -> Result<Value, ProfileFault>
 fn profile_of(alloc: Global, object: &Value) -> Result<Profile, ProfileFault>
     ensures { Gives (λ profile. profile) (profile_of (view object.now)) result }
 {
-    let texts = texts_of(alloc, object)?;
+    let device = device_of(alloc, object)?;
+    let network = network_of(alloc, object)?;
     let numbers = numbers_of(object)?;
     let sms = pdus_in(alloc, object, MemberName::Sms)?;
     let phonebook = phonebook_in(alloc, object, MemberName::Phonebook)?;
     Ok(Profile {
-        manufacturer: texts.manufacturer,
-        model: texts.model,
-        revision: texts.revision,
-        msisdn: texts.msisdn,
-        imei: texts.imei,
-        operator: texts.operator,
-        mcc: numbers.mcc,
-        mnc: numbers.mnc,
-        signal: numbers.signal,
+        device,
+        network,
+        numbers,
         sms,
         phonebook,
     })

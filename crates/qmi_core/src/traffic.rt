@@ -50,11 +50,15 @@ impl Traffic {
     pub fn open(alloc: Global) -> Result<Self, AllocError>
         ensures { IfOk result (λ traffic. traffic ≡ traffic_of []) }
     {
+        let outbox = Outbox::open(alloc, OUTBOX_LIMIT)?;
+        let holders = Holders::open(alloc)?;
+        let control = Space::open(alloc, 255, 255)?;
+        let services = Space::open(alloc, 1_024, 65_535)?;
         Ok(Traffic {
-            control: Space::open(alloc, 255, 255)?,
-            services: Space::open(alloc, 1_024, 65_535)?,
-            holders: Holders::open(alloc)?,
-            outbox: Outbox::open(alloc, OUTBOX_LIMIT)?,
+            control,
+            services,
+            holders,
+            outbox,
         })
     }
 

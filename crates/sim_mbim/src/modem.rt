@@ -60,10 +60,10 @@ impl Modem {
     pub(crate) fn start(alloc: Global, profile: &Profile) -> Result<Self, AllocError>
         ensures { IfOk result (λ modem. modem ≡ spec.started profile.now) }
     {
-        let profile = profile.copy(alloc)?;
         let messages = messages_of(alloc, profile.sms())?;
         let entries = entries_of(alloc, profile.phonebook())?;
         let subscribed = starting_list(alloc)?;
+        let profile = profile.copy(alloc)?;
         Ok(Modem {
             profile,
             opened: false,

@@ -52,12 +52,13 @@ impl MbimSim {
         ensures fresh { IfOk result (λ sim. sim ≡ fresh profile.now) }
         ensures keeps { IfOk result (λ sim. Keeps (answers (machine profile.now)) [] sim) }
     {
-        let modem = Modem::start(alloc, profile)?;
         let begun = Assembly::open(alloc)?;
+        let body = Body::open(alloc)?;
+        let modem = Modem::start(alloc, profile)?;
         Ok(MbimSim {
             alloc,
             begun,
-            body: Body::open(alloc)?,
+            body,
             modem,
         })
     }

@@ -9,7 +9,7 @@ use Rattle.qmi_core.proofs.traffic.Traffic.open.Goals as goal
 pub returns : goal.returns
 unfolding requests_in_use ids last_number to_modem modem_drained
 returns c =
-    ap (λ (n : Numbers). let d : Traffic = record { control = n; services = c.in_ok-open-2.field-0; held = c.in_ok-open-3.field-0; waiting = c.in_ok-open-4.field-0.bytes } in d) c.in_ok-open.ensures
-    ∙ ap (λ (n : Numbers). let d : Traffic = record { control = _; services = n; held = c.in_ok-open-3.field-0; waiting = c.in_ok-open-4.field-0.bytes } in d) c.in_ok-open-2.ensures
-    ∙ ap (λ (l : List Grant). let d : Traffic = record { control = _; services = _; held = l; waiting = c.in_ok-open-4.field-0.bytes } in d) c.in_ok-open-3.ensures
-    ∙ ap (λ q. let d : Traffic = record { control = _; services = _; held = _; waiting = q.bytes } in d) c.in_ok-open-4.ensures
+    ap (λ (n : Numbers). let d : Traffic = record { control = n; services = c.in_ok-services.services; held = c.in_ok-holders.holders; waiting = c.in_ok-outbox.outbox.bytes } in d) c.in_ok-control.ensures
+    ∙ ap (λ (n : Numbers). let d : Traffic = record { control = _; services = n; held = c.in_ok-holders.holders; waiting = c.in_ok-outbox.outbox.bytes } in d) c.in_ok-services.ensures
+    ∙ ap (λ (l : List Grant). let d : Traffic = record { control = _; services = _; held = l; waiting = c.in_ok-outbox.outbox.bytes } in d) c.in_ok-holders.ensures
+    ∙ ap (λ q. let d : Traffic = record { control = _; services = _; held = _; waiting = q.bytes } in d) c.in_ok-outbox.ensures
