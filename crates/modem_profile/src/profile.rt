@@ -155,10 +155,10 @@ impl Profile {
         ensures same { IfOk result (λ copy. copy ≡ self.now) }
         ensures limits { IsWithin self.now }
     {
-        let device = self.device.copy(alloc)?;
-        let network = self.network.copy(alloc)?;
         let sms = copy_pdus(alloc, &self.sms)?;
         let phonebook = copy_entries(alloc, &self.phonebook)?;
+        let device = self.device.copy(alloc)?;
+        let network = self.network.copy(alloc)?;
         Ok(Profile {
             device,
             network,
