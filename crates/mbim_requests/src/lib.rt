@@ -17,7 +17,7 @@ pub enum ContextIpType {
 /// specification 1.0.
 ///
 /// All but the last one are commands of `mbimcli`, named as the option that gives them.
-#[derive(Drop)]
+#[derive(Debug, Drop)]
 pub enum MbimRequest {
     QueryDeviceCaps,
     QuerySubscriberReadyStatus,

@@ -19,7 +19,7 @@ use qmi_requests::QmiRequest;
 use std::alloc::{AllocError, Global};
 
 /// What the program is to do.
-#[derive(Drop)]
+#[derive(Debug, Drop)]
 pub enum ToolCommand {
     /// Sends a request to a QMI modem and prints its answer.
     Qmicli {
