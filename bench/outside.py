@@ -1,5 +1,6 @@
 """Has a proxy serve many programs, and prints a line for each point. `outside.sh` starts it."""
 import array
+import atexit
 import fcntl
 import os
 import pty
@@ -18,6 +19,8 @@ os.chdir(folder)
 random.seed(seed)
 failed = 0
 CLIENTS = 64
+# So many messages of each are under way at once: in all fewer than the 1,024 for which a proxy has numbers.
+MESSAGES = 15
 DMS = 2
 ABORTED, INTERNAL, INVALID_CLIENT = 4, 3, 7
 # A request of DMS under client id 0, which the proxy refuses by itself, is asked for so many times at once.
@@ -125,13 +128,19 @@ class Modem:
 def start(device):
     words = [program, "qmi-proxy", "-d", device, "--socket", "proxy", "--bridge", "bridge", "--no-exit"]
     proxy = subprocess.Popen(words, stderr=subprocess.DEVNULL)
+    atexit.register(proxy.kill)
     for _ in range(1000):
         try:
-            connect().close()
-            return proxy
+            client, joined = join(device)
         except OSError:
-            time.sleep(0.01)
-    sys.exit("the proxy doesn't listen")
+            joined = False
+        if joined:
+            client.close()
+            # it isn't counted among the others any more
+            time.sleep(0.2)
+            return proxy
+        time.sleep(0.01)
+    sys.exit("the proxy doesn't serve")
 
 
 def connect():
@@ -167,7 +176,7 @@ def many_get_their_own(device):
     asks, opened = opening(device)
     clients, due, parts = [], [], []
     for number in range(CLIENTS):
-        asked = [(random.randrange(0x10000), tlv(0x10, random.randbytes(random.randrange(300)))) for _ in range(20)]
+        asked = [(random.randrange(0x10000), tlv(0x10, random.randbytes(random.randrange(300)))) for _ in range(MESSAGES)]
         clients.append(connect())
         due.append(opened + b"".join(message(0x80, number + 1, *each) for each in asked))
         parts.append(parts_of(asks + b"".join(message(0, number + 1, *each) for each in asked)))
@@ -185,9 +194,18 @@ def unread(client):
     return count[0]
 
 
+def join(device):
+    """A program that has opened the device."""
+    client = connect()
+    asks, opened = opening(device)
+    client.sendall(asks)
+    return client, takes(client, opened)
+
+
 def one_doesnt_read(other):
     """A program asks and doesn't read, until its socket is full and more waits for it, and then reads."""
-    client = connect()
+    client, joined = join("modem")
+    point("a program takes the place of one that left", joined)
     due, waiting = b"", 0
     while waiting < 4:
         numbers = [(len(due) // 20 + more) % 0x10000 for more in range(AT_ONCE)]
@@ -208,6 +226,7 @@ def one_doesnt_read(other):
     client.sendall(message(0, 0, 9, b""))
     point(".. and what comes then", takes(client, refusal(0, 9, INVALID_CLIENT)))
     client.close()
+    time.sleep(0.2)
 
 
 def lose(clients, modem, leave):
@@ -260,11 +279,11 @@ def at_a_socket():
     proxy = start(modem.listen())
     clients = many_get_their_own("modem")
     clients.pop().close()
+    time.sleep(0.2)
     one_doesnt_read(clients[0])
-    clients.append(connect())
-    asks, opened = opening("modem")
-    clients[-1].sendall(asks)
-    point("a program takes the place of one that left", takes(clients[-1], opened))
+    client, joined = join("modem")
+    point("another takes its place", joined)
+    clients.append(client)
     lose(clients, modem, modem.leave_socket)
     come_back(clients, modem)
     proxy.terminate()

@@ -2,10 +2,24 @@ use crate::steps::{accept, connect, path, pump, reads, writes};
 use hub_io::{Hub, HubEvent, MioHub, NEXT_ROOM};
 use kit_io::Failed;
 use link_io::Target;
-use std::fs;
+use std::fs::{self, Files};
+use std::net::Net;
 use std::os::unix::net::{UnixListener, UnixStream};
+use std::process::Abort;
 
 // What is done with a hub stands in functions over any hub: a check takes far longer over a real one.
+
+fn opens<H: Hub>(hub: &mut H, path: &str, modem: &Target) -> bool {
+    hub.open(path, Some(modem)).is_ok()
+}
+
+fn pairs<H: Hub>(hub: &mut H) -> bool {
+    hub.pair().is_ok()
+}
+
+fn reopens<H: Hub>(hub: &mut H) -> bool {
+    hub.reopen_modem().is_ok()
+}
 
 /// The next answer that isn't of the time, and the first bytes of its buffer.
 fn next<H: Hub>(hub: &mut H) -> (Result<HubEvent, Failed>, [u8; 3]) {
@@ -55,37 +69,51 @@ fn loses<H: Hub>(hub: &mut H) -> bool {
     next(hub).0 == Ok(HubEvent::ModemGone) && hub.send_modem(&[4]).is_err()
 }
 
+/// A hub whose client and modem come and go.
+fn meets<H: Hub, R: Abort + Net + Files>(rt: &R, hub: &mut H, target: &Target) {
+    let listener = UnixListener::bind(rt, "modem.sock").expect(rt, "a free path");
+    assert!(rt; opens(hub, "hub.sock", target));
+    let mut client = connect(rt, "hub.sock");
+    assert!(rt; serves(hub, &mut client));
+    drop(client);
+    assert!(rt; leaves(hub));
+    let mut modem = accept(rt, &listener);
+    assert!(rt; hears(hub, &mut modem) && reads(&mut modem, [1, 2, 3]));
+    drop(modem);
+    assert!(rt; loses(hub));
+    assert!(rt; reopens(hub));
+    drop(listener);
+}
+
 #[test]
 fn a_client_and_a_modem_come_and_go(rt: HostRuntime) {
     let target = Target::Socket(path(&rt, rt.alloc(), "modem.sock"));
-    let listener = UnixListener::bind(&rt, "modem.sock").expect(&rt, "a free path");
     let mut hub = MioHub::new(&rt, rt.alloc()).expect(&rt, "memory");
-    assert!(rt; hub.open("hub.sock", Some(&target)).is_ok());
-    let mut client = connect(&rt, "hub.sock");
-    assert!(rt; serves(&mut hub, &mut client));
-    drop(client);
-    assert!(rt; leaves(&mut hub));
-    let mut modem = accept(&rt, &listener);
-    assert!(rt; hears(&mut hub, &mut modem) && reads(&mut modem, [1, 2, 3]));
-    drop(modem);
-    assert!(rt; loses(&mut hub));
-    assert!(rt; hub.reopen_modem().is_ok());
+    meets(&rt, &mut hub, &target);
     drop(hub);
+    drop(target);
     fs::remove_file(&rt, "modem.sock").expect(&rt, "the socket's file");
+}
+
+/// A hub whose modem is behind two pumps.
+fn crosses<H: Hub, R: Abort + Net>(rt: &R, hub: &mut H, target: &Target) {
+    assert!(rt; opens(hub, "bridged_hub.sock", target));
+    let mut input = pump(rt, "hub_bridge.sock", b'r');
+    let mut output = pump(rt, "hub_bridge.sock", b'w');
+    assert!(rt; pairs(hub));
+    assert!(rt; hears(hub, &mut input) && reads(&mut output, [1, 2, 3]));
+    drop(output);
+    assert!(rt; loses(hub));
+    drop(input);
+    // no new pumps come
+    assert!(rt; !reopens(hub));
 }
 
 #[test]
 fn a_hub_reaches_its_modem_over_a_bridge(rt: HostRuntime) {
     let target = Target::Bridge(path(&rt, rt.alloc(), "hub_bridge.sock"));
     let mut hub = MioHub::new(&rt, rt.alloc()).expect(&rt, "memory");
-    assert!(rt; hub.open("bridged_hub.sock", Some(&target)).is_ok());
-    let mut input = pump(&rt, "hub_bridge.sock", b'r');
-    let mut output = pump(&rt, "hub_bridge.sock", b'w');
-    assert!(rt; hub.pair().is_ok());
-    assert!(rt; hears(&mut hub, &mut input) && reads(&mut output, [1, 2, 3]));
-    drop(output);
-    assert!(rt; loses(&mut hub));
-    // no new pumps come
-    assert!(rt; hub.reopen_modem().is_err());
+    crosses(&rt, &mut hub, &target);
     drop(hub);
+    drop(target);
 }
