@@ -1,5 +1,5 @@
 -- The words of a proxy, by the kind of its modem.
-use Rattle.std.specs.Prelude.{ℕ, ◌*◌, ◌==◌, ◌||◌, Bool, true, List, [], ◌∷◌, Option, Some, None, Result, Err, codes, if◌then◌else◌, option_and_then}
+use Rattle.std.specs.Prelude.{ℕ, ◌*◌, ◌==◌, ◌||◌, Bool, List, [], ◌∷◌, Option, Some, None, Result, Err, codes, if◌then◌else◌, option_and_then}
 use Rattle.clap.specs.Simple.{App}
 use Rattle.clap.specs.Walk.{Row}
 use Rattle.kit_bytes.specs.declared.Kind.{Kind}
@@ -50,12 +50,12 @@ empty_time stays seconds = if stays || seconds == 0 then None else Some (seconds
 -- the proxy that these values describe, if each of them reads
 unfoldable pub proxy_values : Kind → List Row → Option ToolCommand
 proxy_values kind rows = do
-  device ← option_and_then path_in (value_given proxy_spelling rows option.Device)
-  socket ← path_or (proxy_socket kind) (value_given proxy_spelling rows option.Socket)
-  bridge ← path_or bridge_socket (value_given proxy_spelling rows option.Bridge)
   seconds ← number_or 30 0 86400 (value_given proxy_spelling rows option.EmptyTimeout)
   time ← number_or 30000 1 86400000 (value_given proxy_spelling rows option.Time)
   turns ← turns_in (value_given proxy_spelling rows option.Turns)
+  device ← option_and_then path_in (value_given proxy_spelling rows option.Device)
+  socket ← path_or (proxy_socket kind) (value_given proxy_spelling rows option.Socket)
+  bridge ← path_or bridge_socket (value_given proxy_spelling rows option.Bridge)
   Some (Proxy kind device socket bridge (empty_time (is_given proxy_spelling rows option.NoExit) seconds) time turns)
 
 -- ---- what the words ask for ----

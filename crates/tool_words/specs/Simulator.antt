@@ -41,10 +41,10 @@ starts_in = number_within 1 100
 unfoldable pub simulator_values : List Row → Option ToolCommand
 simulator_values rows = do
   kind ← kind_or Qmi (value_given simulator_spelling rows option.Kind)
-  socket ← path_or simulator_socket (value_given simulator_spelling rows option.Socket)
-  profile ← optional path_in (value_given simulator_spelling rows option.Profile)
   turns ← turns_in (value_given simulator_spelling rows option.Turns)
   keep ← optional starts_in (value_given simulator_spelling rows option.Keep)
+  socket ← path_or simulator_socket (value_given simulator_spelling rows option.Socket)
+  profile ← optional path_in (value_given simulator_spelling rows option.Profile)
   Some (Simulator kind socket profile turns keep)
 
 -- ---- what the words ask for ----

@@ -45,8 +45,7 @@ fn settings() -> &'static [MbimSetting]
 pub fn mbimcli_reader<'a>(alloc: Global) -> Result<Command<'a>, AllocError>
     ensures { IfOk result (λ tool. app_of tool ≡ mbimcli_app) }
 {
-    let tool = modem_tool(alloc, "mbimcli", settings(), mbim_commands())?;
-    Ok(tool)
+    modem_tool(alloc, "mbimcli", settings(), mbim_commands())
 }
 
 fn sending(link: LinkSettings, stays: bool, request: MbimRequest) -> Result<ToolCommand, WordFault>

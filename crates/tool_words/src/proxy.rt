@@ -74,8 +74,7 @@ pub fn proxy_reader<'a>(alloc: Global, kind: Kind) -> Result<Command<'a>, AllocE
     ensures { IfOk result (λ command. app_of command ≡ proxy_app kind) }
 {
     let name: &'a str = proxy_name(kind);
-    let command = add_options(alloc, without_options(alloc, name), options())?;
-    Ok(command)
+    add_options(alloc, without_options(alloc, name), options())
 }
 
 fn modem(alloc: Global, text: Option<&str>) -> Result<PathText, WordFault>
@@ -102,17 +101,17 @@ fn empty_time(stays: bool, seconds: u64) -> Option<u64>
 fn values(alloc: Global, kind: Kind, matches: &ArgMatches<'_>) -> Result<ToolCommand, WordFault>
     ensures { Gives (proxy_values kind (rows_of (found_of matches.now))) result }
 {
-    let device = modem(alloc, value_given(matches, ProxyOption::Device))?;
-    let socket = value_given(matches, ProxyOption::Socket);
-    let socket = path_or(alloc, proxy_socket(kind), socket)?;
-    let bridge = value_given(matches, ProxyOption::Bridge);
-    let bridge = path_or(alloc, bridge_socket(), bridge)?;
     let stays = is_given(matches, ProxyOption::NoExit);
     let seconds = value_given(matches, ProxyOption::EmptyTimeout);
     let seconds = number_or(30, 0, 86_400, seconds)?;
     let time = value_given(matches, ProxyOption::Time);
     let time = number_or(30_000, 1, 86_400_000, time)?;
     let turns = turns(value_given(matches, ProxyOption::Turns))?;
+    let device = modem(alloc, value_given(matches, ProxyOption::Device))?;
+    let socket = value_given(matches, ProxyOption::Socket);
+    let socket = path_or(alloc, proxy_socket(kind), socket)?;
+    let bridge = value_given(matches, ProxyOption::Bridge);
+    let bridge = path_or(alloc, bridge_socket(), bridge)?;
     Ok(ToolCommand::Proxy {
         kind,
         device,

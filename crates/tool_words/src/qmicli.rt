@@ -48,8 +48,7 @@ fn settings() -> &'static [QmiSetting]
 pub fn qmicli_reader<'a>(alloc: Global) -> Result<Command<'a>, AllocError>
     ensures { IfOk result (λ tool. app_of tool ≡ qmicli_app) }
 {
-    let tool = modem_tool(alloc, "qmicli", settings(), qmi_commands())?;
-    Ok(tool)
+    modem_tool(alloc, "qmicli", settings(), qmi_commands())
 }
 
 fn cid_if_given(text: Option<&str>) -> Result<Option<u8>, WordFault>

@@ -53,8 +53,7 @@ fn options() -> &'static [RigOption]
 pub fn rig_reader<'a>(alloc: Global) -> Result<Command<'a>, AllocError>
     ensures { IfOk result (λ command. app_of command ≡ rig_app) }
 {
-    let command = add_options(alloc, without_options(alloc, "rig"), options())?;
-    Ok(command)
+    add_options(alloc, without_options(alloc, "rig"), options())
 }
 
 #[tactic(auto, unfolding(crate::specs::Rig::rig_values))]

@@ -58,8 +58,7 @@ fn options() -> &'static [SimulatorOption]
 pub fn simulator_reader<'a>(alloc: Global) -> Result<Command<'a>, AllocError>
     ensures { IfOk result (λ command. app_of command ≡ simulator_app) }
 {
-    let command = add_options(alloc, without_options(alloc, "modem-sim"), options())?;
-    Ok(command)
+    add_options(alloc, without_options(alloc, "modem-sim"), options())
 }
 
 fn starts_if_given(text: Option<&str>) -> Result<Option<u8>, WordFault>
@@ -79,11 +78,11 @@ fn values(alloc: Global, matches: &ArgMatches<'_>) -> Result<ToolCommand, WordFa
     ensures { Gives (simulator_values (rows_of (found_of matches.now))) result }
 {
     let kind = kind_or(Kind::Qmi, value_given(matches, SimulatorOption::Kind))?;
+    let turns = turns(value_given(matches, SimulatorOption::Turns))?;
+    let keep = starts_if_given(value_given(matches, SimulatorOption::Keep))?;
     let socket = value_given(matches, SimulatorOption::Socket);
     let socket = path_or(alloc, simulator_socket(), socket)?;
     let profile = path_if_given(alloc, value_given(matches, SimulatorOption::Profile))?;
-    let turns = turns(value_given(matches, SimulatorOption::Turns))?;
-    let keep = starts_if_given(value_given(matches, SimulatorOption::Keep))?;
     Ok(ToolCommand::Simulator {
         kind,
         socket,

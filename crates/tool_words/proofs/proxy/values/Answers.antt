@@ -6,7 +6,13 @@ pub returns : goal.returns
 unfolding proxy_values
 returns c =
     rw (
+      ← c.value_given-seconds.ensures,
+      c.in_ok-seconds.ensures.value,
+      ← c.value_given-time.ensures,
+      c.in_ok-time.ensures.value,
       ← c.value_given.ensures,
+      c.in_ok-turns.ensures,
+      ← c.value_given-2.ensures,
       c.in_ok-device.ensures,
       ← c.proxy_socket.ensures,
       ← c.value_given-socket.ensures,
@@ -14,12 +20,6 @@ returns c =
       ← c.bridge_socket.ensures,
       ← c.value_given-bridge.ensures,
       c.in_ok-bridge.ensures,
-      ← c.value_given-seconds.ensures,
-      c.in_ok-seconds.ensures.value,
-      ← c.value_given-time.ensures,
-      c.in_ok-time.ensures.value,
-      ← c.value_given-2.ensures,
-      c.in_ok-turns.ensures,
       ← c.is_given-stays.ensures,
       ← c.empty_time.ensures,
     ) refl
