@@ -19,31 +19,42 @@ use std::{env, io};
 fn main(rt: HostRuntime) -> ExitCode {
     let mut out = StdSink::new(rt.stdout());
     let mut err = StdSink::new(rt.stderr());
-    let Ok(_kept) = stand_ins(&rt) else {
-        return ExitCode::from(give_up(&mut err).code());
-    };
-    let mut link = UnixLink::new(&rt, rt.alloc());
-    let Ok(mut spawner) = spawner_of(&rt) else {
-        return ExitCode::from(give_up(&mut err).code());
-    };
-    let mut files = StdFiles::new(&rt);
-    let Ok(mut hub) = MioHub::new(&rt, rt.alloc()) else {
-        return ExitCode::from(give_up(&mut err).code());
-    };
-    let status = match read_words(&rt) {
-        Ok(words) => run_words(
-            rt.alloc(),
-            &words,
-            &mut out,
-            &mut err,
-            &mut link,
-            &mut hub,
-            &mut spawner,
-            &mut files,
-        ),
-        Err(_) => refuse(&mut err),
+    let status = match stand_ins(&rt) {
+        Ok(_kept) => run_over(&rt, &mut out, &mut err),
+        Err(_) => give_up(&mut err),
     };
     ExitCode::from(status.code())
+}
+
+// Does what the words ask, over sockets, processes and files.
+fn run_over<O: Sink, E: Sink>(rt: &HostRuntime, out: &mut O, err: &mut E) -> Status {
+    let mut link = UnixLink::new(rt, rt.alloc());
+    let mut files = StdFiles::new(rt);
+    let Ok(mut spawner) = spawner_of(rt) else {
+        return give_up(err);
+    };
+    let Ok(mut hub) = MioHub::new(rt, rt.alloc()) else {
+        return give_up(err);
+    };
+    let status = run_read(rt, out, err, &mut link, &mut hub, &mut spawner, &mut files);
+    drop(hub);
+    status
+}
+
+// The same, where the outside is open.
+fn run_read<O: Sink, E: Sink, L: Link, H: Hub, P: Spawner, F: Files>(
+    rt: &HostRuntime,
+    out: &mut O,
+    err: &mut E,
+    link: &mut L,
+    hub: &mut H,
+    spawner: &mut P,
+    files: &mut F,
+) -> Status {
+    match read_words(rt) {
+        Ok(words) => run_words(rt.alloc(), &words, out, err, link, hub, spawner, files),
+        Err(_) => refuse(err),
+    }
 }
 
 // Does what the words ask, with a bench of its own.
@@ -58,9 +69,11 @@ fn run_words<O: Sink, E: Sink, L: Link, H: Hub, P: Spawner, F: Files>(
     files: &mut F,
 ) -> Status {
     let mut bench = Cores::none();
-    run(
+    let status = run(
         alloc, words, out, err, link, hub, spawner, files, &mut bench,
-    )
+    );
+    drop(bench);
+    status
 }
 
 // What starts this program again. Every start fails where the system doesn't tell the program's path.
