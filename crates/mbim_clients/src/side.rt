@@ -68,10 +68,10 @@ impl ModemSide {
         ensures { IfOk result (λ side. side ≡ side_of (mbim_setup device time_limit false) [] []) }
     {
         let device = Device::open(alloc, device)?;
-        let traffic = Traffic::open(alloc)?;
         let last_list = PairList::open(alloc)?;
         let (answer, indication) = open_assemblies(alloc)?;
         let (body, list, writer) = open_room(alloc)?;
+        let traffic = Traffic::open(alloc)?;
         Ok(ModemSide {
             device,
             time_limit,
