@@ -8,8 +8,8 @@ fn word<R: Abort>(rt: &R, alloc: Global, text: &str) -> String {
     String::from_str(alloc, text).expect(rt, "memory")
 }
 
-fn shell<'a, R: Abort + Processes>(rt: &'a R, alloc: Global) -> StdSpawner<'a, R> {
-    StdSpawner::new(rt, alloc, word(rt, alloc, "/bin/sh")).expect(rt, "memory")
+fn starter<'a, R: Abort + Processes>(rt: &'a R, alloc: Global, program: &str) -> StdSpawner<'a, R> {
+    StdSpawner::new(rt, alloc, word(rt, alloc, program)).expect(rt, "memory")
 }
 
 // What is done with children stands in functions over any spawner: a check takes far longer over a real one.
@@ -42,7 +42,7 @@ fn stops<P: Spawner>(spawner: &mut P, words: &[String]) -> Result<bool, Failed> 
 #[test]
 fn programs_end_with_their_status(rt: HostRuntime) {
     let alloc = rt.alloc();
-    let mut spawner = shell(&rt, alloc);
+    let mut spawner = starter(&rt, alloc, "/bin/sh");
     assert!(rt; script_ends(&rt, alloc, &mut spawner, "exit 200") == Ok(200));
     assert!(rt; script_ends(&rt, alloc, &mut spawner, "kill -9 $$") == Ok(-1));
     // there is nothing to read
@@ -52,9 +52,15 @@ fn programs_end_with_their_status(rt: HostRuntime) {
 #[test]
 fn programs_are_stopped(rt: HostRuntime) {
     let alloc = rt.alloc();
-    let mut spawner = shell(&rt, alloc);
+    let mut spawner = starter(&rt, alloc, "/bin/sh");
     let begun = Instant::now(&rt).expect(&rt, "a clock");
     let words = [word(&rt, alloc, "-c"), word(&rt, alloc, "exec sleep 60")];
     assert!(rt; stops(&mut spawner, &words) == Ok(true));
     assert!(rt; begun.elapsed(&rt).expect(&rt, "a clock") < Duration::from_secs(30));
+}
+
+#[test]
+fn a_program_that_isnt_there_isnt_started(rt: HostRuntime) {
+    let mut spawner = starter(&rt, rt.alloc(), "/no/such/program");
+    assert!(rt; end_of(&mut spawner, &[]) == Err(Failed));
 }
