@@ -23,7 +23,7 @@ changed() {
     find "$top/crates.txt" $(crates | sed "s|^|$top/crates/|") -newer "$program" \
         \( -name '*.rt' -o -name '*.antt' -o -name crates.txt \) -print -quit
 }
-# The program's crates as they stand, without tests of a crate's own and without must-fail edits.
+# The program's crates as they stand, without their must-fail edits. None of them has tests.
 copy() {
     # (rt takes the folder for the top of a checkout by its .git)
     rm -rf "$build/crates" && mkdir -p "$build/crates" "$build/.git" && cp "$top/HANDLES" "$build/" || return
