@@ -1,0 +1,2 @@
+pub mod WholeFront
+pub mod Told

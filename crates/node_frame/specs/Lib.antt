@@ -1,0 +1,4 @@
+pub mod Frame
+pub mod Framing
+pub mod Laws
+pub mod Examples
