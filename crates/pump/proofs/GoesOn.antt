@@ -2,6 +2,7 @@
 use Rattle.std.proofs.Common.{◌≡◌, ℕ, List, [], ◌∷◌, ◌++◌, length, map, filter_map, Result, Err, refl, sym, ◌∙◌, ap, arith, append_assoc, length-append, subst, codes}
 use Rattle.std.proofs.lemmas.List.{append-nil, same_from_push}
 use Rattle.std.proofs.lemmas.List.Elements.{filter_map-append, recursion_from_All}
+use Rattle.std.proofs.lemmas.List.Folds.{concat-append}
 use Rattle.std.specs.List.{concat, AllByRecursion}
 use Rattle.kit_bytes.proofs.Lists.{concat-push}
 use Rattle.link_io.specs.Target.{Address}
@@ -13,9 +14,10 @@ use Rattle.pump.specs.declared.ending.PumpEnd.TheVariants.{Ended, LinkFault, Rea
 use Rattle.pump.specs.Beginning.{Begins, no_bridge, no_node, no_letter, begun, not_begun, went_on}
 use Rattle.pump.specs.Reading.{all_sent, EndsReading, SendsReads}
 use Rattle.pump.specs.Reading as reading
-use Rattle.pump.specs.Writing.{IsPassed, bytes_of, taken, EndsWriting, WritesTakes}
+use Rattle.pump.specs.Writing.{all_parts, AllWritten, FrontWritten, IsPassed, bytes_of, taken, EndsWriting, WritesTakes}
 use Rattle.pump.specs.Writing as writing
 use Rattle.pump.specs.Laws.{piece_read, piece_taken, sent, written, GoesOn, WhatWasReadIsSent, WhatWasTakenIsWritten}
+use Rattle.pump.proofs.Ends.{concat-writes_behind, concat-writes_of}
 
 -- ---- how much went on ----
 
@@ -144,19 +146,49 @@ none_sent (link.WasEnd ∷ takes) more each none = absurd each.0
 none_sent (link.TakeFailed ∷ takes) more each none = absurd each.0
 none_sent (link.Closed ∷ takes) more each none = absurd each.0
 
-last_sends_none : {turns count : ℕ} {end : PumpEnd} {takes : List link.Call} {wrote : List file.Call} → EndsWriting turns count end takes wrote → sent takes ≡ []
+last_sends_none : {turns count : ℕ} {before : List ℕ} {end : PumpEnd} {takes : List link.Call} {wrote : List file.Call} → EndsWriting turns count before end takes wrote → sent takes ≡ []
 last_sends_none (writing.found_end is few t w) = ap sent t
 last_sends_none (writing.take_failed is few t w) = ap sent t
-last_sends_none (writing.write_failed piece parts rest is few some whole t w) = ap sent t
+last_sends_none (writing.write_failed piece is few some t front) = ap sent t
 last_sends_none (writing.turns_spent is all t w) = ap sent t
 
-writes_takes : (end : PumpEnd) (turns count : ℕ) (came : List (List ℕ)) {takes : List link.Call} {wrote : List file.Call} → EndsWriting turns count end takes wrote
+-- the parts of writes, and the writes
+concat-parts : (writes : List (List (List ℕ))) → concat (all_parts writes) ≡ concat (map concat writes)
+concat-parts [] = refl
+concat-parts (write ∷ writes) = concat-append write (all_parts writes) ∙ ap (λ (l : List ℕ). concat write ++ l) (concat-parts writes)
+
+written-all : {writes : List (List ℕ)} {calls : List file.Call} (more : List file.Call) → AllWritten writes calls → written (calls ++ more) ≡ concat writes ++ written more
+written-all more all =
+    ap (λ (l : List file.Call). written (l ++ more)) all.are
+    ∙ written_all (all_parts all.parts) more
+    ∙ ap (λ (l : List ℕ). l ++ written more) (concat-parts all.parts ∙ ap concat all.whole)
+
+-- a front of the writes is a front of their bytes
+written-front : {writes : List (List ℕ)} {calls : List file.Call} → FrontWritten writes calls → (rest : List ℕ) × (concat writes ≡ written calls ++ rest)
+written-front {writes = writes} {calls = calls} it =
+    let whole : List ℕ = concat (map concat it.parts) in
+    let wrote : written calls ≡ whole ++ concat it.front =
+    ap written it.are
+    ∙ written_all (all_parts it.parts ++ it.front) (file.WriteFailed ∷ [])
+    ∙ append-nil (concat (all_parts it.parts ++ it.front))
+    ∙ concat-append (all_parts it.parts) it.front
+    ∙ ap (λ (l : List ℕ). l ++ concat it.front) (concat-parts it.parts) in (
+      it.rest ++ concat it.later,
+      ap concat (sym it.whole)
+          ∙ concat-append (map concat it.parts) ((concat it.front ++ it.rest) ∷ it.later)
+          ∙ ap (λ (l : List ℕ). whole ++ l) (append_assoc (concat it.front) it.rest (concat it.later))
+          ∙ sym (append_assoc whole (concat it.front) (it.rest ++ concat it.later))
+          ∙ ap (λ (l : List ℕ). l ++ (it.rest ++ concat it.later)) (sym wrote),
+    )
+
+writes_takes : (end : PumpEnd) (turns count : ℕ) (before : List ℕ) (came : List (List ℕ)) {takes : List link.Call} {wrote : List file.Call} → EndsWriting turns count before end takes wrote
     → GoesOn [] (came ++ filter_map piece_taken takes) end (concat came ++ written wrote)
-writes_takes end turns count came (writing.found_end is few t w) = rw (t, w, append-nil came, append-nil (concat came)) (all_of [] end came)
-writes_takes end turns count came (writing.take_failed is few t w) = rw (t, w, append-nil came, append-nil (concat came)) (all_of [] end came)
-writes_takes end turns count came (writing.write_failed piece parts rest is few some whole t w) =
-    rw (t, w, written_all parts (file.WriteFailed ∷ []), append-nil (concat parts)) (all_but [] end came piece (concat parts) rest whole (λ ended. (cc)))
-writes_takes end turns count came (writing.turns_spent is all t w) = rw (t, w, append-nil came, append-nil (concat came)) (all_of [] end came)
+writes_takes end turns count before came (writing.found_end is few t w) = rw (t, w, append-nil came, append-nil (concat came)) (all_of [] end came)
+writes_takes end turns count before came (writing.take_failed is few t w) = rw (t, w, append-nil came, append-nil (concat came)) (all_of [] end came)
+writes_takes end turns count before came {wrote = wrote} (writing.write_failed piece is few some t front) =
+    let behind = written-front front in
+    rw t (all_but [] end came piece (written wrote) behind.0 (sym (concat-writes_behind before piece) ∙ behind.1) (λ ended. (cc)))
+writes_takes end turns count before came (writing.turns_spent is all t w) = rw (t, w, append-nil came, append-nil (concat came)) (all_of [] end came)
 
 pub taken_is_written : WhatWasTakenIsWritten
 taken_is_written bridge node turns end on_link on_files (not_begun begins) =
@@ -176,9 +208,9 @@ taken_is_written bridge node turns end on_link on_files (went_on first_link more
     let written_is : written on_files ≡ concat came ++ written goes.last_writes =
     ap written (f ∙ ap (λ (x : List file.Call). x ++ more_files) bf)
     ∙ ap written goes.written
-    ∙ written_all goes.parts goes.last_writes
-    ∙ ap (λ (x : List ℕ). x ++ written goes.last_writes) (goes.whole ∙ sym (concat_taken goes.takes each)) in
-    record { letter = rw letter_is (all_of (codes "w") end []); written = rw (came_is, written_is) (writes_takes end turns (length goes.takes) came goes.ends) }
+    ∙ written-all goes.last_writes goes.all
+    ∙ ap (λ (x : List ℕ). x ++ written goes.last_writes) (concat-writes_of [] (map bytes_of goes.takes) ∙ sym (concat_taken goes.takes each)) in
+    record { letter = rw letter_is (all_of (codes "w") end []); written = rw (came_is, written_is) (writes_takes end turns (length goes.takes) (taken goes.takes) came goes.ends) }
 taken_is_written bridge node turns end on_link on_files (went_on first_link more_link first_files more_files (no_bridge is bl bf) goes l f) = absurd (cc)
 taken_is_written bridge node turns end on_link on_files (went_on first_link more_link first_files more_files (no_node is bl bf) goes l f) = absurd (cc)
 taken_is_written bridge node turns end on_link on_files (went_on first_link more_link first_files more_files (no_letter front rest whole is bl bf) goes l f) = absurd (cc)

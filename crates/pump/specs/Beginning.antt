@@ -29,3 +29,13 @@ pub record GrowBy (Like : List link.Call → List file.Call → Type 0) (link_ol
   pub are : Like on_link on_files
   pub link_grows : Grows link_old on_link link_new
   pub files_grow : Grows files_old on_files files_new
+
+-- nothing was called
+pub record Untouched (link_old : Option (List link.Call)) (files_old : Option (List file.Call)) (link_new : Option (List link.Call)) (files_new : Option (List file.Call)) : Type 0 where
+  pub on_link : Grows link_old [] link_new
+  pub on_files : Grows files_old [] files_new
+
+-- the calls of both sides have grown by some like these of the end, unless no memory was there
+abbrev pub GrowByEnd : {E : Type 0} → (Like : PumpEnd → List link.Call → List file.Call → Type 0) → Option (List link.Call) → Option (List file.Call) → Result PumpEnd E → Option (List link.Call) → Option (List file.Call) → Type 0
+GrowByEnd Like link_old files_old (Ok end) link_new files_new = GrowBy (Like end) link_old files_old link_new files_new
+GrowByEnd Like link_old files_old (Err e) link_new files_new = Untouched link_old files_old link_new files_new

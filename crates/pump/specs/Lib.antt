@@ -1,5 +1,8 @@
 pub mod Beginning
 pub mod Reading
+pub mod Writes
+pub mod Stream
 pub mod Writing
-pub mod Node
 pub mod Laws
+pub mod Node
+pub mod Examples

@@ -1,11 +1,11 @@
 -- A pump by the paths of its bridge and its node, which it reads or writes to.
-use Rattle.std.specs.Prelude.{ℕ, Bool, true, false, List, [], Option, Result, Ok, Err, codes}
-use Rattle.kit_io.specs.Told.{Grows}
+use Rattle.std.specs.Prelude.{ℕ, Bool, true, false, List, Option, Result, codes}
 use Rattle.link_io.specs.Calls as link
 use Rattle.link_io.specs.Target.{Address, AtSocket}
 use Rattle.file_io.specs.Calls as file
 use Rattle.file_io.specs.declared.files.Side.TheVariants.{Read, Write}
-use Rattle.pump.specs.Beginning.{GrowBy, Pumps}
+pub use Rattle.pump.specs.Beginning.{Untouched}
+use Rattle.pump.specs.Beginning.{GrowByEnd, Pumps}
 use Rattle.pump.specs.Reading.{SendsReads}
 use Rattle.pump.specs.Writing.{WritesTakes}
 use Rattle.pump.specs.declared.ending.PumpEnd.{PumpEnd}
@@ -16,12 +16,6 @@ abbrev pub IsPump : (read : Bool) → (bridge : Address) → (node : List ℕ) �
 IsPump true bridge node end = Pumps bridge node Read (codes "r") (SendsReads PUMP_TURNS end) end
 IsPump false bridge node end = Pumps bridge node Write (codes "w") (WritesTakes PUMP_TURNS end) end
 
--- nothing was called
-pub record Untouched (link_old : Option (List link.Call)) (files_old : Option (List file.Call)) (link_new : Option (List link.Call)) (files_new : Option (List file.Call)) : Type 0 where
-  pub on_link : Grows link_old [] link_new
-  pub on_files : Grows files_old [] files_new
-
 -- the calls have grown by those of a pump between these paths, unless no memory was there
 abbrev pub PumpsNode : {E : Type 0} → (read : Bool) → (bridge node : List ℕ) → Option (List link.Call) → Option (List file.Call) → Result PumpEnd E → Option (List link.Call) → Option (List file.Call) → Type 0
-PumpsNode read bridge node link_old files_old (Ok end) link_new files_new = GrowBy (IsPump read (AtSocket bridge) node end) link_old files_old link_new files_new
-PumpsNode read bridge node link_old files_old (Err e) link_new files_new = Untouched link_old files_old link_new files_new
+PumpsNode read bridge node = GrowByEnd (IsPump read (AtSocket bridge) node)

@@ -1,6 +1,6 @@
 use Rattle.std.proofs.Common.{◌≤◌, length}
 use Rattle.pump.proofs.Passing.{HasWritten}
-use Rattle.pump.proofs.writing.write_all.Given as goal
+use Rattle.pump.proofs.piece.write_all.Given as goal
 
 abbrev pub decreases-loop-rest : goal.decreases-loop-rest
 decreases-loop-rest g l = length l.rest

@@ -1,5 +1,5 @@
 use Rattle.pump.proofs.Growing.{pumps_not, pumps_on}
-use Rattle.pump.proofs.writing.pump_write.Goals as goal
+use Rattle.pump.proofs.writing.write_over.Goals as goal
 
 pub returns-in-Ok-clause-calls : goal.returns-in-Ok-clause-calls
 returns-in-Ok-clause-calls g c = pumps_on c.in-Ok.ensures.calls c.write_takes.ensures.calls
