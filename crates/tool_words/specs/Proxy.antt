@@ -25,18 +25,19 @@ proxy_name Mbim = codes "mbim-proxy"
 
 -- ---- the options ----
 
--- --device PATH, or -d PATH, --socket PATH, --bridge PATH, --no-exit, --empty-timeout SECONDS, --time MS, --turns N
+-- --device PATH, or -d PATH, --socket PATH, --bridge PATH, --no-exit, --exit-when-lost, --empty-timeout SECONDS, --time MS, --turns N
 abbrev pub proxy_spelling : ProxyOption → Spelling
 proxy_spelling option.Device = or_letter 100 (valued (codes "device"))
 proxy_spelling option.Socket = valued (codes "socket")
 proxy_spelling option.Bridge = valued (codes "bridge")
 proxy_spelling option.NoExit = flag (codes "no-exit")
+proxy_spelling option.ExitWhenLost = flag (codes "exit-when-lost")
 proxy_spelling option.EmptyTimeout = valued (codes "empty-timeout")
 proxy_spelling option.Time = valued (codes "time")
 proxy_spelling option.Turns = valued (codes "turns")
 
 unfoldable pub proxy_options : List ProxyOption
-proxy_options = option.Device ∷ option.Socket ∷ option.Bridge ∷ option.NoExit ∷ option.EmptyTimeout ∷ option.Time ∷ option.Turns ∷ []
+proxy_options = option.Device ∷ option.Socket ∷ option.Bridge ∷ option.NoExit ∷ option.ExitWhenLost ∷ option.EmptyTimeout ∷ option.Time ∷ option.Turns ∷ []
 
 unfoldable pub proxy_app : Kind → App
 proxy_app kind = with_options proxy_spelling (without_options (proxy_name kind)) proxy_options
@@ -56,7 +57,7 @@ proxy_values kind rows = do
   device ← option_and_then path_in (value_given proxy_spelling rows option.Device)
   socket ← path_or (proxy_socket kind) (value_given proxy_spelling rows option.Socket)
   bridge ← path_or bridge_socket (value_given proxy_spelling rows option.Bridge)
-  Some (Proxy kind device socket bridge (empty_time (is_given proxy_spelling rows option.NoExit) seconds) time turns)
+  Some (Proxy kind device socket bridge (empty_time (is_given proxy_spelling rows option.NoExit) seconds) (is_given proxy_spelling rows option.ExitWhenLost) time turns)
 
 -- ---- what the words ask for ----
 

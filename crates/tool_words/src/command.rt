@@ -57,6 +57,8 @@ pub enum ToolCommand {
         bridge: PathText,
         /// After how many milliseconds without a client it ends.
         empty: Option<u64>,
+        /// Whether it ends once the device is lost.
+        exit_when_lost: bool,
         /// After how many milliseconds a request expires.
         time: u64,
         /// After how many events it ends.

@@ -31,6 +31,7 @@ pub enum ProxyOption {
     Socket,
     Bridge,
     NoExit,
+    ExitWhenLost,
     EmptyTimeout,
     Time,
     Turns,
@@ -45,6 +46,7 @@ impl ToolOption for ProxyOption {
             ProxyOption::Socket => valued("socket"),
             ProxyOption::Bridge => valued("bridge"),
             ProxyOption::NoExit => flag("no-exit"),
+            ProxyOption::ExitWhenLost => flag("exit-when-lost"),
             ProxyOption::EmptyTimeout => valued("empty-timeout"),
             ProxyOption::Time => valued("time"),
             ProxyOption::Turns => valued("turns"),
@@ -52,11 +54,12 @@ impl ToolOption for ProxyOption {
     }
 }
 
-static PROXY_OPTIONS: [ProxyOption; 7] = [
+static PROXY_OPTIONS: [ProxyOption; 8] = [
     ProxyOption::Device,
     ProxyOption::Socket,
     ProxyOption::Bridge,
     ProxyOption::NoExit,
+    ProxyOption::ExitWhenLost,
     ProxyOption::EmptyTimeout,
     ProxyOption::Time,
     ProxyOption::Turns,
@@ -102,6 +105,7 @@ fn values(alloc: Global, kind: Kind, matches: &ArgMatches<'_>) -> Result<ToolCom
     ensures { Gives (proxy_values kind (rows_of (found_of matches.now))) result }
 {
     let stays = is_given(matches, ProxyOption::NoExit);
+    let exit_when_lost = is_given(matches, ProxyOption::ExitWhenLost);
     let seconds = value_given(matches, ProxyOption::EmptyTimeout);
     let seconds = number_or(30, 0, 86_400, seconds)?;
     let time = value_given(matches, ProxyOption::Time);
@@ -118,6 +122,7 @@ fn values(alloc: Global, kind: Kind, matches: &ArgMatches<'_>) -> Result<ToolCom
         socket,
         bridge,
         empty: empty_time(stays, seconds),
+        exit_when_lost,
         time,
         turns,
     })

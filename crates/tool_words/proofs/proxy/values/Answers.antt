@@ -22,4 +22,5 @@ returns c =
       c.in_ok-bridge.ensures,
       ← c.is_given-stays.ensures,
       ← c.empty_time.ensures,
+      ← c.is_given-exit_when_lost.ensures,
     ) refl
