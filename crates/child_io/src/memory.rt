@@ -1,4 +1,4 @@
-ghost use Rattle.std.specs.Prelude.{◌≡◌, ◌≤◌, [], ◌∷◌, Some, map, string_bytes, IfOk};
+ghost use Rattle.std.specs.Prelude.{◌≡◌, ◌≤◌, [], ◌∷◌, Some, map, reverse, string_bytes, IfOk};
 ghost use Rattle.kit_io.specs.Told.{Grows};
 ghost use Rattle.child_io.specs.Made.{calls_of, words_notes};
 
@@ -55,6 +55,9 @@ impl MemSpawner {
         ensures told { IfOk result (λ spawner. spawner.log.told ≡ Some []) }
         ensures room { IfOk result (λ spawner. room ≤ spawner.log.room) }
         ensures bytes_room { IfOk result (λ spawner. bytes_room ≤ spawner.log.bytes_room) }
+        ensures script { IfOk result (λ spawner. spawner.script.items ≡ reverse script.items) }
+        ensures unnamed { IfOk result (λ spawner. spawner.last ≡ 0) }
+        ensures faults { IfOk result (λ spawner. spawner.faults ≡ 0) }
     {
         script.reverse();
         Ok(MemSpawner {

@@ -1,4 +1,7 @@
-ghost use Rattle.std.specs.Prelude.{◌≡◌, ◌<◌, None, length, IfOk};
+ghost use Rattle.std.specs.Prelude.{◌≡◌, ◌+◌, ◌<◌, [], ◌∷◌, None, is_ok, length, map, string_bytes, vec_len, IfOk, OnErr, OnOk};
+ghost use Rattle.kit_io.specs.Causes.{HasCause};
+ghost use Rattle.kit_io.specs.Told.{Grows};
+ghost use Rattle.child_io.specs.Calls.{Stopped, end_call, start_call};
 
 use crate::{KIDS_LIMIT, Spawner};
 use kit_io::{Failed, Faults};
@@ -6,7 +9,8 @@ use std::alloc::{AllocError, Global};
 use std::io::{self, ErrorKind};
 use std::process::{Child, Command, OpenProcess, Processes, Stdio};
 
-/// The processes of the system. It tells no content.
+/// The processes of the system. It tells no content, and holds each child that it started until it
+/// has seen its end.
 ///
 /// A child has nothing to read: its input is a pipe to which nobody writes, and which is hung up once
 /// the child was stopped or this program is gone, however it ended. Its output goes nowhere, and its
@@ -22,7 +26,11 @@ pub struct StdSpawner<'a, R: Processes> {
 
 impl<'a, R: Processes> StdSpawner<'a, R> {
     /// A spawner that starts the program at this path.
-    pub fn new(rt: &'a R, alloc: Global, program: String) -> Result<Self, AllocError> {
+    pub fn new(rt: &'a R, alloc: Global, program: String) -> Result<Self, AllocError>
+        ensures program { IfOk result (λ spawner. string_bytes spawner.program ≡ string_bytes program) }
+        ensures none { IfOk result (λ spawner. vec_len spawner.children ≡ 0) }
+        ensures faults { IfOk result (λ spawner. spawner.faults ≡ 0) }
+    {
         Ok(StdSpawner {
             rt,
             alloc,
@@ -33,7 +41,9 @@ impl<'a, R: Processes> StdSpawner<'a, R> {
     }
 
     fn spawn(&mut self, words: &[String]) -> io::Result<u32>
-        ensures { self.new.faults ≡ self.old.faults }
+        ensures faults { self.new.faults ≡ self.old.faults }
+        ensures held { OnOk result (vec_len self.new.children ≡ vec_len self.old.children + 1) }
+        ensures failed { OnErr result (vec_len self.new.children ≡ vec_len self.old.children) }
     {
         self.children.try_reserve(1)?;
         let child = Command::new(self.alloc, self.program.as_str())?
@@ -58,14 +68,19 @@ fn place_of<P: OpenProcess>(children: &[Child<P>], child: u32) -> io::Result<usi
 }
 
 // Waits for a child's end, and forgets it.
-fn wait<P: OpenProcess + Drop>(children: &mut Vec<Child<P>>, child: u32) -> io::Result<i32> {
+fn wait<P: OpenProcess + Drop>(children: &mut Vec<Child<P>>, child: u32) -> io::Result<i32>
+    ensures seen { OnOk result (vec_len children.new + 1 ≡ vec_len children.old) }
+    ensures failed { OnErr result (vec_len children.new ≡ vec_len children.old) }
+{
     let place = place_of(children, child)?;
     let status = children[place].wait()?;
     children.swap_remove(place);
     Ok(status.code().unwrap_or(-1))
 }
 
-fn kill<P: OpenProcess>(children: &mut [Child<P>], child: u32) -> io::Result<()> {
+fn kill<P: OpenProcess>(children: &mut [Child<P>], child: u32) -> io::Result<()>
+    ensures { length children.new ≡ length children.old }
+{
     let place = place_of(children, child)?;
     children[place].kill()
 }
@@ -75,21 +90,36 @@ impl<R: Processes> Spawner for StdSpawner<'_, R> {
 
     ghost faults = { λ s. s.faults };
 
-    fn start(&mut self, words: &[String]) -> Result<u32, Failed> {
+    fn start(&mut self, words: &[String]) -> Result<u32, Failed>
+        ensures calls { Grows None (start_call (map string_bytes words.now) result ∷ []) None }
+        ensures cause { HasCause self.old.faults self.new.faults result }
+        ensures held { OnOk result (vec_len self.new.children ≡ vec_len self.old.children + 1) }
+        ensures failed { OnErr result (vec_len self.new.children ≡ vec_len self.old.children) }
+    {
         match self.spawn(words) {
             Ok(child) => Ok(child),
             Err(_) => Err(self.faults.fail()),
         }
     }
 
-    fn ended(&mut self, child: u32) -> Result<i32, Failed> {
+    fn ended(&mut self, child: u32) -> Result<i32, Failed>
+        ensures calls { Grows None (end_call child result ∷ []) None }
+        ensures cause { HasCause self.old.faults self.new.faults result }
+        ensures seen { OnOk result (vec_len self.new.children + 1 ≡ vec_len self.old.children) }
+        ensures failed { OnErr result (vec_len self.new.children ≡ vec_len self.old.children) }
+    {
         match wait(&mut self.children, child) {
             Ok(status) => Ok(status),
             Err(_) => Err(self.faults.fail()),
         }
     }
 
-    fn stop(&mut self, child: u32) -> Result<(), Failed> {
+    fn stop(&mut self, child: u32) -> Result<(), Failed>
+        ensures calls { Grows None (Stopped child (is_ok result) ∷ []) None }
+        ensures cause { HasCause self.old.faults self.new.faults result }
+        ensures seen { OnOk result (vec_len self.new.children + 1 ≡ vec_len self.old.children) }
+        ensures failed { OnErr result (vec_len self.new.children ≡ vec_len self.old.children) }
+    {
         if kill(&mut self.children, child).is_ok() && wait(&mut self.children, child).is_ok() {
             return Ok(());
         }
