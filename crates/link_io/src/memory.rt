@@ -1,4 +1,4 @@
-ghost use Rattle.std.specs.Prelude.{◌≡◌, ◌≤◌, [], ◌∷◌, Some, IfOk};
+ghost use Rattle.std.specs.Prelude.{◌≡◌, ◌≤◌, false, [], ◌∷◌, Some, reverse, IfOk};
 ghost use Rattle.kit_io.specs.Told.{Grows};
 ghost use Rattle.link_io.specs.Calls.{Opened};
 ghost use Rattle.link_io.specs.Target.{address_of};
@@ -60,6 +60,10 @@ impl MemLink {
         ensures told { IfOk result (λ link. link.log.told ≡ Some []) }
         ensures room { IfOk result (λ link. room ≤ link.log.room) }
         ensures bytes_room { IfOk result (λ link. bytes_room ≤ link.log.bytes_room) }
+        ensures script { IfOk result (λ link. link.script.items ≡ reverse script.items) }
+        ensures not_ended { IfOk result (λ link. link.ended ≡ false) }
+        ensures open_faults { IfOk result (λ link. link.open_faults ≡ 0) }
+        ensures faults { IfOk result (λ link. link.faults ≡ 0) }
     {
         script.reverse();
         Ok(MemLink {
