@@ -1,5 +1,5 @@
 -- The clients of a hub: their names, and the table of their counts of faults.
-use Rattle.std.specs.Prelude.{◌≡◌, ℕ, ◌-◌, ◌%◌, Bool, false, ◌==◌, List, slice_index, slice_index_or, Option, Some, None}
+use Rattle.std.specs.Prelude.{◌≡◌, ℕ, ◌-◌, ◌%◌, Bool, false, ◌==◌, List, replicate, slice_index, slice_index_or, Option, Some, None}
 use Rattle.hub_io.specs.Hub.{NamesRise, ToldOfThose}
 use Rattle.hub_io.specs.declared.hub.HubEvent.{HubEvent}
 
@@ -11,11 +11,19 @@ place_in_table name = (name - 1) % 128
 abbrev pub fault_of : List ℕ → ℕ → ℕ
 fault_of counts conn = slice_index counts (place_in_table conn)
 
+-- no send has failed
+abbrev pub no_faults : List ℕ
+no_faults = replicate 128 0
+
 pub record Clients : Type 0 where
   -- the greatest name that was told
   pub greatest : ℕ
   -- the name of who is there, at each place
   pub by_place : List (Option ℕ)
+
+-- nobody is there, and no name was told
+abbrev pub nobody : Clients
+nobody = record { greatest = 0; by_place = replicate 128 None }
 
 abbrev pub is_name : ℕ → Option ℕ → Bool
 is_name conn None = false

@@ -1,7 +1,7 @@
 //! The places of a hub's clients, the names that they have in turn, and their counts of faults.
-ghost use Rattle.std.specs.Prelude.{◌≡◌, ◌+◌, ◌<◌, ◌≤◌, ◌^◌, false, Some, IsNone, IsTrue, ◌↔◌, IfSome};
+ghost use Rattle.std.specs.Prelude.{◌≡◌, ◌+◌, ◌<◌, ◌≤◌, ◌^◌, false, Some, IsNone, IsTrue, ◌↔◌, IfOk, IfSome};
 ghost use Rattle.kit_io.specs.Causes.{Rose};
-ghost use Rattle.hub_io.specs.Clients.{place_in_table, fault_of, is_there, TellsOf};
+ghost use Rattle.hub_io.specs.Clients.{place_in_table, fault_of, is_there, no_faults, nobody, TellsOf};
 ghost use Rattle.hub_io.specs.Hub.{NobodyCame, NoneFell};
 ghost use Rattle.hub_io.specs.declared.hub.HubEvent.TheVariants.{Joined};
 
@@ -54,7 +54,9 @@ impl Model for Names {
 
 impl Names {
     /// Nobody is there, and no name was told. This takes the memory of all the places.
-    pub(crate) fn none(alloc: Global) -> Result<Self, AllocError> {
+    pub(crate) fn none(alloc: Global) -> Result<Self, AllocError>
+        ensures { IfOk result (λ names. names ≡ nobody) }
+    {
         Ok(Names {
             greatest: 0,
             by_place: Vec::from_elem(alloc, None, PLACES)?,
@@ -126,7 +128,9 @@ impl Model for ConnFaults {
 
 impl ConnFaults {
     /// No send has failed. This takes the memory of all the counts.
-    pub(crate) fn none(alloc: Global) -> Result<Self, AllocError> {
+    pub(crate) fn none(alloc: Global) -> Result<Self, AllocError>
+        ensures { IfOk result (λ faults. faults ≡ no_faults) }
+    {
         Ok(ConnFaults {
             counts: Vec::from_elem(alloc, 0, PLACES)?,
         })

@@ -1,9 +1,9 @@
-ghost use Rattle.std.specs.Prelude.{◌≡◌, ℕ, ◌<◌, ◌≤◌, [], Some, length, IfSome, IfOk};
+ghost use Rattle.std.specs.Prelude.{◌≡◌, ℕ, ◌<◌, ◌≤◌, [], Some, length, reverse, IfSome, IfOk};
 ghost use Rattle.std.specs.Option.{option_copied, option_map};
 ghost use Rattle.kit_io.specs.Record.{Notes};
 ghost use Rattle.link_io.specs.Target.{address_of};
 ghost use Rattle.hub_io.specs.Record.{Records, Opened};
-ghost use Rattle.hub_io.specs.Clients.{fault_of, is_there, TellsOf};
+ghost use Rattle.hub_io.specs.Clients.{fault_of, is_there, no_faults, nobody, TellsOf};
 ghost use Rattle.hub_io.specs.Hub.{FitsBuffer, event_call};
 ghost use Rattle.hub_io.specs.Notes.{size_of, call_as, calls_of};
 
@@ -88,6 +88,12 @@ impl MemHub {
         ensures told { IfOk result (λ hub. hub.log.told ≡ Some []) }
         ensures room { IfOk result (λ hub. room ≤ hub.log.room) }
         ensures bytes_room { IfOk result (λ hub. bytes_room ≤ hub.log.bytes_room) }
+        ensures turns { IfOk result (λ hub. hub.turns.items ≡ reverse turns.items) }
+        ensures answers { IfOk result (λ hub. hub.answers.items ≡ reverse answers.items) }
+        ensures faults { IfOk result (λ hub. hub.faults ≡ 0) }
+        ensures conn_faults { IfOk result (λ hub. hub.conn_faults ≡ no_faults) }
+        ensures modem_faults { IfOk result (λ hub. hub.modem_faults ≡ 0) }
+        ensures nobody { IfOk result (λ hub. hub.names ≡ nobody) }
     {
         turns.reverse();
         answers.reverse();
