@@ -2,11 +2,13 @@
 # Device nodes: a raw pseudo terminal with a modem behind it, which our tools ask directly and through a proxy that they
 # start, also two at once, and libqmi's qmicli through a proxy of ours. A line for each command, with what it printed first. Fails where one
 # fails, or where a process of ours is left behind. The sockets of a proxy that was stopped stay; the next one replaces them.
+# Then what goes wrong at nodes, over one that takes writes as the kernel's driver does (`node.py`, a line for each point):
+# many programs at once, a second reader, a node that is lost, tools that start their proxies at one moment.
 # MODEMKIT names a program that is built already. MODEM=sim has the program's own simulated modem in place of the
-# stand-in in C.
+# stand-in in C. ROUNDS says how often 16 tools start at one moment: 20 without it.
 top=$(CDPATH= cd -- "$(dirname -- "$0")/.." && pwd) || exit 70
 . "$top/bench/needs.sh"
-needs "Debian: gcc, socat" cc socat timeout
+needs "Debian: gcc, socat, python3" cc socat timeout python3
 program=${MODEMKIT:-$("$top/bench/build.sh")} || exit 70
 folder=$(mktemp -d) || exit 70
 started=
@@ -101,4 +103,7 @@ for kind in qmi mbim; do
     stop
     rm -f "$folder/terminal" "$folder/answering"
 done
+mkdir "$folder/rough"
+cc -O2 -shared -fPIC -o "$folder/wdm.so" "$top/bench/wdm.c" -ldl || exit 70
+python3 -B "$top/bench/node.py" "$folder/rough" "$folder/modemkit" "$folder/wdm.so" "${ROUNDS:-20}" || failed=1
 exit "$failed"

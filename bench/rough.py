@@ -1,4 +1,5 @@
 """Treats the program roughly, and prints a line for each point. `rough.sh` starts it."""
+import fcntl
 import os
 import socket
 import stat
@@ -187,11 +188,22 @@ def what_stands_at_the_path():
 def what_else_is_a_fault():
     modem = Modem()
     point("a path in no folder is refused", run(words(at="none/proxy.sock")) == FAULT)
+    held = []
     for number in range(10):
         os.mkdir(f"proxy.sock.{number}")
-    point("so is one beside which all folders stand already", run(words()) == FAULT)
+        held.append(os.open(f"proxy.sock.{number}", os.O_RDONLY))
+        fcntl.flock(held[-1], fcntl.LOCK_EX)
+    point("so is one beside which all folders are used already", run(words()) == FAULT)
     for number in range(10):
+        os.close(held[number])
         os.rmdir(f"proxy.sock.{number}")
+    os.mkdir("elsewhere")
+    for number in range(10):
+        os.symlink("elsewhere", f"proxy.sock.{number}")
+    point("no link is taken for such a folder", run(words()) == FAULT and os.listdir("elsewhere") == [])
+    for number in range(10):
+        os.unlink(f"proxy.sock.{number}")
+    os.rmdir("elsewhere")
     point("so is one of 104 bytes", run(words(at="./" + 102 * "p")) == FAULT)
     point("one of 103 bytes isn't", run(words("--turns", "1", at="./" + 101 * "p"))[0] == 14)
     point("a modem is refused where nothing stands", run(words(modem="none")) == FAULT)
@@ -201,6 +213,10 @@ def what_else_is_a_fault():
     limited = ["sh", "-c", 'ulimit -n 5; exec "$@"', "sh"]
     point("the proxy ends where it may open no more files", run(limited + words()) == FAULT)
     point("nothing is left", nothing_left())
+    # what is would be in the way of the points below
+    for name in os.listdir("."):
+        if name.startswith("proxy.sock."):
+            os.rmdir(name)
     modem.end()
 
 
@@ -232,10 +248,8 @@ def rights():
     os.mkdir("proxy.sock.0")
     leave_socket("proxy.sock.0/s")
     proxy = start()
-    point("a folder that a killed proxy left is in nobody's way", listens() and answers())
+    point("a folder that a killed proxy left is taken by the next", listens() and answers() and not os.path.exists("proxy.sock.0"))
     end(proxy)
-    os.unlink("proxy.sock.0/s")
-    os.rmdir("proxy.sock.0")
     proxy = start(preexec_fn=lambda: os.umask(0o077))
     point("it listens under a mask of 077", listens() and answers())
     end(proxy)

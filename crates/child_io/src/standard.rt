@@ -6,7 +6,9 @@ ghost use Rattle.child_io.specs.Calls.{Stopped, end_call, start_call};
 use crate::{KIDS_LIMIT, Spawner};
 use kit_io::{Failed, Faults};
 use std::alloc::{AllocError, Global};
-use std::io::{self, ErrorKind};
+use std::io::{self, ErrorKind, Read};
+use std::os::fd::AsFd;
+use std::os::unix::net::UnixStream;
 use std::process::{Child, Command, OpenProcess, Processes, Stdio};
 
 /// The processes of the system. It tells no content, and holds each child that it started until it
@@ -14,13 +16,16 @@ use std::process::{Child, Command, OpenProcess, Processes, Stdio};
 ///
 /// A child has nothing to read: its input is a pipe to which nobody writes, and which is hung up once
 /// the child was stopped or this program is gone, however it ended. Its output goes nowhere, and its
-/// errors go where this program's do. It is named by its process number.
+/// errors go where this program's do, but for those of a proxy, which are kept until they are asked
+/// for. It is named by its process number.
 #[derive(Drop)]
 pub struct StdSpawner<'a, R: Processes> {
     rt: &'a R,
     alloc: Global,
     program: String,
     children: Vec<Child<R::Started>>,
+    /// What the proxy says of its faults that was started last.
+    complaints: Option<<R::Started as OpenProcess>::Stderr>,
     faults: Faults,
 }
 
@@ -36,6 +41,7 @@ impl<'a, R: Processes> StdSpawner<'a, R> {
             alloc,
             program,
             children: Vec::with_capacity(alloc, KIDS_LIMIT)?,
+            complaints: None,
             faults: Faults::none(),
         })
     }
@@ -46,15 +52,53 @@ impl<'a, R: Processes> StdSpawner<'a, R> {
         ensures failed { OnErr result (vec_len self.new.children ≡ vec_len self.old.children) }
     {
         self.children.try_reserve(1)?;
-        let child = Command::new(self.alloc, self.program.as_str())?
+        let is_kept = is_proxy(words);
+        let mut child = Command::new(self.alloc, self.program.as_str())?
             .args(words)?
             .stdin(Stdio::piped())
             .stdout(Stdio::null())
+            .stderr(if is_kept {
+                Stdio::piped()
+            } else {
+                Stdio::inherit()
+            })
             .spawn(self.rt)?;
+        if is_kept {
+            self.complaints = child.stderr.take();
+        }
         let number = child.id();
         self.children.push_reserved(child);
         Ok(number)
     }
+}
+
+impl<R: Processes> StdSpawner<'_, R>
+where
+    <R::Started as OpenProcess>::Stderr: AsFd,
+{
+    /// Puts what the proxy said of its faults that was started last at the front of the buffer, as
+    /// far as it is there, and gives how many bytes that are.
+    pub fn take_complaints(&mut self, buffer: &mut [u8]) -> usize {
+        match &mut self.complaints {
+            Some(complaints) => read_at_once(complaints, buffer).unwrap_or(0),
+            None => 0,
+        }
+    }
+}
+
+// Whether these words start a proxy.
+fn is_proxy(words: &[String]) -> bool {
+    match words.first() {
+        Some(name) => name.as_str() == "qmi-proxy" || name.as_str() == "mbim-proxy",
+        None => false,
+    }
+}
+
+// Reads what is there, which others may still be about to write.
+fn read_at_once<P: Read + AsFd>(pipe: &mut P, buffer: &mut [u8]) -> io::Result<usize> {
+    // std sets this for sockets alone; it is the same for whatever a descriptor leads to
+    UnixStream::from(pipe.as_fd().try_clone_to_owned()?).set_nonblocking(true)?;
+    pipe.read(buffer)
 }
 
 // Where the child stands.

@@ -3,21 +3,28 @@ ghost use Rattle.std.specs.Prelude.{None};
 use crate::{Files, Side};
 use kit_io::{Failed, Faults};
 use libc::STDIN_FILENO;
-use libc::net::{POLLHUP, POLLIN, poll};
+use libc::net::{POLLERR, POLLHUP, POLLIN, POLLNVAL, POLLOUT, poll};
 use libc::types::pollfd;
-use std::fs::{self, OpenFile, OpenOptions};
-use std::io::{self, Read, Write};
-use std::os::fd::{AsRawFd, RawFd};
+use std::cell::Cell;
+use std::fs::{self, File, OpenFile, OpenOptions, TryLockError};
+use std::io::{self, ErrorKind, Read, Write};
+use std::os::fd::{AsFd, AsRawFd, RawFd};
 use std::os::unix::fs::FileTypeExt;
+use std::os::unix::net::UnixStream;
 
 /// The files of the file system. They tell no content.
 ///
-/// A file that is opened for writing is there already, and is written from its start on. A character
-/// device, such as a modem's node, has also ended where it gives nothing and the program's input is
-/// hung up: whoever started the program over a pipe is gone then.
+/// A file that is opened for writing is there already, and is written from its start on.
+///
+/// A character device that is opened while a link is open is a modem's node. It has one reader: its
+/// opening fails where another one reads it. It is waited for beside the link and the program's input.
+/// Where it gives or takes nothing, and one of these is hung up, it has ended: whoever started the
+/// program over a pipe is gone then, or whoever it serves.
 #[derive(Drop)]
 pub struct StdFiles<'a, R: fs::Files> {
     rt: &'a R,
+    /// The descriptor of the link, or -1 where none is open.
+    link: &'a Cell<RawFd>,
     file: Option<R::File>,
     is_node: bool,
     read_faults: Faults,
@@ -25,10 +32,12 @@ pub struct StdFiles<'a, R: fs::Files> {
 }
 
 impl<'a, R: fs::Files> StdFiles<'a, R> {
-    /// The files of a file system, none of them open.
-    pub fn new(rt: &'a R) -> Self {
+    /// The files of a file system, none of them open, beside a link whose descriptor stands in the
+    /// cell, or -1 where it isn't open.
+    pub fn new(rt: &'a R, link: &'a Cell<RawFd>) -> Self {
         StdFiles {
             rt,
+            link,
             file: None,
             is_node: false,
             read_faults: Faults::none(),
@@ -44,34 +53,63 @@ fn open_file<R: fs::Files>(rt: &R, path: &str, side: Side) -> io::Result<R::File
     }
 }
 
-fn is_node<F: OpenFile>(file: &F) -> bool {
+fn is_device<F: OpenFile>(file: &F) -> bool {
     match file.metadata() {
         Ok(metadata) => metadata.file_type().is_char_device(),
         Err(_) => false,
     }
 }
 
-// Whether the program's input is hung up, and the node gives nothing. Waits for either.
-fn is_abandoned(node: RawFd) -> bool {
-    let mut asked = [
-        pollfd {
-            fd: node,
-            events: POLLIN,
-            revents: 0,
-        },
-        pollfd {
-            fd: STDIN_FILENO,
-            events: 0,
-            revents: 0,
-        },
-    ];
-    poll(&mut asked, -1) > 0 && asked[0].revents == 0 && asked[1].revents & POLLHUP != 0
+// Keeps other readers away from a node, and has it give and take at once or not at all.
+fn hold(node: &File, side: Side) -> io::Result<()> {
+    if side == Side::Read
+        && let Err(TryLockError::WouldBlock) = node.try_lock()
+    {
+        return Err(ErrorKind::WouldBlock.into());
+    }
+    // std sets this for sockets alone; it is the same for whatever a descriptor leads to
+    let node = UnixStream::from(node.as_fd().try_clone_to_owned()?);
+    node.set_nonblocking(true)
 }
 
-impl<R: fs::Files> Files for StdFiles<'_, R>
-where
-    R::File: AsRawFd,
-{
+// The file, and whether it is a node, which it is only where a link is open.
+fn open_held<R: fs::Files<File = File>>(
+    rt: &R,
+    path: &str,
+    side: Side,
+    link: RawFd,
+) -> io::Result<(File, bool)> {
+    let file = open_file(rt, path, side)?;
+    let is_node = link >= 0 && is_device(&file);
+    if is_node {
+        hold(&file, side)?;
+    }
+    Ok((file, is_node))
+}
+
+fn asked(fd: RawFd, events: i16) -> pollfd {
+    pollfd {
+        fd,
+        events,
+        revents: 0,
+    }
+}
+
+fn is_hung_up(found: &pollfd) -> bool {
+    found.revents & (POLLHUP | POLLERR | POLLNVAL) != 0
+}
+
+// Waits until a node is ready, or the program's input or the link is hung up. Whether it isn't ready.
+fn is_abandoned(node: RawFd, link: RawFd, events: i16) -> bool {
+    let mut all = [asked(node, events), asked(STDIN_FILENO, 0), asked(link, 0)];
+    poll(&mut all, -1) > 0 && all[0].revents == 0 && (is_hung_up(&all[1]) || is_hung_up(&all[2]))
+}
+
+fn comes_again(error: &io::Error) -> bool {
+    matches!(error.kind(), ErrorKind::WouldBlock | ErrorKind::Interrupted)
+}
+
+impl<R: fs::Files<File = File>> Files for StdFiles<'_, R> {
     ghost calls = { λ _. None };
 
     ghost read_faults = { λ s. s.read_faults };
@@ -79,32 +117,45 @@ where
     ghost write_faults = { λ s. s.write_faults };
 
     fn open(&mut self, path: &str, side: Side) -> Result<(), Failed> {
-        self.file = open_file(self.rt, path, side).ok();
-        if let Some(file) = &self.file {
-            self.is_node = is_node(file);
+        self.file = None;
+        if let Ok((file, is_node)) = open_held(self.rt, path, side, self.link.get()) {
+            self.file = Some(file);
+            self.is_node = is_node;
             return Ok(());
         }
         Err(self.read_faults.fail())
     }
 
     fn read(&mut self, buffer: &mut [u8]) -> Result<usize, Failed> {
-        if let Some(file) = &mut self.file {
-            if self.is_node && is_abandoned(file.as_raw_fd()) {
+        let Some(file) = &mut self.file else {
+            return Err(self.read_faults.fail());
+        };
+        for _ in 0..u64::MAX {
+            if self.is_node && is_abandoned(file.as_raw_fd(), self.link.get(), POLLIN) {
                 return Ok(0);
             }
-            if let Ok(count) = file.read(buffer) {
-                return Ok(count);
+            match file.read(buffer) {
+                Ok(count) => return Ok(count),
+                Err(error) if comes_again(&error) => {}
+                Err(_) => break,
             }
         }
         Err(self.read_faults.fail())
     }
 
     fn write(&mut self, bytes: &[u8]) -> Result<usize, Failed> {
-        if let Some(file) = &mut self.file
-            && let Ok(count) = file.write(bytes)
-            && (count > 0 || bytes.is_empty())
-        {
-            return Ok(count);
+        let Some(file) = &mut self.file else {
+            return Err(self.write_faults.fail());
+        };
+        for _ in 0..u64::MAX {
+            match file.write(bytes) {
+                Ok(count) if count > 0 || bytes.is_empty() => return Ok(count),
+                Err(error) if comes_again(&error) => {}
+                Ok(_) | Err(_) => break,
+            }
+            if self.is_node && is_abandoned(file.as_raw_fd(), self.link.get(), POLLOUT) {
+                break;
+            }
         }
         Err(self.write_faults.fail())
     }

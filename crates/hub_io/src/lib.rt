@@ -20,4 +20,4 @@ pub use hub::{Hub, HubEvent, NEXT_ROOM};
 pub use laws::events_stand_in_order;
 pub use memory::{HubAnswer, HubCall, HubTurn, MemHub};
 pub use mio_hub::MioHub;
-pub use settings::{Limits, ServeEnd, Settings};
+pub use settings::{Limits, ServeEnd, Settings, Until};

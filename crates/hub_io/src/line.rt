@@ -3,8 +3,10 @@ ghost use Rattle.std.specs.Prelude.{◌≡◌, ℕ, ◌<◌, ◌≤◌, length, 
 ghost use Rattle.hub_io.specs.Reading.{GaveFits};
 
 use crate::peer::{Gave, Peer, Reading};
+use link_io::TAKE_ROOM;
 use mio::Registry;
 use mio::event::Event;
+use node_frame::whole_front;
 use std::io;
 
 /// One socket both ways, or two of them where a node is reached through its pumps.
@@ -55,11 +57,15 @@ impl Line {
         }
     }
 
-    /// Writes once. A line that takes nothing now is full.
+    /// Writes once. A line that takes nothing now is full. A pump is written whole messages, so that
+    /// it finds no part of one where it looks between two writings.
     pub(crate) fn write(&mut self, bytes: &[u8]) -> io::Result<usize>
         ensures within { IfOk result (λ count. count ≤ length bytes.now) }
     {
-        self.output().write(bytes)
+        match &mut self.output {
+            Some(output) => output.write(whole_messages(bytes)),
+            None => self.input.write(bytes),
+        }
     }
 
     fn output(&mut self) -> &mut Peer {
@@ -67,6 +73,17 @@ impl Line {
             Some(output) => output,
             None => &mut self.input,
         }
+    }
+}
+
+// The whole messages that a pump takes at once, or all the bytes where there are none.
+fn whole_messages(bytes: &[u8]) -> &[u8]
+    ensures within { length result.now ≤ length bytes.now }
+{
+    let near = &bytes[..bytes.len().min(TAKE_ROOM)];
+    match whole_front(near) {
+        0 => bytes,
+        count => &near[..count],
     }
 }
 

@@ -7,7 +7,7 @@ use crate::{Hub, HubEvent};
 use kit_io::{Failed, Faults};
 use link_io::Target;
 use std::alloc::Global;
-use std::fs::Files;
+use std::fs::{File, Files};
 use std::io;
 use std::net::Net;
 use std::rt::Clock;
@@ -17,9 +17,11 @@ use std::rt::Clock;
 /// Its socket is its owner's alone from its first moment on, and the file goes with the hub. An
 /// opening replaces a socket to which nobody listens. It fails where anything else stands at the
 /// path, or where the path leads to the device. At most 128 clients are there at a time, and others
-/// wait. `next` tells the time at least every 100 ms, and never `Stop`.
+/// wait; where one can't be let in though nobody is there, as where no descriptor is left, `next`
+/// fails. It tells the time at least every 100 ms, and never `Stop`.
 ///
-/// A device behind a bridge is away from the loss of a pump on.
+/// A device behind a bridge is away from the loss of a pump on. Its reopening fails, and closes what
+/// is left of the line to its pumps.
 ///
 /// What `send_modem` took is written at the last of the events that one wait found. A modem that is
 /// lost before then is told by `next`.
@@ -31,7 +33,7 @@ pub struct MioHub<'a, R: Files> {
     modem_faults: Faults,
 }
 
-impl<'a, R: Net + Clock + Files> MioHub<'a, R> {
+impl<'a, R: Net + Clock + Files<File = File>> MioHub<'a, R> {
     /// A hub that isn't open. It takes the memory of its tables here.
     pub fn new(rt: &'a R, alloc: Global) -> io::Result<Self> {
         Ok(MioHub {
@@ -43,7 +45,7 @@ impl<'a, R: Net + Clock + Files> MioHub<'a, R> {
     }
 }
 
-impl<R: Net + Clock + Files> Hub for MioHub<'_, R> {
+impl<R: Net + Clock + Files<File = File>> Hub for MioHub<'_, R> {
     ghost calls = { λ _. None };
 
     ghost faults = { λ s. s.faults };

@@ -7,6 +7,15 @@ pub struct Limits {
     pub time: u64,
 }
 
+/// When a serving ends by itself.
+#[derive(Clone, Copy, Debug, PartialEq, Eq)]
+pub struct Until {
+    /// Once nobody has been connected for so many milliseconds.
+    pub empty: Option<u64>,
+    /// Once the device is lost.
+    pub lost: bool,
+}
+
 /// How a proxy is served.
 #[derive(Debug, Drop)]
 pub struct Settings {
@@ -14,8 +23,8 @@ pub struct Settings {
     pub device: Text,
     /// How long a request waits for its answer, in milliseconds.
     pub time: u64,
-    /// The serving ends once nobody has been connected for so many milliseconds.
-    pub empty: Option<u64>,
+    /// When the serving ends by itself.
+    pub until: Until,
     /// The serving ends after so many events.
     pub turns: u64,
 }
@@ -27,6 +36,8 @@ pub enum ServeEnd {
     Stopped,
     /// Nobody was connected for long enough.
     Empty,
+    /// The device was lost.
+    Lost,
     /// The hub failed.
     HubFault,
     TurnsSpent,

@@ -20,7 +20,7 @@ use mio::unix::SourceFd;
 use mio::{Events, Interest, Poll, Token};
 use slab::Slab;
 use std::alloc::Global;
-use std::fs::Files;
+use std::fs::{File, Files};
 use std::io;
 use std::io::ErrorKind;
 use std::net::Net;
@@ -48,6 +48,8 @@ pub(crate) struct Sockets<'a, R: Files> {
     listening: Option<Listening<'a, R>>,
     /// A client may wait that wasn't let in.
     is_crowded: bool,
+    /// One wasn't let in though nobody is there, and so none ever will be.
+    is_barred: bool,
     /// By the places of their names.
     clients: Slab<Peer>,
     /// Who is there.
@@ -61,7 +63,7 @@ pub(crate) struct Sockets<'a, R: Files> {
     lost_modem: bool,
 }
 
-impl<'a, R: Net + Clock + Files> Sockets<'a, R> {
+impl<'a, R: Net + Clock + Files<File = File>> Sockets<'a, R> {
     /// Sockets that aren't open. They take the memory of their tables here.
     pub(crate) fn new(rt: &'a R, alloc: Global) -> io::Result<Self> {
         Ok(Sockets {
@@ -73,6 +75,7 @@ impl<'a, R: Net + Clock + Files> Sockets<'a, R> {
             ticker: Ticker::start(rt)?,
             listening: None,
             is_crowded: false,
+            is_barred: false,
             clients: Slab::with_capacity(alloc, PLACES)?,
             names: Names::none(alloc)?,
             device: None,
@@ -119,10 +122,12 @@ impl<'a, R: Net + Clock + Files> Sockets<'a, R> {
         Ok(())
     }
 
-    /// Connects to the device that was named at the opening.
+    /// Connects to the device that was named at the opening. Where pumps reach it, what is left of
+    /// their line is closed, so that they end.
     pub(crate) fn open_device(&mut self) -> io::Result<()>
         ensures names { self.new.names ≡ self.old.names }
     {
+        self.modem = None;
         let Some(path) = &self.device else {
             return Err(ErrorKind::NotFound.into());
         };
@@ -156,6 +161,9 @@ impl<'a, R: Net + Clock + Files> Sockets<'a, R> {
         ensures clients { ToldOfThose (result_ok result) (is_there self.old.names) (is_there self.new.names) }
     {
         for _ in 0..u64::MAX {
+            if self.is_barred {
+                break;
+            }
             if self.lost_modem {
                 self.lost_modem = false;
                 return Ok(HubEvent::ModemGone);
@@ -241,7 +249,9 @@ impl<'a, R: Net + Clock + Files> Sockets<'a, R> {
             Ok(stream) => Some(stream),
             Err(error) => {
                 // out of descriptors, for one
-                self.is_crowded = self.is_crowded || error.kind() != ErrorKind::WouldBlock;
+                let is_refused = error.kind() != ErrorKind::WouldBlock;
+                self.is_crowded = self.is_crowded || is_refused;
+                self.is_barred = is_refused && self.clients.is_empty();
                 None
             }
         }

@@ -1,7 +1,7 @@
 //! Where two pumps meet whoever wants to reach a device node.
 use crate::socket_file::Listening;
 use std::alloc::Global;
-use std::fs::Files;
+use std::fs::{File, Files};
 use std::io::{self, ErrorKind, Read};
 use std::net::Net;
 use std::os::unix::net::UnixStream;
@@ -37,7 +37,7 @@ pub struct Bridge<'a, R: Files> {
     listening: Listening<'a, R>,
 }
 
-impl<'a, R: Net + Files + Clock> Bridge<'a, R> {
+impl<'a, R: Net + Files<File = File> + Clock> Bridge<'a, R> {
     /// Listens at the path. It fails where something stands there, unless that is a socket to which
     /// nobody listens.
     pub fn listen(rt: &'a R, alloc: Global, path: &str) -> io::Result<Self> {

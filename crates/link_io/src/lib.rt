@@ -4,6 +4,7 @@
 mod bridge;
 mod link;
 mod memory;
+mod message_stream;
 mod socket_file;
 mod unix;
 

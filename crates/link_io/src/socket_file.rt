@@ -1,6 +1,7 @@
 //! The file of a socket that listens: what may stand there before, how it comes about, and its end.
+use libc::geteuid;
 use std::alloc::{AllocError, Global};
-use std::fs::{Files, Metadata, Permissions};
+use std::fs::{File, Files, Metadata, Permissions};
 use std::io::ErrorKind;
 use std::net::Net;
 use std::os::fd::{AsRawFd, RawFd};
@@ -79,7 +80,7 @@ pub struct Listening<'a, R: Files> {
     listener: UnixListener,
 }
 
-impl<'a, R: Net + Files> Listening<'a, R> {
+impl<'a, R: Net + Files<File = File>> Listening<'a, R> {
     /// Has a socket of its owner alone stand at the path, in place of one that was left. It is made
     /// elsewhere, so that it listens and has its rights before anybody finds it.
     pub fn start(rt: &'a R, alloc: Global, path: &str) -> io::Result<Self> {
@@ -141,22 +142,35 @@ fn remove<R: Files>(rt: &R, path: &str, file: FileId) {
 }
 
 /// A folder of its owner alone, where a socket is made. Both names go when it is dropped.
+///
+/// It is locked as long as it is used: one that isn't was left by a program that was killed, and is
+/// taken by the next.
 struct OwnFolder<'a, R: Files> {
     rt: &'a R,
     name: String,
     socket: String,
+    lock: File,
 }
 
-impl<'a, R: Files> OwnFolder<'a, R> {
-    /// A new folder, whose name is the path and a number.
+impl<'a, R: Files<File = File>> OwnFolder<'a, R> {
+    /// A folder whose name is the path and a number.
     fn beside(rt: &'a R, alloc: Global, path: &str) -> io::Result<Self> {
         for number in 0..NAMES {
             let name = numbered(alloc, path, number)?;
             let socket = joined(alloc, name.as_str(), "/s")?;
             match rt.create_dir_with_mode(name.as_str(), 0o700) {
-                Ok(()) => return Ok(OwnFolder { rt, name, socket }),
+                Ok(()) => {}
                 Err(error) if error.kind() == ErrorKind::AlreadyExists => {}
                 Err(error) => return Err(error),
+            }
+            if let Some(lock) = hold(rt, name.as_str()) {
+                let _ = fs::remove_file(rt, socket.as_str());
+                return Ok(OwnFolder {
+                    rt,
+                    name,
+                    socket,
+                    lock,
+                });
             }
         }
         Err(ErrorKind::AlreadyExists.into())
@@ -165,12 +179,29 @@ impl<'a, R: Files> OwnFolder<'a, R> {
 
 impl<R: Files> Drop for OwnFolder<'_, R> {
     fn drop(self) {
-        let OwnFolder { rt, name, socket } = self;
+        let OwnFolder {
+            rt,
+            name,
+            socket,
+            lock,
+        } = self;
         let _ = fs::remove_file(rt, socket.as_str());
         let _ = fs::remove_dir(rt, name.as_str());
+        // behind the removal: nobody else has taken the folder before
+        drop(lock);
         drop(socket);
         drop(name);
     }
+}
+
+// The lock on the folder of this name, where it is this user's and nobody has it.
+fn hold<R: Files<File = File>>(rt: &R, name: &str) -> Option<File> {
+    let folder = fs::open(rt, name).ok()?;
+    folder.try_lock().ok()?;
+    let locked = folder.metadata().ok()?;
+    // it may have gone before it was locked, or be a link
+    let is_here = FileId::at(rt, name).ok()? == FileId::of(&locked);
+    (is_here && locked.is_dir() && locked.uid() == geteuid()).then_some(folder)
 }
 
 fn numbered(alloc: Global, path: &str, number: u8) -> Result<String, AllocError> {

@@ -1,12 +1,19 @@
-ghost use Rattle.std.specs.Prelude.{◌≡◌, None};
+ghost use Rattle.std.specs.Prelude.{◌≡◌, ◌≤◌, true, false, [], ◌∷◌, None, is_ok, length, IfOk, OnOk, IsSome};
+ghost use Rattle.kit_io.specs.Causes.{HasCause};
+ghost use Rattle.kit_io.specs.Told.{Grows};
+ghost use Rattle.link_io.specs.Calls.{Opened, Paired, Closed, Sends};
+ghost use Rattle.link_io.specs.Target.{address_of, IsReached};
 
 use crate::bridge::{Bridge, Pumps};
+use crate::message_stream::MessageStream;
 use crate::{Link, Taken, Target};
 use kit_io::{Failed, Faults};
 use std::alloc::Global;
-use std::fs::Files;
+use std::cell::Cell;
+use std::fs::{File, Files};
 use std::io::{self, ErrorKind, Read, Write};
 use std::net::Net;
+use std::os::fd::RawFd;
 use std::os::unix::net::UnixStream;
 use std::rt::Clock;
 use std::thread;
@@ -15,24 +22,25 @@ use std::time::Duration;
 /// The streams of a link that may be sent to.
 #[derive(Drop)]
 enum Streams {
-    OfSocket(UnixStream),
+    OfSocket(MessageStream),
     OfBridge(Pumps),
 }
 
 impl Streams {
-    // What comes in.
-    fn input(&mut self) -> &mut UnixStream {
+    fn read(&mut self, buffer: &mut [u8]) -> io::Result<usize>
+        ensures within { IfOk result (λ count. count ≤ length buffer.old) }
+        ensures len { length buffer.new ≡ length buffer.old }
+    {
         match self {
-            Streams::OfSocket(stream) => stream,
-            Streams::OfBridge(pumps) => &mut pumps.read,
+            Streams::OfSocket(stream) => stream.read(buffer),
+            Streams::OfBridge(pumps) => pumps.read.read(buffer),
         }
     }
 
-    // What goes out.
-    fn output(&mut self) -> &mut UnixStream {
+    fn write_all(&mut self, bytes: &[u8]) -> io::Result<()> {
         match self {
-            Streams::OfSocket(stream) => stream,
-            Streams::OfBridge(pumps) => &mut pumps.write,
+            Streams::OfSocket(stream) => stream.write_all(bytes),
+            Streams::OfBridge(pumps) => pumps.write.write_all(bytes),
         }
     }
 }
@@ -46,6 +54,8 @@ impl Streams {
 pub struct UnixLink<'a, R: Files> {
     rt: &'a R,
     alloc: Global,
+    /// The descriptor of the socket, or -1 where none is open.
+    descriptor: &'a Cell<RawFd>,
     bridge: Option<Bridge<'a, R>>,
     streams: Option<Streams>,
     ended: bool,
@@ -53,12 +63,20 @@ pub struct UnixLink<'a, R: Files> {
     faults: Faults,
 }
 
-impl<'a, R: Net + Clock + Files> UnixLink<'a, R> {
-    /// A link that isn't open.
-    pub fn new(rt: &'a R, alloc: Global) -> Self {
+impl<'a, R: Net + Clock + Files<File = File>> UnixLink<'a, R> {
+    /// A link that isn't open. While it is open to a socket, the descriptor of that stands in the
+    /// cell, and else -1.
+    pub fn new(rt: &'a R, alloc: Global, descriptor: &'a Cell<RawFd>) -> Self
+        ensures no_streams { result.streams ≡ None }
+        ensures no_bridge { result.bridge ≡ None }
+        ensures ended { result.ended ≡ false }
+        ensures open_faults { result.open_faults ≡ 0 }
+        ensures faults { result.faults ≡ 0 }
+    {
         UnixLink {
             rt,
             alloc,
+            descriptor,
             bridge: None,
             streams: None,
             ended: false,
@@ -68,6 +86,7 @@ impl<'a, R: Net + Clock + Files> UnixLink<'a, R> {
     }
 
     fn reach(&mut self, target: &Target) -> io::Result<()>
+        ensures reached { OnOk result (IsReached target.now self.new.streams self.new.bridge) }
         ensures ended { self.new.ended ≡ self.old.ended }
         ensures open_faults { self.new.open_faults ≡ self.old.open_faults }
         ensures faults { self.new.faults ≡ self.old.faults }
@@ -76,6 +95,8 @@ impl<'a, R: Net + Clock + Files> UnixLink<'a, R> {
             Target::Socket(path) => {
                 let stream = UnixStream::connect(self.rt, path.as_str())?;
                 stream.set_read_timeout(Some(tick()))?;
+                let stream = MessageStream::new(stream);
+                self.descriptor.set(stream.descriptor());
                 self.streams = Some(Streams::OfSocket(stream));
             }
             Target::Bridge(path) => {
@@ -86,6 +107,7 @@ impl<'a, R: Net + Clock + Files> UnixLink<'a, R> {
     }
 
     fn meet(&mut self) -> io::Result<()>
+        ensures met { OnOk result (IsSome self.new.streams) }
         ensures ended { self.new.ended ≡ self.old.ended }
         ensures open_faults { self.new.open_faults ≡ self.old.open_faults }
         ensures faults { self.new.faults ≡ self.old.faults }
@@ -102,7 +124,7 @@ fn tick() -> Duration {
     Duration::from_millis(100)
 }
 
-impl<R: Net + Clock + Files> Link for UnixLink<'_, R> {
+impl<R: Net + Clock + Files<File = File>> Link for UnixLink<'_, R> {
     ghost calls = { λ _. None };
 
     ghost ended = { λ s. s.ended };
@@ -111,7 +133,13 @@ impl<R: Net + Clock + Files> Link for UnixLink<'_, R> {
 
     ghost faults = { λ s. s.faults };
 
-    fn open(&mut self, target: &Target) -> Result<(), Failed> {
+    fn open(&mut self, target: &Target) -> Result<(), Failed>
+        ensures calls { Grows None (Opened (address_of target.now) (is_ok result) ∷ []) None }
+        ensures ended { self.old.ended ≡ true → self.new.ended ≡ true }
+        ensures cause { HasCause self.old.open_faults self.new.open_faults result }
+        ensures later { self.old.faults ≤ self.new.faults }
+        ensures reached { OnOk result (IsReached target.now self.new.streams self.new.bridge) }
+    {
         if self.reach(target).is_ok() {
             return Ok(());
         }
@@ -119,16 +147,28 @@ impl<R: Net + Clock + Files> Link for UnixLink<'_, R> {
         Err(self.open_faults.fail())
     }
 
-    fn pair(&mut self) -> Result<(), Failed> {
+    fn pair(&mut self) -> Result<(), Failed>
+        ensures calls { Grows None (Paired (is_ok result) ∷ []) None }
+        ensures ended { self.old.ended ≡ true → self.new.ended ≡ true }
+        ensures cause { HasCause self.old.faults self.new.faults result }
+        ensures later { self.old.open_faults ≤ self.new.open_faults }
+        ensures met { OnOk result (IsSome self.new.streams) }
+    {
         match self.meet() {
             Ok(()) => Ok(()),
             Err(_) => Err(self.faults.fail()),
         }
     }
 
-    fn send(&mut self, bytes: &[u8]) -> Result<(), Failed> {
+    fn send(&mut self, bytes: &[u8]) -> Result<(), Failed>
+        ensures calls { Sends None bytes.now result None }
+        ensures ended { self.old.ended ≡ true → self.new.ended ≡ true }
+        ensures cause { HasCause self.old.faults self.new.faults result }
+        ensures later { self.old.open_faults ≤ self.new.open_faults }
+        ensures open { OnOk result (IsSome self.old.streams) }
+    {
         if let Some(streams) = &mut self.streams
-            && streams.output().write_all(bytes).is_ok()
+            && streams.write_all(bytes).is_ok()
         {
             return Ok(());
         }
@@ -142,7 +182,7 @@ impl<R: Net + Clock + Files> Link for UnixLink<'_, R> {
         let Some(streams) = &mut self.streams else {
             return Err(self.faults.fail());
         };
-        match streams.input().read(buffer) {
+        match streams.read(buffer) {
             Ok(0) => {
                 self.ended = true;
                 Ok(Taken::End)
@@ -157,7 +197,15 @@ impl<R: Net + Clock + Files> Link for UnixLink<'_, R> {
         }
     }
 
-    fn close(&mut self) {
+    fn close(&mut self)
+        ensures calls { Grows None (Closed ∷ []) None }
+        ensures ended { self.old.ended ≡ true → self.new.ended ≡ true }
+        ensures later { self.old.faults ≤ self.new.faults }
+        ensures later_open { self.old.open_faults ≤ self.new.open_faults }
+        ensures no_streams { self.new.streams ≡ None }
+        ensures no_bridge { self.new.bridge ≡ None }
+    {
+        self.descriptor.set(-1);
         self.streams = None;
         self.bridge = None;
     }

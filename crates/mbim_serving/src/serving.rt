@@ -19,12 +19,12 @@ use std::alloc::{AllocError, Global};
 /// waited was offered, and just those connections were hung up that the proxy ended or whose sending
 /// failed. The serving ended at once where the hub said so or failed, and never opened it.
 pub fn serve_mbim<H: Hub>(alloc: Global, hub: &mut H, settings: &Settings) -> ServeEnd
-    ensures served { Since (H.calls hub.old) (H.calls hub.new) (EndsSo (proxy_of (setup_for settings.now)) settings.now.empty settings.now.turns result) }
+    ensures served { Since (H.calls hub.old) (H.calls hub.new) (EndsSo (proxy_of (setup_for settings.now)) settings.now.until settings.now.turns result) }
     ensures later { H.faults hub.old ≤ H.faults hub.new }
     ensures fault { result ≡ ServeEnd.HubFault → Rose (H.faults hub.old) (H.faults hub.new) }
 {
     match open(alloc, settings) {
-        Ok(core) => serve(hub, core, settings.empty, settings.turns),
+        Ok(core) => serve(hub, core, settings.until, settings.turns),
         Err(AllocError) => ServeEnd::OutOfMemory,
     }
 }

@@ -11,25 +11,44 @@ use kit_io::{Sink, StdSink};
 use link_io::{Link, UnixLink};
 use program::{Status, give_up, refuse, run};
 use std::alloc::{AllocError, Global};
+use std::cell::Cell;
+use std::io::{BufWriter, Write};
 use std::net::Net;
 use std::os::fd::{AsFd, BorrowedFd, OwnedFd};
 use std::process::ExitCode;
 use std::{env, io};
 
+/// How many bytes are kept of what is to go to the standard error: more than a line has.
+const LINE_ROOM: usize = 1_024;
+
 fn main(rt: HostRuntime) -> ExitCode {
-    let mut out = StdSink::new(rt.stdout());
-    let mut err = StdSink::new(rt.stderr());
-    let status = match stand_ins(&rt) {
-        Ok(_kept) => run_over(&rt, &mut out, &mut err),
-        Err(_) => give_up(&mut err),
+    let status = match BufWriter::with_capacity(rt.alloc(), LINE_ROOM, rt.stderr()) {
+        Ok(mut lines) => {
+            let status = run_above(&rt, &mut lines);
+            let _ = lines.flush();
+            status
+        }
+        Err(_) => give_up(&mut StdSink::new(rt.stderr())),
     };
     ExitCode::from(status.code())
 }
 
+// Does what the words ask. Its own lines go to the writer, which writes them in the end, and at once:
+// no other process's line stands in the midst of one, and those of its children stand before them.
+fn run_above<W: Write>(rt: &HostRuntime, lines: &mut W) -> Status {
+    let mut out = StdSink::new(rt.stdout());
+    let mut err = StdSink::new(lines);
+    match stand_ins(rt) {
+        Ok(_kept) => run_over(rt, &mut out, &mut err),
+        Err(_) => give_up(&mut err),
+    }
+}
+
 // Does what the words ask, over sockets, processes and files.
 fn run_over<O: Sink, E: Sink>(rt: &HostRuntime, out: &mut O, err: &mut E) -> Status {
-    let mut link = UnixLink::new(rt, rt.alloc());
-    let mut files = StdFiles::new(rt);
+    let socket = Cell::new(-1);
+    let mut link = UnixLink::new(rt, rt.alloc(), &socket);
+    let mut files = StdFiles::new(rt, &socket);
     let Ok(mut spawner) = spawner_of(rt) else {
         return give_up(err);
     };
@@ -38,7 +57,19 @@ fn run_over<O: Sink, E: Sink>(rt: &HostRuntime, out: &mut O, err: &mut E) -> Sta
     };
     let status = run_read(rt, out, err, &mut link, &mut hub, &mut spawner, &mut files);
     drop(hub);
+    if !matches!(status, Status::Done | Status::Denied { .. }) {
+        tell_complaints(rt, &mut spawner);
+    }
     status
+}
+
+// Says what a proxy said that was started in vain. Beside an answer nothing is said.
+fn tell_complaints(rt: &HostRuntime, spawner: &mut StdSpawner<'_, HostRuntime>) {
+    let mut complaints = [0; LINE_ROOM];
+    let count = spawner.take_complaints(&mut complaints);
+    if let Some(said) = complaints.get(..count) {
+        let _ = rt.stderr().write_all(said);
+    }
 }
 
 // The same, where the outside is open.

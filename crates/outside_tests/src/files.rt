@@ -1,5 +1,6 @@
 use file_io::{Files, READ_ROOM, Side, StdFiles};
 use kit_io::Failed;
+use std::cell::Cell;
 use std::fs;
 
 // What is done with files stands in functions over any files: a check takes far longer over real ones.
@@ -32,7 +33,8 @@ fn closes<F: Files>(files: &mut F) -> bool {
 
 #[test]
 fn a_file_of_the_file_system_is_written_and_read(rt: HostRuntime) {
-    let mut files = StdFiles::new(&rt);
+    let no_link = Cell::new(-1);
+    let mut files = StdFiles::new(&rt, &no_link);
     assert!(rt; misses(&mut files));
     fs::write(&rt, "f.bin", "text").expect(&rt, "a new file");
     assert!(rt; write(&mut files, b"new") == Ok(3));

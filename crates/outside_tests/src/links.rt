@@ -1,6 +1,7 @@
 use crate::steps::{accept, connect, path, pump, reads, writes};
 use kit_io::Failed;
 use link_io::{Link, TAKE_ROOM, Taken, Target, UnixLink};
+use std::cell::Cell;
 use std::fs::{self, Files};
 use std::net::Net;
 use std::os::unix::net::{UnixListener, UnixStream};
@@ -53,7 +54,8 @@ fn reaches<L: Link, R: Abort + Net + Files>(rt: &R, link: &mut L, target: &Targe
 #[test]
 fn bytes_go_both_ways_over_a_socket(rt: HostRuntime) {
     let target = Target::Socket(path(&rt, rt.alloc(), "link.sock"));
-    let mut link = UnixLink::new(&rt, rt.alloc());
+    let socket = Cell::new(-1);
+    let mut link = UnixLink::new(&rt, rt.alloc(), &socket);
     reaches(&rt, &mut link, &target);
     drop(link);
     drop(target);
@@ -77,7 +79,8 @@ fn crosses<L: Link, R: Abort + Net>(rt: &R, link: &mut L, target: &Target) {
 #[test]
 fn a_link_crosses_a_bridge(rt: HostRuntime) {
     let target = Target::Bridge(path(&rt, rt.alloc(), "bridge.sock"));
-    let mut link = UnixLink::new(&rt, rt.alloc());
+    let socket = Cell::new(-1);
+    let mut link = UnixLink::new(&rt, rt.alloc(), &socket);
     crosses(&rt, &mut link, &target);
     drop(link);
     drop(target);

@@ -6,11 +6,14 @@ use Rattle.tool_runs.specs.declared.run_end.RunEnd.TheVariants as run
 use Rattle.program.specs.declared.status.Status.TheVariants as status
 use Rattle.sim_keeping.specs.declared.keeping.KeepEnd.{KeepEnd}
 use Rattle.sim_keeping.specs.declared.keeping.KeepEnd.TheVariants as keep
-use Rattle.program.specs.Status.{IsOfKeeping, status_of, status_of_child, status_of_keeping, with_stops}
+use Rattle.hub_io.specs.declared.settings.ServeEnd.TheVariants as end
+use Rattle.sim_runs.specs.declared.sim_end.SimEnd.{SimEnd}
+use Rattle.sim_runs.specs.declared.sim_end.SimEnd.TheVariants as sim
+use Rattle.program.specs.Status.{IsOfKeeping, IsOfSimulator, status_of, status_of_child, status_of_keeping, status_of_sim, with_stops}
 use Rattle.program.specs.declared.status.Status.{Status}
 
 -- only a command whose link failed ends so
-pub link_fault_is : (end : RunEnd) → status_of end ≡ status.LinkFault → end ≡ run.LinkFault
+pub link_fault_is : (ends : RunEnd) → status_of ends ≡ status.LinkFault → ends ≡ run.LinkFault
 link_fault_is run.Done e = absurd (cc)
 link_fault_is (run.Denied function code) e = absurd (cc)
 link_fault_is run.LinkFault e = refl
@@ -26,7 +29,7 @@ link_fault_is run.NoProxy e = absurd (cc)
 link_fault_is run.OutOfMemory e = absurd (cc)
 
 -- only a command that couldn't start or stop a child ends so
-pub start_fault_is : (end : RunEnd) → status_of end ≡ status.StartFault → end ≡ run.StartFault
+pub start_fault_is : (ends : RunEnd) → status_of ends ≡ status.StartFault → ends ≡ run.StartFault
 start_fault_is run.Done e = absurd (cc)
 start_fault_is (run.Denied function code) e = absurd (cc)
 start_fault_is run.LinkFault e = absurd (cc)
@@ -48,7 +51,7 @@ start_fault_comes (Ok t) ends later started stops is = let rose = started is in 
 start_fault_comes (Err e) ends later started stops is = omega (arith, later, stops.failed)
 
 -- a run ends so whose simulated modem was kept running
-pub is_of_keeping : (end : KeepEnd) → IsOfKeeping (status_of_keeping end)
+pub is_of_keeping : (ends : KeepEnd) → IsOfKeeping (status_of_keeping ends)
 unfolding status_of_child
 is_of_keeping (keep.Ended (pos zero)) = tt
 is_of_keeping (keep.Ended (pos (suc code))) = tt
@@ -57,10 +60,23 @@ is_of_keeping keep.StartFault = tt
 is_of_keeping keep.OutOfMemory = tt
 
 -- only one whose children couldn't be started or waited for ends with a start fault
-pub keeping_fault_is : (end : KeepEnd) → status_of_keeping end ≡ status.StartFault → end ≡ keep.StartFault
+pub keeping_fault_is : (ends : KeepEnd) → status_of_keeping ends ≡ status.StartFault → ends ≡ keep.StartFault
 unfolding status_of_child
 keeping_fault_is (keep.Ended (pos zero)) e = absurd (cc)
 keeping_fault_is (keep.Ended (pos (suc code))) e = absurd (cc)
 keeping_fault_is (keep.Ended (negsuc code)) e = absurd (cc)
 keeping_fault_is keep.StartFault e = refl
 keeping_fault_is keep.OutOfMemory e = absurd (cc)
+
+-- a run ends so that simulated a modem, which isn't lost
+pub is_of_simulator : (ends : SimEnd) → (ends ≡ sim.Served end.Lost → ⊥) → IsOfSimulator (status_of_sim ends)
+is_of_simulator (sim.Served end.Stopped) never = tt
+is_of_simulator (sim.Served end.Empty) never = tt
+is_of_simulator (sim.Served end.Lost) never = absurd (never refl)
+is_of_simulator (sim.Served end.HubFault) never = tt
+is_of_simulator (sim.Served end.TurnsSpent) never = tt
+is_of_simulator (sim.Served end.OutOfMemory) never = tt
+is_of_simulator sim.HubFault never = tt
+is_of_simulator sim.ReadFault never = tt
+is_of_simulator (sim.ProfileFault fault) never = tt
+is_of_simulator sim.OutOfMemory never = tt

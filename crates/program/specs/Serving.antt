@@ -10,6 +10,7 @@ use Rattle.kit_bytes.specs.declared.Kind.{Kind}
 use Rattle.kit_bytes.specs.declared.Kind.TheVariants as kind
 use Rattle.hub_io.specs.declared.settings.ServeEnd.{ServeEnd}
 use Rattle.hub_io.specs.declared.settings.Settings.{Settings}
+use Rattle.hub_io.specs.declared.settings.Until.{Until}
 use Rattle.proxy_serving.specs.Ends.{EndsSo}
 use Rattle.proxy_history.specs.Proxy.{Proxy}
 use Rattle.qmi_proxy.specs.Proxy as qmi
@@ -27,17 +28,17 @@ pub record Asked : Type 0 where
   pub device : List ℕ
   -- the path of the socket, to which they connect
   pub socket : List ℕ
-  -- the serving ends once nobody has been there for so long
-  pub empty : Option ℕ
+  -- when the serving ends by itself
+  pub until : Until
   -- how long a request waits for its answer
   pub time : ℕ
   pub turns : ℕ
 
-abbrev pub asked_in : List ℕ → List ℕ → Option ℕ → ℕ → ℕ → Asked
-asked_in device socket empty time turns = record { device = device; socket = socket; empty = empty; time = time; turns = turns }
+abbrev pub asked_in : List ℕ → List ℕ → Until → ℕ → ℕ → Asked
+asked_in device socket until time turns = record { device = device; socket = socket; until = until; time = time; turns = turns }
 
 abbrev pub asked_with : List ℕ → Settings → Asked
-asked_with socket settings = asked_in settings.device socket settings.empty settings.time settings.turns
+asked_with socket settings = asked_in settings.device socket settings.until settings.time settings.turns
 
 -- a proxy of this kind, for the device of this path; the modem is there at the opening
 abbrev pub proxy_for : Kind → (device : List ℕ) → (time_limit : ℕ) → Proxy
@@ -80,7 +81,7 @@ status_of_opening fault.Start = status.StartFault
 pub record EndsServing (kind : Kind) (asked : Asked) (opening : List Call) (why : ServeEnd) (calls : List Call) : Type 0 where
   pub served : List Call
   pub whole : calls ≡ served ++ opening
-  pub ends : EndsSo (proxy_for kind asked.device asked.time) asked.empty asked.turns why served
+  pub ends : EndsSo (proxy_for kind asked.device asked.time) asked.until asked.turns why served
 
 -- the hub was opened and paired once, at the socket of the words and for a device that is there, and then served; or it couldn't be opened, or no memory was there before
 pub data Serves (kind : Kind) (asked : Asked) (place : Place) (old new : Option (List Call)) (ends : Status) (starts : List child.Call) : Type 0 where

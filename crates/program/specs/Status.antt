@@ -118,6 +118,7 @@ status_of run.OutOfMemory = status.OutOfMemory
 abbrev pub status_of_end : ServeEnd → Status
 status_of_end end.Stopped = status.Done
 status_of_end end.Empty = status.Done
+status_of_end end.Lost = status.LinkEnd
 status_of_end end.HubFault = status.HubFault
 status_of_end end.TurnsSpent = status.TurnsSpent
 status_of_end end.OutOfMemory = status.OutOfMemory
@@ -171,6 +172,7 @@ IsOfTool _ = Unit {0}
 
 abbrev pub IsOfProxy : Status → Type 0
 IsOfProxy status.Done = Unit {0}
+IsOfProxy status.LinkEnd = Unit {0}
 IsOfProxy status.StartFault = Unit {0}
 IsOfProxy status.HubFault = Unit {0}
 IsOfProxy status.TurnsSpent = Unit {0}

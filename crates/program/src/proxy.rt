@@ -11,7 +11,7 @@ ghost use Rattle.program.specs.Status.{IsOfProxy};
 use crate::opening::open_device;
 use crate::status::Status;
 use child_io::{Kids, Spawner};
-use hub_io::{Hub, ServeEnd, Settings};
+use hub_io::{Hub, ServeEnd, Settings, Until};
 use kit_bytes::{Kind, PathText, Text};
 use mbim_serving::serve_mbim;
 use modem_ways::Device;
@@ -22,16 +22,16 @@ use std::alloc::{AllocError, Global};
 fn settings_of(
     alloc: Global,
     device: &PathText,
-    empty: Option<u64>,
+    until: Until,
     time: u64,
     turns: u64,
 ) -> Result<Settings, AllocError>
-    ensures { IfOk result (λ settings. (socket : List ℕ) → asked_with socket settings ≡ asked_in device.now socket empty time turns) }
+    ensures { IfOk result (λ settings. (socket : List ℕ) → asked_with socket settings ≡ asked_in device.now socket until time turns) }
 {
     Ok(Settings {
         device: Text::from_str(alloc, device.value().as_str())?,
         time,
-        empty,
+        until,
         turns,
     })
 }
@@ -45,18 +45,18 @@ pub fn proxy_modem<H: Hub, P: Spawner>(
     device: &PathText,
     socket: &PathText,
     bridge: &PathText,
-    empty: Option<u64>,
+    until: Until,
     time: u64,
     turns: u64,
     hub: &mut H,
     spawner: &mut P,
 ) -> Status
-    ensures serves { ServesProxy kind (asked_in device.now socket.now empty time turns) (place_of (encode_utf8_all device.now) (encode_utf8_all bridge.now)) (H.calls hub.old) (P.calls spawner.old) result (H.calls hub.new) (P.calls spawner.new) }
+    ensures serves { ServesProxy kind (asked_in device.now socket.now until time turns) (place_of (encode_utf8_all device.now) (encode_utf8_all bridge.now)) (H.calls hub.old) (P.calls spawner.old) result (H.calls hub.new) (P.calls spawner.new) }
     ensures own { IsOfProxy result }
     ensures hub_fault { result ≡ Status.HubFault → Rose (H.faults hub.old) (H.faults hub.new) }
     ensures start_fault { result ≡ Status.StartFault → Rose (P.faults spawner.old) (P.faults spawner.new) }
 {
-    match settings_of(alloc, device, empty, time, turns) {
+    match settings_of(alloc, device, until, time, turns) {
         Ok(settings) => serve(alloc, kind, socket, bridge, &settings, hub, spawner),
         Err(AllocError) => Status::OutOfMemory,
     }
@@ -132,7 +132,7 @@ fn serve_kept<H: Hub, P: Spawner>(
 }
 
 fn serve_opened<H: Hub>(alloc: Global, kind: Kind, settings: &Settings, hub: &mut H) -> ServeEnd
-    ensures served { Since (H.calls hub.old) (H.calls hub.new) (EndsSo (proxy_for kind settings.now.device settings.now.time) settings.now.empty settings.now.turns result) }
+    ensures served { Since (H.calls hub.old) (H.calls hub.new) (EndsSo (proxy_for kind settings.now.device settings.now.time) settings.now.until settings.now.turns result) }
     ensures later { H.faults hub.old ≤ H.faults hub.new }
     ensures fault { result ≡ ServeEnd.HubFault → Rose (H.faults hub.old) (H.faults hub.new) }
 {

@@ -153,6 +153,7 @@ impl From<ServeEnd> for Status {
     fn from(end: ServeEnd) -> Self {
         match end {
             ServeEnd::Stopped | ServeEnd::Empty => Status::Done,
+            ServeEnd::Lost => Status::LinkEnd,
             ServeEnd::HubFault => Status::HubFault,
             ServeEnd::TurnsSpent => Status::TurnsSpent,
             ServeEnd::OutOfMemory => Status::OutOfMemory,

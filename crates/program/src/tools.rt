@@ -17,7 +17,7 @@ use crate::tool::{ask_mbim, ask_qmi, describe_file};
 use child_io::Spawner;
 use core_bench::Bench;
 use file_io::Files;
-use hub_io::Hub;
+use hub_io::{Hub, Until};
 use kit_io::Sink;
 use link_io::Link;
 use std::alloc::Global;
@@ -169,11 +169,18 @@ pub fn run_command_of_proxy<H: Hub, P: Spawner>(
             socket,
             bridge,
             empty,
+            exit_when_lost,
             time,
             turns,
-        } => proxy_modem(
-            alloc, kind, &device, &socket, &bridge, empty, time, turns, hub, spawner,
-        ),
+        } => {
+            let until = Until {
+                empty,
+                lost: exit_when_lost,
+            };
+            proxy_modem(
+                alloc, kind, &device, &socket, &bridge, until, time, turns, hub, spawner,
+            )
+        }
         other => {
             drop(other);
             OTHER

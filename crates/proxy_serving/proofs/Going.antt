@@ -7,7 +7,7 @@ use Rattle.proxy_history.specs.Events.{Event, Took, Left, ModemTook, ModemGone, 
 use Rattle.proxy_history.specs.Connections.{contains, without}
 use Rattle.hub_io.specs.Record.{Call, Told, ToldRoom, ToldModemRoom, ToldStop, NextFailed, Sent, SendFailed, HungUp, events, SentModem, SendModemFailed, Reopened, ReopenFailed}
 use Rattle.proxy_history.specs.Proxy.{Proxy}
-use Rattle.proxy_serving.specs.Serving.{IsFront, AllIsOffered, AllIsDone, taken_by, is_blocked, hang_ups, due_hang_ups, turns_in, NeverIdle, emptied_at, is_modem_blocked, reopenings, due_reopenings}
+use Rattle.proxy_serving.specs.Serving.{IsFront, AllIsOffered, AllIsDone, taken_by, is_blocked, hang_ups, due_hang_ups, turns_in, NeverOver, emptied_at, is_modem_blocked, reopenings, due_reopenings}
 use Rattle.proxy_serving.proofs.Offering.{AreBlocked, differs_from_all, blocked-sent_none, blocked-sent_none_on, blocked_but, blocked_others, all_joined}
 use Rattle.proxy_serving.specs.Ends.{Serves, GoesOn}
 use Rattle.proxy_serving.specs.Server.{remembering}
@@ -17,6 +17,7 @@ use Rattle.proxy_serving.specs.Cores.{Stands}
 use Rattle.proxy_serving.specs.declared.server.Server.{Server}
 use Rattle.proxy_serving.proofs.Takings.{takes-sent_none, takes-sent, takes-failed, takes-told, takes-by}
 use Rattle.proxy_serving.proofs.Offers.{events-sent, events-sent_none, events-hung_up, events-sent_modem}
+use Rattle.hub_io.specs.declared.settings.Until.{Until}
 
 -- ---- what is known, call by call ----
 
@@ -291,7 +292,7 @@ module _ {C : Type 0} {keeps : Proxy → List Event → C → Type 0} {face : C 
   pub serves : (face server.core).dropped ≡ [] → Serves p calls
   serves none = record { sends = going.sends; takes = going.takes; does_all = going.does_all; hangs_up = none_due none; reopens = going.reopens; no_opening = going.no_opening }
 
-  pub goes_on : {limit : Option ℕ} → (face server.core).dropped ≡ [] → NeverIdle p limit calls → GoesOn p limit turns calls
+  pub goes_on : {until : Until} → (face server.core).dropped ≡ [] → NeverOver p until calls → GoesOn p until turns calls
   goes_on none awake = record { serves = serves none; no_end = going.no_end; awake = awake; counted = omega (arith, going.counted) }
 
   -- the last call was to stop, or failed

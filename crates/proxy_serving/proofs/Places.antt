@@ -8,7 +8,7 @@ use Rattle.proxy_history.specs.Events.{Event, Took, Left}
 use Rattle.proxy_history.specs.Connections.{contains, without}
 use Rattle.hub_io.specs.Record.{Call, Sent, SendFailed, HungUp, events}
 use Rattle.proxy_history.specs.Proxy.{Proxy}
-use Rattle.proxy_serving.specs.Serving.{IsFront, IsOffered, is_blocked, NeverIdle, reopenings, due_reopenings}
+use Rattle.proxy_serving.specs.Serving.{IsFront, IsOffered, is_blocked, NeverOver, reopenings, due_reopenings}
 use Rattle.proxy_serving.proofs.Offering.{AreBlocked, is_among, both_on, all_joined, blocked-sent_none}
 use Rattle.proxy_serving.specs.Server.{emptied_after, remembering}
 use Rattle.proxy_serving.specs.Progress.{IsServing, HasOffered, IsAt, OffersClients}
@@ -18,12 +18,13 @@ use Rattle.proxy_serving.specs.declared.server.Server.{Server}
 use Rattle.proxy_serving.proofs.Offers.{events-sent, events-sent_none, events-send_failed, events-hung_up, offered-sent_none, offered-sent, offered-send_failed, offered-hung_up, earlier_differ, without-at}
 use Rattle.proxy_serving.proofs.Going.{serving-sent_none, serving-sent, serving-failed}
 use Rattle.proxy_serving.proofs.Faces.{contains-middle, slice_get-at, emptied_is, first_is, none_is}
+use Rattle.hub_io.specs.declared.settings.Until.{Until}
 
 -- a whole queue is a front of itself
 pub whole_front : (queue : List ℕ) → 0 < length queue → IsFront queue queue
 whole_front queue some = record { some = some; rest = []; whole = sym (append-nil queue) }
 
-module _ {C : Type 0} {keeps : Proxy → List Event → C → Type 0} {face : C → Face} {p : Proxy} {limit : Option ℕ} {turns count c : ℕ} {server : Server C} {calls : List Call} (at : IsAt keeps face p limit turns count c server calls) where
+module _ {C : Type 0} {keeps : Proxy → List Event → C → Type 0} {face : C → Face} {p : Proxy} {until : Until} {turns count c : ℕ} {server : Server C} {calls : List Call} (at : IsAt keeps face p until turns count c server calls) where
   there : contains c (p.present (events calls)) ≡ true
   there = ap (contains c) at.whole ∙ contains-middle at.done c at.later
 
@@ -41,7 +42,7 @@ module _ {C : Type 0} {keeps : Proxy → List Event → C → Type 0} {face : C 
   front_of_waiting bytes waits whole = let P : List ℕ → Type 0 = IsFront bytes in subst P (whole ∙ queue) (whole_front bytes waits)
 
   -- it was offered all
-  offered_here : IsOffered p calls c → HasOffered keeps face p limit turns (count + 1) server calls
+  offered_here : IsOffered p calls c → HasOffered keeps face p until turns (count + 1) server calls
   offered_here is = record {
     serving = at.serving;
     awake = at.awake;
@@ -53,14 +54,14 @@ module _ {C : Type 0} {keeps : Proxy → List Event → C → Type 0} {face : C 
     offered = all_joined (IsOffered p calls) at.done (c ∷ []) at.offered (is, tt);
   }
 
-  pub at-blocked : contains c server.blocked ≡ true → HasOffered keeps face p limit turns (count + 1) server calls
+  pub at-blocked : contains c server.blocked ≡ true → HasOffered keeps face p until turns (count + 1) server calls
   at-blocked among = offered_here (inr (is_among (λ d. is_blocked d calls ≡ true) c server.blocked at.serving.blocked among))
 
-  pub at-empty : (face server.core).queue c ≡ [] → HasOffered keeps face p limit turns (count + 1) server calls
+  pub at-empty : (face server.core).queue c ≡ [] → HasOffered keeps face p until turns (count + 1) server calls
   at-empty none = offered_here (inl (sym queue ∙ none))
 
   pub at-sent_none : (bytes : List ℕ) (now : Server C) → 0 < length bytes → bytes ≡ (face server.core).queue c → now.core ≡ server.core → now.blocked ≡ remembering c server.blocked → now.modem_blocked ≡ server.modem_blocked → now.emptied ≡ server.emptied
-      → HasOffered keeps face p limit turns (count + 1) now (Sent c bytes 0 ∷ calls)
+      → HasOffered keeps face p until turns (count + 1) now (Sent c bytes 0 ∷ calls)
   unfolding reopenings due_reopenings
   at-sent_none bytes now waits whole core blocked modem emptied = record {
     serving = serving-sent_none at.serving c bytes now (front_of_waiting bytes waits whole) core blocked modem emptied;
@@ -81,7 +82,7 @@ module _ {C : Type 0} {keeps : Proxy → List Event → C → Type 0} {face : C 
 
   pub at-sent : (bytes : List ℕ) (taken : ℕ) (now : Server C) → (taken == 0) ≡ false → taken ≤ length bytes → 0 < length bytes → bytes ≡ (face server.core).queue c → contains c server.blocked ≡ false → (face server.core).dropped ≡ []
       → StandsAfter keeps face p (Took c taken ∷ events calls) now.core → now.blocked ≡ server.blocked → now.modem_blocked ≡ server.modem_blocked → now.emptied ≡ emptied_after (face server.core) server.emptied (face now.core)
-      → IsAt keeps face p limit turns count c now (Sent c bytes taken ∷ calls)
+      → IsAt keeps face p until turns count c now (Sent c bytes taken ∷ calls)
   unfolding reopenings due_reopenings
   at-sent bytes taken now some within waits whole free none after blocked modem emptied = record {
     serving =
@@ -98,7 +99,7 @@ module _ {C : Type 0} {keeps : Proxy → List Event → C → Type 0} {face : C 
 
   pub at-failed : (bytes : List ℕ) (now : Server C) → 0 < length bytes → bytes ≡ (face server.core).queue c → (face server.core).dropped ≡ []
       → StandsAfter keeps face p (Left c ∷ events calls) now.core → AreBlocked calls now.blocked → now.modem_blocked ≡ server.modem_blocked → now.emptied ≡ emptied_after (face server.core) server.emptied (face now.core)
-      → HasOffered keeps face p limit turns count now (HungUp c ∷ SendFailed c bytes ∷ calls)
+      → HasOffered keeps face p until turns count now (HungUp c ∷ SendFailed c bytes ∷ calls)
   unfolding reopenings due_reopenings
   at-failed bytes now waits whole none after blocked modem emptied = record {
     serving =
@@ -123,9 +124,9 @@ module _ {C : Type 0} {keeps : Proxy → List Event → C → Type 0} {face : C 
 nothing_waits : (p : Proxy) (calls : List Call) (names : List ℕ) → AllByRecursion (λ d. p.waiting d (events calls) ≡ []) names → AllByRecursion (IsOffered p calls) names
 nothing_waits p calls names all = all_weaker _ _ (λ d none. inl none) names all
 
-module _ {C : Type 0} {keeps : Proxy → List Event → C → Type 0} {face : C → Face} {p : Proxy} {limit : Option ℕ} {turns count : ℕ} {server : Server C} {calls : List Call} (so : HasOffered keeps face p limit turns count server calls) where
+module _ {C : Type 0} {keeps : Proxy → List Event → C → Type 0} {face : C → Face} {p : Proxy} {until : Until} {turns count : ℕ} {server : Server C} {calls : List Call} (so : HasOffered keeps face p until turns count server calls) where
   -- those for which nothing waits are skipped
-  pub at_next : (place c : ℕ) → first_waiting p (events calls) count ≡ Some place → slice_get (face server.core).present place ≡ Some c → IsAt keeps face p limit turns place c server calls
+  pub at_next : (place c : ℕ) → first_waiting p (events calls) count ≡ Some place → slice_get (face server.core).present place ≡ Some c → IsAt keeps face p until turns place c server calls
   at_next place c first named =
       let start : first_waiting p (events calls) (length so.done) ≡ Some place = ap (λ (n : ℕ). first_waiting p (events calls) n) so.counted ∙ first in
       let found = first_is p (events calls) so.done so.todo so.whole place start in
@@ -147,7 +148,7 @@ module _ {C : Type 0} {keeps : Proxy → List Event → C → Type 0} {face : C 
       }
 
   -- nothing waits for those that are left
-  pub all_offered : first_waiting p (events calls) count ≡ None → OffersClients keeps face p limit turns server calls
+  pub all_offered : first_waiting p (events calls) count ≡ None → OffersClients keeps face p until turns server calls
   all_offered first =
       let rest = none_is p (events calls) so.done so.todo so.whole (ap (λ (n : ℕ). first_waiting p (events calls) n) so.counted ∙ first) in
       record {
@@ -159,7 +160,7 @@ module _ {C : Type 0} {keeps : Proxy → List Event → C → Type 0} {face : C 
       }
 
 -- nobody was offered anything yet
-pub none_offered : {C : Type 0} {keeps : Proxy → List Event → C → Type 0} {face : C → Face} {p : Proxy} {limit : Option ℕ} {turns : ℕ} {server : Server C} {calls : List Call} → IsServing keeps face p turns server calls → NeverIdle p limit calls → reopenings calls ≡ due_reopenings p calls → HasOffered keeps face p limit turns 0 server calls
+pub none_offered : {C : Type 0} {keeps : Proxy → List Event → C → Type 0} {face : C → Face} {p : Proxy} {until : Until} {turns : ℕ} {server : Server C} {calls : List Call} → IsServing keeps face p turns server calls → NeverOver p until calls → reopenings calls ≡ due_reopenings p calls → HasOffered keeps face p until turns 0 server calls
 none_offered {p = p} {calls = calls} serving awake in_time = record { serving = serving; awake = awake; in_time = in_time; done = []; todo = p.present (events calls); whole = refl; counted = refl; offered = tt }
 
 pub positive : (n : ℕ) → (n ≡ 0 → ⊥) → 0 < n

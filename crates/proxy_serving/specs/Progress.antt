@@ -7,10 +7,11 @@ use Rattle.hub_io.specs.Record.{Call, Told, ToldRoom, ToldModemRoom, ToldStop, N
 use Rattle.hub_io.specs.Events.{event_of}
 use Rattle.hub_io.specs.declared.settings.ServeEnd.{ServeEnd}
 use Rattle.hub_io.specs.declared.settings.ServeEnd.TheVariants as end
+use Rattle.hub_io.specs.declared.settings.Until.{Until}
 use Rattle.proxy_history.specs.Coming.{piece_limit}
 use Rattle.proxy_history.specs.Proxy.{Proxy}
-use Rattle.proxy_serving.specs.Serving.{SendsWhatWaits, TakesTheFirst, DoesAllBeforeEachNext, AllIsOffered, IsOffered, is_blocked, is_modem_blocked, hang_ups, due_hang_ups, reopenings, hanging_up, IsNoOpening, due_reopenings, turns_in, IsNoEnd, NeverIdle, emptied_at}
-use Rattle.proxy_serving.specs.Ends.{RanOut, EndsWith, EndsIdle, EndsFor}
+use Rattle.proxy_serving.specs.Serving.{SendsWhatWaits, TakesTheFirst, DoesAllBeforeEachNext, AllIsOffered, IsOffered, is_blocked, is_modem_blocked, hang_ups, due_hang_ups, reopenings, hanging_up, IsNoOpening, due_reopenings, turns_in, IsNoEnd, NeverOver, IsEmptied, IsLost, emptied_at}
+use Rattle.proxy_serving.specs.Ends.{RanOut, EndsWith, EndsAtClock, EndsFor}
 use Rattle.proxy_serving.specs.Face.{Face}
 use Rattle.proxy_serving.specs.Cores.{Stands}
 use Rattle.proxy_serving.specs.declared.next.Next.{Next}
@@ -57,16 +58,17 @@ IsHubFault (Ok (Some end.HubFault)) = Unit {0}
 IsHubFault _ = ⊥
 
 -- it ends for one of these reasons
-abbrev pub EndsNow : Proxy → Option ℕ → ℕ → ServeEnd → List Call → Type 0
-EndsNow p limit turns end.Stopped calls = EndsWith p limit turns ToldStop calls
-EndsNow p limit turns end.HubFault calls = EndsWith p limit turns NextFailed calls
-EndsNow p limit turns end.Empty calls = EndsIdle p limit turns calls
-EndsNow p limit turns _ calls = ⊥
+abbrev pub EndsNow : Proxy → Until → ℕ → ServeEnd → List Call → Type 0
+EndsNow p until turns end.Stopped calls = EndsWith p until turns ToldStop calls
+EndsNow p until turns end.HubFault calls = EndsWith p until turns NextFailed calls
+EndsNow p until turns end.Empty calls = EndsAtClock (IsEmptied p until) p until turns calls
+EndsNow p until turns end.Lost calls = EndsAtClock (IsLost p until) p until turns calls
+EndsNow p until turns _ calls = ⊥
 
 -- why the serving ends; for some events memory may be lacking
-abbrev pub EndsServing : (Event → Type 0) → Result ServeEnd AllocError → Proxy → Option ℕ → ℕ → List Call → Type 0
-EndsServing lacks (Ok end) p limit turns calls = EndsFor lacks p limit turns end calls
-EndsServing lacks (Err e) p limit turns calls = RanOut lacks p limit turns calls
+abbrev pub EndsServing : (Event → Type 0) → Result ServeEnd AllocError → Proxy → Until → ℕ → List Call → Type 0
+EndsServing lacks (Ok end) p until turns calls = EndsFor lacks p until turns end calls
+EndsServing lacks (Err e) p until turns calls = RanOut lacks p until turns calls
 
 module _ {C : Type 0} (keeps : Proxy → List Event → C → Type 0) (face : C → Face) where
   -- ---- how far a serving is ----
@@ -87,9 +89,9 @@ module _ {C : Type 0} (keeps : Proxy → List Event → C → Type 0) (face : C 
     pub emptied : server.emptied ≡ emptied_at p (events calls)
 
   -- and the first so many connections were offered what waits for them
-  pub record HasOffered (p : Proxy) (limit : Option ℕ) (turns count : ℕ) (server : Server C) (calls : List Call) : Type 0 where
+  pub record HasOffered (p : Proxy) (until : Until) (turns count : ℕ) (server : Server C) (calls : List Call) : Type 0 where
     pub serving : IsServing p turns server calls
-    pub awake : NeverIdle p limit calls
+    pub awake : NeverOver p until calls
     pub in_time : reopenings calls ≡ due_reopenings p calls
     pub done : List ℕ
     pub todo : List ℕ
@@ -98,9 +100,9 @@ module _ {C : Type 0} (keeps : Proxy → List Event → C → Type 0) (face : C 
     pub offered : AllByRecursion (IsOffered p calls) done
 
   -- the connection stands at a place in the order of joining, before which all were offered what waits for them
-  pub record IsAt (p : Proxy) (limit : Option ℕ) (turns count c : ℕ) (server : Server C) (calls : List Call) : Type 0 where
+  pub record IsAt (p : Proxy) (until : Until) (turns count c : ℕ) (server : Server C) (calls : List Call) : Type 0 where
     pub serving : IsServing p turns server calls
-    pub awake : NeverIdle p limit calls
+    pub awake : NeverOver p until calls
     pub in_time : reopenings calls ≡ due_reopenings p calls
     pub done : List ℕ
     pub later : List ℕ
@@ -109,16 +111,16 @@ module _ {C : Type 0} (keeps : Proxy → List Event → C → Type 0) (face : C 
     pub offered : AllByRecursion (IsOffered p calls) done
 
   -- all clients were
-  pub record OffersClients (p : Proxy) (limit : Option ℕ) (turns : ℕ) (server : Server C) (calls : List Call) : Type 0 where
+  pub record OffersClients (p : Proxy) (until : Until) (turns : ℕ) (server : Server C) (calls : List Call) : Type 0 where
     pub serving : IsServing p turns server calls
-    pub awake : NeverIdle p limit calls
+    pub awake : NeverOver p until calls
     pub in_time : reopenings calls ≡ due_reopenings p calls
     pub clients : AllByRecursion (IsOffered p calls) (p.present (events calls))
 
   -- and the modem was
-  pub record IsReady (p : Proxy) (limit : Option ℕ) (turns : ℕ) (server : Server C) (calls : List Call) : Type 0 where
+  pub record IsReady (p : Proxy) (until : Until) (turns : ℕ) (server : Server C) (calls : List Call) : Type 0 where
     pub serving : IsServing p turns server calls
-    pub awake : NeverIdle p limit calls
+    pub awake : NeverOver p until calls
     pub in_time : reopenings calls ≡ due_reopenings p calls
     pub offered : AllIsOffered p calls
 
@@ -132,38 +134,38 @@ module _ {C : Type 0} (keeps : Proxy → List Event → C → Type 0) (face : C 
   -- ---- what an offering comes to ----
 
   -- the modem was offered all, or is gone
-  abbrev pub AfterModem : Bool → Proxy → Option ℕ → ℕ → Server C → List Call → Type 0
-  AfterModem true p limit turns server calls = IsReady p limit turns server calls
-  AfterModem false p limit turns server calls = HasOffered p limit turns 0 server calls
+  abbrev pub AfterModem : Bool → Proxy → Until → ℕ → Server C → List Call → Type 0
+  AfterModem true p until turns server calls = IsReady p until turns server calls
+  AfterModem false p until turns server calls = HasOffered p until turns 0 server calls
 
   -- ---- what a turn comes to ----
 
   -- the hub told this once all had been offered
-  pub record HasTold (p : Proxy) (limit : Option ℕ) (turns : ℕ) (server : Server C) (call : Call) (calls : List Call) : Type 0 where
+  pub record HasTold (p : Proxy) (until : Until) (turns : ℕ) (server : Server C) (call : Call) (calls : List Call) : Type 0 where
     pub earlier : List Call
     pub whole : calls ≡ call ∷ earlier
-    pub ready : IsReady p limit turns server earlier
+    pub ready : IsReady p until turns server earlier
 
   -- an event was met and the modem is to be opened again, or it isn't; it wasn't yet since the hub told it
-  pub record MayReopen (p : Proxy) (limit : Option ℕ) (turns : ℕ) (misses : Bool) (server : Server C) (calls : List Call) : Type 0 where
+  pub record MayReopen (p : Proxy) (until : Until) (turns : ℕ) (misses : Bool) (server : Server C) (calls : List Call) : Type 0 where
     pub serving : IsServing p turns server calls
-    pub awake : NeverIdle p limit calls
+    pub awake : NeverOver p until calls
     pub not_yet : reopenings calls ≡ 0
     pub due : due_reopenings p calls ≡ (if misses then 1 else 0)
 
   -- an event was met: the modem may be to be opened again, or the serving ends
-  abbrev pub AfterEvent : Option ServeEnd → Bool → Proxy → Option ℕ → ℕ → Server C → List Call → Type 0
-  AfterEvent None misses p limit turns server calls = MayReopen p limit (turns + 1) misses server calls
-  AfterEvent (Some end) misses p limit turns server calls = EndsNow p limit (turns + 1) end calls
+  abbrev pub AfterEvent : Option ServeEnd → Bool → Proxy → Until → ℕ → Server C → List Call → Type 0
+  AfterEvent None misses p until turns server calls = MayReopen p until (turns + 1) misses server calls
+  AfterEvent (Some end) misses p until turns server calls = EndsNow p until (turns + 1) end calls
 
   -- the serving goes on with the first connection, or ends for this reason, or memory ran out; turns were taken before
-  abbrev pub AfterMeeting : (Event → Type 0) → Result (Option ServeEnd) AllocError → Proxy → Option ℕ → ℕ → Server C → List Call → Type 0
-  AfterMeeting lacks (Ok None) p limit turns server calls = HasOffered p limit (turns + 1) 0 server calls
-  AfterMeeting lacks (Ok (Some end)) p limit turns server calls = EndsNow p limit (turns + 1) end calls
-  AfterMeeting lacks (Err e) p limit turns server calls = RanOut lacks p limit (turns + 1) calls
+  abbrev pub AfterMeeting : (Event → Type 0) → Result (Option ServeEnd) AllocError → Proxy → Until → ℕ → Server C → List Call → Type 0
+  AfterMeeting lacks (Ok None) p until turns server calls = HasOffered p until (turns + 1) 0 server calls
+  AfterMeeting lacks (Ok (Some end)) p until turns server calls = EndsNow p until (turns + 1) end calls
+  AfterMeeting lacks (Err e) p until turns server calls = RanOut lacks p until (turns + 1) calls
 
   -- the same, but all was offered where it goes on
-  abbrev pub AfterTurn : (Event → Type 0) → Result (Option ServeEnd) AllocError → Proxy → Option ℕ → ℕ → Server C → List Call → Type 0
-  AfterTurn lacks (Ok None) p limit turns server calls = IsReady p limit (turns + 1) server calls
-  AfterTurn lacks (Ok (Some end)) p limit turns server calls = EndsNow p limit (turns + 1) end calls
-  AfterTurn lacks (Err e) p limit turns server calls = RanOut lacks p limit (turns + 1) calls
+  abbrev pub AfterTurn : (Event → Type 0) → Result (Option ServeEnd) AllocError → Proxy → Until → ℕ → Server C → List Call → Type 0
+  AfterTurn lacks (Ok None) p until turns server calls = IsReady p until (turns + 1) server calls
+  AfterTurn lacks (Ok (Some end)) p until turns server calls = EndsNow p until (turns + 1) end calls
+  AfterTurn lacks (Err e) p until turns server calls = RanOut lacks p until (turns + 1) calls

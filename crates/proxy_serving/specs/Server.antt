@@ -3,6 +3,7 @@ use Rattle.std.specs.Prelude.{ℕ, ◌+◌, ◌==◌, ◌&&◌, nat_le, nat_lt, 
 use Rattle.proxy_history.specs.Events.{Event, Now}
 use Rattle.hub_io.specs.declared.settings.ServeEnd.{ServeEnd}
 use Rattle.hub_io.specs.declared.settings.ServeEnd.TheVariants as end
+use Rattle.hub_io.specs.declared.settings.Until.{Until}
 use Rattle.proxy_serving.specs.Face.{Face}
 
 -- when the last connection went, after an event that made one face of the other
@@ -15,9 +16,9 @@ is_idle_at None face emptied = false
 is_idle_at (Some limit) face emptied = length face.present == 0 && nat_le (emptied + limit) face.time
 
 -- why the serving ends at an event, where it does
-abbrev pub end_at : Event → Option ℕ → Face → ℕ → Option ServeEnd
-end_at (Now time) limit face emptied = if is_idle_at limit face emptied then Some end.Empty else None
-end_at _ limit face emptied = None
+abbrev pub end_at : Event → Until → Face → ℕ → Option ServeEnd
+end_at (Now time) until face emptied = if is_idle_at until.empty face emptied then Some end.Empty else if until.lost && face.away then Some end.Lost else None
+end_at _ until face emptied = None
 
 -- the clock is told while the modem is away
 abbrev pub misses_modem : Event → Face → Bool

@@ -4,6 +4,7 @@ use Rattle.std.specs.List.{AllByRecursion}
 use Rattle.proxy_history.specs.Events.{Event, Joined, ModemGone, ModemBack, Now}
 use Rattle.proxy_history.specs.Proxy.{Proxy}
 use Rattle.hub_io.specs.Record.{Call, Told, ToldRoom, ToldModemRoom, ToldStop, NextFailed, Sent, SendFailed, SentModem, SendModemFailed, Opened, Paired, Reopened, ReopenFailed, HungUp, events}
+use Rattle.hub_io.specs.declared.settings.Until.{Until}
 
 -- ---- bytes ----
 
@@ -162,8 +163,31 @@ abbrev pub is_idle : Proxy → Option ℕ → List Event → Bool
 is_idle p None past = false
 is_idle p (Some limit) past = is_nobody (p.present past) && nat_le (emptied_at p past + limit) (p.time past)
 
--- whenever the clock was told, somebody was there, or hadn't been gone for so long
-abbrev pub NeverIdle : Proxy → Option ℕ → List Call → Type 0
-NeverIdle p limit [] = Unit {0}
-NeverIdle p limit (Told (Now time) ∷ calls) = (is_idle p limit (Now time ∷ events calls) ≡ false) × NeverIdle p limit calls
-NeverIdle p limit (_ ∷ calls) = NeverIdle p limit calls
+-- the device is away, where its loss is to end the serving
+abbrev pub is_lost : Proxy → Bool → List Event → Bool
+is_lost p false past = false
+is_lost p true past = p.is_away past
+
+-- it isn't over by itself at any time
+abbrev pub never : Until
+never = record { empty = None; lost = false }
+
+-- it is over since nobody has been there for long enough
+abbrev pub IsEmptied : Proxy → Until → List Event → Type 0
+IsEmptied p until past = is_idle p until.empty past ≡ true
+
+-- it is over since the device is lost
+pub record IsLost (p : Proxy) (until : Until) (past : List Event) : Type 0 where
+  pub awake : is_idle p until.empty past ≡ false
+  pub lost : is_lost p until.lost past ≡ true
+
+-- it isn't over for either reason
+pub record IsGoingOn (p : Proxy) (until : Until) (past : List Event) : Type 0 where
+  pub awake : is_idle p until.empty past ≡ false
+  pub there : is_lost p until.lost past ≡ false
+
+-- it wasn't whenever the clock was told
+abbrev pub NeverOver : Proxy → Until → List Call → Type 0
+NeverOver p until [] = Unit {0}
+NeverOver p until (Told (Now time) ∷ calls) = IsGoingOn p until (Now time ∷ events calls) × NeverOver p until calls
+NeverOver p until (_ ∷ calls) = NeverOver p until calls

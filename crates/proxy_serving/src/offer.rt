@@ -1,4 +1,4 @@
-ghost use Rattle.std.specs.Prelude.{◌≡◌, ◌≤◌, ◌<◌, ℕ, List, Option, [], true, false, length};
+ghost use Rattle.std.specs.Prelude.{◌≡◌, ◌≤◌, ◌<◌, ℕ, List, [], true, false, length};
 ghost use Rattle.proxy_history.specs.Connections.{contains};
 ghost use Rattle.hub_io.specs.Record.{Since};
 ghost use Rattle.proxy_serving.specs.Carrying.{Carries};
@@ -8,7 +8,7 @@ ghost use Rattle.proxy_serving.specs.Progress.{IsServing, HasOffered, OffersClie
 
 use crate::proxy_core::ProxyCore;
 use crate::server::Server;
-use hub_io::{Event, Hub};
+use hub_io::{Event, Hub, Until};
 use kit_io::Failed;
 
 /// Hangs up the connections that the proxy dropped.
@@ -43,8 +43,8 @@ fn offer<C: ProxyCore, H: Hub>(
     requires there { contains conn (C.face server.old.core).present ≡ true }
     requires place { place < length (C.face server.old.core).present }
     requires fits { place < usize.MAX }
-    ensures carries { (p : Proxy) (limit : Option ℕ) (turns : ℕ) →
-        Carries (H.calls hub.old) (IsAt C.keeps C.face p limit turns place conn server.old) (H.calls hub.new) (HasOffered C.keeps C.face p limit turns result server.new) }
+    ensures carries { (p : Proxy) (until : Until) (turns : ℕ) →
+        Carries (H.calls hub.old) (IsAt C.keeps C.face p until turns place conn server.old) (H.calls hub.new) (HasOffered C.keeps C.face p until turns result server.new) }
     ensures asked { (C.face server.new.core).dropped ≡ [] }
     ensures done { OneIsDone place result (C.face server.old.core) (C.face server.new.core) }
     ensures away { (C.face server.new.core).away ≡ (C.face server.old.core).away }
@@ -81,8 +81,8 @@ fn offer<C: ProxyCore, H: Hub>(
 fn offer_clients<C: ProxyCore, H: Hub>(hub: &mut H, server: &mut Server<C>)
     requires known { IsKnown C.keeps server.old.core }
     requires asked { (C.face server.old.core).dropped ≡ [] }
-    ensures carries { (p : Proxy) (limit : Option ℕ) (turns : ℕ) →
-        Carries (H.calls hub.old) (HasOffered C.keeps C.face p limit turns 0 server.old) (H.calls hub.new) (OffersClients C.keeps C.face p limit turns server.new) }
+    ensures carries { (p : Proxy) (until : Until) (turns : ℕ) →
+        Carries (H.calls hub.old) (HasOffered C.keeps C.face p until turns 0 server.old) (H.calls hub.new) (OffersClients C.keeps C.face p until turns server.new) }
     ensures asked { (C.face server.new.core).dropped ≡ [] }
     ensures away { (C.face server.new.core).away ≡ (C.face server.old.core).away }
     ensures known { IsKnown C.keeps server.new.core }
@@ -102,8 +102,8 @@ fn offer_clients<C: ProxyCore, H: Hub>(hub: &mut H, server: &mut Server<C>)
 fn offer_modem<C: ProxyCore, H: Hub>(hub: &mut H, server: &mut Server<C>) -> bool
     requires known { IsKnown C.keeps server.old.core }
     requires asked { (C.face server.old.core).dropped ≡ [] }
-    ensures carries { (p : Proxy) (limit : Option ℕ) (turns : ℕ) →
-        Carries (H.calls hub.old) (OffersClients C.keeps C.face p limit turns server.old) (H.calls hub.new) (AfterModem C.keeps C.face result p limit turns server.new) }
+    ensures carries { (p : Proxy) (until : Until) (turns : ℕ) →
+        Carries (H.calls hub.old) (OffersClients C.keeps C.face p until turns server.old) (H.calls hub.new) (AfterModem C.keeps C.face result p until turns server.new) }
     ensures asked { result ≡ true → (C.face server.new.core).dropped ≡ [] }
     ensures away { result ≡ false → (C.face server.new.core).away ≡ true }
     ensures known { IsKnown C.keeps server.new.core }
@@ -141,8 +141,8 @@ fn offer_modem<C: ProxyCore, H: Hub>(hub: &mut H, server: &mut Server<C>) -> boo
 pub fn offer_all<C: ProxyCore, H: Hub>(hub: &mut H, server: &mut Server<C>)
     requires known { IsKnown C.keeps server.old.core }
     requires asked { (C.face server.old.core).dropped ≡ [] }
-    ensures carries { (p : Proxy) (limit : Option ℕ) (turns : ℕ) →
-        Carries (H.calls hub.old) (HasOffered C.keeps C.face p limit turns 0 server.old) (H.calls hub.new) (IsReady C.keeps C.face p limit turns server.new) }
+    ensures carries { (p : Proxy) (until : Until) (turns : ℕ) →
+        Carries (H.calls hub.old) (HasOffered C.keeps C.face p until turns 0 server.old) (H.calls hub.new) (IsReady C.keeps C.face p until turns server.new) }
     ensures asked { (C.face server.new.core).dropped ≡ [] }
     ensures known { IsKnown C.keeps server.new.core }
     ensures greatest { (C.face server.new.core).greatest ≡ (C.face server.old.core).greatest }

@@ -1,4 +1,4 @@
-ghost use Rattle.std.specs.Prelude.{◌≡◌, ◌∷◌, [], false, ℕ, List, OnOk, OnErr};
+ghost use Rattle.std.specs.Prelude.{◌≡◌, ◌∷◌, [], true, false, ℕ, List, Some, OnOk, OnErr};
 ghost use Rattle.proxy_history.specs.Events as history;
 ghost use Rattle.hub_io.specs.Events.{event_of};
 ghost use Rattle.proxy_history.specs.Proxy.{Proxy};
@@ -9,7 +9,7 @@ ghost use Rattle.proxy_serving.specs.Server.{emptied_after, is_idle_at, end_at, 
 
 use crate::blocked::Blocked;
 use crate::proxy_core::ProxyCore;
-use hub_io::{Event, ServeEnd};
+use hub_io::{Event, ServeEnd, Until};
 use std::alloc::AllocError;
 
 /// A proxy, and what serving it has to remember.
@@ -91,12 +91,14 @@ impl<C: ProxyCore> Server<C> {
     }
 
     /// Why the serving ends at an event, where it does: the clock shows that nobody has been there for
-    /// so many milliseconds.
-    pub fn end_at(&self, event: Event<'_>, limit: Option<u64>) -> Option<ServeEnd>
-        ensures { result ≡ end_at (event_of event.entry) limit (C.face self.now.core) self.now.emptied }
+    /// so many milliseconds, or it is told while the device is away.
+    pub fn end_at(&self, event: Event<'_>, until: Until) -> Option<ServeEnd>
+        ensures end { result ≡ end_at (event_of event.entry) until (C.face self.now.core) self.now.emptied }
+        ensures lost { result ≡ Some ServeEnd.Lost → until.lost ≡ true }
     {
         match event {
-            Event::Now(_) => self.is_idle(limit).then_some(ServeEnd::Empty),
+            Event::Now(_) if self.is_idle(until.empty) => Some(ServeEnd::Empty),
+            Event::Now(_) if until.lost && self.core.away() => Some(ServeEnd::Lost),
             _ => None,
         }
     }

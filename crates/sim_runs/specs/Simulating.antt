@@ -13,6 +13,7 @@ use Rattle.hub_io.specs.declared.settings.ServeEnd.{ServeEnd}
 use Rattle.hub_io.specs.declared.settings.ServeEnd.TheVariants as serving
 use Rattle.proxy_history.specs.Proxy.{Proxy}
 use Rattle.proxy_serving.specs.Ends.{EndsFor}
+use Rattle.proxy_serving.specs.Serving.{never}
 use Rattle.qmux_frame.specs.Frame as qmux
 use Rattle.mbim_frame.specs.Frame as mbim_frame
 use Rattle.modem_profile.specs.Profile.{Profile, default_profile}
@@ -54,7 +55,7 @@ opening socket ok = hub.Opened (encode_utf8_all socket) None ok
 pub record ServesOpened (modem : Proxy) (socket : List ℕ) (turns : ℕ) (why : ServeEnd) (calls : List hub.Call) : Type 0 where
   pub served : List hub.Call
   pub whole : calls ≡ served ++ opening socket true ∷ []
-  pub ends : EndsFor TakesMemory modem None turns why served
+  pub ends : EndsFor TakesMemory modem never turns why served
 
 -- or it couldn't be opened, or no memory was there before
 abbrev pub Serves : Proxy → (socket : List ℕ) → (turns : ℕ) → SimEnd → List hub.Call → Type 0

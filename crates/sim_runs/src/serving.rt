@@ -6,7 +6,7 @@ ghost use Rattle.sim_serving.specs.Proxy.{proxy_of};
 ghost use Rattle.sim_runs.specs.Simulating.{IsHubFault, Serves, ServesProfile, asked_in};
 
 use crate::SimEnd;
-use hub_io::Hub;
+use hub_io::{Hub, ServeEnd};
 use kit_bytes::{Kind, PathText};
 use kit_io::Failed;
 use modem_profile::Profile;
@@ -27,6 +27,7 @@ pub fn serve_profile<H: Hub>(
 ) -> SimEnd
     ensures serves { Since (H.calls hub.old) (H.calls hub.new) (ServesProfile (asked_in kind socket.now turns) profile result) }
     ensures own { ¬ (result ≡ SimEnd.ReadFault) }
+    ensures never_lost { ¬ (result ≡ SimEnd.Served ServeEnd.Lost) }
     ensures hub_fault { IsHubFault result → Rose (H.faults hub.old) (H.faults hub.new) }
 {
     match kind {
@@ -53,6 +54,7 @@ fn serve_at<H: Hub, S: Sim>(
     ensures serves { (answers : Answering) → S.keeps answers [] sim →
         Since (H.calls hub.old) (H.calls hub.new) (Serves (proxy_of S.Framing.size answers) socket.now turns result) }
     ensures own { ¬ (result ≡ SimEnd.ReadFault) }
+    ensures never_lost { ¬ (result ≡ SimEnd.Served ServeEnd.Lost) }
     ensures hub_fault { IsHubFault result → Rose (H.faults hub.old) (H.faults hub.new) }
 {
     match hub.open(socket.value().as_str(), None) {

@@ -9,7 +9,7 @@ ghost use Rattle.sim_runs.specs.Simulating.{IsHubFault, ServesProfile, ServesRea
 use crate::SimEnd;
 use crate::serving::serve_profile;
 use file_io::{Files, read_file};
-use hub_io::Hub;
+use hub_io::{Hub, ServeEnd};
 use kit_bytes::{Kind, PathText};
 use modem_profile::{Profile, read_profile};
 use std::alloc::{AllocError, Global};
@@ -37,6 +37,7 @@ pub fn simulate<H: Hub, F: Files>(
     // It doesn't give up by itself.
     ensures hub_fault { IsHubFault result → Rose (H.faults hub.old) (H.faults hub.new) }
     ensures read_fault { result ≡ SimEnd.ReadFault → Rose (F.read_faults files.old) (F.read_faults files.new) }
+    ensures never_lost { ¬ (result ≡ SimEnd.Served ServeEnd.Lost) }
 {
     match profile {
         None => simulate_default(alloc, kind, socket, turns, hub),
@@ -57,6 +58,7 @@ fn simulate_default<H: Hub>(
 ) -> SimEnd
     ensures serves { Since (H.calls hub.old) (H.calls hub.new) (ServesProfile (asked_in kind socket.now turns) default_profile result) }
     ensures own { ¬ (result ≡ SimEnd.ReadFault) }
+    ensures never_lost { ¬ (result ≡ SimEnd.Served ServeEnd.Lost) }
     ensures hub_fault { IsHubFault result → Rose (H.faults hub.old) (H.faults hub.new) }
 {
     match Profile::defaults(alloc) {
@@ -76,6 +78,7 @@ fn simulate_text<H: Hub>(
 ) -> SimEnd
     ensures serves { Since (H.calls hub.old) (H.calls hub.new) (ServesRead (asked_in kind socket.now turns) (profile_in text.now) result) }
     ensures own { ¬ (result ≡ SimEnd.ReadFault) }
+    ensures never_lost { ¬ (result ≡ SimEnd.Served ServeEnd.Lost) }
     ensures hub_fault { IsHubFault result → Rose (H.faults hub.old) (H.faults hub.new) }
 {
     match read_profile(alloc, text) {

@@ -2,13 +2,14 @@ ghost use Rattle.std.specs.Prelude.{◌≡◌, ◌≤◌, [], None};
 ghost use Rattle.kit_io.specs.Causes.{Rose};
 ghost use Rattle.hub_io.specs.Record.{Since};
 ghost use Rattle.proxy_serving.specs.Ends.{EndsFor};
+ghost use Rattle.proxy_serving.specs.Serving.{never};
 ghost use Rattle.sim_modem.specs.Sim.{Answering};
 ghost use Rattle.sim_serving.specs.Core.{face_of, Keeps, TakesMemory};
 ghost use Rattle.sim_serving.specs.Proxy.{proxy_of};
 ghost use Rattle.sim_serving.specs.Shows.{shows_of};
 
 use crate::sim_core::SimCore;
-use hub_io::{Event, Hub, ServeEnd};
+use hub_io::{Event, Hub, ServeEnd, Until};
 use proxy_serving::{ProxyCore, serve};
 use sim_modem::Sim;
 use std::alloc::{AllocError, Global};
@@ -66,14 +67,19 @@ impl<S: Sim> ProxyCore for SimCore<S> {
 /// each given once all requests before it, of whichever client, had been answered. Each time before
 /// the hub was asked for more, all that waited was offered, and just those connections were hung up
 /// whose stream went bad or whose sending failed. The serving ended at once where the hub said so or
-/// failed, never because nobody was there, and it never opened the hub.
+/// failed, never by itself, and it never opened the hub.
 pub fn serve_sim<H: Hub, S: Sim>(alloc: Global, hub: &mut H, sim: S, turns: u64) -> ServeEnd
     requires { (answers : Answering) × S.keeps answers [] sim }
     ensures served { (answers : Answering) → S.keeps answers [] sim →
-        Since (H.calls hub.old) (H.calls hub.new) (EndsFor TakesMemory (proxy_of S.Framing.size answers) None turns result) }
+        Since (H.calls hub.old) (H.calls hub.new) (EndsFor TakesMemory (proxy_of S.Framing.size answers) never turns result) }
     ensures never_empty { Since (H.calls hub.old) (H.calls hub.new) (λ calls. ¬ (result ≡ ServeEnd.Empty)) }
+    ensures never_lost { ¬ (result ≡ ServeEnd.Lost) }
     ensures later { H.faults hub.old ≤ H.faults hub.new }
     ensures fault { result ≡ ServeEnd.HubFault → Rose (H.faults hub.old) (H.faults hub.new) }
 {
-    serve(hub, SimCore::open(alloc, sim), None, turns)
+    let never = Until {
+        empty: None,
+        lost: false,
+    };
+    serve(hub, SimCore::open(alloc, sim), never, turns)
 }

@@ -15,7 +15,7 @@ serve-requires-clause-opened g c =
 pub returns-in-Ok-clause-served : goal.returns-in-Ok-clause-served
 returns-in-Ok-clause-served g c =
     let settings = c.args.settings.now in
-    served_so (proxy_of (setup_for settings)) settings.empty settings.turns _ _ c.serve.result
+    served_so (proxy_of (setup_for settings)) settings.until settings.turns _ _ c.serve.result
     (c.serve.ensures.served (proxy_of (setup_for settings)) (record { same = ap proxy_of (sym c.in-Ok.ensures.setup); stands = subst (λ (s : Setup). Stands s [] c.in-Ok.core) (sym c.in-Ok.ensures.setup) c.in-Ok.ensures.stands }))
 
 pub returns-in-Err-clause-served : goal.returns-in-Err-clause-served

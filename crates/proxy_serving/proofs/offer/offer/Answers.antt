@@ -13,27 +13,27 @@ use Rattle.proxy_serving.proofs.offer.offer.Given.{Over}
 use Rattle.proxy_serving.proofs.offer.offer.Goals as goal
 
 pub returns-then-contains-clause-carries : goal.returns-then-contains-clause-carries
-returns-then-contains-clause-carries g c = λ p limit turns.
-    Carries-then (c.loop-conn.invariant.carried p limit turns)
+returns-then-contains-clause-carries g c = λ p until turns.
+    Carries-then (c.loop-conn.invariant.carried p until turns)
     (Carries-none _ _ _ (λ calls at. at-blocked at (sym (contains-any c.args.conn c.loop-conn.server.blocked) ∙ sym c.contains.ensures ∙ c.if-contains.true)))
 
 pub returns-then-is_empty-clause-carries : goal.returns-then-is_empty-clause-carries
-returns-then-is_empty-clause-carries g c = λ p limit turns.
+returns-then-is_empty-clause-carries g c = λ p until turns.
     let none : c.queued-queue.result.now ≡ [] = nil_from_length c.queued-queue.result.now (search rules) in
     let as_it_was = c.queued-queue.follows.holds-at-none in
-    Carries-then (c.loop-conn.invariant.carried p limit turns)
+    Carries-then (c.loop-conn.invariant.carried p until turns)
     (Carries-none _ _ _ (λ calls at.
-    let P : g.row.C.Denot → Type 0 = λ core. HasOffered g.C.ProxyCore.keeps g.C.ProxyCore.face p limit turns (c.args.place + 1) (record c.loop-conn.server { core = core }) calls in
+    let P : g.row.C.Denot → Type 0 = λ core. HasOffered g.C.ProxyCore.keeps g.C.ProxyCore.face p until turns (c.args.place + 1) (record c.loop-conn.server { core = core }) calls in
     subst P (sym as_it_was) (at-empty at (sym c.queued-queue.ensures.queue ∙ none))))
 
 pub returns-in-Ok-eq0-clause-carries : goal.returns-in-Ok-eq0-clause-carries
-returns-in-Ok-eq0-clause-carries g c = λ p limit turns.
+returns-in-Ok-eq0-clause-carries g c = λ p until turns.
     let none : c.in-Ok-eq0.field-0 ≡ 0 = c.in-Ok-eq0.field-0-test in
     let bytes : List ℕ = c.queued-queue.result.now in
     let some : 0 < length bytes = search rules in
     let now : Server (g.row.C.Denot) = record { core = c.queued-queue.follows.lender-at-none; blocked = c.add.new.self; modem_blocked = c.loop-conn.server.modem_blocked; emptied = c.loop-conn.server.emptied } in
-    let After : ℕ → List Call → Type 0 = λ n calls. HasOffered g.C.ProxyCore.keeps g.C.ProxyCore.face p limit turns (c.args.place + 1) now (Sent c.args.conn bytes n ∷ calls) in
-    Carries-then (c.loop-conn.invariant.carried p limit turns)
+    let After : ℕ → List Call → Type 0 = λ n calls. HasOffered g.C.ProxyCore.keeps g.C.ProxyCore.face p until turns (c.args.place + 1) now (Sent c.args.conn bytes n ∷ calls) in
+    Carries-then (c.loop-conn.invariant.carried p until turns)
     (Carries-call _ _ _ _ _ c.in-Ok-eq0.ensures.calls (λ calls at.
     subst (λ (n : ℕ). After n calls) (sym none) (at-sent_none at bytes now some c.queued-queue.ensures.queue c.queued-queue.follows.holds-at-none c.add.ensures refl refl)))
 
@@ -66,8 +66,8 @@ loop-conn-preserved g c =
     let taken : (c.in-Ok.count == 0) ≡ false = not_zero c.in-Ok.count c.in-Ok.count-test.1 in
     let free : contains c.args.conn c.loop-conn.server.blocked ≡ false = sym (contains-any c.args.conn c.loop-conn.server.blocked) ∙ sym c.contains.ensures ∙ c.if-contains.false in
     record {
-      carried = λ p limit turns.
-          Carries-then (i.carried p limit turns)
+      carried = λ p until turns.
+          Carries-then (i.carried p until turns)
           (Carries-call _ _ _ _ _ c.in-Ok.ensures.calls (λ calls at.
           at-sent at bytes c.in-Ok.count c.note.new.self taken c.in-Ok.ensures.within some c.queued-queue.ensures.queue free no_names
           (c.note.ensures.stands p (events calls) (subst (Stands g.C.ProxyCore.keeps g.C.ProxyCore.face p (events calls)) (sym as_it_was) at.serving.stands))
@@ -92,7 +92,7 @@ leaving g c =
     subst From as_it_was (c.note-in-Err.ensures.makes (subst There (sym as_it_was) c.loop-conn.invariant.there))
 
 pub returns-in-Err-clause-carries : goal.returns-in-Err-clause-carries
-returns-in-Err-clause-carries g c = λ p limit turns.
+returns-in-Err-clause-carries g c = λ p until turns.
     let i = c.loop-conn.invariant in
     let as_it_was = c.queued-queue.follows.holds-at-none in
     let bytes : List ℕ = c.queued-queue.result.now in
@@ -100,9 +100,9 @@ returns-in-Err-clause-carries g c = λ p limit turns.
     let no_names = i.asked in
     let now : Server (g.row.C.Denot) = record { core = c.note-in-Err.new.self.core; blocked = c.remove.new.self; modem_blocked = c.note-in-Err.new.self.modem_blocked; emptied = c.note-in-Err.new.self.emptied } in
     let blocked : c.remove.new.self ≡ without c.args.conn c.loop-conn.server.blocked = c.remove.ensures ∙ ap (without c.args.conn) c.note-in-Err.ensures.blocked in
-    let Failed : List Call → Type 0 = λ calls. (earlier : List Call) × (calls ≡ SendFailed c.args.conn bytes ∷ earlier) × IsAt g.C.ProxyCore.keeps g.C.ProxyCore.face p limit turns c.args.place c.args.conn c.loop-conn.server earlier in
-    let Gone : List Call → Type 0 = λ calls. HasOffered g.C.ProxyCore.keeps g.C.ProxyCore.face p limit turns c.args.place now (HungUp c.args.conn ∷ calls) in
-    Carries-then (Carries-then (i.carried p limit turns)
+    let Failed : List Call → Type 0 = λ calls. (earlier : List Call) × (calls ≡ SendFailed c.args.conn bytes ∷ earlier) × IsAt g.C.ProxyCore.keeps g.C.ProxyCore.face p until turns c.args.place c.args.conn c.loop-conn.server earlier in
+    let Gone : List Call → Type 0 = λ calls. HasOffered g.C.ProxyCore.keeps g.C.ProxyCore.face p until turns c.args.place now (HungUp c.args.conn ∷ calls) in
+    Carries-then (Carries-then (i.carried p until turns)
     (Carries-call _ Failed _ _ _ c.in-Err.ensures.calls (λ calls at. (calls, refl, at))))
     (Carries-call Failed _ _ _ _ c.hang_up.ensures.calls (λ calls failed.
     let at = failed.2 in

@@ -12,10 +12,10 @@ pub loop-place-preserved : goal.loop-place-preserved
 loop-place-preserved g c =
     let i = c.loop-place.invariant in
     record {
-      carried = λ p limit turns.
-          Carries-then (Carries-then (i.carried p limit turns)
+      carried = λ p until turns.
+          Carries-then (Carries-then (i.carried p until turns)
           (Carries-none _ _ _ (λ calls so. at_next so c.in-Some.place c.conn_at-conn.result (sym (c.in-Some.ensures.place p (events calls) so.serving.stands.kept)) c.conn_at-conn.ensures)))
-          (c.offer-from.ensures.carries p limit turns);
+          (c.offer-from.ensures.carries p until turns);
       asked = c.offer-from.ensures.asked;
       within = omega (arith, c.offer-from.ensures.done, c.in-Some.ensures.within.1);
       known = c.offer-from.ensures.known;
@@ -26,6 +26,6 @@ loop-place-preserved g c =
     }
 
 pub returns-clause-carries : goal.returns-clause-carries
-returns-clause-carries g c = λ p limit turns.
-    Carries-then (c.loop-place.invariant.carried p limit turns)
+returns-clause-carries g c = λ p until turns.
+    Carries-then (c.loop-place.invariant.carried p until turns)
     (Carries-none _ _ _ (λ calls so. all_offered so (sym (c.in_default.ensures.place p (events calls) so.serving.stands.kept))))

@@ -12,29 +12,29 @@ use Rattle.proxy_serving.proofs.offer.offer_modem.Given.{Over}
 use Rattle.proxy_serving.proofs.offer.offer_modem.Goals as goal
 
 pub returns-then-server-clause-carries : goal.returns-then-server-clause-carries
-returns-then-server-clause-carries g c = λ p limit turns.
-    Carries-then (c.loop-server.invariant.carried p limit turns) (Carries-none _ _ _ (λ calls all. modem-blocked all c.if-server.true))
+returns-then-server-clause-carries g c = λ p until turns.
+    Carries-then (c.loop-server.invariant.carried p until turns) (Carries-none _ _ _ (λ calls all. modem-blocked all c.if-server.true))
 
 pub returns-then-away-clause-carries : goal.returns-then-away-clause-carries
-returns-then-away-clause-carries g c = λ p limit turns.
-    Carries-then (c.loop-server.invariant.carried p limit turns) (Carries-none _ _ _ (λ calls all. modem-away all (sym c.away.ensures ∙ c.if-away.true)))
+returns-then-away-clause-carries g c = λ p until turns.
+    Carries-then (c.loop-server.invariant.carried p until turns) (Carries-none _ _ _ (λ calls all. modem-away all (sym c.away.ensures ∙ c.if-away.true)))
 
 pub returns-then-is_empty-clause-carries : goal.returns-then-is_empty-clause-carries
-returns-then-is_empty-clause-carries g c = λ p limit turns.
+returns-then-is_empty-clause-carries g c = λ p until turns.
     let none : c.queued_modem-queue.result.now ≡ [] = nil_from_length c.queued_modem-queue.result.now (search rules) in
-    Carries-then (c.loop-server.invariant.carried p limit turns)
+    Carries-then (c.loop-server.invariant.carried p until turns)
     (Carries-none _ _ _ (λ calls all.
-    let P : g.row.C.Denot → Type 0 = λ core. IsReady g.C.ProxyCore.keeps g.C.ProxyCore.face p limit turns (record c.loop-server.server { core = core }) calls in
+    let P : g.row.C.Denot → Type 0 = λ core. IsReady g.C.ProxyCore.keeps g.C.ProxyCore.face p until turns (record c.loop-server.server { core = core }) calls in
     subst P (sym c.queued_modem-queue.follows.holds-at-none) (modem-empty all (sym c.queued_modem-queue.ensures.queue ∙ none))))
 
 pub returns-in-Ok-eq0-clause-carries : goal.returns-in-Ok-eq0-clause-carries
-returns-in-Ok-eq0-clause-carries g c = λ p limit turns.
+returns-in-Ok-eq0-clause-carries g c = λ p until turns.
     let none : c.in-Ok-eq0.field-0 ≡ 0 = c.in-Ok-eq0.field-0-test in
     let bytes : List ℕ = c.queued_modem-queue.result.now in
     let some : 0 < length bytes = search rules in
     let now : Server (g.row.C.Denot) = record { core = c.queued_modem-queue.follows.lender-at-none; blocked = c.loop-server.server.blocked; modem_blocked = true; emptied = c.loop-server.server.emptied } in
-    let After : ℕ → List Call → Type 0 = λ n calls. IsReady g.C.ProxyCore.keeps g.C.ProxyCore.face p limit turns now (SentModem bytes n ∷ calls) in
-    Carries-then (c.loop-server.invariant.carried p limit turns)
+    let After : ℕ → List Call → Type 0 = λ n calls. IsReady g.C.ProxyCore.keeps g.C.ProxyCore.face p until turns now (SentModem bytes n ∷ calls) in
+    Carries-then (c.loop-server.invariant.carried p until turns)
     (Carries-call _ _ _ _ _ c.in-Ok-eq0.ensures.calls (λ calls all. subst (λ (n : ℕ). After n calls) (sym none) (modem-sent_none all bytes now some c.queued_modem-queue.ensures.queue c.queued_modem-queue.follows.holds-at-none refl refl)))
 
 -- the modem took some of what waited
@@ -59,8 +59,8 @@ loop-server-preserved g c =
     let no_names = i.asked in
     let taken : (c.in-Ok.count == 0) ≡ false = not_zero c.in-Ok.count c.in-Ok.count-test.1 in
     record {
-      carried = λ p limit turns.
-          Carries-then (i.carried p limit turns)
+      carried = λ p until turns.
+          Carries-then (i.carried p until turns)
           (Carries-call _ _ _ _ _ c.in-Ok.ensures.calls (λ calls all.
           modem-sent all bytes c.in-Ok.count c.note.new.self taken some c.queued_modem-queue.ensures.queue no_names c.if-server.false
           (c.note.ensures.stands p (events calls) (subst (Stands g.C.ProxyCore.keeps g.C.ProxyCore.face p (events calls)) (sym as_it_was) all.serving.stands))
@@ -75,13 +75,13 @@ loop-server-preserved g c =
 
 -- the modem is gone
 pub returns-in-Err-clause-carries : goal.returns-in-Err-clause-carries
-returns-in-Err-clause-carries g c = λ p limit turns.
+returns-in-Err-clause-carries g c = λ p until turns.
     let i = c.loop-server.invariant in
     let as_it_was = c.queued_modem-queue.follows.holds-at-none in
     let bytes : List ℕ = c.queued_modem-queue.result.now in
     let some : 0 < length bytes = search rules in
     let no_names = i.asked in
-    Carries-then (i.carried p limit turns)
+    Carries-then (i.carried p until turns)
     (Carries-call _ _ _ _ _ c.in-Err.ensures.calls (λ calls all.
     modem-failed all bytes c.note-in-Err.new.self some c.queued_modem-queue.ensures.queue no_names c.if-server.false
     (c.note-in-Err.ensures.stands p (events calls) (subst (Stands g.C.ProxyCore.keeps g.C.ProxyCore.face p (events calls)) (sym as_it_was) all.serving.stands))

@@ -14,18 +14,19 @@ use Rattle.proxy_serving.specs.declared.server.Server.{Server}
 use Rattle.proxy_serving.proofs.Carrying.{Carries-none, Carries-then, Carries-with}
 use Rattle.proxy_serving.proofs.Turns.{told-met, told-unmet, told-done}
 use Rattle.proxy_serving.proofs.serving.meet_event.Goals as goal
+use Rattle.hub_io.specs.declared.settings.Until.{Until}
 
 -- the event was met, hang-ups followed, and this came of it: why the serving ends, where it does
-met : {C : Type 0} {keeps : Proxy → List Event → C → Type 0} {face : C → Face} {p : Proxy} {limit : Option ℕ} {turns : ℕ} {server now : Server C} {event : Event} {start new : Option (List Call)} (known : ℕ) (asked : Server C) (came : Option ServeEnd)
+met : {C : Type 0} {keeps : Proxy → List Event → C → Type 0} {face : C → Face} {p : Proxy} {until : Until} {turns : ℕ} {server now : Server C} {event : Event} {start new : Option (List Call)} (known : ℕ) (asked : Server C) (came : Option ServeEnd)
     → MayBeTold known event → (face server.core).dropped ≡ [] → ((past : List Event) → Stands keeps face p past server.core → StandsAfter keeps face p (event ∷ past) now.core)
     → now.blocked ≡ server.blocked → now.modem_blocked ≡ server.modem_blocked → now.emptied ≡ emptied_after (face server.core) server.emptied (face now.core)
     → Since start new AreHangUps → Carries start (IsServing keeps face p (turns + 1) now) new (IsServing keeps face p (turns + 1) asked) → (face asked.core).dropped ≡ []
-    → end_at event limit (face asked.core) asked.emptied ≡ came
-    → Carries start (HasTold keeps face p limit turns server (Told event)) new (AfterEvent keeps face came (misses_modem event (face asked.core)) p limit turns asked)
-met {keeps = keeps} {face = face} {p = p} {limit = limit} {turns = turns} {server = server} {now = now} {event = event} known asked came may none_before stands blocked modem emptied only hangs none is =
-    let Begun : List Call → Type 0 = HasTold keeps face p limit turns server (Told event) in
+    → end_at event until (face asked.core) asked.emptied ≡ came
+    → Carries start (HasTold keeps face p until turns server (Told event)) new (AfterEvent keeps face came (misses_modem event (face asked.core)) p until turns asked)
+met {keeps = keeps} {face = face} {p = p} {until = until} {turns = turns} {server = server} {now = now} {event = event} known asked came may none_before stands blocked modem emptied only hangs none is =
+    let Begun : List Call → Type 0 = HasTold keeps face p until turns server (Told event) in
     let Serving : List Call → Type 0 = IsServing keeps face p (turns + 1) now in
-    let Done : Option ServeEnd → List Call → Type 0 = λ o. AfterEvent keeps face o (misses_modem event (face asked.core)) p limit turns asked in
+    let Done : Option ServeEnd → List Call → Type 0 = λ o. AfterEvent keeps face o (misses_modem event (face asked.core)) p until turns asked in
     let meeting : (calls : List Call) → Begun calls → Serving calls =
     λ calls has. let after = stands _ has.ready.serving.stands in told-met has known may now none_before after blocked modem emptied after.all_dropped in
     Carries-then (Carries-with AreHangUps _ _ only (Carries-then (Carries-none Begun Serving _ meeting) hangs))
@@ -39,7 +40,7 @@ returns-in-Some-clause-carries g c = λ p turns.
     let meet = c.in_ok-meet.ensures in
     let hangs = c.hang_up_dropped.ensures in
     met c.requires.told.0 c.hang_up_dropped.new.server (Some c.in-Some.end) c.requires.told.2 c.requires.asked (meet.stands p) meet.blocked meet.modem_blocked meet.emptied hangs.only (hangs.carries p (turns + 1)) hangs.asked
-    (sym c.end_at.ensures ∙ c.in-Some.is)
+    (sym c.end_at.ensures.end ∙ c.in-Some.is)
 
 pub returns-clause-carries : goal.returns-clause-carries
 returns-clause-carries g c = λ p turns.
@@ -47,8 +48,8 @@ returns-clause-carries g c = λ p turns.
     let hangs = c.hang_up_dropped.ensures in
     Carries-then
     (met c.requires.told.0 c.hang_up_dropped.new.server None c.requires.told.2 c.requires.asked (meet.stands p) meet.blocked meet.modem_blocked meet.emptied hangs.only (hangs.carries p (turns + 1)) hangs.asked
-    (sym c.end_at.ensures ∙ c.in_default.is))
-    (c.reopen_at.ensures.carries p c.args.limit (turns + 1))
+    (sym c.end_at.ensures.end ∙ c.in_default.is))
+    (c.reopen_at.ensures.carries p c.args.until (turns + 1))
 
 pub returns-in_err-meet-clause-carries : goal.returns-in_err-meet-clause-carries
 returns-in_err-meet-clause-carries g c = λ p turns.

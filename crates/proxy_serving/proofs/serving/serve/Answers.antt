@@ -29,9 +29,9 @@ take_turns-requires-clause-asked g c =
 pub returns-in-Ok-clause-served : goal.returns-in-Ok-clause-served
 returns-in-Ok-clause-served g c = λ p kept.
     let start = opened g.C.ProxyCore.keeps g.C.ProxyCore.face p c.args.core c.open-server.result c.open-server.ensures kept (g.met.C.ProxyCore.shows p [] c.args.core kept) in
-    since-carried _ _ (opened-ready c.args.limit start) (c.in-Ok.ensures.carries p)
+    since-carried _ _ (opened-ready c.args.until start) (c.in-Ok.ensures.carries p)
 
 pub returns-clause-served : goal.returns-clause-served
 returns-clause-served g c = λ p kept.
     let start = opened g.C.ProxyCore.keeps g.C.ProxyCore.face p c.args.core c.open-server.result c.open-server.ensures kept (g.met.C.ProxyCore.shows p [] c.args.core kept) in
-    since-carried _ _ (opened-ready c.args.limit start) (c.in-Err.ensures.carries p)
+    since-carried _ _ (opened-ready c.args.until start) (c.in-Err.ensures.carries p)

@@ -18,7 +18,7 @@ pub returns-in_err-end-clause-carries : goal.returns-in_err-end-clause-carries
 returns-in_err-end-clause-carries g c = λ p.
     let i = c.loop.invariant in
     let e = err_from_is_err_and c.from_residual.result c.from_residual.ensures.1 in
-    let Out : ℕ → List Call → Type 0 = λ n. RanOut g.C.ProxyCore.lacks_memory p c.args.limit n in
+    let Out : ℕ → List Call → Type 0 = λ n. RanOut g.C.ProxyCore.lacks_memory p c.args.until n in
     rw (e.1, e.2)
     (Carries-then (Carries-then (i.carried p) (c.in_err-end.ensures.carries p c.loop.counter))
     (Carries-none (Out (c.loop.counter + 1)) (Out c.args.turns) _ (λ calls out. ran_out_further (c.loop.counter + 1) c.args.turns (omega arith) out)))
@@ -26,24 +26,24 @@ returns-in_err-end-clause-carries g c = λ p.
 pub returns-in-Some-clause-carries : goal.returns-in-Some-clause-carries
 returns-in-Some-clause-carries g c = λ p.
     let i = c.loop.invariant in
-    let limit = c.args.limit in
-    let Ends : List Call → Type 0 = EndsNow p limit (c.loop.counter + 1) c.in-Some.end in
-    let Ended : List Call → Type 0 = EndsFor g.C.ProxyCore.lacks_memory p limit c.args.turns c.in-Some.end in
+    let until = c.args.until in
+    let Ends : List Call → Type 0 = EndsNow p until (c.loop.counter + 1) c.in-Some.end in
+    let Ended : List Call → Type 0 = EndsFor g.C.ProxyCore.lacks_memory p until c.args.turns c.in-Some.end in
     Carries-then
     (Carries-then (i.carried p)
-    (turned g.C.ProxyCore.keeps g.C.ProxyCore.face g.C.ProxyCore.lacks_memory p limit c.loop.counter _ c.turn.new.server _ _ c.in_ok-end.field-0 (Some c.in-Some.end) c.in-Some.is (c.in_ok-end.ensures.carries p c.loop.counter)))
-    (Carries-none Ends Ended _ (λ calls ends. ends_further g.C.ProxyCore.lacks_memory p limit calls c.in-Some.end (c.loop.counter + 1) c.args.turns (omega arith) ends))
+    (turned g.C.ProxyCore.keeps g.C.ProxyCore.face g.C.ProxyCore.lacks_memory p until c.loop.counter _ c.turn.new.server _ _ c.in_ok-end.field-0 (Some c.in-Some.end) c.in-Some.is (c.in_ok-end.ensures.carries p c.loop.counter)))
+    (Carries-none Ends Ended _ (λ calls ends. ends_further g.C.ProxyCore.lacks_memory p until calls c.in-Some.end (c.loop.counter + 1) c.args.turns (omega arith) ends))
 
 pub returns-clause-carries : goal.returns-clause-carries
 returns-clause-carries g c = λ p.
     let i = c.loop.invariant in
-    let limit = c.args.limit in
+    let until = c.args.until in
     let turns = c.args.turns in
     let none = i.asked in
     let all : c.loop.counter ≡ turns = omega arith in
-    let Ready : ℕ → List Call → Type 0 = λ n. IsReady g.C.ProxyCore.keeps g.C.ProxyCore.face p limit n c.loop.server in
+    let Ready : ℕ → List Call → Type 0 = λ n. IsReady g.C.ProxyCore.keeps g.C.ProxyCore.face p until n c.loop.server in
     Carries-then (i.carried p)
-    (Carries-none (Ready c.loop.counter) (EndsSpent p limit turns) _ (λ calls ready. ends_spent none (subst (λ (n : ℕ). Ready n calls) all ready)))
+    (Carries-none (Ready c.loop.counter) (EndsSpent p until turns) _ (λ calls ready. ends_spent none (subst (λ (n : ℕ). Ready n calls) all ready)))
 
 pub returns-in-Some-clause-fault : goal.returns-in-Some-clause-fault
 returns-in-Some-clause-fault g c = λ is.
@@ -58,7 +58,7 @@ loop-preserved g c =
     record {
       carried = λ p.
           Carries-then (i.carried p)
-          (turned g.C.ProxyCore.keeps g.C.ProxyCore.face g.C.ProxyCore.lacks_memory p c.args.limit c.loop.counter _ c.turn.new.server _ _ c.in_ok-end.field-0 None c.in_default.is (c.in_ok-end.ensures.carries p c.loop.counter));
+          (turned g.C.ProxyCore.keeps g.C.ProxyCore.face g.C.ProxyCore.lacks_memory p c.args.until c.loop.counter _ c.turn.new.server _ _ c.in_ok-end.field-0 None c.in_default.is (c.in_ok-end.ensures.carries p c.loop.counter));
       asked = c.in_ok-end.ensures.asked;
       known = c.in_ok-end.ensures.known;
       greatest = c.in_ok-end.ensures.greatest;

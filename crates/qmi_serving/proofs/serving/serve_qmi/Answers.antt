@@ -14,7 +14,7 @@ pub returns-in-Ok-clause-served : goal.returns-in-Ok-clause-served
 returns-in-Ok-clause-served g c =
     let settings = c.args.settings.now in
     let Opened : List ℕ → Type 0 = λ device. Stands (record { device = device; time_limit = settings.time; starts_away = false }) [] c.in-Ok.core in
-    served_so (proxy_of (setup_for settings)) settings.empty settings.turns _ _ c.serve.result
+    served_so (proxy_of (setup_for settings)) settings.until settings.turns _ _ c.serve.result
     (c.serve.ensures.served (proxy_of (setup_for settings)) (record { setup = setup_for settings; same = refl; stands = subst Opened c.as_str.ensures c.in-Ok.ensures }))
 
 pub returns-in-Err-clause-served : goal.returns-in-Err-clause-served

@@ -3,20 +3,21 @@ use Rattle.hub_io.specs.Record.{Call, Since}
 use Rattle.hub_io.specs.declared.settings.ServeEnd.{ServeEnd}
 use Rattle.hub_io.specs.declared.settings.ServeEnd.TheVariants as end
 use Rattle.proxy_history.specs.Proxy.{Proxy}
-use Rattle.proxy_serving.specs.Ends.{EndsFor, EndsIdle}
+use Rattle.proxy_serving.specs.Ends.{EndsFor, EndsAtClock}
+use Rattle.proxy_serving.specs.Serving.{never, IsEmptied}
 use Rattle.sim_serving.specs.Proxy.{proxy_of}
 use Rattle.sim_serving.specs.Core.{Core, TakesMemory}
 use Rattle.sim_serving.proofs.Steps.{stands_opened}
 use Rattle.sim_serving.proofs.serving.serve_sim.Goals as goal
 
 -- with no limit it isn't that nobody was there for so long
-never_empty : (start now : Option (List Call)) (p : Proxy) (turns : ℕ) (why : ServeEnd) → Since start now (EndsFor TakesMemory p None turns why) → Since start now (λ calls. why ≡ end.Empty → ⊥)
+never_empty : (start now : Option (List Call)) (p : Proxy) (turns : ℕ) (why : ServeEnd) → Since start now (EndsFor TakesMemory p never turns why) → Since start now (λ calls. why ≡ end.Empty → ⊥)
 never_empty start None p turns why since = tt
 never_empty None (Some now) p turns why since = absurd since
-never_empty (Some start) (Some now) p turns why since = (since.0, since.1, λ empty. isnt (subst (λ (w : ServeEnd). EndsFor TakesMemory p None turns w since.0) empty since.2))
+never_empty (Some start) (Some now) p turns why since = (since.0, since.1, λ empty. isnt (subst (λ (w : ServeEnd). EndsFor TakesMemory p never turns w since.0) empty since.2))
   where
-    isnt : EndsIdle p None turns since.0 → ⊥
-    isnt ends = let wrong : false ≡ true = ends.idle in cc
+    isnt : EndsAtClock (IsEmptied p never) p never turns since.0 → ⊥
+    isnt ends = let wrong : false ≡ true = ends.over in cc
 
 pub serve-requires-clause-opened : goal.serve-requires-clause-opened
 serve-requires-clause-opened g c =
