@@ -115,7 +115,7 @@ def ours():
 
 def nothing_left(name):
     wait_until(lambda: not ours(), 3)
-    left = [*ours().values(), *(it for it in os.listdir(folder) if re.search(r"\.sock\.\d$", it))]
+    left = [*ours().values(), *(it for it in os.listdir(folder) if re.search(r"\.sock\.\w+$", it))]
     point(f"{name}: nothing is left", not left, "; ".join(left))
 
 
