@@ -46,11 +46,14 @@ class Node:
 
     def __init__(self, kind):
         self.kind, self.path = kind, f"{folder}/{kind}.modem"
-        self.simulator = subprocess.Popen([program, "modem-sim", f"--kind={kind}", f"--socket={self.path}"])
-        wait_until(lambda: os.path.exists(self.path))
         self.master, self.slave = pty.openpty()
         tty.setraw(self.slave)
         self.name = os.ttyname(self.slave)
+        self.start()
+
+    def start(self):
+        self.simulator = subprocess.Popen([program, "modem-sim", f"--kind={self.kind}", f"--socket={self.path}"])
+        wait_until(lambda: os.path.exists(self.path))
         self.modem = socket.socket(socket.AF_UNIX)
         self.modem.connect(self.path)
         self.stopping = os.pipe()
@@ -307,7 +310,11 @@ def is_line(line):
 
 def at_once(node):
     odd, lost, mixed, beside = [], 0, 0, 0
-    for _ in range(rounds):
+    for number in range(rounds):
+        if number % 25 == 24:
+            # the client ids of tools that lost their proxies stay taken in a modem of QMI until it begins anew
+            node.end()
+            node.start()
         tools = [tool(node) for _ in range(16)]
         for it in tools:
             status, out, err = end_of(it)

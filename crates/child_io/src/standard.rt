@@ -1,4 +1,4 @@
-ghost use Rattle.std.specs.Prelude.{◌≡◌, ◌+◌, ◌<◌, [], ◌∷◌, None, is_ok, length, map, string_bytes, vec_len, IfOk, OnErr, OnOk};
+ghost use Rattle.std.specs.Prelude.{◌≡◌, ◌+◌, ◌<◌, ◌≤◌, [], ◌∷◌, None, is_ok, length, map, string_bytes, vec_len, IfOk, OnErr, OnOk};
 ghost use Rattle.kit_io.specs.Causes.{HasCause};
 ghost use Rattle.kit_io.specs.Told.{Grows};
 ghost use Rattle.child_io.specs.Calls.{Stopped, end_call, start_call};
@@ -78,7 +78,10 @@ where
 {
     /// Puts what the proxy said of its faults that was started last at the front of the buffer, as
     /// far as it is there, and gives how many bytes that are.
-    pub fn take_complaints(&mut self, buffer: &mut [u8]) -> usize {
+    pub fn take_complaints(&mut self, buffer: &mut [u8]) -> usize
+        ensures within { result ≤ length buffer.old }
+        ensures len { length buffer.new ≡ length buffer.old }
+    {
         match &mut self.complaints {
             Some(complaints) => read_at_once(complaints, buffer).unwrap_or(0),
             None => 0,
@@ -95,7 +98,10 @@ fn is_proxy(words: &[String]) -> bool {
 }
 
 // Reads what is there, which others may still be about to write.
-fn read_at_once<P: Read + AsFd>(pipe: &mut P, buffer: &mut [u8]) -> io::Result<usize> {
+fn read_at_once<P: Read + AsFd>(pipe: &mut P, buffer: &mut [u8]) -> io::Result<usize>
+    ensures within { IfOk result (λ count. count ≤ length buffer.old) }
+    ensures len { length buffer.new ≡ length buffer.old }
+{
     // std sets this for sockets alone; it is the same for whatever a descriptor leads to
     UnixStream::from(pipe.as_fd().try_clone_to_owned()?).set_nonblocking(true)?;
     pipe.read(buffer)

@@ -1,5 +1,5 @@
 -- What a hub answers, and the entry that a call on it has in the record.
-use Rattle.std.specs.Prelude.{◌≡◌, ℕ, ◌<◌, ◌≤◌, Bool, true, false, ◌||◌, ◌==◌, List, take, Option, Some, Result, Ok, Err}
+use Rattle.std.specs.Prelude.{◌≡◌, ◌≢◌, ℕ, ◌<◌, ◌≤◌, Bool, true, false, List, take, Option, Some, Result, Ok, Err}
 use Rattle.std.specs.Option.{option_map}
 use Rattle.link_io.specs.Target.{address_of}
 use Rattle.link_io.specs.declared.link.Target.{Target}
@@ -21,17 +21,25 @@ abbrev pub NamesRise : Option HubEvent → ℕ → ℕ → Type 0
 NamesRise (Some (Joined conn)) old new = (old < conn) × (new ≡ conn)
 NamesRise _ old new = new ≡ old
 
--- who is there now was there before
-abbrev pub NobodyCame : (ℕ → Bool) → (ℕ → Bool) → Type 0
-NobodyCame old new = (conn : ℕ) → new conn ≡ true → old conn ≡ true
+-- the same are there
+abbrev pub SameClients : (ℕ → Bool) → (ℕ → Bool) → Type 0
+SameClients old new = (conn : ℕ) → new conn ≡ old conn
 
--- only who joins comes, only who is there tells something, and who left isn't there any more; from who was there before to who is after
+-- this one isn't there any more, and of the others the same are
+abbrev pub GoesAlone : ℕ → (ℕ → Bool) → (ℕ → Bool) → Type 0
+GoesAlone conn old new = (new conn ≡ false) × ((other : ℕ) → other ≢ conn → new other ≡ old other)
+
+-- this one is there, and of the others nobody came
+abbrev pub ComesAlone : ℕ → (ℕ → Bool) → (ℕ → Bool) → Type 0
+ComesAlone conn old new = (new conn ≡ true) × ((other : ℕ) → other ≢ conn → new other ≡ true → old other ≡ true)
+
+-- only who joins comes, only who leaves goes, and only who is there tells something; from who was there before to who is after
 abbrev pub ToldOfThose : Option HubEvent → (ℕ → Bool) → (ℕ → Bool) → Type 0
-ToldOfThose (Some (Joined conn)) old new = NobodyCame (λ other. other == conn || old other) new
-ToldOfThose (Some (Piece conn size)) old new = (old conn ≡ true) × NobodyCame old new
-ToldOfThose (Some (Room conn)) old new = (old conn ≡ true) × NobodyCame old new
-ToldOfThose (Some (Left conn)) old new = (old conn ≡ true) × (new conn ≡ false) × NobodyCame old new
-ToldOfThose _ old new = NobodyCame old new
+ToldOfThose (Some (Joined conn)) old new = ComesAlone conn old new
+ToldOfThose (Some (Piece conn size)) old new = (old conn ≡ true) × SameClients old new
+ToldOfThose (Some (Room conn)) old new = (old conn ≡ true) × SameClients old new
+ToldOfThose (Some (Left conn)) old new = (old conn ≡ true) × GoesAlone conn old new
+ToldOfThose _ old new = SameClients old new
 
 -- no count has fallen
 abbrev pub NoneFell : (ℕ → ℕ) → (ℕ → ℕ) → Type 0

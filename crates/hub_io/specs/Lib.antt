@@ -2,5 +2,4 @@ pub mod Record
 pub mod Events
 pub mod Hub
 pub mod Clients
-pub mod Reading
 pub mod Notes

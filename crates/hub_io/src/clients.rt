@@ -2,7 +2,7 @@
 ghost use Rattle.std.specs.Prelude.{◌≡◌, ◌+◌, ◌<◌, ◌≤◌, ◌^◌, false, Some, IsNone, IsTrue, ◌↔◌, IfOk, IfSome};
 ghost use Rattle.kit_io.specs.Causes.{Rose};
 ghost use Rattle.hub_io.specs.Clients.{place_in_table, fault_of, is_there, no_faults, nobody, TellsOf};
-ghost use Rattle.hub_io.specs.Hub.{NobodyCame, NoneFell};
+ghost use Rattle.hub_io.specs.Hub.{GoesAlone, NoneFell};
 ghost use Rattle.hub_io.specs.declared.hub.HubEvent.TheVariants.{Joined};
 
 use kit_io::Failed;
@@ -10,10 +10,10 @@ use std::alloc::{AllocError, Global};
 use std::marker::Model;
 
 /// How many clients may be there at one time.
-pub(crate) const PLACES: usize = 128;
+pub const PLACES: usize = 128;
 
 /// The place that a name has for ever. The names of a place are 128 apart.
-pub(crate) fn place_of(name: u64) -> usize
+pub fn place_of(name: u64) -> usize
     ensures value { result ≡ place_in_table name }
     ensures within { result < PLACES }
 {
@@ -21,7 +21,7 @@ pub(crate) fn place_of(name: u64) -> usize
 }
 
 /// The first name after `last` that has this place.
-pub(crate) fn name_after(last: u64, place: usize) -> Option<u64>
+pub fn name_after(last: u64, place: usize) -> Option<u64>
     requires { place < PLACES }
     ensures later { IfSome result (λ name. last < name) }
     ensures first { IfSome result (λ name. name ≤ last + PLACES) }
@@ -36,7 +36,7 @@ pub(crate) fn name_after(last: u64, place: usize) -> Option<u64>
 /// The names of the clients that are there, and the greatest that was told. Of names that are 128
 /// apart only the one that came last is there.
 #[derive(Debug, Drop)]
-pub(crate) struct Names {
+pub struct Names {
     greatest: u64,
     by_place: Vec<Option<u64>>,
 }
@@ -54,7 +54,7 @@ impl Model for Names {
 
 impl Names {
     /// Nobody is there, and no name was told. This takes the memory of all the places.
-    pub(crate) fn none(alloc: Global) -> Result<Self, AllocError>
+    pub fn none(alloc: Global) -> Result<Self, AllocError>
         ensures { IfOk result (λ names. names ≡ nobody) }
     {
         Ok(Names {
@@ -64,7 +64,7 @@ impl Names {
     }
 
     /// Whether the client of this name is there.
-    pub(crate) fn has(&self, name: u64) -> bool
+    pub fn has(&self, name: u64) -> bool
         ensures { result ≡ is_there self.now name }
     {
         match self.by_place[place_of(name)] {
@@ -74,14 +74,14 @@ impl Names {
     }
 
     /// Whether no name so great was told.
-    pub(crate) fn is_new(&self, name: u64) -> bool
+    pub fn is_new(&self, name: u64) -> bool
         ensures { IsTrue result ↔ (self.now.greatest < name) }
     {
         self.greatest < name
     }
 
     /// The first new name that has this place.
-    pub(crate) fn next(&self, place: usize) -> Option<u64>
+    pub fn next(&self, place: usize) -> Option<u64>
         requires { place < PLACES }
         ensures { IfSome result (λ name. self.now.greatest < name) }
     {
@@ -89,7 +89,7 @@ impl Names {
     }
 
     /// A client of a new name comes.
-    pub(crate) fn join(&mut self, name: u64)
+    pub fn join(&mut self, name: u64)
         requires { self.old.greatest < name }
         ensures { TellsOf (Some (Joined name)) self.old self.new }
     {
@@ -98,9 +98,8 @@ impl Names {
     }
 
     /// A client goes, where it is there.
-    pub(crate) fn leave(&mut self, name: u64)
-        ensures gone { is_there self.new name ≡ false }
-        ensures clients { NobodyCame (is_there self.old) (is_there self.new) }
+    pub fn leave(&mut self, name: u64)
+        ensures clients { GoesAlone name (is_there self.old) (is_there self.new) }
         ensures greatest { self.new.greatest ≡ self.old.greatest }
     {
         if self.has(name) {
@@ -112,7 +111,7 @@ impl Names {
 /// How many sends to each client have failed, by the place of its name. At its type's end a count
 /// stands still.
 #[derive(Debug, Drop)]
-pub(crate) struct ConnFaults {
+pub struct ConnFaults {
     counts: Vec<u64>,
 }
 
@@ -128,7 +127,7 @@ impl Model for ConnFaults {
 
 impl ConnFaults {
     /// No send has failed. This takes the memory of all the counts.
-    pub(crate) fn none(alloc: Global) -> Result<Self, AllocError>
+    pub fn none(alloc: Global) -> Result<Self, AllocError>
         ensures { IfOk result (λ faults. faults ≡ no_faults) }
     {
         Ok(ConnFaults {
@@ -137,7 +136,7 @@ impl ConnFaults {
     }
 
     /// Counts one more failure.
-    pub(crate) fn fail(&mut self, conn: u64) -> Failed
+    pub fn fail(&mut self, conn: u64) -> Failed
         ensures conns { NoneFell (fault_of self.old) (fault_of self.new) }
         ensures rose { Rose (fault_of self.old conn) (fault_of self.new conn) }
     {

@@ -34,7 +34,7 @@ pub enum HubEvent {
 /// The clients of a server, and its modem. A client goes by the name with which it joined.
 pub trait Hub {
     ghost use Rattle.hub_io.specs.Record.{Call, HungUp, Paired, Records};
-    ghost use Rattle.hub_io.specs.Hub.{FitsBuffer, NamesRise, NobodyCame, ToldOfThose, NoneFell, opened_call, next_call, send_call, send_modem_call, reopen_call};
+    ghost use Rattle.hub_io.specs.Hub.{FitsBuffer, NamesRise, SameClients, GoesAlone, ToldOfThose, NoneFell, opened_call, next_call, send_call, send_modem_call, reopen_call};
 
     /// The calls so far, where told, the newest first.
     ghost calls: { Self → Option (List Call) };
@@ -61,7 +61,7 @@ pub trait Hub {
         ensures conns { NoneFell (conn_faults self.old) (conn_faults self.new) }
         ensures modem { modem_faults self.old ≤ modem_faults self.new }
         ensures names { greatest self.new ≡ greatest self.old }
-        ensures clients { NobodyCame (is_connected self.old) (is_connected self.new) };
+        ensures clients { SameClients (is_connected self.old) (is_connected self.new) };
 
     /// Waits for both pumps of the device.
     fn pair(&mut self) -> Result<(), Failed>
@@ -70,7 +70,7 @@ pub trait Hub {
         ensures conns { NoneFell (conn_faults self.old) (conn_faults self.new) }
         ensures modem { modem_faults self.old ≤ modem_faults self.new }
         ensures names { greatest self.new ≡ greatest self.old }
-        ensures clients { NobodyCame (is_connected self.old) (is_connected self.new) };
+        ensures clients { SameClients (is_connected self.old) (is_connected self.new) };
 
     /// Waits for the next event.
     fn next(&mut self, buf: &mut [u8]) -> Result<HubEvent, Failed>
@@ -94,7 +94,7 @@ pub trait Hub {
         ensures conns { NoneFell (conn_faults self.old) (conn_faults self.new) }
         ensures modem { modem_faults self.old ≤ modem_faults self.new }
         ensures names { greatest self.new ≡ greatest self.old }
-        ensures clients { NobodyCame (is_connected self.old) (is_connected self.new) };
+        ensures clients { SameClients (is_connected self.old) (is_connected self.new) };
 
     /// Hands bytes to the modem, which takes a front of them: no byte where it takes none now.
     fn send_modem(&mut self, bytes: &[u8]) -> Result<usize, Failed>
@@ -105,7 +105,7 @@ pub trait Hub {
         ensures own { faults self.old ≤ faults self.new }
         ensures conns { NoneFell (conn_faults self.old) (conn_faults self.new) }
         ensures names { greatest self.new ≡ greatest self.old }
-        ensures clients { NobodyCame (is_connected self.old) (is_connected self.new) };
+        ensures clients { SameClients (is_connected self.old) (is_connected self.new) };
 
     /// Opens the device of the opening again. One that is reached over a bridge stays away.
     fn reopen_modem(&mut self) -> Result<(), Failed>
@@ -114,15 +114,14 @@ pub trait Hub {
         ensures own { faults self.old ≤ faults self.new }
         ensures conns { NoneFell (conn_faults self.old) (conn_faults self.new) }
         ensures names { greatest self.new ≡ greatest self.old }
-        ensures clients { NobodyCame (is_connected self.old) (is_connected self.new) };
+        ensures clients { SameClients (is_connected self.old) (is_connected self.new) };
 
     /// Ends a client's connection. The client isn't there any more, so no event of it follows.
     fn hang_up(&mut self, conn: u64)
-        ensures hung_up { is_connected self.new conn ≡ false }
         ensures calls { Records (calls self.old) (HungUp conn) (calls self.new) }
         ensures own { faults self.old ≤ faults self.new }
         ensures conns { NoneFell (conn_faults self.old) (conn_faults self.new) }
         ensures modem { modem_faults self.old ≤ modem_faults self.new }
         ensures names { greatest self.new ≡ greatest self.old }
-        ensures clients { NobodyCame (is_connected self.old) (is_connected self.new) };
+        ensures clients { GoesAlone conn (is_connected self.old) (is_connected self.new) };
 }

@@ -1,5 +1,5 @@
 -- Where a link leads, and how much a `take` gives.
-use Rattle.std.specs.Prelude.{ℕ, ◌<◌, ◌≤◌, List, Option, IsSome}
+use Rattle.std.specs.Prelude.{ℕ, ◌<◌, ◌≤◌, List}
 use Rattle.std.specs.Str.{encode_utf8_all}
 use Rattle.link_io.specs.declared.link.Target.{Target}
 use Rattle.link_io.specs.declared.link.Target.TheVariants.{Socket, Bridge}
@@ -14,11 +14,6 @@ pub data Address : Type 0 where
 abbrev pub address_of : Target → Address
 address_of (Socket path) = AtSocket (encode_utf8_all path)
 address_of (Bridge path) = AtBridge (encode_utf8_all path)
-
--- streams are there to a socket, or whoever comes is met at a bridge
-abbrev pub IsReached : {Streams Bridge : Type 0} → Target → Option Streams → Option Bridge → Type 0
-IsReached (Socket path) streams bridge = IsSome streams
-IsReached (Bridge path) streams bridge = IsSome bridge
 
 -- bytes that came are some, and fit a buffer of this length
 abbrev pub IsWithin : Taken → ℕ → Type 0

@@ -6,9 +6,10 @@
 use child_io::{Spawner, StdSpawner};
 use core_bench::Cores;
 use file_io::{Files, StdFiles};
-use hub_io::{Hub, MioHub};
+use hub_io::Hub;
 use kit_io::{Sink, StdSink};
-use link_io::{Link, UnixLink};
+use link_io::Link;
+use mio_hub::MioHub;
 use program::{Status, give_up, refuse, run};
 use std::alloc::{AllocError, Global};
 use std::cell::Cell;
@@ -17,6 +18,7 @@ use std::net::Net;
 use std::os::fd::{AsFd, BorrowedFd, OwnedFd};
 use std::process::ExitCode;
 use std::{env, io};
+use unix_link::UnixLink;
 
 /// How many bytes are kept of what is to go to the standard error: more than a line has.
 const LINE_ROOM: usize = 1_024;

@@ -1,7 +1,8 @@
 use crate::steps::{accept, connect, path, pump, reads, writes};
-use hub_io::{Hub, HubEvent, MioHub, NEXT_ROOM};
+use hub_io::{Hub, HubEvent, NEXT_ROOM};
 use kit_io::Failed;
 use link_io::Target;
+use mio_hub::MioHub;
 use std::fs::{self, Files};
 use std::net::Net;
 use std::os::unix::net::{UnixListener, UnixStream};

@@ -1,11 +1,12 @@
 use crate::steps::{accept, connect, path, pump, reads, writes};
 use kit_io::Failed;
-use link_io::{Link, TAKE_ROOM, Taken, Target, UnixLink};
+use link_io::{Link, TAKE_ROOM, Taken, Target};
 use std::cell::Cell;
 use std::fs::{self, Files};
 use std::net::Net;
 use std::os::unix::net::{UnixListener, UnixStream};
 use std::process::Abort;
+use unix_link::UnixLink;
 
 // What is done with a link stands in functions over any link: a check takes far longer over a real one.
 

@@ -1,7 +1,7 @@
 -- What a reading gives.
 use Rattle.std.specs.Prelude.{ℕ, ◌<◌, ◌≤◌}
-use Rattle.hub_io.specs.declared.peer.Gave.{Gave}
-use Rattle.hub_io.specs.declared.peer.Gave.TheVariants.{Bytes, Nothing, End}
+use Rattle.mio_hub.specs.declared.peer.Gave.{Gave}
+use Rattle.mio_hub.specs.declared.peer.Gave.TheVariants.{Bytes, Nothing, End}
 
 -- bytes that came are some, and fit a buffer of this length
 abbrev pub GaveFits : Gave → ℕ → Type 0

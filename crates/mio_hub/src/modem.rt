@@ -1,6 +1,6 @@
 //! The way to a hub's modem.
 ghost use Rattle.std.specs.Prelude.{◌≡◌, ◌<◌, ◌≤◌, length, IfOk};
-ghost use Rattle.hub_io.specs.Reading.{GaveFits};
+ghost use Rattle.mio_hub.specs.Reading.{GaveFits};
 
 use crate::line::Line;
 use crate::peer::Reading;

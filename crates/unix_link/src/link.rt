@@ -2,12 +2,13 @@ ghost use Rattle.std.specs.Prelude.{◌≡◌, ◌≤◌, true, false, [], ◌�
 ghost use Rattle.kit_io.specs.Causes.{HasCause};
 ghost use Rattle.kit_io.specs.Told.{Grows};
 ghost use Rattle.link_io.specs.Calls.{Opened, Paired, Closed, Sends};
-ghost use Rattle.link_io.specs.Target.{address_of, IsReached};
+ghost use Rattle.link_io.specs.Target.{address_of};
+ghost use Rattle.unix_link.specs.Reached.{IsReached};
 
 use crate::bridge::{Bridge, Pumps};
 use crate::message_stream::MessageStream;
-use crate::{Link, Taken, Target};
 use kit_io::{Failed, Faults};
+use link_io::{Link, Taken, Target};
 use std::alloc::Global;
 use std::cell::Cell;
 use std::fs::{File, Files};
@@ -95,7 +96,7 @@ impl<'a, R: Net + Clock + Files<File = File>> UnixLink<'a, R> {
             Target::Socket(path) => {
                 let stream = UnixStream::connect(self.rt, path.as_str())?;
                 stream.set_read_timeout(Some(tick()))?;
-                let stream = MessageStream::new(stream);
+                let stream = MessageStream::new(self.alloc, stream)?;
                 self.descriptor.set(stream.descriptor());
                 self.streams = Some(Streams::OfSocket(stream));
             }

@@ -1,19 +1,18 @@
 //! The sockets of a hub, and what is told of them. No clause says what a socket gives or takes.
-ghost use Rattle.std.specs.Prelude.{◌≡◌, ◌<◌, ◌≤◌, true, false, length, IsSome, IfSome, IfOk};
+ghost use Rattle.std.specs.Prelude.{◌≡◌, ◌<◌, ◌≤◌, true, false, None, length, is_ok, IsSome, IfSome, IfOk, OnOk};
 ghost use Rattle.std.specs.Option.{option_map};
 ghost use Rattle.std.specs.Result.{result_ok};
 ghost use Rattle.hub_io.specs.Clients.{is_there, TellsOf};
-ghost use Rattle.hub_io.specs.Hub.{FitsBuffer, NamesRise, NobodyCame, ToldOfThose};
+ghost use Rattle.hub_io.specs.Hub.{FitsBuffer, GoesAlone, NamesRise, ToldOfThose};
 ghost use Rattle.hub_io.specs.declared.hub.HubEvent.TheVariants.{Joined};
 
-use crate::clients::{Names, PLACES, place_of};
 use crate::line::Line;
 use crate::modem::Modem;
 use crate::peer::{Gave, Peer};
 use crate::ticker::Ticker;
-use crate::{HubEvent, NEXT_ROOM};
+use hub_io::{HubEvent, NEXT_ROOM, Names, PLACES, place_of};
 use kit_bytes::Text;
-use link_io::{Bridge, Listening, Target, are_same, left_over};
+use link_io::Target;
 use mio::event::Event;
 use mio::net::UnixStream;
 use mio::unix::SourceFd;
@@ -27,6 +26,7 @@ use std::net::Net;
 use std::os::fd::AsRawFd;
 use std::os::unix::net;
 use std::rt::Clock;
+use unix_link::{Bridge, Listening, are_same, left_over};
 
 const LISTENER: Token = Token(0);
 
@@ -88,6 +88,7 @@ impl<'a, R: Net + Clock + Files<File = File>> Sockets<'a, R> {
     /// Opens the device where one is named, and listens on a socket of its owner alone. What stands
     /// at its path stays as it is, but for a socket to which nobody listens.
     pub(crate) fn open(&mut self, socket: &str, device: Option<&Target>) -> io::Result<()>
+        ensures listens { OnOk result (IsSome self.new.listening) }
         ensures names { self.new.names ≡ self.old.names }
     {
         self.look(socket, device)?;
@@ -125,6 +126,7 @@ impl<'a, R: Net + Clock + Files<File = File>> Sockets<'a, R> {
     /// Connects to the device that was named at the opening. Where pumps reach it, what is left of
     /// their line is closed, so that they end.
     pub(crate) fn open_device(&mut self) -> io::Result<()>
+        ensures reached { OnOk result (IsSome self.new.modem) }
         ensures names { self.new.names ≡ self.old.names }
     {
         self.modem = None;
@@ -140,6 +142,7 @@ impl<'a, R: Net + Clock + Files<File = File>> Sockets<'a, R> {
 
     /// Waits for the pumps of the bridge that was named at the opening.
     pub(crate) fn pair(&mut self) -> io::Result<()>
+        ensures reached { OnOk result (IsSome self.new.modem) }
         ensures names { self.new.names ≡ self.old.names }
     {
         let Some(bridge) = &self.bridge else {
@@ -248,8 +251,7 @@ impl<'a, R: Net + Clock + Files<File = File>> Sockets<'a, R> {
         match self.listening.as_ref()?.accept().and_then(without_waiting) {
             Ok(stream) => Some(stream),
             Err(error) => {
-                // out of descriptors, for one
-                let is_refused = error.kind() != ErrorKind::WouldBlock;
+                let is_refused = !is_passing(error.kind());
                 self.is_crowded = self.is_crowded || is_refused;
                 self.is_barred = is_refused && self.clients.is_empty();
                 None
@@ -318,6 +320,7 @@ impl<'a, R: Net + Clock + Files<File = File>> Sockets<'a, R> {
 
     /// Writes to a client's socket.
     pub(crate) fn send(&mut self, name: u64, bytes: &[u8]) -> io::Result<usize>
+        ensures there { OnOk result (is_there self.old.names name ≡ true) }
         ensures within { IfOk result (λ count. count ≤ length bytes.now) }
         ensures names { self.new.names ≡ self.old.names }
     {
@@ -329,6 +332,8 @@ impl<'a, R: Net + Clock + Files<File = File>> Sockets<'a, R> {
 
     /// Takes bytes for the modem. One that fails is closed.
     pub(crate) fn send_modem(&mut self, bytes: &[u8]) -> io::Result<usize>
+        ensures reached { OnOk result (IsSome self.old.modem) }
+        ensures lost { is_ok result ≡ false → self.new.modem ≡ None }
         ensures within { IfOk result (λ count. count ≤ length bytes.now) }
         ensures names { self.new.names ≡ self.old.names }
     {
@@ -357,8 +362,7 @@ impl<'a, R: Net + Clock + Files<File = File>> Sockets<'a, R> {
 
     /// Closes a client's socket, and asks again for clients that wait.
     pub(crate) fn hang_up(&mut self, name: u64)
-        ensures gone { is_there self.new.names name ≡ false }
-        ensures clients { NobodyCame (is_there self.old.names) (is_there self.new.names) }
+        ensures clients { GoesAlone name (is_there self.old.names) (is_there self.new.names) }
         ensures names { self.new.names.greatest ≡ self.old.names.greatest }
     {
         if !self.names.has(name) {
@@ -375,6 +379,15 @@ impl<'a, R: Net + Clock + Files<File = File>> Sockets<'a, R> {
             let _ = registry.reregister(&mut source, LISTENER, Interest::READABLE);
         }
     }
+}
+
+/// Nobody waits, or who waited went, or a signal came. Any other fault stays, as where no descriptor is
+/// left.
+fn is_passing(kind: ErrorKind) -> bool {
+    matches!(
+        kind,
+        ErrorKind::WouldBlock | ErrorKind::ConnectionAborted | ErrorKind::Interrupted
+    )
 }
 
 /// A stream that is read and written without waiting.

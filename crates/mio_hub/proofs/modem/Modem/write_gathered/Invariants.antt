@@ -1,5 +1,5 @@
 use Rattle.std.proofs.Common.{length}
-use Rattle.hub_io.proofs.modem.Modem.write_gathered.Given as goal
+use Rattle.mio_hub.proofs.modem.Modem.write_gathered.Given as goal
 
 abbrev pub decreases-loop-self : goal.decreases-loop-self
 decreases-loop-self l = length l.self.gathered.items

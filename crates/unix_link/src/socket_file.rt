@@ -7,10 +7,12 @@ use std::net::Net;
 use std::os::fd::{AsRawFd, RawFd};
 use std::os::unix::fs::{FileTypeExt, MetadataExt, PermissionsExt};
 use std::os::unix::net::{UnixListener, UnixStream};
-use std::{fs, io};
+use std::rt::Clock;
+use std::time::Duration;
+use std::{fs, io, thread};
 
-/// How many names are tried for the folder in which a socket is made. Each has one digit.
-const NAMES: u8 = 10;
+/// How often the lock on the folder in which a socket is made is tried at most, every 10 ms.
+const ATTEMPTS: u8 = 100;
 
 /// Which file stands at a path: its file system, and its number there.
 #[derive(Clone, Copy, PartialEq, Eq)]
@@ -80,7 +82,7 @@ pub struct Listening<'a, R: Files> {
     listener: UnixListener,
 }
 
-impl<'a, R: Net + Files<File = File>> Listening<'a, R> {
+impl<'a, R: Net + Files<File = File> + Clock> Listening<'a, R> {
     /// Has a socket of its owner alone stand at the path, in place of one that was left. It is made
     /// elsewhere, so that it listens and has its rights before anybody finds it.
     pub fn start(rt: &'a R, alloc: Global, path: &str) -> io::Result<Self> {
@@ -143,8 +145,8 @@ fn remove<R: Files>(rt: &R, path: &str, file: FileId) {
 
 /// A folder of its owner alone, where a socket is made. Both names go when it is dropped.
 ///
-/// It is locked as long as it is used: one that isn't was left by a program that was killed, and is
-/// taken by the next.
+/// It is locked as long as it is used, so of openings at one path one goes on at a time. One that
+/// isn't locked was left by a program that was killed, and is taken by the next.
 struct OwnFolder<'a, R: Files> {
     rt: &'a R,
     name: String,
@@ -152,18 +154,13 @@ struct OwnFolder<'a, R: Files> {
     lock: File,
 }
 
-impl<'a, R: Files<File = File>> OwnFolder<'a, R> {
-    /// A folder whose name is the path and a number.
+impl<'a, R: Files<File = File> + Clock> OwnFolder<'a, R> {
+    /// The folder whose name is the path and `.0`. It is waited for where another has it, for a second.
     fn beside(rt: &'a R, alloc: Global, path: &str) -> io::Result<Self> {
-        for number in 0..NAMES {
-            let name = numbered(alloc, path, number)?;
-            let socket = joined(alloc, name.as_str(), "/s")?;
-            match rt.create_dir_with_mode(name.as_str(), 0o700) {
-                Ok(()) => {}
-                Err(error) if error.kind() == ErrorKind::AlreadyExists => {}
-                Err(error) => return Err(error),
-            }
-            if let Some(lock) = hold(rt, name.as_str()) {
+        let name = joined(alloc, path, ".0")?;
+        let socket = joined(alloc, name.as_str(), "/s")?;
+        for _ in 0..ATTEMPTS {
+            if let Some(lock) = hold(rt, name.as_str())? {
                 let _ = fs::remove_file(rt, socket.as_str());
                 return Ok(OwnFolder {
                     rt,
@@ -172,9 +169,44 @@ impl<'a, R: Files<File = File>> OwnFolder<'a, R> {
                     lock,
                 });
             }
+            thread::sleep(rt, Duration::from_millis(10));
         }
         Err(ErrorKind::AlreadyExists.into())
     }
+}
+
+// The lock on the folder of this name, which is made where nothing stands there. None is given where
+// another has it, or where it went meanwhile.
+fn hold<R: Files<File = File>>(rt: &R, name: &str) -> io::Result<Option<File>> {
+    let made = match rt.create_dir_with_mode(name, 0o700) {
+        Ok(()) => true,
+        Err(error) if error.kind() == ErrorKind::AlreadyExists => false,
+        Err(error) => return Err(error),
+    };
+    match lock(rt, name) {
+        Err(error) if error.kind() == ErrorKind::NotFound => Ok(None),
+        Err(error) => {
+            if made {
+                let _ = fs::remove_dir(rt, name);
+            }
+            Err(error)
+        }
+        held => held,
+    }
+}
+
+// The same of a folder that stands there. Anything else, and another user's, is a fault.
+fn lock<R: Files<File = File>>(rt: &R, name: &str) -> io::Result<Option<File>> {
+    let found = fs::symlink_metadata(rt, name)?;
+    if !found.is_dir() || found.uid() != geteuid() {
+        return Err(ErrorKind::AlreadyExists.into());
+    }
+    let folder = fs::open(rt, name)?;
+    if folder.try_lock().is_err() {
+        return Ok(None);
+    }
+    let is_here = FileId::at(rt, name)? == FileId::of(&folder.metadata()?);
+    Ok(is_here.then_some(folder))
 }
 
 impl<R: Files> Drop for OwnFolder<'_, R> {
@@ -192,22 +224,6 @@ impl<R: Files> Drop for OwnFolder<'_, R> {
         drop(socket);
         drop(name);
     }
-}
-
-// The lock on the folder of this name, where it is this user's and nobody has it.
-fn hold<R: Files<File = File>>(rt: &R, name: &str) -> Option<File> {
-    let folder = fs::open(rt, name).ok()?;
-    folder.try_lock().ok()?;
-    let locked = folder.metadata().ok()?;
-    // it may have gone before it was locked, or be a link
-    let is_here = FileId::at(rt, name).ok()? == FileId::of(&locked);
-    (is_here && locked.is_dir() && locked.uid() == geteuid()).then_some(folder)
-}
-
-fn numbered(alloc: Global, path: &str, number: u8) -> Result<String, AllocError> {
-    let mut name = joined(alloc, path, ".")?;
-    name.push(char::from(b'0'.saturating_add(number)))?;
-    Ok(name)
 }
 
 fn joined(alloc: Global, front: &str, back: &str) -> Result<String, AllocError> {

@@ -1,6 +1,6 @@
 //! A socket that is read and written without waiting.
 ghost use Rattle.std.specs.Prelude.{◌≡◌, ◌<◌, ◌≤◌, length, IfOk};
-ghost use Rattle.hub_io.specs.Reading.{GaveFits};
+ghost use Rattle.mio_hub.specs.Reading.{GaveFits};
 
 use mio::event::Event;
 use mio::net::UnixStream;

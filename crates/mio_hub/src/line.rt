@@ -1,6 +1,6 @@
 //! The sockets over which a hub's modem is reached.
 ghost use Rattle.std.specs.Prelude.{◌≡◌, ℕ, ◌<◌, ◌≤◌, length, IfOk};
-ghost use Rattle.hub_io.specs.Reading.{GaveFits};
+ghost use Rattle.mio_hub.specs.Reading.{GaveFits};
 
 use crate::peer::{Gave, Peer, Reading};
 use link_io::TAKE_ROOM;

@@ -1,0 +1,153 @@
+ghost use Rattle.std.specs.Prelude.{◌≡◌, ◌≤◌, true, false, None, length, is_ok, IsSome, IfOk, OnOk};
+ghost use Rattle.std.specs.Option.{option_copied};
+ghost use Rattle.kit_io.specs.Causes.{HasCause};
+ghost use Rattle.hub_io.specs.Clients.{fault_of, is_there};
+ghost use Rattle.hub_io.specs.Hub.{NoneFell, SameClients, opened_call, reopen_call, send_call, send_modem_call};
+ghost use Rattle.hub_io.specs.Record.{Paired, Records};
+
+use crate::sockets::Sockets;
+use hub_io::{ConnFaults, Hub, HubEvent};
+use kit_io::{Failed, Faults};
+use link_io::Target;
+use std::alloc::Global;
+use std::fs::{File, Files};
+use std::io;
+use std::net::Net;
+use std::rt::Clock;
+
+/// A hub over Unix sockets. It tells no content, and is trusted with it.
+///
+/// Its socket is its owner's alone from its first moment on, and the file goes with the hub. An
+/// opening replaces a socket to which nobody listens. It fails where anything else stands at the
+/// path, or where the path leads to the device. At most 128 clients are there at a time, and others
+/// wait; where one can't be let in though nobody is there, as where no descriptor is left, `next`
+/// fails. It tells the time at least every 100 ms, and never `Stop`.
+///
+/// A device behind a bridge is away from the loss of a pump on. Its reopening fails, and closes what
+/// is left of the line to its pumps.
+///
+/// What `send_modem` took is written at the last of the events that one wait found. A modem that is
+/// lost before then is told by `next`.
+#[derive(Drop)]
+pub struct MioHub<'a, R: Files> {
+    sockets: Sockets<'a, R>,
+    faults: Faults,
+    conn_faults: ConnFaults,
+    modem_faults: Faults,
+}
+
+impl<'a, R: Net + Clock + Files<File = File>> MioHub<'a, R> {
+    /// A hub that isn't open. It takes the memory of its tables here.
+    pub fn new(rt: &'a R, alloc: Global) -> io::Result<Self> {
+        Ok(MioHub {
+            sockets: Sockets::new(rt, alloc)?,
+            faults: Faults::none(),
+            conn_faults: ConnFaults::none(alloc)?,
+            modem_faults: Faults::none(),
+        })
+    }
+}
+
+impl<R: Net + Clock + Files<File = File>> Hub for MioHub<'_, R> {
+    ghost calls = { λ _. None };
+
+    ghost faults = { λ s. s.faults };
+
+    ghost conn_faults = { λ s conn. fault_of s.conn_faults conn };
+
+    ghost modem_faults = { λ s. s.modem_faults };
+
+    ghost greatest = { λ s. s.sockets.names.greatest };
+
+    ghost is_connected = { λ s conn. is_there s.sockets.names conn };
+
+    fn open(&mut self, socket: &str, device: Option<&Target>) -> Result<(), Failed>
+        ensures calls { Records None (opened_call result socket.now (option_copied device.entry)) None }
+        ensures cause { HasCause self.old.faults self.new.faults result }
+        ensures conns { NoneFell (fault_of self.old.conn_faults) (fault_of self.new.conn_faults) }
+        ensures modem { self.old.modem_faults ≤ self.new.modem_faults }
+        ensures names { self.new.sockets.names.greatest ≡ self.old.sockets.names.greatest }
+        ensures clients { SameClients (is_there self.old.sockets.names) (is_there self.new.sockets.names) }
+        ensures listens { OnOk result (IsSome self.new.sockets.listening) }
+    {
+        match self.sockets.open(socket, device) {
+            Ok(()) => Ok(()),
+            Err(_) => Err(self.faults.fail()),
+        }
+    }
+
+    fn pair(&mut self) -> Result<(), Failed>
+        ensures calls { Records None (Paired (is_ok result)) None }
+        ensures cause { HasCause self.old.faults self.new.faults result }
+        ensures conns { NoneFell (fault_of self.old.conn_faults) (fault_of self.new.conn_faults) }
+        ensures modem { self.old.modem_faults ≤ self.new.modem_faults }
+        ensures names { self.new.sockets.names.greatest ≡ self.old.sockets.names.greatest }
+        ensures clients { SameClients (is_there self.old.sockets.names) (is_there self.new.sockets.names) }
+        ensures reached { OnOk result (IsSome self.new.sockets.modem) }
+    {
+        match self.sockets.pair() {
+            Ok(()) => Ok(()),
+            Err(_) => Err(self.faults.fail()),
+        }
+    }
+
+    fn next(&mut self, buf: &mut [u8]) -> Result<HubEvent, Failed> {
+        match self.sockets.next(buf) {
+            Ok(event) => Ok(event),
+            Err(_) => Err(self.faults.fail()),
+        }
+    }
+
+    fn send(&mut self, conn: u64, bytes: &[u8]) -> Result<usize, Failed>
+        ensures within { IfOk result (λ count. count ≤ length bytes.now) }
+        ensures calls { Records None (send_call result conn bytes.now) None }
+        ensures cause { HasCause (fault_of self.old.conn_faults conn) (fault_of self.new.conn_faults conn) result }
+        ensures own { self.old.faults ≤ self.new.faults }
+        ensures conns { NoneFell (fault_of self.old.conn_faults) (fault_of self.new.conn_faults) }
+        ensures modem { self.old.modem_faults ≤ self.new.modem_faults }
+        ensures names { self.new.sockets.names.greatest ≡ self.old.sockets.names.greatest }
+        ensures clients { SameClients (is_there self.old.sockets.names) (is_there self.new.sockets.names) }
+        ensures there { OnOk result (is_there self.old.sockets.names conn ≡ true) }
+    {
+        match self.sockets.send(conn, bytes) {
+            Ok(count) => Ok(count),
+            Err(_) => Err(self.conn_faults.fail(conn)),
+        }
+    }
+
+    fn send_modem(&mut self, bytes: &[u8]) -> Result<usize, Failed>
+        ensures within { IfOk result (λ count. count ≤ length bytes.now) }
+        ensures calls { Records None (send_modem_call result bytes.now) None }
+        ensures cause { HasCause self.old.modem_faults self.new.modem_faults result }
+        ensures own { self.old.faults ≤ self.new.faults }
+        ensures conns { NoneFell (fault_of self.old.conn_faults) (fault_of self.new.conn_faults) }
+        ensures names { self.new.sockets.names.greatest ≡ self.old.sockets.names.greatest }
+        ensures clients { SameClients (is_there self.old.sockets.names) (is_there self.new.sockets.names) }
+        ensures reached { OnOk result (IsSome self.old.sockets.modem) }
+        ensures lost { is_ok result ≡ false → self.new.sockets.modem ≡ None }
+    {
+        match self.sockets.send_modem(bytes) {
+            Ok(count) => Ok(count),
+            Err(_) => Err(self.modem_faults.fail()),
+        }
+    }
+
+    fn reopen_modem(&mut self) -> Result<(), Failed>
+        ensures calls { Records None (reopen_call result) None }
+        ensures cause { HasCause self.old.modem_faults self.new.modem_faults result }
+        ensures own { self.old.faults ≤ self.new.faults }
+        ensures conns { NoneFell (fault_of self.old.conn_faults) (fault_of self.new.conn_faults) }
+        ensures names { self.new.sockets.names.greatest ≡ self.old.sockets.names.greatest }
+        ensures clients { SameClients (is_there self.old.sockets.names) (is_there self.new.sockets.names) }
+        ensures reached { OnOk result (IsSome self.new.sockets.modem) }
+    {
+        match self.sockets.open_device() {
+            Ok(()) => Ok(()),
+            Err(_) => Err(self.modem_faults.fail()),
+        }
+    }
+
+    fn hang_up(&mut self, conn: u64) {
+        self.sockets.hang_up(conn);
+    }
+}
