@@ -1,4 +1,5 @@
 pub mod Order
 pub mod Places
+pub mod Kept
 pub mod Sets
 pub mod Since

@@ -1,18 +1,16 @@
 -- Where an id stands in a list of grants that is in order, or would stand.
-use Rattle.std.proofs.Common.{◌≡◌, ℕ, zero, suc, ◌+◌, ◌<◌, Bool, true, false, not, List, [], ◌∷◌, ◌++◌, length, take, drop, filter, get_or, refl, ap, sym, ◌∙◌, arith, Option, Some, None, ⊎_elim, ◌||◌, ◌==◌}
+use Rattle.std.proofs.Common.{◌≡◌, not, ℕ, zero, suc, ◌+◌, ◌<◌, true, false, List, [], ◌∷◌, ◌++◌, length, take, drop, filter, get_or, set, refl, ap, sym, ◌∙◌, arith, Some, None, ⊎_elim, ◌||◌}
 use Rattle.std.proofs.lemmas.List.{get_or_default}
-use Rattle.std.proofs.lemmas.Bool.{eqb-true}
-use Rattle.std.specs.List.{AllByRecursion, AllWithin, list_any}
+use Rattle.std.specs.List.{AllByRecursion, AllWithin, list_any, remove}
 use Rattle.std.specs.List.Sorted.{IsPartitionedBy}
 use Rattle.std.proofs.Math.Nat.{eq-or-lt_of_le}
-use Rattle.std.proofs.Math.Bool.{not-not}
 use Rattle.std.proofs.lemmas.Bool.Decides.{nat_tests}
 use Rattle.kit_bytes.specs.Sorted.{IsInOrder}
-use Rattle.kit_bytes.proofs.Lists.{all_weaker, all_at, all_insert}
-use Rattle.kit_bytes.proofs.Sorted.{in_order_at, partitioned, in_order_insert}
-use Rattle.proxy_history.specs.ClientIds.{Grant, is_of, holder_in, holds_some, is_other}
-use Rattle.holders.specs.Grants.{is_before, is_behind, is_of_service, IsAhead, AreInOrder, AreBytes, IsFoundAt, IsPlaceOf, granted, grants, grants_if, is_taken}
-use Rattle.holders.proofs.Order.{of_not_before, of_not_behind, before_not_of, before_not_behind, behind_not_of, behind_not_before, behind_else, before_of_behind, before_before, behind_both, behind_behind, is_of-is, kept_all, kept_none, few_ids}
+use Rattle.kit_bytes.proofs.Lists.{all_weaker, all_at, all_insert, all_set}
+use Rattle.kit_bytes.proofs.Sorted.{in_order_at, partitioned, in_order_insert, in_order_set}
+use Rattle.proxy_history.specs.ClientIds.{Grant, is_of, holder_in, holds_some}
+use Rattle.holders.specs.Grants.{is_before, is_behind, is_of_service, IsAhead, AreInOrder, AreBytes, IsFoundAt, IsPlaceOf, granted}
+use Rattle.holders.proofs.Order.{of_not_before, of_not_behind, before_not_of, before_not_behind, behind_not_of, behind_not_before, behind_else, before_of_behind, before_before, behind_both, behind_behind, kept_all, kept_none, few_ids}
 
 -- ---- what a binary search finds ----
 
@@ -89,25 +87,51 @@ all_behind : (s i : ℕ) (grants : List Grant) → IsPlaceOf s i grants 0 → Al
 all_behind s i [] at = tt
 all_behind s i (g ∷ grants) at = (at.behind 0 g (omega arith) (omega arith), all_behind s i grants (place_first s i g grants at))
 
-grant_is : (conn s i : ℕ) (g : Grant) → g.conn ≡ conn → g.service ≡ s → g.client ≡ i → record { conn = conn; service = s; client = i } ≡ g
-grant_is conn s i g a b c =
-    let one : record { conn = conn; service = s; client = i } ≡ record { conn = g.conn; service = s; client = i } = ap (λ (x : ℕ). record { conn = x; service = s; client = i }) (sym a) in
-    let two : record { conn = g.conn; service = s; client = i } ≡ record { conn = g.conn; service = g.service; client = i } = ap (λ (x : ℕ). record { conn = g.conn; service = x; client = i }) (sym b) in
-    let three : record { conn = g.conn; service = g.service; client = i } ≡ g = ap (λ (x : ℕ). record { conn = g.conn; service = g.service; client = x }) (sym c) in
-    one ∙ two ∙ three
+-- ---- an id that is there no more ----
 
-pub found_granted : (conn s i place : ℕ) (grants : List Grant) (d : Grant) → AreInOrder grants → IsFoundAt s i grants place → (get_or grants place d).conn ≡ conn → granted conn s i grants ≡ grants
+pub found_removed : (s i place : ℕ) (grants : List Grant) → AreInOrder grants → IsFoundAt s i grants place → remove grants place ≡ filter (λ g. not (is_of s i g)) grants
 unfolding IsInOrder
-found_granted conn s i place [] d ordered found same = absurd (omega (arith, found.within))
-found_granted conn s i zero (g ∷ grants) d ordered found same =
+found_removed s i place [] ordered found = absurd (omega (arith, found.within))
+found_removed s i zero (g ∷ grants) ordered found =
+    let of : is_of s i g ≡ true = found.is g in
+    let others = all_weaker (λ h. is_behind g.service g.client h ≡ true) (λ h. not (is_of s i h) ≡ true) (λ h behind. ap not (behind_not_of s i h (behind_both s i g h of behind))) grants ordered.0 in
+    let all : filter (λ h. not (is_of s i h)) grants ≡ grants = kept_all (λ h. not (is_of s i h)) grants others in
+    rw of (sym all)
+found_removed s i (suc place) (g ∷ grants) ordered found =
+    rw (before_not_of s i g (stands_before s i place g grants ordered found)) (ap (λ t. g ∷ t) (found_removed s i place grants ordered.1 (found_behind s i place g grants found)))
+
+pub absent_removed : (s i place : ℕ) (grants : List Grant) → IsPlaceOf s i grants place → grants ≡ filter (λ g. not (is_of s i g)) grants
+absent_removed s i place [] at = refl
+absent_removed s i zero (g ∷ grants) at = rw (behind_not_of s i g (at.behind 0 g (omega arith) (omega arith))) (ap (λ t. g ∷ t) (absent_removed s i zero grants (place_first s i g grants at)))
+absent_removed s i (suc place) (g ∷ grants) at = rw (before_not_of s i g (at.before 0 g (omega arith) (omega arith))) (ap (λ t. g ∷ t) (absent_removed s i place grants (place_behind s i place g grants at)))
+
+-- the id has another number
+pub found_set : (number s i place : ℕ) (grants : List Grant) (d : Grant) → AreInOrder grants → IsFoundAt s i grants place → set grants place (record { conn = number; service = s; client = i }) ≡ granted number s i grants
+unfolding IsInOrder
+found_set number s i place [] d ordered found = absurd (omega (arith, found.within))
+found_set number s i zero (g ∷ grants) d ordered found =
     let of : is_of s i g ≡ true = found.is d in
     let behind = all_weaker (λ h. is_behind g.service g.client h ≡ true) (λ h. is_behind s i h ≡ true) (λ h behind. behind_both s i g h of behind) grants ordered.0 in
     let none : filter (is_before s i) grants ≡ [] = kept_none (is_before s i) grants (all_weaker (λ h. is_behind s i h ≡ true) (λ h. is_before s i h ≡ false) (λ h later. behind_not_before s i h later) grants behind) in
     let all : filter (is_behind s i) grants ≡ grants = kept_all (is_behind s i) grants behind in
-    rw (of_not_before s i g of, of_not_behind s i g of, none, all) (ap (λ (h : Grant). h ∷ grants) (grant_is conn s i g same (is_of-is s i g of).0 (is_of-is s i g of).1))
-found_granted conn s i (suc place) (g ∷ grants) d ordered found same =
+    rw (of_not_before s i g of, of_not_behind s i g of, none, all) refl
+found_set number s i (suc place) (g ∷ grants) d ordered found =
     let before = stands_before s i place g grants ordered found in
-    rw (before, before_not_behind s i g before) (ap (λ t. g ∷ t) (found_granted conn s i place grants d ordered.1 (found_behind s i place g grants found) same))
+    rw (before, before_not_behind s i g before) (ap (λ t. g ∷ t) (found_set number s i place grants d ordered.1 (found_behind s i place g grants found)))
+
+before_same : (s i : ℕ) (g h new : Grant) → is_of s i g ≡ true → new.service ≡ s → new.client ≡ i → IsAhead h g → IsAhead h new
+before_same s i g h new of service client ahead = grind (arith, nat_tests, of, service, client, ahead)
+
+behind_same : (s i : ℕ) (g h new : Grant) → is_of s i g ≡ true → new.service ≡ s → new.client ≡ i → IsAhead g h → IsAhead new h
+behind_same s i g h new of service client ahead = grind (arith, nat_tests, of, service, client, ahead)
+
+pub ordered_set : (s i place : ℕ) (grants : List Grant) (new : Grant) → new.service ≡ s → new.client ≡ i → AreInOrder grants → IsFoundAt s i grants place → AreInOrder (set grants place new)
+ordered_set s i place grants new service client ordered found =
+    in_order_set IsAhead grants place new new (λ h ahead. behind_same s i (get_or grants place new) h new (found.is new) service client ahead)
+    (λ h ahead. before_same s i (get_or grants place new) h new (found.is new) service client ahead) ordered
+
+pub bytes_set : (place : ℕ) (grants : List Grant) (new : Grant) → AreBytes grants → new.service < 256 → new.client < 256 → AreBytes (set grants place new)
+bytes_set place grants new bytes service client = all_set (λ g. (g.service < 256) × (g.client < 256)) grants place new new (λ old. (service, client)) bytes
 
 pub absent_granted : (conn s i place : ℕ) (grants : List Grant) → IsPlaceOf s i grants place → granted conn s i grants ≡ take place grants ++ record { conn = conn; service = s; client = i } ∷ drop place grants
 absent_granted conn s i zero [] at = refl
@@ -131,28 +155,6 @@ pub inserted : (s i place : ℕ) (grants : List Grant) (new : Grant) → new.ser
 inserted s i place grants new service client ordered at =
     in_order_insert IsAhead grants place new
     (λ k d low high. ahead_of_new s i new (get_or grants k d) service client (at.before k d low high)) (λ k d low high. behind_new s i new (get_or grants k d) service client (at.behind k d low high)) ordered
-
--- ---- what granting makes of a list ----
-
-pub found_free : (conn s i place : ℕ) (rows : List Grant) (d : Grant) → AreInOrder rows → IsFoundAt s i rows place → ((get_or rows place d).conn == conn) ≡ not (is_taken conn s i rows)
-found_free conn s i place rows d ordered found =
-    sym (ap (λ (h : Option ℕ). not (is_other conn h)) (found_holder s i place rows d ordered found) ∙ not-not ((get_or rows place d).conn == conn))
-
-pub found_grants : (conn s i place : ℕ) (rows : List Grant) (d : Grant) → AreInOrder rows → IsFoundAt s i rows place → rows ≡ grants conn s i rows
-found_grants conn s i place rows d ordered found =
-    let either : (b : Bool) → ((get_or rows place d).conn == conn) ≡ b → rows ≡ grants_if b conn s i rows =
-    λ b. elim b as (λ b. ((get_or rows place d).conn == conn) ≡ b → rows ≡ grants_if b conn s i rows) [
-      | true ↦ λ e. sym (found_granted conn s i place rows d ordered found (eqb-true (get_or rows place d).conn conn e))
-      | false ↦ λ e. refl
-    ]
-    in
-    either ((get_or rows place d).conn == conn) refl ∙ ap (λ b. grants_if b conn s i rows) (found_free conn s i place rows d ordered found)
-
-pub absent_free : (conn s i place : ℕ) (rows : List Grant) → IsPlaceOf s i rows place → true ≡ not (is_taken conn s i rows)
-absent_free conn s i place rows at = sym (ap (λ (h : Option ℕ). not (is_other conn h)) (absent_holder s i place rows at))
-
-pub absent_grants : (conn s i place : ℕ) (rows : List Grant) → IsPlaceOf s i rows place → take place rows ++ record { conn = conn; service = s; client = i } ∷ drop place rows ≡ grants conn s i rows
-absent_grants conn s i place rows at = sym (absent_granted conn s i place rows at) ∙ ap (λ b. grants_if b conn s i rows) (absent_free conn s i place rows at)
 
 pub bytes_insert : (place : ℕ) (rows : List Grant) (new : Grant) → AreBytes rows → new.service < 256 → new.client < 256 → AreBytes (take place rows ++ new ∷ drop place rows)
 bytes_insert place rows new bytes service client = all_insert (λ g. (g.service < 256) × (g.client < 256)) rows place new bytes (service, client)

@@ -8,7 +8,8 @@ use Rattle.kit_bytes.proofs.Lists.{all_weaker, all_filter}
 use Rattle.proxy_history.specs.ClientIds.{Grant, is_of, holder_in, holds_some, is_other}
 use Rattle.proxy_history.proofs.Lists.{Contains-nil, Contains-cons, Contains-cons_cases, Contains-filter, Contains-filter_from, Contains-filter_passes}
 use Rattle.kit_bytes.specs.Sorted.{IsInOrder}
-use Rattle.holders.specs.Grants.{is_before, is_behind, is_of_service, AreInOrder, granted, grants_if, grants, is_taken}
+use Rattle.holders.specs.Grants.{is_before, is_behind, is_of_service, AreInOrder, granted, is_taken}
+use Rattle.holders.specs.Kept.{Ids, held_by, held_unless}
 use Rattle.holders.specs.Calls.{IsOnce, TellTheSame, granted_last, granted_last_unless}
 use Rattle.holders.proofs.Order.{before_not_of, behind_not_of, behind_else, is_of-is}
 
@@ -199,11 +200,11 @@ same_some conn s xs ys tell = both (holds_some conn s ys) (holds_some conn s xs)
     both false false e f = e ∙ sym f
 
 -- a grant that may be refused
-pub same_grants : (conn s i : ℕ) (xs ys : List Grant) → TellTheSame xs ys → AreInOrder ys → TellTheSame (granted_last_unless (is_taken conn s i xs) conn s i xs) (grants conn s i ys)
-same_grants conn s i xs ys tell ordered =
-    let taken : is_taken conn s i ys ≡ is_taken conn s i xs = ap (is_other conn) (same_holder s i xs ys tell ordered) in
-    subst (λ (b : Bool). TellTheSame (granted_last_unless b conn s i xs) (grants conn s i ys)) taken (either (is_taken conn s i ys))
+pub same_held_by : (conn s i : ℕ) (xs : List Grant) (ids : Ids) → TellTheSame xs ids.held → AreInOrder ids.held → TellTheSame (granted_last_unless (is_taken conn s i xs) conn s i xs) (held_by conn s i ids).held
+same_held_by conn s i xs ids tell ordered =
+    let taken : is_taken conn s i ids.held ≡ is_taken conn s i xs = ap (is_other conn) (same_holder s i xs ids.held tell ordered) in
+    subst (λ (b : Bool). TellTheSame (granted_last_unless b conn s i xs) (held_by conn s i ids).held) taken (either (is_taken conn s i ids.held))
   where
-    either : (b : Bool) → TellTheSame (granted_last_unless b conn s i xs) (grants_if (not b) conn s i ys)
+    either : (b : Bool) → TellTheSame (granted_last_unless b conn s i xs) (held_unless b conn s i ids).held
     either true = tell
-    either false = same_granted conn s i xs ys tell
+    either false = same_granted conn s i xs ids.held tell

@@ -19,7 +19,7 @@ unfolding IsOnce
 held_once [] = tt
 held_once (Grants conn s i ∷ past) = once_unless (is_taken conn s i (held_after past)) conn s i (held_after past) (held_once past)
 held_once (Releases conn s i ∷ past) = once_filter (λ g. not (is_of_both conn s i g)) (held_after past) (held_once past)
-held_once (Leaves conn ∷ past) = once_filter (λ g. not (conn == g.conn)) (held_after past) (held_once past)
+held_once (Leaves conn time ∷ past) = once_filter (λ g. not (conn == g.conn)) (held_after past) (held_once past)
 held_once (Clears ∷ past) = tt
 
 -- ---- who holds an id was granted it, and that hasn't ended since ----
@@ -60,8 +60,8 @@ held_since [] g at = absurd (Contains-nil g at)
 held_since (Grants conn s i ∷ past) g at = granted_since g conn s i past (held_since past g) (is_taken conn s i (held_after past)) refl at
 held_since (Releases conn s i ∷ past) g at =
     since_more g (Releases conn s i) past (not-true (is_of_both conn s i g) (Contains-filter_passes (λ h. not (is_of_both conn s i h)) (held_after past) g at)) (held_since past g (Contains-filter_from (λ h. not (is_of_both conn s i h)) (held_after past) g at))
-held_since (Leaves conn ∷ past) g at =
-    since_more g (Leaves conn) past (not-true (conn == g.conn) (Contains-filter_passes (λ h. not (conn == h.conn)) (held_after past) g at)) (held_since past g (Contains-filter_from (λ h. not (conn == h.conn)) (held_after past) g at))
+held_since (Leaves conn time ∷ past) g at =
+    since_more g (Leaves conn time) past (not-true (conn == g.conn) (Contains-filter_passes (λ h. not (conn == h.conn)) (held_after past) g at)) (held_since past g (Contains-filter_from (λ h. not (conn == h.conn)) (held_after past) g at))
 held_since (Clears ∷ past) g at = absurd (Contains-nil g at)
 
 -- ---- and the other way round ----
@@ -98,7 +98,7 @@ keeps_granted g conn s i held once at false is =
 keeps_held : (g : Grant) (call : Call) (past : List Call) → ends g call ≡ false → Contains (held_after past) g → Contains (held_after (call ∷ past)) g
 keeps_held g (Grants conn s i) past keeps at = keeps_granted g conn s i (held_after past) (held_once past) at (is_taken conn s i (held_after past)) refl
 keeps_held g (Releases conn s i) past keeps at = Contains-filter (λ h. not (is_of_both conn s i h)) (held_after past) g at (ap not keeps)
-keeps_held g (Leaves conn) past keeps at = Contains-filter (λ h. not (conn == h.conn)) (held_after past) g at (ap not keeps)
+keeps_held g (Leaves conn time) past keeps at = Contains-filter (λ h. not (conn == h.conn)) (held_after past) g at (ap not keeps)
 keeps_held g Clears past keeps at = absurd (cc)
 
 since_held : (g : Grant) (later earlier : List Call) → is_taken g.conn g.service g.client (held_after earlier) ≡ false → All (λ call. ends g call ≡ false) later

@@ -4,11 +4,12 @@ use Rattle.std.specs.Prelude.{◌≡◌, ◌↔◌, ℕ, Bool, true, false, not,
 use Rattle.std.specs.List.{AllByRecursion}
 use Rattle.proxy_history.specs.ClientIds.{Grant, is_of}
 use Rattle.holders.specs.Grants.{is_taken, releases, leaves}
+use Rattle.holders.specs.Kept.{Ids}
 
 pub data Call : Type 0 where
   Grants : (conn : ℕ) → (service : ℕ) → (client : ℕ) → Call
   Releases : (conn : ℕ) → (service : ℕ) → (client : ℕ) → Call
-  Leaves : (conn : ℕ) → Call
+  Leaves : (conn : ℕ) → (time : ℕ) → Call
   Clears : Call
 
 -- the newest grant is the last
@@ -24,7 +25,7 @@ abbrev pub held_after : List Call → List Grant
 held_after [] = []
 held_after (Grants conn service client ∷ past) = granted_last_unless (is_taken conn service client (held_after past)) conn service client (held_after past)
 held_after (Releases conn service client ∷ past) = releases conn service client (held_after past)
-held_after (Leaves conn ∷ past) = leaves conn (held_after past)
+held_after (Leaves conn time ∷ past) = leaves conn (held_after past)
 held_after (Clears ∷ past) = []
 
 -- no id twice
@@ -37,5 +38,5 @@ pub record TellTheSame (held grants : List Grant) : Type 0 where
   pub same : (grant : Grant) → Contains held grant ↔ Contains grants grant
   pub once : IsOnce held
 
-abbrev pub StandsFor : List Call → List Grant → Type 0
-StandsFor calls grants = TellTheSame (held_after calls) grants
+abbrev pub StandsFor : List Call → Ids → Type 0
+StandsFor calls ids = TellTheSame (held_after calls) ids.held

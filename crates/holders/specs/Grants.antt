@@ -1,5 +1,5 @@
 -- Which connection holds which client id, and what each call makes of it. The grants stand in the order of their ids.
-use Rattle.std.specs.Prelude.{◌≡◌, ℕ, ◌<◌, ◌≤◌, Bool, true, false, not, ◌&&◌, ◌||◌, ◌==◌, nat_lt, List, ◌∷◌, ◌++◌, length, filter, slice_index_or}
+use Rattle.std.specs.Prelude.{◌≡◌, ℕ, ◌<◌, ◌≤◌, Bool, true, not, ◌&&◌, ◌||◌, ◌==◌, nat_lt, List, ◌∷◌, ◌++◌, length, filter, slice_index_or}
 use Rattle.std.specs.List.{AllByRecursion, AllWithin}
 use Rattle.kit_bytes.specs.Sorted.{IsInOrder}
 use Rattle.proxy_history.specs.ClientIds.{Grant, is_of, holder_in, is_other}
@@ -48,14 +48,6 @@ granted conn service client grants =
 -- another connection holds the id
 abbrev pub is_taken : ℕ → ℕ → ℕ → List Grant → Bool
 is_taken conn service client grants = is_other conn (holder_in service client grants)
-
-abbrev pub grants_if : Bool → ℕ → ℕ → ℕ → List Grant → List Grant
-grants_if true conn service client grants = granted conn service client grants
-grants_if false conn service client grants = grants
-
--- an id that another connection holds isn't granted, and nothing changes
-abbrev pub grants : ℕ → ℕ → ℕ → List Grant → List Grant
-grants conn service client held = grants_if (not (is_taken conn service client held)) conn service client held
 
 -- ---- giving up ----
 

@@ -7,7 +7,7 @@ use Rattle.holders.specs.Calls.{Call, Grants, Releases, Leaves, Clears, held_aft
 -- its connection gives the id up, or leaves, or all ids are given up
 abbrev pub ends : Grant → Call → Bool
 ends grant (Releases conn service client) = is_of_both conn service client grant
-ends grant (Leaves conn) = conn == grant.conn
+ends grant (Leaves conn time) = conn == grant.conn
 ends grant Clears = true
 ends grant _ = false
 

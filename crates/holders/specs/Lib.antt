@@ -1,3 +1,5 @@
 pub mod Grants
+pub mod Rows
+pub mod Kept
 pub mod Calls
 pub mod Laws

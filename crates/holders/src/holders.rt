@@ -1,147 +1,148 @@
-ghost use Rattle.std.specs.Prelude.{◌≡◌, ◌<◌, ◌≤◌, not, List, [], ◌∷◌, ◌++◌, take, drop, vec_len, vec_capacity, IfOk, IfErr};
-ghost use Rattle.std.specs.List.{list_any};
-ghost use Rattle.proxy_history.specs.ClientIds.{holder_in, holds_some};
-ghost use Rattle.holders.specs.Grants.{AreInOrder, IsFoundAt, IsPlaceOf, is_of_service, is_taken, grants, releases, leaves};
+ghost use Rattle.std.specs.Prelude.{◌≡◌, ◌↔◌, false, not, List, [], ◌∷◌, IfOk, Option, Some, None, Contains};
+ghost use Rattle.proxy_history.specs.ClientIds.{KeptId, holder_in, holds_some, is_other};
+ghost use Rattle.holders.specs.Grants.{AreInOrder, is_taken};
+ghost use Rattle.holders.specs.Kept.{FirstDue, held_by, held_unless, freed_by, left_at, since_in};
 ghost use Rattle.holders.specs.Calls.{Call, Grants, Releases, Leaves, Clears, held_after, StandsFor};
 
-use crate::row::Row;
+use crate::by_id::ById;
 use std::alloc::{AllocError, Global};
 use std::marker::Model;
 
-// Of 256 services with 256 client ids each.
-const ID_LIMIT: usize = 65_536;
-
-/// Which connection holds which client id of the modem's services.
+/// Which connection holds which client id of the modem's services, and since when the ids are kept
+/// whose holders went.
 ///
-/// The ids that are held stand in order, so that one is found by a binary search.
+/// Connection 0 is the proxy itself, which holds an id while it releases it.
 #[derive(Drop)]
 pub struct Holders {
-    rows: Vec<Row>,
+    held: ById,
+    kept: ById,
+    // nothing was kept before this time
+    oldest: u64,
 }
 
 impl Model for Holders {
-    ghost use Rattle.std.specs.Prelude.{◌≤◌, List, vec_capacity};
-    ghost use Rattle.proxy_history.specs.ClientIds.{Grant};
-    ghost use Rattle.holders.specs.Grants.{AreInOrder, AreBytes};
+    ghost use Rattle.std.specs.Prelude.{◌≤◌, map};
+    ghost use Rattle.std.specs.List.{AllByRecursion};
+    ghost use Rattle.holders.specs.Kept.{Ids};
+    ghost use Rattle.holders.specs.Rows.{kept_of};
 
-    ghost Value = { List Grant };
+    ghost Value = { Ids };
 
-    ghost view = { λ h. h.rows.items };
+    ghost view = { λ h. record { held = h.held; kept = map kept_of h.kept } };
 
-    ghost invariant = { λ h. record {
-      ordered : AreInOrder h.rows.items;
-      bytes : AreBytes h.rows.items;
-      room : 65536 ≤ vec_capacity h.rows;
-    } };
+    ghost invariant = { λ h. AllByRecursion (λ g. h.oldest ≤ g.conn) h.kept };
 }
 
 impl Holders {
-    /// Nobody holds an id. This takes all the memory that it will ever need.
+    /// Nobody holds an id, and none is kept. This takes all the memory that it will ever need.
     pub fn open(alloc: Global) -> Result<Self, AllocError>
-        ensures { IfOk result (λ holders. holders ≡ []) }
+        ensures { IfOk result (λ holders. holders ≡ record { held = []; kept = [] }) }
     {
+        let held = ById::open(alloc)?;
+        let kept = ById::open(alloc)?;
         Ok(Holders {
-            rows: Vec::with_capacity(alloc, ID_LIMIT)?,
+            held,
+            kept,
+            oldest: u64::MAX,
         })
     }
 
     /// The connection that holds the id.
     pub fn holder(&self, service: u8, cid: u8) -> Option<u64>
-        ensures holder { result ≡ holder_in service cid self.now }
-        ensures ordered { AreInOrder self.now }
+        ensures holder { result ≡ holder_in service cid self.now.held }
+        ensures ordered { AreInOrder self.now.held }
         ensures stands { (calls : List Call) → StandsFor calls self.now → result ≡ holder_in service cid (held_after calls) }
     {
-        match find(&self.rows, service, cid) {
-            Ok(index) => {
-                let row = &self.rows[index];
-                Some(row.conn())
-            }
-            Err(_) => None,
-        }
+        self.held.number(service, cid)
     }
 
-    /// Grants the id to the connection, unless another connection holds it: then nothing changes.
+    /// Since when the id is kept: its holder went then, and nobody was granted it since.
+    pub fn kept(&self, service: u8, cid: u8) -> Option<u64>
+        ensures { result ≡ since_in service cid self.now.kept }
+    {
+        self.kept.number(service, cid)
+    }
+
+    /// The first id, in order of service and client id, that is kept for so long at this time. Times are
+    /// in milliseconds; an id is due in the millisecond in which the time is over.
+    ///
+    /// Where none is due, this costs the same however many ids are held or kept.
+    pub fn due(&self, time: u64, after: u64) -> Option<(u8, u8)>
+        ensures { FirstDue after time self.now.kept result }
+    {
+        if time.saturating_sub(self.oldest) < after {
+            return None;
+        }
+        self.kept.first_old(time, after)
+    }
+
+    /// Grants the id to the connection, unless another connection holds it: then nothing changes. An id
+    /// that is held is kept no more.
     pub fn grant(&mut self, conn: u64, service: u8, cid: u8) -> bool
-        ensures granted { result ≡ not (is_taken conn service cid self.old) }
-        ensures grants { self.new ≡ grants conn service cid self.old }
+        ensures granted { result ≡ not (is_taken conn service cid self.old.held) }
+        ensures ids { self.new ≡ held_by conn service cid self.old }
         ensures stands { (calls : List Call) → StandsFor calls self.old → StandsFor (Grants conn service cid ∷ calls) self.new }
     {
-        match find(&self.rows, service, cid) {
-            Ok(index) => {
-                let row = &self.rows[index];
-                row.conn() == conn
-            }
-            Err(place) => {
-                put(&mut self.rows, place, Row::new(conn, service, cid));
-                true
-            }
+        if is_other(conn, self.held.number(service, cid)) {
+            return false;
+        }
+        self.hold(conn, service, cid);
+        true
+    }
+
+    /// The connection holds the id, whoever held it. An id that is held is kept no more.
+    pub fn hold(&mut self, conn: u64, service: u8, cid: u8)
+        ensures { self.new ≡ held_unless false conn service cid self.old }
+    {
+        self.held.set(conn, service, cid);
+        if self.kept.forget(service, cid) {
+            self.oldest = self.kept.least();
         }
     }
 
-    /// The connection gives the id up, where it holds it.
+    /// The connection gives the id up, where it holds it. The id isn't kept.
     pub fn released(&mut self, conn: u64, service: u8, cid: u8)
-        ensures grants { self.new ≡ releases conn service cid self.old }
+        ensures ids { self.new ≡ freed_by conn service cid self.old }
         ensures stands { (calls : List Call) → StandsFor calls self.old → StandsFor (Releases conn service cid ∷ calls) self.new }
     {
-        self.rows
-            .retain(|row| !(row.is_of(service, cid) & (conn == row.conn())));
+        self.held.forget_both(conn, service, cid);
     }
 
-    /// The connection gives all its ids up.
-    pub fn left(&mut self, conn: u64)
-        ensures grants { self.new ≡ leaves conn self.old }
-        ensures stands { (calls : List Call) → StandsFor calls self.old → StandsFor (Leaves conn ∷ calls) self.new }
+    /// The connection went at this time: nobody holds its ids, and they are kept since then.
+    pub fn left(&mut self, conn: u64, time: u64)
+        ensures ids { self.new ≡ left_at conn time self.old }
+        ensures stands { (calls : List Call) → StandsFor calls self.old → StandsFor (Leaves conn time ∷ calls) self.new }
     {
-        self.rows.retain(|row| conn != row.conn());
+        self.held.hand_over(conn, time, &mut self.kept);
+        self.held.forget_number(conn);
+        self.oldest = self.kept.least();
     }
 
-    /// Nobody holds an id any more.
+    /// Nobody holds an id any more, and none is kept.
     pub fn clear(&mut self)
-        ensures grants { self.new ≡ [] }
+        ensures ids { self.new ≡ record { held = []; kept = [] } }
         ensures stands { (calls : List Call) → StandsFor (Clears ∷ calls) self.new }
     {
-        self.rows.clear();
+        self.held.clear();
+        self.kept.clear();
+        self.oldest = u64::MAX;
     }
 
     /// Whether the connection holds some id of the service.
     pub fn holds_any(&self, conn: u64, service: u8) -> bool
-        ensures holds { result ≡ holds_some conn service self.now }
+        ensures holds { result ≡ holds_some conn service self.now.held }
         ensures stands { (calls : List Call) → StandsFor calls self.now → result ≡ holds_some conn service (held_after calls) }
     {
-        some_is_of(&self.rows, conn, service)
+        self.held.has_some(conn, service)
     }
 }
 
-// Puts a row at its place in a list that has the room for it, which takes no memory.
-fn put(rows: &mut Vec<Row>, place: usize, row: Row)
-    requires place { place ≤ vec_len rows.old }
-    requires room { vec_len rows.old < vec_capacity rows.old }
-    ensures items { rows.new.items ≡ take place rows.old.items ++ row ∷ drop place rows.old.items }
-    ensures capacity { vec_capacity rows.old ≤ vec_capacity rows.new }
+// Whether this is another connection.
+fn is_other(conn: u64, holder: Option<u64>) -> bool
+    ensures { result ≡ is_other conn holder }
 {
-    let _ = rows.insert(place, row);
-}
-
-fn some_is_of(rows: &[Row], conn: u64, service: u8) -> bool
-    ensures { result ≡ list_any (is_of_service conn service) rows.now }
-{
-    rows.iter().any(|row| row.is_of_service(conn, service))
-}
-
-// Where the id stands, or else where it would stand.
-fn find(rows: &[Row], service: u8, client: u8) -> Result<usize, usize>
-    requires { AreInOrder rows.now }
-    ensures found { IfOk result (IsFoundAt service client rows.now) }
-    ensures absent { IfErr result (IsPlaceOf service client rows.now) }
-{
-    let place = rows.partition_point(|row| row.is_before(service, client));
-    if place == rows.len() {
-        return Err(place);
-    }
-    let row = &rows[place];
-    if row.is_of(service, client) {
-        Ok(place)
-    } else {
-        Err(place)
+    match holder {
+        Some(holder) => holder != conn,
+        None => false,
     }
 }

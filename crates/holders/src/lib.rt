@@ -1,6 +1,7 @@
-//! Which connection holds which client id.
+//! Which connection holds which client id, and which ids are kept whose holders went.
 #![tactic(auto)]
 
+mod by_id;
 mod holders;
 mod laws;
 mod row;

@@ -1,13 +1,14 @@
 ghost use Rattle.std.specs.Prelude.{◌≡◌};
 ghost use Rattle.proxy_history.specs.ClientIds.{is_of};
 ghost use Rattle.holders.specs.Grants.{is_before, is_of_service};
+ghost use Rattle.holders.specs.Rows.{is_old};
 
 use std::marker::Model;
 
-/// A client id, and the connection that holds it.
+/// A client id with a number: the connection that holds it, or the time since when it is kept.
 #[derive(Drop)]
 pub struct Row {
-    conn: u64,
+    number: u64,
     service: u8,
     client: u8,
 }
@@ -17,24 +18,36 @@ impl Model for Row {
 
     ghost Value = { Grant };
 
-    ghost view = { λ row. record { conn = row.conn; service = row.service; client = row.client } };
+    ghost view = { λ row. record { conn = row.number; service = row.service; client = row.client } };
 }
 
 impl Row {
-    pub fn new(conn: u64, service: u8, client: u8) -> Self
-        ensures { result ≡ record { conn = conn; service = service; client = client } }
+    pub fn new(number: u64, service: u8, client: u8) -> Self
+        ensures { result ≡ record { conn = number; service = service; client = client } }
     {
         Row {
-            conn,
+            number,
             service,
             client,
         }
     }
 
-    pub fn conn(&self) -> u64
+    pub fn number(&self) -> u64
         ensures { result ≡ self.now.conn }
     {
-        self.conn
+        self.number
+    }
+
+    pub fn service(&self) -> u8
+        ensures { result ≡ self.now.service }
+    {
+        self.service
+    }
+
+    pub fn client(&self) -> u8
+        ensures { result ≡ self.now.client }
+    {
+        self.client
     }
 
     pub fn is_of(&self, service: u8, client: u8) -> bool
@@ -53,6 +66,13 @@ impl Row {
     pub fn is_of_service(&self, conn: u64, service: u8) -> bool
         ensures { result ≡ is_of_service conn service self.now }
     {
-        (self.conn == conn) & (self.service == service)
+        (self.number == conn) & (self.service == service)
+    }
+
+    /// Whether its number is a time that is so long ago.
+    pub fn is_old(&self, time: u64, after: u64) -> bool
+        ensures { result ≡ is_old after time self.now }
+    {
+        after <= time.saturating_sub(self.number)
     }
 }

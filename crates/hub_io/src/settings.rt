@@ -5,6 +5,9 @@ use kit_bytes::Text;
 pub struct Limits {
     /// How long a request waits for its answer, in milliseconds.
     pub time: u64,
+    /// For how long a client id is kept whose holder went, in milliseconds, before the QMI proxy
+    /// releases it; it never does where there is none.
+    pub release: Option<u64>,
 }
 
 /// When a serving ends by itself.
@@ -23,6 +26,9 @@ pub struct Settings {
     pub device: Text,
     /// How long a request waits for its answer, in milliseconds.
     pub time: u64,
+    /// For how long a client id is kept whose holder went, in milliseconds, before the QMI proxy
+    /// releases it; it never does where there is none.
+    pub release: Option<u64>,
     /// When the serving ends by itself.
     pub until: Until,
     /// The serving ends after so many events.

@@ -18,7 +18,7 @@ use Rattle.proxy_history.specs.Modem.{to_modem, modem_drained}
 use Rattle.proxy_history.specs.Wording.{Wording}
 use Rattle.proxy_history.specs.Noting.{receivers_of}
 use Rattle.proxy_history.specs.Sound.{IsPresent, IsParty, IsSound}
-use Rattle.proxy_history.specs.Adding.{MayAdd, MayRefuse, MayFinish, Soundly, AddsSoundly, IsOrderly}
+use Rattle.proxy_history.specs.Adding.{MayAdd, MayRefuse, MayTick, MayFinish, Soundly, AddsSoundly, IsOrderly}
 use Rattle.proxy_history.specs.Orderly.{Anything}
 use Rattle.proxy_history.proofs.Sound.{each_contained, party_from_present, forwarded_from_in_use, waits}
 use Rattle.proxy_history.proofs.Counting.{counted}
@@ -210,6 +210,7 @@ module _ (s : Setup) (Asks : Request → List Fact → Type 0) (asked : (r : Req
     refusal = λ why r past may sound. noted_then_ends (MayRefuse why) (λ c before there. (there, tt, tt)) (λ status receivers before. tt) why r FAILURE past sound may;
     order = λ requests r at. at;
     loss = λ past sound. added s.limits wording (May (MayAdd ModemFails)) (SessionsClosed (present past)) past refl (each_contained (present past), tt, tt);
+    clock = λ past sound. none s.limits wording (May MayTick) past;
     finish = λ past sound. sends _ past refl;
   }
 

@@ -28,6 +28,7 @@ mbim_protocol s = record {
   hear_modem = hear_modem s;
   refuse = refuse s;
   order = in_order;
+  on_clock = λ past. past;
   close = close;
   finish = finish s;
 }

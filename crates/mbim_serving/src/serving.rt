@@ -35,6 +35,7 @@ fn open(alloc: Global, settings: &Settings) -> Result<MbimCore, AllocError>
 {
     let limits = Limits {
         time: settings.time,
+        release: settings.release,
     };
     let device = Text::from_str(alloc, settings.device.as_str())?;
     MbimCore::open(alloc, &limits, device)

@@ -21,7 +21,7 @@ use Rattle.proxy_history.specs.History.{add_all}
 use Rattle.proxy_history.proofs.Sound.{forwarded_from_in_use, waits}
 use Rattle.proxy_history.proofs.Found.{found_is}
 use Rattle.proxy_history.proofs.Folds.{at_end}
-use Rattle.proxy_history.proofs.Walk.{kept_by_items, kept_at_end}
+use Rattle.proxy_history.proofs.Walk.{MayAddStill, kept_by_items, kept_by_still_items, kept_at_end}
 use Rattle.proxy_solo.proofs.Lists.{every, contains-push, contains-without}
 use Rattle.proxy_solo.proofs.Elsewhere.{IsElsewhere}
 use Rattle.mbim_proxy.specs.Setup.{Setup}
@@ -83,7 +83,7 @@ abbrev pub speaks : Item → Bool
 speaks (Says d m) = true
 speaks _ = false
 
-pub asking_alone : (item : Item) (fact : Fact) (past : List Fact) → speaks item ≡ false → MayAdd item fact past → asks fact ≡ false
+pub asking_alone : (item : Item) (fact : Fact) (past : List Fact) → speaks item ≡ false → MayAddStill item fact past → asks fact ≡ false
 asking_alone (Says d m) _ past none may = absurd (cc)
 asking_alone _ (Forwarded r) past none may = absurd may
 asking_alone _ _ past none may = refl
@@ -98,7 +98,7 @@ abbrev pub takes : Item → Bool
 takes (ModemTakes count) = true
 takes _ = false
 
-queueing_alone : (item : Item) (fact : Fact) (past : List Fact) → speaks item ≡ false → takes item ≡ false → MayAdd item fact past → queues fact ≡ false
+queueing_alone : (item : Item) (fact : Fact) (past : List Fact) → speaks item ≡ false → takes item ≡ false → MayAddStill item fact past → queues fact ≡ false
 queueing_alone (Says d m) _ past silent none may = absurd (cc)
 queueing_alone (ModemTakes count) _ past silent none may = absurd (cc)
 queueing_alone _ (Forwarded r) past silent none may = absurd may
@@ -268,12 +268,12 @@ module _ (s : Setup) where
 
   pub still_in_use : (Q : Request → Type 0) (items : List Item) (past : List Fact) → AllByRecursion (λ item. speaks item ≡ false) items → IsSound s.limits past → AllByRecursion Q (in_use past) → AllByRecursion Q (in_use (add_all (mbim_protocol s) items past))
   still_in_use Q items past silent sound all =
-      kept_by_items (mbim_protocol s) (Asks s) (orderly s) (λ after. AllByRecursion Q (in_use after)) (λ item. speaks item ≡ false)
+      kept_by_still_items (mbim_protocol s) (Asks s) (orderly s) (λ after. AllByRecursion Q (in_use after)) (λ past. refl) (λ item. speaks item ≡ false)
       (λ item other fact before follows may asked held. fewer_in_use Q fact before (asking_alone item fact before other may) held) items past silent sound all
 
   pub still_wait : (Q : Request → Type 0) (items : List Item) (past : List Fact) → AllByRecursion (λ item. speaks item ≡ false) items → IsSound s.limits past → AllByRecursion Q (pending past) → AllByRecursion Q (pending (add_all (mbim_protocol s) items past))
   still_wait Q items past silent sound all =
-      kept_by_items (mbim_protocol s) (Asks s) (orderly s) (λ after. AllByRecursion Q (pending after)) (λ item. speaks item ≡ false)
+      kept_by_still_items (mbim_protocol s) (Asks s) (orderly s) (λ after. AllByRecursion Q (pending after)) (λ past. refl) (λ item. speaks item ≡ false)
       (λ item other fact before follows may asked held. fewer_wait Q fact before (asking_alone item fact before other may) held) items past silent sound all
 
   -- nothing waits for the modem where nothing did, and none comes
@@ -286,7 +286,7 @@ module _ (s : Setup) where
 
   pub still_empty : (items : List Item) (past : List Fact) → AllByRecursion (λ item. (speaks item ≡ false) × (takes item ≡ false)) items → IsSound s.limits past → modem_queue (wire s) past ≡ [] → modem_queue (wire s) (add_all (mbim_protocol s) items past) ≡ []
   still_empty items past silent sound empty =
-      kept_by_items (mbim_protocol s) (Asks s) (orderly s) (λ after. modem_queue (wire s) after ≡ []) (λ item. (speaks item ≡ false) × (takes item ≡ false))
+      kept_by_still_items (mbim_protocol s) (Asks s) (orderly s) (λ after. modem_queue (wire s) after ≡ []) (λ past. refl) (λ item. (speaks item ≡ false) × (takes item ≡ false))
       (λ item other fact before follows may asked held. fact_queues_not fact before (queueing_alone item fact before other.0 other.1 may) held) items past silent sound empty
 
   -- ---- what the modem says ----

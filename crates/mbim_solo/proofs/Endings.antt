@@ -103,7 +103,9 @@ module _ (s : Setup) (c : ℕ) (client : c ≢ 0) where
       → part c (each_pending (λ r before. refuse s (refused flag r) r before) requests past) ≡ each_pending (refuse_known flag) (sent_by c requests) (part c past)
   commands-part flag requests past F all none =
       (refusing.each_refused s.limits (mbim_wording s) restated reads c (OpenOnce s c) (λ d before held. (tt, held)) (λ before held. over s c before held) once_refused
-      (refuse s) is_own_open plain flag requests past (record { placed = F.placed; good = F.once }) all (all_commands s requests none)).same
+      (refuse s) is_own_open
+      (λ why r before command. refusing.noted_alone s.limits (mbim_wording s) restated reads c (OpenOnce s c) (λ d before held. (tt, held)) (λ before held. over s c before held) once_refused why before (refuse s why r before) (plain why r before command))
+      flag requests past (record { placed = F.placed; good = F.once }) all (all_commands s requests none)).same
 
   -- ---- those of the requests that wait and pass a test ----
 

@@ -11,10 +11,9 @@ use Rattle.proxy_history.specs.Connections.{is_present, message_count}
 use Rattle.proxy_history.specs.Requests.{pending}
 use Rattle.proxy_history.specs.Sound.{IsSound}
 use Rattle.proxy_history.specs.Coming.{AreSound}
-use Rattle.proxy_history.specs.Adding.{MayAdd}
 use Rattle.proxy_history.specs.History.{add, add_all}
 use Rattle.proxy_history.proofs.Sound.{kept_by_note}
-use Rattle.proxy_history.proofs.Walk.{kept_by_items}
+use Rattle.proxy_history.proofs.Walk.{MayAddStill, kept_by_still_items}
 use Rattle.mbim_proxy.specs.Setup.{Setup}
 use Rattle.mbim_proxy.specs.Known.{Known}
 use Rattle.mbim_proxy.specs.Step.{known_now}
@@ -71,7 +70,7 @@ says : Item → Bool
 says (Says d m) = true
 says _ = false
 
-asks_nothing : (item : Item) → says item ≡ false → (fact : Fact) (past : List Fact) → MayAdd item fact past → forwards fact ≡ false
+asks_nothing : (item : Item) → says item ≡ false → (fact : Fact) (past : List Fact) → MayAddStill item fact past → forwards fact ≡ false
 unfolding says forwards
 asks_nothing (Says d m) other fact past may = absurd (let clash : true ≡ false = other in cc)
 asks_nothing _ other (Forwarded r) past may = absurd may
@@ -81,7 +80,7 @@ module _ (s : Setup) (c : ℕ) (client : c ≢ 0) where
   quiet_unlisted : (item : Item) (past : List Fact) → says item ≡ false → IsSound s.limits past → IsUnlisted past → IsUnlisted (add (mbim_protocol s) item past)
   unfolding add_all
   quiet_unlisted item past other sound none =
-      kept_by_items (mbim_protocol s) (Asks s) (orderly s) IsUnlisted (λ item. says item ≡ false) (λ item other fact before follows may asked held. unlisted_fact fact before (asks_nothing item other fact before may) held) (item ∷ []) past (other, tt) sound none
+      kept_by_still_items (mbim_protocol s) (Asks s) (orderly s) IsUnlisted (λ past. refl) (λ item. says item ≡ false) (λ item other fact before follows may asked held. unlisted_fact fact before (asks_nothing item other fact before may) held) (item ∷ []) past (other, tt) sound none
 
   said_unlisted : (d : ℕ) (m : List ℕ) (past : List Fact) → IsOrderly s c past → IsUnlisted past → IsUnlisted (add (mbim_protocol s) (Says d m) past)
   said_unlisted d m past O none =

@@ -1,11 +1,9 @@
 -- What is known of an MBIM proxy's history in the midst of an event, and that it stays so.
-use Rattle.std.proofs.Common.{◌≡◌, ℕ, zero, suc, ◌+◌, ◌≤◌, nat_lt, Bool, true, false, ◌||◌, ◌==◌, List, [], ◌∷◌, ◌++◌, length, refl, ap, ◌∙◌, arith, length-append, if◌then◌else◌}
-use Rattle.std.specs.List.{AllByRecursion}
+use Rattle.std.proofs.Common.{◌≡◌, ℕ, ◌+◌, ◌≤◌, nat_lt, Bool, true, false, List, [], ◌∷◌, length, refl, arith, length-append, if◌then◌else◌}
 use Rattle.std.proofs.lemmas.Bool.Decides.{nat_tests}
 use Rattle.std.proofs.lemmas.List.{length-drop}
-use Rattle.kit_bytes.proofs.Lists.{all_filter, all_push}
 use Rattle.proxy_history.specs.Events.{Event, Joined, ModemTook}
-use Rattle.proxy_history.specs.Facts.{Fact, NotAdmitted, BadStream, NoRoom, Closed, EventBegan, Admitted, Ended, Drained, Forwarded, ListSent, ModemDrained, ModemLost}
+use Rattle.proxy_history.specs.Facts.{Fact, NotAdmitted, EventBegan, Admitted, Ended, Drained, Forwarded, ListSent, ModemDrained, ModemLost}
 use Rattle.proxy_history.specs.Connections.{present, dropped, contains}
 use Rattle.proxy_history.specs.Modem.{to_modem, modem_drained}
 use Rattle.proxy_history.specs.Sound.{MayFollow, IsSound}
@@ -15,6 +13,7 @@ use Rattle.proxy_history.specs.Coming.{AreSound}
 use Rattle.proxy_history.specs.Adding.{MayAdd, MayFinish, MayAsk, AreAsked}
 use Rattle.proxy_history.specs.Items.{Item, Joins, ModemTakes}
 use Rattle.proxy_history.proofs.Walk as walk
+use Rattle.proxy_history.proofs.Nobody.{IsNamed, still_no_client, still_never_dropped}
 use Rattle.proxy_history.proofs.Coming.{new_names, joins_or_modem_takes, is_joining_or_modems, other_items}
 use Rattle.proxy_state.specs.Faithful.{IsOfConnections}
 use Rattle.mbim_proxy.specs.Setup.{Setup}
@@ -62,45 +61,23 @@ module _ (s : Setup) where
   taken_within (ModemLost ∷ past) new = omega arith
   taken_within (_ ∷ past) new = taken_within past new.1
 
+  named : (fact : Fact) (past : List Fact) → IsNew s fact past → IsNamed fact
+  named (Admitted c) past new = new.0
+  named (Ended c NotAdmitted) past new = new
+  named _ past new = tt
+
   -- no client has the name of the proxy itself
-  names_are_some : (past : List Fact) → AreNew s past → AllByRecursion (λ c. 1 ≤ c) (present past)
-  unfolding present
-  names_are_some [] new = tt
-  names_are_some (Admitted c ∷ past) new = all_push (λ c. 1 ≤ c) (present past) c (names_are_some past new.1) new.0.0
-  names_are_some (Ended c why ∷ past) new = all_filter (λ c. 1 ≤ c) _ (present past) (names_are_some past new.1)
-  names_are_some (_ ∷ past) new = names_are_some past new.1
-
-  none_is_0 : (names : List ℕ) → AllByRecursion (λ c. 1 ≤ c) names → contains 0 names ≡ false
-  none_is_0 [] all = refl
-  none_is_0 (c ∷ names) all = let other : (0 == c) ≡ false = grind (arith, nat_tests, all.0) in ap (λ (b : Bool). b || contains 0 names) other ∙ none_is_0 names all.1
-
   pub proxy_is_no_client : (past : List Fact) → AreNew s past → contains 0 (present past) ≡ false
-  proxy_is_no_client past new = none_is_0 (present past) (names_are_some past new)
-
-  other_than : (c : ℕ) → 1 ≤ c → (0 == c) ≡ false
-  other_than c some = grind (arith, nat_tests, some)
-
-  there_is_some : (c : ℕ) (names : List ℕ) → contains 0 names ≡ false → contains c names ≡ true → 1 ≤ c
-  there_is_some zero names none there = absurd (cc)
-  there_is_some (suc c) names none there = omega arith
-
-  none_behind : (c : ℕ) (names : List ℕ) → 1 ≤ c → contains 0 names ≡ false → contains 0 (names ++ c ∷ []) ≡ false
-  none_behind c [] some none = ap (λ (b : Bool). b || false) (other_than c some)
-  none_behind c (d ∷ names) some none =
-      let parts : (b : Bool) → (b || contains 0 names) ≡ false → (b || contains 0 (names ++ c ∷ [])) ≡ false =
-      λ b. elim b as (λ b. (b || contains 0 names) ≡ false → (b || contains 0 (names ++ c ∷ [])) ≡ false) [ true ↦ λ e. e | false ↦ λ e. none_behind c names some e ]
-      in parts (0 == d) none
+  unfolding present
+  proxy_is_no_client [] new = refl
+  proxy_is_no_client (fact ∷ past) new = still_no_client fact past (named fact past new.0) (proxy_is_no_client past new.1)
 
   -- nor was it dropped
   pub proxy_is_never_dropped : (past : List Fact) → IsSound s.limits past → AreNew s past → contains 0 (dropped past) ≡ false
   unfolding dropped
   proxy_is_never_dropped [] sound new = refl
-  proxy_is_never_dropped (EventBegan ∷ past) sound new = refl
-  proxy_is_never_dropped (Ended c NotAdmitted ∷ past) sound new = none_behind c (dropped past) new.0 (proxy_is_never_dropped past sound.1 new.1)
-  proxy_is_never_dropped (Ended c BadStream ∷ past) sound new = none_behind c (dropped past) (there_is_some c (present past) (proxy_is_no_client past new.1) sound.0) (proxy_is_never_dropped past sound.1 new.1)
-  proxy_is_never_dropped (Ended c NoRoom ∷ past) sound new = none_behind c (dropped past) (there_is_some c (present past) (proxy_is_no_client past new.1) sound.0) (proxy_is_never_dropped past sound.1 new.1)
-  proxy_is_never_dropped (Ended c Closed ∷ past) sound new = proxy_is_never_dropped past sound.1 new.1
-  proxy_is_never_dropped (_ ∷ past) sound new = proxy_is_never_dropped past sound.1 new.1
+  proxy_is_never_dropped (fact ∷ past) sound new =
+      still_never_dropped s.limits fact past sound.0 (named fact past new.0) (proxy_is_no_client past new.1) (proxy_is_never_dropped past sound.1 new.1)
 
   -- ---- whole histories ----
 

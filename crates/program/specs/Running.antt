@@ -88,8 +88,8 @@ RunsCommand (Qmicli device proxied cid keep request socket bridge) before after 
 RunsCommand (Mbimcli device proxied close request socket bridge) before after result =
     Asks (way_to kind.Mbim proxied device socket bridge) (mbim_asked (mbim_plan device proxied close request)) (of_tool before) (of_tool after) result
 RunsCommand (Describe path) before after result = EndsAs status_of result (λ ends. Describes (encode_utf8_all path) before.files after.files before.out ends after.out)
-RunsCommand (Proxy kind device socket bridge empty exit_when_lost time turns) before after result =
-    ServesProxy kind (asked_in device socket (record { empty = empty; lost = exit_when_lost }) time turns) (place_of (encode_utf8_all device) (encode_utf8_all bridge)) before.hub before.spawner result after.hub after.spawner
+RunsCommand (Proxy kind device socket bridge empty exit_when_lost time release turns) before after result =
+    ServesProxy kind (asked_in device socket (record { empty = empty; lost = exit_when_lost }) time release turns) (place_of (encode_utf8_all device) (encode_utf8_all bridge)) before.hub before.spawner result after.hub after.spawner
 RunsCommand (Simulator kind socket profile turns None) before after result =
     EndsAs status_of_sim result (λ ends. sim.Simulates profile (sim.asked_in kind socket turns) (record { files = before.files; hub = before.hub }) (record { files = after.files; hub = after.hub }) ends)
 RunsCommand (Simulator kind socket profile turns (Some most)) before after result =
@@ -110,7 +110,7 @@ is_of_tool (Describe path) = true
 is_of_tool _ = false
 
 abbrev pub is_of_proxy : ToolCommand → Bool
-is_of_proxy (Proxy kind device socket bridge empty exit_when_lost time turns) = true
+is_of_proxy (Proxy kind device socket bridge empty exit_when_lost time release turns) = true
 is_of_proxy _ = false
 
 abbrev pub is_of_simulator : ToolCommand → Bool
@@ -154,7 +154,7 @@ abbrev pub CommandLeavesAlone : {L H P F O B : Type 0} → ToolCommand → Objec
 CommandLeavesAlone (Qmicli device proxied cid keep request socket bridge) before after = (after.hub ≡ before.hub) × (after.files ≡ before.files) × (after.bench ≡ before.bench)
 CommandLeavesAlone (Mbimcli device proxied close request socket bridge) before after = (after.hub ≡ before.hub) × (after.files ≡ before.files) × (after.bench ≡ before.bench)
 CommandLeavesAlone (Describe path) before after = (after.link ≡ before.link) × (after.hub ≡ before.hub) × (after.spawner ≡ before.spawner) × (after.bench ≡ before.bench)
-CommandLeavesAlone (Proxy kind device socket bridge empty exit_when_lost time turns) before after = (after.link ≡ before.link) × (after.files ≡ before.files) × (after.out ≡ before.out) × (after.bench ≡ before.bench)
+CommandLeavesAlone (Proxy kind device socket bridge empty exit_when_lost time release turns) before after = (after.link ≡ before.link) × (after.files ≡ before.files) × (after.out ≡ before.out) × (after.bench ≡ before.bench)
 CommandLeavesAlone (Simulator kind socket profile turns None) before after = (after.link ≡ before.link) × (after.spawner ≡ before.spawner) × (profile ≡ None → after.files ≡ before.files) × (after.out ≡ before.out) × (after.bench ≡ before.bench)
 CommandLeavesAlone (Simulator kind socket profile turns (Some most)) before after = (after.link ≡ before.link) × (after.hub ≡ before.hub) × (after.files ≡ before.files) × (after.out ≡ before.out) × (after.bench ≡ before.bench)
 CommandLeavesAlone (Pump read node bridge) before after = (after.hub ≡ before.hub) × (after.spawner ≡ before.spawner) × (after.out ≡ before.out) × (after.bench ≡ before.bench)

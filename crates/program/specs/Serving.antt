@@ -32,18 +32,20 @@ pub record Asked : Type 0 where
   pub until : Until
   -- how long a request waits for its answer
   pub time : ℕ
+  -- for how long a client id is kept whose holder went
+  pub release : Option ℕ
   pub turns : ℕ
 
-abbrev pub asked_in : List ℕ → List ℕ → Until → ℕ → ℕ → Asked
-asked_in device socket until time turns = record { device = device; socket = socket; until = until; time = time; turns = turns }
+abbrev pub asked_in : List ℕ → List ℕ → Until → ℕ → Option ℕ → ℕ → Asked
+asked_in device socket until time release turns = record { device = device; socket = socket; until = until; time = time; release = release; turns = turns }
 
 abbrev pub asked_with : List ℕ → Settings → Asked
-asked_with socket settings = asked_in settings.device socket settings.until settings.time settings.turns
+asked_with socket settings = asked_in settings.device socket settings.until settings.time settings.release settings.turns
 
 -- a proxy of this kind, for the device of this path; the modem is there at the opening
-abbrev pub proxy_for : Kind → (device : List ℕ) → (time_limit : ℕ) → Proxy
-proxy_for kind.Qmi device time_limit = qmi.proxy_of (record { device = encode_utf8_all device; time_limit = time_limit; starts_away = false })
-proxy_for kind.Mbim device time_limit = mbim.proxy_of (mbim_setup device time_limit false)
+abbrev pub proxy_for : Kind → (device : List ℕ) → (time_limit : ℕ) → (release : Option ℕ) → Proxy
+proxy_for kind.Qmi device time_limit release = qmi.proxy_of (record { device = encode_utf8_all device; time_limit = time_limit; starts_away = false; release = release })
+proxy_for kind.Mbim device time_limit release = mbim.proxy_of (mbim_setup device time_limit false)
 
 -- ---- the opening, of a hub at a socket and for a device ----
 
@@ -81,7 +83,7 @@ status_of_opening fault.Start = status.StartFault
 pub record EndsServing (kind : Kind) (asked : Asked) (opening : List Call) (why : ServeEnd) (calls : List Call) : Type 0 where
   pub served : List Call
   pub whole : calls ≡ served ++ opening
-  pub ends : EndsSo (proxy_for kind asked.device asked.time) asked.until asked.turns why served
+  pub ends : EndsSo (proxy_for kind asked.device asked.time asked.release) asked.until asked.turns why served
 
 -- the hub was opened and paired once, at the socket of the words and for a device that is there, and then served; or it couldn't be opened, or no memory was there before
 pub data Serves (kind : Kind) (asked : Asked) (place : Place) (old new : Option (List Call)) (ends : Status) (starts : List child.Call) : Type 0 where

@@ -24,13 +24,15 @@ fn settings_of(
     device: &PathText,
     until: Until,
     time: u64,
+    release: Option<u64>,
     turns: u64,
 ) -> Result<Settings, AllocError>
-    ensures { IfOk result (λ settings. (socket : List ℕ) → asked_with socket settings ≡ asked_in device.now socket until time turns) }
+    ensures { IfOk result (λ settings. (socket : List ℕ) → asked_with socket settings ≡ asked_in device.now socket until time release turns) }
 {
     Ok(Settings {
         device: Text::from_str(alloc, device.value().as_str())?,
         time,
+        release,
         until,
         turns,
     })
@@ -47,16 +49,17 @@ pub fn proxy_modem<H: Hub, P: Spawner>(
     bridge: &PathText,
     until: Until,
     time: u64,
+    release: Option<u64>,
     turns: u64,
     hub: &mut H,
     spawner: &mut P,
 ) -> Status
-    ensures serves { ServesProxy kind (asked_in device.now socket.now until time turns) (place_of (encode_utf8_all device.now) (encode_utf8_all bridge.now)) (H.calls hub.old) (P.calls spawner.old) result (H.calls hub.new) (P.calls spawner.new) }
+    ensures serves { ServesProxy kind (asked_in device.now socket.now until time release turns) (place_of (encode_utf8_all device.now) (encode_utf8_all bridge.now)) (H.calls hub.old) (P.calls spawner.old) result (H.calls hub.new) (P.calls spawner.new) }
     ensures own { IsOfProxy result }
     ensures hub_fault { result ≡ Status.HubFault → Rose (H.faults hub.old) (H.faults hub.new) }
     ensures start_fault { result ≡ Status.StartFault → Rose (P.faults spawner.old) (P.faults spawner.new) }
 {
-    match settings_of(alloc, device, until, time, turns) {
+    match settings_of(alloc, device, until, time, release, turns) {
         Ok(settings) => serve(alloc, kind, socket, bridge, &settings, hub, spawner),
         Err(AllocError) => Status::OutOfMemory,
     }
@@ -132,7 +135,7 @@ fn serve_kept<H: Hub, P: Spawner>(
 }
 
 fn serve_opened<H: Hub>(alloc: Global, kind: Kind, settings: &Settings, hub: &mut H) -> ServeEnd
-    ensures served { Since (H.calls hub.old) (H.calls hub.new) (EndsSo (proxy_for kind settings.now.device settings.now.time) settings.now.until settings.now.turns result) }
+    ensures served { Since (H.calls hub.old) (H.calls hub.new) (EndsSo (proxy_for kind settings.now.device settings.now.time settings.now.release) settings.now.until settings.now.turns result) }
     ensures later { H.faults hub.old ≤ H.faults hub.new }
     ensures fault { result ≡ ServeEnd.HubFault → Rose (H.faults hub.old) (H.faults hub.new) }
 {

@@ -171,6 +171,7 @@ pub fn run_command_of_proxy<H: Hub, P: Spawner>(
             empty,
             exit_when_lost,
             time,
+            release,
             turns,
         } => {
             let until = Until {
@@ -178,7 +179,7 @@ pub fn run_command_of_proxy<H: Hub, P: Spawner>(
                 lost: exit_when_lost,
             };
             proxy_modem(
-                alloc, kind, &device, &socket, &bridge, until, time, turns, hub, spawner,
+                alloc, kind, &device, &socket, &bridge, until, time, release, turns, hub, spawner,
             )
         }
         other => {

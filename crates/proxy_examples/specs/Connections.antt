@@ -1,5 +1,5 @@
 -- Examples of connections that join and end, and of a modem that is away.
-use Rattle.std.specs.Prelude.{◌≡◌, ℕ, zero, suc, ◌-◌, true, List, [], ◌∷◌, ◌++◌, take, length, codes, false}
+use Rattle.std.specs.Prelude.{◌≡◌, ℕ, zero, suc, ◌-◌, true, List, [], ◌∷◌, ◌++◌, take, length, codes, false, None}
 use Rattle.kit_bytes.specs.Hex.{hex}
 use Rattle.proxy_history.specs.Events.{Event, Joined, Piece, ModemGone, ModemBack, ModemPiece}
 use Rattle.proxy_history.specs.Connections.{present, dropped}
@@ -37,7 +37,7 @@ pub record SixtyFifthIsDropped : Type 0 where
 
 -- a modem that is away at the opening: a client's own view still answers, and nothing is forwarded
 abbrev pub away_setup : Setup
-away_setup = record { device = setup.device; time_limit = setup.time_limit; starts_away = true }
+away_setup = record { device = setup.device; time_limit = setup.time_limit; starts_away = true; release = None }
 
 abbrev pub asks_nobody : List Event
 asks_nobody = both_open (Piece 1 get_version ∷ [])

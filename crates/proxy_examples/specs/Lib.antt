@@ -13,3 +13,4 @@ pub mod Matching
 pub mod Pieces
 pub mod Releases
 pub mod Verdicts
+pub mod Kept

@@ -1,6 +1,6 @@
 -- What the examples share: a proxy, its clients 1 and 2, and the messages that they and the modem send.
 -- A story is told in its order; lists of events have the newest first.
-use Rattle.std.specs.Prelude.{ℕ, zero, suc, false, List, [], ◌∷◌, ◌++◌, reverse, codes}
+use Rattle.std.specs.Prelude.{ℕ, zero, suc, false, None, List, [], ◌∷◌, ◌++◌, reverse, codes}
 use Rattle.kit_bytes.specs.Hex.{hex}
 use Rattle.proxy_history.specs.Events.{Event, Joined, Piece}
 use Rattle.proxy_history.specs.Facts.{Fact}
@@ -8,7 +8,7 @@ use Rattle.qmi_proxy.specs.Setup.{Setup}
 use Rattle.qmi_proxy.specs.History as proxy
 
 abbrev pub setup : Setup
-setup = record { device = codes "/dev/cdc-wdm0"; time_limit = 30000; starts_away = false }
+setup = record { device = codes "/dev/cdc-wdm0"; time_limit = 30000; starts_away = false; release = None }
 
 -- ---- messages ----
 

@@ -8,6 +8,7 @@ pub mod endings;
 pub mod full_space;
 pub mod grants;
 pub mod indications;
+pub mod kept;
 pub mod limits;
 pub mod losses;
 pub mod malformed;

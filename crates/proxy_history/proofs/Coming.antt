@@ -4,7 +4,7 @@ use Rattle.std.specs.List.{AllByRecursion}
 use Rattle.kit_bytes.proofs.Lists.{all_weaker, all_filter, all_push}
 use Rattle.proxy_history.specs.Events.{Event, Joined, ModemTook}
 use Rattle.proxy_history.specs.Items.{Item, Joins, ModemTakes}
-use Rattle.proxy_history.specs.Facts.{Fact, Request, Admitted, Ended, Forwarded, ListSent, ModemDrained}
+use Rattle.proxy_history.specs.Facts.{Fact, Request, NotAdmitted, Admitted, Ended, Forwarded, ListSent, ModemDrained}
 use Rattle.proxy_history.specs.Connections.{present, contains}
 use Rattle.proxy_history.specs.Protocol.{Protocol}
 use Rattle.proxy_history.specs.History.{history}
@@ -65,9 +65,10 @@ module _ {Known : Type 0} (p : Protocol Known) (Asks : Request → List Fact →
 
 -- ---- what is new ----
 
--- a connection is let in, or the modem took bytes
+-- a connection is let in or refused, or the modem took bytes
 abbrev pub lets_in_or_drains : Fact → Bool
 lets_in_or_drains (Admitted c) = true
+lets_in_or_drains (Ended c NotAdmitted) = true
 lets_in_or_drains (ModemDrained count) = true
 lets_in_or_drains _ = false
 
@@ -80,6 +81,7 @@ pub new_alone : (item : Item) (fact : Fact) (past : List Fact) → joins_or_mode
 new_alone (Joins c) _ past other may = absurd (cc)
 new_alone (ModemTakes count) _ past other may = absurd (cc)
 new_alone _ (Admitted c) past other may = absurd may
+new_alone _ (Ended c NotAdmitted) past other may = absurd may
 new_alone _ (ModemDrained count) past other may = absurd may
 new_alone _ _ past other may = refl
 

@@ -25,3 +25,5 @@ pub mod Standing
 pub mod Waiting
 pub mod Given
 pub mod Noted
+pub mod Kept
+pub mod Nobody

@@ -1,10 +1,16 @@
 -- Lists and filters of them.
-use Rattle.std.proofs.Common.{◌≡◌, ◌⊎◌, ℕ, zero, suc, ◌<◌, ◌≤◌, Bool, true, false, cond, ◌&&◌, ◌||◌, ◌==◌, List, [], ◌∷◌, length, get_or, refl, ap, sym, ◌∙◌, inl, inr, ⊎_elim, arith, Contains, filter}
+use Rattle.std.proofs.Common.{◌≡◌, ◌⊎◌, ℕ, zero, suc, ◌<◌, ◌≤◌, Bool, true, false, cond, ◌&&◌, ◌||◌, ◌==◌, List, [], ◌∷◌, length, map, get_or, refl, ap, sym, ◌∙◌, inl, inr, ⊎_elim, arith, Contains, filter}
 use Rattle.std.specs.List.{AllByRecursion}
 use Rattle.std.proofs.lemmas.Bool.{eqb-true, true≢false}
 use Rattle.std.proofs.lemmas.Bool.Decides.{nat_tests}
 use Rattle.proxy_history.specs.Connections.{contains}
 pub use Rattle.kit_bytes.proofs.Members.{Contains-cons, Contains-cons_cases, Contains-nil, Contains-filter, Contains-filter_from, Contains-filter_passes}
+
+-- a filter of what a function makes
+pub filter_map_is : {X Y : Type 0} (p : Y → Bool) (f : X → Y) (xs : List X) → filter p (map f xs) ≡ map f (filter (λ x. p (f x)) xs)
+filter_map_is p f [] = refl
+filter_map_is p f (x ∷ xs) =
+    rw (filter_map_is p f xs) (elim (p (f x)) as (λ b. cond b (f x ∷ map f (filter (λ y. p (f y)) xs)) (map f (filter (λ y. p (f y)) xs)) ≡ map f (cond b (x ∷ filter (λ y. p (f y)) xs) (filter (λ y. p (f y)) xs))) [ true ↦ refl | false ↦ refl ])
 
 -- a filter that keeps all, and one that keeps none
 pub filter-all : {X : Type 0} (xs : List X) → filter (λ x. true) xs ≡ xs

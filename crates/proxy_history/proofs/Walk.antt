@@ -5,14 +5,14 @@ use Rattle.std.specs.List.{AllByRecursion}
 use Rattle.proxy_history.specs.Events.{Event, Joined, Piece, Left, ModemPiece, ModemGone, ModemBack, Now, Took, ModemTook}
 use Rattle.proxy_history.specs.Streams.{messages_of_piece, is_bad, stream, modem_stream}
 use Rattle.proxy_history.specs.Items.{Item, Joins, Says, Garbles, Leaves, ModemSays, ModemFails, ModemReturns, ClockShows, Takes, ModemTakes, item_if, delivered_by_piece, modem_items, fails_once, returns_once, items_of}
-use Rattle.proxy_history.specs.Facts.{BadStream, NoRoom, Closed, Fact, Request, EventBegan, Ended, Drained, Forwarded, Expired, Aborted, OpeningEnded, ModemLost, ModemReturned, ModemDrained, TimeIs}
+use Rattle.proxy_history.specs.Facts.{BadStream, NoRoom, Closed, Fact, Request, EventBegan, Ended, Drained, Forwarded, Expired, Aborted, OpeningEnded, Granted, Freed, ModemLost, ModemReturned, ModemDrained, TimeIs}
 use Rattle.proxy_history.specs.Connections.{present}
 use Rattle.proxy_history.specs.Modem.{now, to_modem, modem_drained, modem_queue}
 use Rattle.proxy_history.specs.Unanswered.{abort_all, tick}
 use Rattle.proxy_history.specs.Sound.{MayFollow, IsSound}
 use Rattle.proxy_history.specs.Protocol.{Protocol}
 use Rattle.proxy_history.specs.History.{add, add_all, history}
-use Rattle.proxy_history.specs.Adding.{AllFit, MayAsk, AreAsked, MayAdd, MayRefuse, MayFinish, Soundly, AddsSoundly, IsOrderly}
+use Rattle.proxy_history.specs.Adding.{AllFit, MayAsk, AreAsked, MayAdd, MayRefuse, MayTick, MayFinish, Soundly, AddsSoundly, IsOrderly}
 use Rattle.proxy_history.proofs.Lists.{Contains-nil, Contains-cons_cases}
 use Rattle.proxy_history.proofs.Adding.{extends_keeps, extends_sound, further, adds_if_present, added, adds_join, adds_weaker, adds_abort_all, adds_tick}
 use Rattle.proxy_history.proofs.Touching.{sets_time, same_time}
@@ -100,6 +100,12 @@ few_wait_for_modem p Asks (_ ∷ past) asked = few_wait_for_modem p Asks past as
 
 -- ---- what an item adds ----
 
+-- where the protocol asks nothing when the clock shows a time
+abbrev pub MayAddStill : Item → Fact → List Fact → Type 0
+MayAddStill (ClockShows time) (Forwarded r) past = ⊥
+MayAddStill (ClockShows time) (Granted c service client) past = ⊥
+MayAddStill item fact past = MayAdd item fact past
+
 module _ {Known : Type 0} (p : Protocol Known) (Asks : Request → List Fact → Type 0) (O : IsOrderly p Asks) where
   abbrev pub Sound : List Fact → Type 0
   Sound past = IsSound p.limits past
@@ -116,35 +122,53 @@ module _ {Known : Type 0} (p : Protocol Known) (Asks : Request → List Fact →
   pub stays_sound : (May : Fact → List Fact → Type 0) (past after : List Fact) → AddsOf May past after → Sound past → Sound after
   stays_sound May past after adds sound = extends_sound p.limits p.wording (Soundly p Asks May) (follows May) past after adds.extends sound
 
-  -- a refusal, where the item may refuse
-  refuses : (item : Item) (why : Fact) → ((past : List Fact) → MayAdd item why past) → ((c : ℕ) (past : List Fact) → MayAdd item (Ended c NoRoom) past)
-      → ((status : ℕ) (receivers : List ℕ) (past : List Fact) → MayAdd item (OpeningEnded status receivers) past)
-      → (r : Request) (past : List Fact) → Soundly p Asks (MayRefuse why) why past → Sound past → AddsOf (MayAdd item) past (p.refuse why r past)
-  refuses item why may ends opens r past is sound =
-      adds_weaker p.limits p.wording (Soundly p Asks (MayRefuse why)) (By item) (λ fact before is. (is.0, weaker fact before is.1, is.2)) past _ (O.refusal why r past is sound)
+  -- a refusal, where that may be added
+  refuses : (May : Fact → List Fact → Type 0) (why : Fact) → ((past : List Fact) → May why past) → ((c : ℕ) (past : List Fact) → May (Ended c NoRoom) past)
+      → ((status : ℕ) (receivers : List ℕ) (past : List Fact) → May (OpeningEnded status receivers) past)
+      → ((c service client : ℕ) (past : List Fact) → c ≡ 0 → May (Freed c service client) past)
+      → (r : Request) (past : List Fact) → Soundly p Asks (MayRefuse why) why past → Sound past → AddsOf May past (p.refuse why r past)
+  refuses May why may ends opens frees r past is sound =
+      adds_weaker p.limits p.wording (Soundly p Asks (MayRefuse why)) (Soundly p Asks May) (λ fact before is. (is.0, weaker fact before is.1, is.2)) past _ (O.refusal why r past is sound)
     where
-      because : (fact : Fact) (before : List Fact) → fact ≡ why → MayAdd item fact before
-      because fact before is = subst (λ (f : Fact). MayAdd item f before) (sym is) (may before)
+      because : (fact : Fact) (before : List Fact) → fact ≡ why → May fact before
+      because fact before is = subst (λ (f : Fact). May f before) (sym is) (may before)
 
-      weaker : (fact : Fact) (before : List Fact) → MayRefuse why fact before → MayAdd item fact before
+      weaker : (fact : Fact) (before : List Fact) → MayRefuse why fact before → May fact before
       weaker (OpeningEnded status receivers) before is = opens status receivers before
       weaker (Ended c NoRoom) before is = ends c before
+      weaker (Freed c service client) before is = frees c service client before is
       weaker fact before is = because fact before is
 
   -- what an item of these refuses when all that waits is aborted
   pub adds_aborts : (item : Item) → ((r : Request) (past : List Fact) → MayAdd item (Aborted r) past) → ((c : ℕ) (past : List Fact) → MayAdd item (Ended c NoRoom) past)
       → ((status : ℕ) (receivers : List ℕ) (past : List Fact) → MayAdd item (OpeningEnded status receivers) past)
+      → ((c service client : ℕ) (past : List Fact) → c ≡ 0 → MayAdd item (Freed c service client) past)
       → (past : List Fact) → Sound past → AddsOf (MayAdd item) past (abort_all p.refuse p.order past)
-  adds_aborts item may ends opens past sound =
-      adds_abort_all p.limits p.wording (By item) (follows (MayAdd item)) p.refuse p.order O.order (λ r before s at. refuses item (Aborted r) (may r) ends opens r before (at, refl, tt) s) past sound
-
-  adds_refusals : (time : ℕ) (past : List Fact) → Sound (TimeIs (max time (now past)) ∷ past) → AddsOf (MayAdd (ClockShows time)) (TimeIs (max time (now past)) ∷ past) (tick p.refuse p.order time past)
-  adds_refusals time past sound =
-      adds_tick p.limits p.wording (By (ClockShows time)) (follows (MayAdd (ClockShows time))) p.refuse p.order O.order
-      (λ r before s at. refuses (ClockShows time) (Expired r) (λ before. tt) (λ c before. tt) (λ status receivers before. tt) r before (at, refl, tt) s) time past sound
+  adds_aborts item may ends opens frees past sound =
+      adds_abort_all p.limits p.wording (By item) (follows (MayAdd item)) p.refuse p.order O.order (λ r before s at. refuses (MayAdd item) (Aborted r) (may r) ends opens frees r before (at, refl, tt) s) past sound
 
   begins_to_tick : (time : ℕ) (past : List Fact) → Sound past → Sound (TimeIs (max time (now past)) ∷ past)
   begins_to_tick time past sound = (omega arith, sound)
+
+  -- the clock shows the time, and requests are refused whose time is over
+  adds_ticks : (May : Fact → List Fact → Type 0) (time : ℕ) → ((past : List Fact) → May (TimeIs (max time (now past))) past) → ((r : Request) (past : List Fact) → May (Expired r) past) → ((c : ℕ) (past : List Fact) → May (Ended c NoRoom) past)
+      → ((status : ℕ) (receivers : List ℕ) (past : List Fact) → May (OpeningEnded status receivers) past)
+      → ((c service client : ℕ) (past : List Fact) → c ≡ 0 → May (Freed c service client) past)
+      → (past : List Fact) → Sound past → AddsOf May past (tick p.refuse p.order time past)
+  adds_ticks May time shows expires ends opens frees past sound =
+      let begun : List Fact = TimeIs (max time (now past)) ∷ past in
+      let later : Sound begun = begins_to_tick time past sound in
+      further p.limits p.wording (Soundly p Asks May) past begun _
+      (added p.limits p.wording (Soundly p Asks May) (TimeIs (max time (now past))) past refl (later.0, shows past, tt))
+      (adds_tick p.limits p.wording (Soundly p Asks May) (follows May) p.refuse p.order O.order (λ r before s at. refuses May (Expired r) (expires r) ends opens frees r before (at, refl, tt) s) time past later)
+
+  ticks : (time : ℕ) (past : List Fact) → Sound past → AddsOf (MayAdd (ClockShows time)) past (tick p.refuse p.order time past)
+  ticks time = adds_ticks (MayAdd (ClockShows time)) time (λ past. refl) (λ r past. tt) (λ c past. tt) (λ status receivers past. tt) (λ c service client past own. own)
+
+  ticks_too : (time : ℕ) (fact : Fact) (before : List Fact) → MayTick fact before → MayAdd (ClockShows time) fact before
+  ticks_too time (Forwarded r) before is = is
+  ticks_too time (Granted c service client) before is = is
+  ticks_too time _ before is = absurd is
 
   pub item_adds : (item : Item) (past : List Fact) → Sound past → AddsOf (MayAdd item) past (add p item past)
   item_adds (Joins c) past sound = adds_join p.limits p.wording (By (Joins c)) c past (λ room. (room, refl, tt)) (λ full. (full, refl, tt))
@@ -153,15 +177,16 @@ module _ {Known : Type 0} (p : Protocol Known) (Asks : Request → List Fact →
   item_adds (Leaves c) past sound = adds_if_present p.limits p.wording (By (Leaves c)) c past _ (λ there. added p.limits p.wording (By (Leaves c)) (Ended c Closed) past refl (there, refl, tt))
   item_adds (ModemSays m) past sound = O.modem m past sound
   item_adds ModemFails past sound =
-      let aborts = adds_aborts ModemFails (λ r before. tt) (λ c before. tt) (λ status receivers before. tt) past sound in
+      let aborts = adds_aborts ModemFails (λ r before. tt) (λ c before. tt) (λ status receivers before. tt) (λ c service client before own. own) past sound in
       let aborted : List Fact = abort_all p.refuse p.order past in
       let closes = O.loss aborted (stays_sound (MayAdd ModemFails) past aborted aborts sound) in
       further p.limits p.wording (By ModemFails) past aborted _ aborts
       (further p.limits p.wording (By ModemFails) aborted (p.close aborted) _ closes (added p.limits p.wording (By ModemFails) ModemLost (p.close aborted) refl (tt, tt, tt)))
   item_adds ModemReturns past sound = added p.limits p.wording (By ModemReturns) ModemReturned past refl (tt, tt, tt)
   item_adds (ClockShows time) past sound =
-      further p.limits p.wording (By (ClockShows time)) past (TimeIs (max time (now past)) ∷ past) _
-      (added p.limits p.wording (By (ClockShows time)) (TimeIs (max time (now past))) past refl ((begins_to_tick time past sound).0, refl, tt)) (adds_refusals time past (begins_to_tick time past sound))
+      let ticked : List Fact = tick p.refuse p.order time past in
+      further p.limits p.wording (By (ClockShows time)) past ticked _ (ticks time past sound)
+      (adds_weaker p.limits p.wording (Soundly p Asks MayTick) (By (ClockShows time)) (λ fact before is. (is.0, ticks_too time fact before is.1, is.2)) ticked _ (O.clock ticked (stays_sound (MayAdd (ClockShows time)) past ticked (ticks time past sound) sound)))
   item_adds (Takes c count) past sound = adds_if_present p.limits p.wording (By (Takes c count)) c past _ (λ there. added p.limits p.wording (By (Takes c count)) (Drained c count) past refl (there, (refl, refl), tt))
   item_adds (ModemTakes count) past sound = added p.limits p.wording (By (ModemTakes count)) (ModemDrained count) past refl (tt, refl, tt)
 
@@ -169,9 +194,9 @@ module _ {Known : Type 0} (p : Protocol Known) (Asks : Request → List Fact →
   IsntClock : Fact → List Fact → Type 0
   IsntClock fact before = sets_time fact ≡ false
 
-  pub tick_is : (time : ℕ) (past : List Fact) → Sound past → now (tick p.refuse p.order time past) ≡ max time (now past)
+  ticked_is : (time : ℕ) (past : List Fact) → Sound past → now (tick p.refuse p.order time past) ≡ max time (now past)
   unfolding now IsntClock
-  tick_is time past sound =
+  ticked_is time past sound =
       extends_keeps (Soundly p Asks IsntClock) (λ after. now after ≡ max time (now past)) (λ fact before may is. same_time fact before may.1 ∙ is)
       (TimeIs (max time (now past)) ∷ past) (tick p.refuse p.order time past)
       (adds_tick p.limits p.wording (Soundly p Asks IsntClock) (follows IsntClock) p.refuse p.order O.order
@@ -182,7 +207,19 @@ module _ {Known : Type 0} (p : Protocol Known) (Asks : Request → List Fact →
       weaker : (r : Request) (fact : Fact) (before : List Fact) → MayRefuse (Expired r) fact before → IsntClock fact before
       weaker r (OpeningEnded status receivers) before is = refl
       weaker r (Ended c NoRoom) before is = refl
+      weaker r (Freed c service client) before is = refl
       weaker r fact before is = ap sets_time is
+
+  pub tick_is : (time : ℕ) (past : List Fact) → Sound past → now (p.on_clock (tick p.refuse p.order time past)) ≡ max time (now past)
+  unfolding now IsntClock
+  tick_is time past sound =
+      let ticked : List Fact = tick p.refuse p.order time past in
+      extends_keeps (Soundly p Asks MayTick) (λ after. now after ≡ max time (now past)) (λ fact before may is. same_time fact before (no_clock fact before may.1) ∙ is)
+      ticked (p.on_clock ticked) (O.clock ticked (stays_sound (MayAdd (ClockShows time)) past ticked (ticks time past sound) sound)).extends (ticked_is time past sound)
+    where
+      no_clock : (fact : Fact) (before : List Fact) → MayTick fact before → sets_time fact ≡ false
+      no_clock (TimeIs shown) before is = absurd is
+      no_clock _ before is = refl
 
   -- ---- several items, and events ----
 
@@ -219,6 +256,21 @@ module _ {Known : Type 0} (p : Protocol Known) (Asks : Request → List Fact →
       let begun = begun_is_sound events in
       extends_asked MayFinish _ _ (O.finish _ (sound_items (items_of p events event) _ begun)) (asked_items (items_of p events event) (EventBegan ∷ history p events) begun (tt, requests_are_asked events))
 
+  -- of a protocol that asks nothing when the clock shows a time
+  item_adds_still : ((past : List Fact) → p.on_clock past ≡ past) → (item : Item) (past : List Fact) → Sound past → AddsOf (MayAddStill item) past (add p item past)
+  item_adds_still still (ClockShows time) past sound =
+      subst (AddsOf (MayAddStill (ClockShows time)) past) (sym (still (tick p.refuse p.order time past)))
+      (adds_ticks (MayAddStill (ClockShows time)) time (λ past. refl) (λ r past. tt) (λ c past. tt) (λ status receivers past. tt) (λ c service client past own. own) past sound)
+  item_adds_still still (Joins c) past sound = item_adds (Joins c) past sound
+  item_adds_still still (Says c m) past sound = item_adds (Says c m) past sound
+  item_adds_still still (Garbles c) past sound = item_adds (Garbles c) past sound
+  item_adds_still still (Leaves c) past sound = item_adds (Leaves c) past sound
+  item_adds_still still (ModemSays m) past sound = item_adds (ModemSays m) past sound
+  item_adds_still still ModemFails past sound = item_adds ModemFails past sound
+  item_adds_still still ModemReturns past sound = item_adds ModemReturns past sound
+  item_adds_still still (Takes c count) past sound = item_adds (Takes c count) past sound
+  item_adds_still still (ModemTakes count) past sound = item_adds (ModemTakes count) past sound
+
   -- what the facts of such items keep
   module _ (P : List Fact → Type 0) where
     pub kept_by_items : (Q : Item → Type 0) → ((item : Item) → Q item → (fact : Fact) (past : List Fact) → MayFollow p.limits fact past → MayAdd item fact past → MayAsk p Asks fact past → P past → P (fact ∷ past))
@@ -229,6 +281,17 @@ module _ {Known : Type 0} (p : Protocol Known) (Asks : Request → List Fact →
         let adds = item_adds item past sound in
         kept_by_items Q keeps items (add p item past) all.1 (stays_sound (MayAdd item) past (add p item past) adds sound)
         (extends_keeps (By item) P (λ fact before may. keeps item all.0 fact before may.0 may.1 may.2) past (add p item past) adds.extends held)
+
+    -- what they keep where the protocol asks nothing when the clock shows a time
+    pub kept_by_still_items : ((past : List Fact) → p.on_clock past ≡ past) → (Q : Item → Type 0)
+        → ((item : Item) → Q item → (fact : Fact) (past : List Fact) → MayFollow p.limits fact past → MayAddStill item fact past → MayAsk p Asks fact past → P past → P (fact ∷ past))
+        → (items : List Item) (past : List Fact) → AllByRecursion Q items → Sound past → P past → P (add_all p items past)
+    unfolding add_all
+    kept_by_still_items still Q keeps [] past all sound held = held
+    kept_by_still_items still Q keeps (item ∷ items) past all sound held =
+        let adds = item_adds_still still item past sound in
+        kept_by_still_items still Q keeps items (add p item past) all.1 (stays_sound (MayAddStill item) past (add p item past) adds sound)
+        (extends_keeps (Soundly p Asks (MayAddStill item)) P (λ fact before may. keeps item all.0 fact before may.0 may.1 may.2) past (add p item past) adds.extends held)
 
     pub kept_at_end : ((fact : Fact) (past : List Fact) → MayFollow p.limits fact past → MayFinish fact past → MayAsk p Asks fact past → P past → P (fact ∷ past)) → (past : List Fact) → Sound past → P past → P (p.finish past)
     kept_at_end keeps past sound held = extends_keeps (Soundly p Asks MayFinish) P (λ fact before may. keeps fact before may.0 may.1 may.2) past (p.finish past) (O.finish past sound).extends held

@@ -65,11 +65,16 @@ MayAdd ModemFails (Aborted r) past = Unit {0}
 MayAdd ModemFails (OpeningEnded status receivers) past = Unit {0}
 MayAdd ModemFails (SessionsClosed receivers) past = Unit {0}
 MayAdd ModemFails (Ended c NoRoom) past = Unit {0}
+MayAdd ModemFails (Freed c service client) past = c ≡ 0
 MayAdd ModemFails ModemLost past = Unit {0}
 MayAdd (ClockShows time) (TimeIs shown) past = shown ≡ max time (now past)
 MayAdd (ClockShows time) (Expired r) past = Unit {0}
 MayAdd (ClockShows time) (OpeningEnded status receivers) past = Unit {0}
 MayAdd (ClockShows time) (Ended c NoRoom) past = Unit {0}
+-- and the proxy itself may ask, and hold an id for that
+MayAdd (ClockShows time) (Forwarded r) past = r.conn ≡ 0
+MayAdd (ClockShows time) (Granted c service client) past = c ≡ 0
+MayAdd (ClockShows time) (Freed c service client) past = c ≡ 0
 MayAdd ModemReturns ModemReturned past = Unit {0}
 MayAdd (ModemTakes count) (ModemDrained taken) past = taken ≡ count
 MayAdd _ _ past = ⊥
@@ -78,7 +83,14 @@ MayAdd _ _ past = ⊥
 abbrev pub MayRefuse : Fact → Fact → List Fact → Type 0
 MayRefuse why (OpeningEnded status receivers) past = Unit {0}
 MayRefuse why (Ended c NoRoom) past = Unit {0}
+MayRefuse why (Freed c service client) past = c ≡ 0
 MayRefuse why fact past = fact ≡ why
+
+-- once the clock was told the proxy itself may ask the modem, and hold a client id for that
+abbrev pub MayTick : Fact → List Fact → Type 0
+MayTick (Forwarded r) past = r.conn ≡ 0
+MayTick (Granted c service client) past = c ≡ 0
+MayTick _ past = ⊥
 
 -- at the end of an event the proxy itself may ask the modem
 abbrev pub MayFinish : Fact → List Fact → Type 0
@@ -114,4 +126,5 @@ pub record IsOrderly {Known : Type 0} (p : Protocol Known) (Asks : Request → L
   -- no other requests are refused than those that are to be
   pub order : (requests : List Request) (r : Request) → Contains (p.order requests) r → Contains requests r
   pub loss : (past : List Fact) → IsSound p.limits past → AddsSoundly p Asks (MayAdd ModemFails) past (p.close past)
+  pub clock : (past : List Fact) → IsSound p.limits past → AddsSoundly p Asks MayTick past (p.on_clock past)
   pub finish : (past : List Fact) → IsSound p.limits past → AddsSoundly p Asks MayFinish past (p.finish past)

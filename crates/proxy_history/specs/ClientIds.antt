@@ -1,6 +1,7 @@
 -- Which connection holds which client id of the modem's services. A list of facts has the newest first; the grants are in their order.
-use Rattle.std.specs.Prelude.{ℕ, Bool, false, not, ◌&&◌, ◌||◌, ◌==◌, if◌then◌else◌, List, [], ◌∷◌, ◌++◌, filter, Option, Some, None}
+use Rattle.std.specs.Prelude.{ℕ, Bool, false, not, ◌&&◌, ◌||◌, ◌==◌, if◌then◌else◌, List, [], ◌∷◌, ◌++◌, filter, map, Option, Some, None}
 use Rattle.proxy_history.specs.Facts.{Fact, Ended, Granted, Freed, Reset, ModemLost}
+use Rattle.proxy_history.specs.Modem.{now}
 
 pub record Grant : Type 0 where
   pub conn : ℕ
@@ -20,6 +21,24 @@ held (Ended c why ∷ past) = filter (λ g. not (c == g.conn)) (held past)
 held (Reset ∷ past) = []
 held (ModemLost ∷ past) = []
 held (_ ∷ past) = held past
+
+-- an id whose holder went, and when that was
+pub record KeptId : Type 0 where
+  pub service : ℕ
+  pub client : ℕ
+  pub since : ℕ
+
+abbrev pub kept_since : ℕ → List Grant → List KeptId
+kept_since time grants = map (λ g. record { service = g.service; client = g.client; since = time }) grants
+
+-- the ids whose holders went, and that nobody was granted since
+unfoldable pub kept : List Fact → List KeptId
+kept [] = []
+kept (Ended c why ∷ past) = kept past ++ kept_since (now past) (filter (λ g. c == g.conn) (held past))
+kept (Granted c service client ∷ past) = filter (λ k. not (k.service == service && (k.client == client))) (kept past)
+kept (Reset ∷ past) = []
+kept (ModemLost ∷ past) = []
+kept (_ ∷ past) = kept past
 
 abbrev pub holder_in : ℕ → ℕ → List Grant → Option ℕ
 holder_in service client [] = None

@@ -25,7 +25,7 @@ add p (Leaves c) past = if_present c past (end c Closed past)
 add p (ModemSays m) past = p.hear_modem m past
 add p ModemFails past = lose p.refuse p.order p.close past
 add p ModemReturns past = ModemReturned ∷ past
-add p (ClockShows time) past = tick p.refuse p.order time past
+add p (ClockShows time) past = p.on_clock (tick p.refuse p.order time past)
 add p (Takes c count) past = if_present c past (Drained c count ∷ past)
 add p (ModemTakes count) past = ModemDrained count ∷ past
 

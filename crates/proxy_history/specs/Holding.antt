@@ -1,7 +1,8 @@
 -- Who holds a client id, as a reader of the history would say. A list of facts has the newest first.
-use Rattle.std.specs.Prelude.{◌≡◌, ◌↔◌, ℕ, Bool, true, false, ◌&&◌, ◌==◌, List, Some, Contains}
+use Rattle.std.specs.Prelude.{◌≡◌, ◌↔◌, ℕ, Bool, true, false, ◌&&◌, ◌==◌, List, Some, None, Contains}
+use Rattle.std.specs.List.{AllByRecursion}
 use Rattle.proxy_history.specs.Facts.{Fact, Ended, Granted, Freed, Reset, ModemLost}
-use Rattle.proxy_history.specs.ClientIds.{Grant, is_of, held, holder}
+use Rattle.proxy_history.specs.ClientIds.{Grant, is_of, held, holder, kept}
 use Rattle.proxy_history.specs.Laws.{GoesOn}
 
 abbrev pub grants : Grant → Fact
@@ -24,3 +25,7 @@ HeldUntilEnded = (facts : List Fact) (g : Grant) → Contains (held facts) g ↔
 abbrev pub HoldersWereGrantedLast : Type 0
 HoldersWereGrantedLast = (facts : List Fact) (c service client : ℕ)
     → (holder service client facts ≡ Some c) ↔ GoesOn grants ends_holding (record { conn = c; service = service; client = client }) facts
+
+-- an id whose holder went is nobody's as long as it is kept
+abbrev pub KeptAreNobodys : Type 0
+KeptAreNobodys = (facts : List Fact) → AllByRecursion (λ k. holder k.service k.client facts ≡ None) (kept facts)

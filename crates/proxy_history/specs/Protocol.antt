@@ -29,6 +29,8 @@ pub record Protocol (Known : Type 0) : Type 0 where
   pub refuse : Refusal
   -- the order in which several are
   pub order : Order
+  -- by the clock, behind the requests whose time is over
+  pub on_clock : List Fact → List Fact
   -- by a loss of the modem, behind the requests that it aborts
   pub close : List Fact → List Fact
   -- at the end of each event

@@ -1,7 +1,7 @@
 ghost use Rattle.proxy_history.specs.Sound.{RequestsInUseDiffer, WaitingArePresent, HoldersArePresent, FewArePresent, FewAreInUse, GoneViewsStay, EndsAreLast};
 ghost use Rattle.proxy_history.specs.Laws.{StreamsGoOnFromTheirRest, InUseUntilFreed, PendingUntilEnded, GivesFirstFree, GivesNoneWhereFull, CollectedAndWaitingAreAll, TakingsSplitTheBytes};
 ghost use Rattle.proxy_history.specs.Absent.{TheAbsentAddNothing, ALostModemIsAway, AModemThatReturnsIsThere};
-ghost use Rattle.proxy_history.specs.Holding.{HeldUntilEnded, HoldersWereGrantedLast};
+ghost use Rattle.proxy_history.specs.Holding.{HeldUntilEnded, HoldersWereGrantedLast, KeptAreNobodys};
 ghost use Rattle.proxy_history.specs.HungUp.{HungUpSinceTheEventBegan};
 ghost use Rattle.proxy_history.specs.Orderly.{OrderlyHistoriesAreSound, OthersChangeNothing, BytesOnlyGrow, JoiningStartsWithNone, TakingTakesTheFirst, NobodyThereIsOver, FewWaitForTheModem, AwayAgrees, TimeIsTheGreatest};
 ghost use Rattle.proxy_history.specs.Lawful.{OrderlyProxiesAreLawful};
@@ -62,6 +62,11 @@ pub fn views_of_gone_connections_stay()
 pub fn client_ids_are_held_until_they_end()
     ensures held { HeldUntilEnded }
     ensures holder { HoldersWereGrantedLast }
+{}
+
+/// The law that nobody holds a client id that is kept because its holder went.
+pub fn kept_ids_are_nobodys()
+    ensures { KeptAreNobodys }
 {}
 
 /// The law that the names to hang up are those of the connections that ended since the event began,

@@ -1,66 +1,12 @@
--- A client id is held once.
-use Rattle.std.proofs.Common.{◌≡◌, ℕ, Bool, true, false, not, cond, ◌&&◌, ◌||◌, ◌==◌, if◌then◌else◌, List, [], ◌∷◌, ◌++◌, filter, refl, ap, sym, ◌∙◌, arith, Some, None}
+-- Who holds a client id, told by what each client holds.
+use Rattle.std.proofs.Common.{◌≡◌, ℕ, Bool, true, false, not, ◌&&◌, ◌||◌, ◌==◌, if◌then◌else◌, List, [], ◌∷◌, refl, ap, sym, ◌∙◌, arith, Some, None}
 use Rattle.std.specs.List.{AllByRecursion}
 use Rattle.std.proofs.lemmas.Bool.Decides.{nat_tests}
 use Rattle.std.proofs.lemmas.Bool.{eqb-true}
-use Rattle.proxy_history.specs.Facts.{Fact, Ended, Granted, Freed, Reset, ModemLost}
-use Rattle.proxy_history.specs.ClientIds.{Grant, is_of, held, holder_in, is_other, is_holder, holds_some}
+use Rattle.proxy_history.specs.ClientIds.{Grant, is_of, holder_in, is_other, is_holder, holds_some}
+pub use Rattle.proxy_history.proofs.Kept.{IsApart, AreUnique, held_once}
 use Rattle.proxy_solo.specs.Part.{held_by}
-use Rattle.proxy_solo.proofs.Lists.{turned, grant_if}
-
-abbrev pub IsApart : Grant → Grant → Type 0
-IsApart g h = is_of g.service g.client h ≡ false
-
-abbrev pub AreUnique : List Grant → Type 0
-AreUnique [] = Unit {0}
-AreUnique (g ∷ grants) = AllByRecursion (IsApart g) grants × AreUnique grants
-
-all_filtered : (P : Grant → Type 0) (p : Grant → Bool) (grants : List Grant) → AllByRecursion P grants → AllByRecursion P (filter p grants)
-all_filtered P p [] all = tt
-all_filtered P p (g ∷ grants) all = elim (p g) as (λ b. AllByRecursion P (cond b (g ∷ filter p grants) (filter p grants))) [ true ↦ (all.0, all_filtered P p grants all.1) | false ↦ all_filtered P p grants all.1 ]
-
-all_pushed : (P : Grant → Type 0) (grants : List Grant) (g : Grant) → AllByRecursion P grants → P g → AllByRecursion P (grants ++ g ∷ [])
-all_pushed P [] g all here = (here, tt)
-all_pushed P (h ∷ grants) g all here = (all.0, all_pushed P grants g all.1 here)
-
-unique_filtered : (p : Grant → Bool) (grants : List Grant) → AreUnique grants → AreUnique (filter p grants)
-unique_filtered p [] unique = tt
-unique_filtered p (g ∷ grants) unique =
-    elim (p g) as (λ b. AreUnique (cond b (g ∷ filter p grants) (filter p grants))) [
-      | true ↦ (all_filtered (IsApart g) p grants unique.0, unique_filtered p grants unique.1)
-      | false ↦ unique_filtered p grants unique.1
-    ]
-
-unique_pushed : (grants : List Grant) (g : Grant) → AreUnique grants → AllByRecursion (λ h. IsApart h g) grants → AreUnique (grants ++ g ∷ [])
-unique_pushed [] g unique apart = (tt, tt)
-unique_pushed (h ∷ grants) g unique apart = (all_pushed (IsApart h) grants g unique.0 apart.0, unique_pushed grants g unique.1 apart.1)
-
-not_true : (b : Bool) → not b ≡ true → b ≡ false
-not_true true e = absurd (cc)
-not_true false e = refl
-
-others_apart : (service client conn : ℕ) (grants : List Grant) → AllByRecursion (λ h. IsApart h (record { conn = conn; service = service; client = client })) (filter (λ g. not (is_of service client g)) grants)
-others_apart service client conn [] = tt
-others_apart service client conn (g ∷ grants) =
-    let rest = others_apart service client conn grants in
-    let step : (b : Bool) → is_of service client g ≡ b → AllByRecursion (λ h. IsApart h (record { conn = conn; service = service; client = client })) (cond (not b) (g ∷ filter (λ g. not (is_of service client g)) grants) (filter (λ g. not (is_of service client g)) grants)) =
-    λ b. elim b as (λ b. is_of service client g ≡ b → AllByRecursion (λ h. IsApart h (record { conn = conn; service = service; client = client })) (cond (not b) (g ∷ filter (λ g. not (is_of service client g)) grants) (filter (λ g. not (is_of service client g)) grants))) [
-      | true ↦ λ e. rest
-      | false ↦ λ e. (ap (λ (t : Bool). t && (client == g.client)) (turned service g.service) ∙ ap (λ (t : Bool). g.service == service && t) (turned client g.client) ∙ e, rest)
-    ]
-    in step (is_of service client g) refl
-
-pub held_once : (facts : List Fact) → AreUnique (held facts)
-unfolding held
-held_once [] = tt
-held_once (Granted c service client ∷ past) =
-    unique_pushed (filter (λ g. not (is_of service client g)) (held past)) (record { conn = c; service = service; client = client })
-    (unique_filtered (λ g. not (is_of service client g)) (held past) (held_once past)) (others_apart service client c (held past))
-held_once (Freed c service client ∷ past) = unique_filtered _ (held past) (held_once past)
-held_once (Ended c why ∷ past) = unique_filtered _ (held past) (held_once past)
-held_once (Reset ∷ past) = tt
-held_once (ModemLost ∷ past) = tt
-held_once (_ ∷ past) = held_once past
+use Rattle.proxy_solo.proofs.Lists.{grant_if}
 
 -- ---- who holds an id ----
 

@@ -33,16 +33,25 @@ module _ {Known : Type 0} (limits : Limits) (wording : Wording Known) (restated 
   abbrev pub refuse_known : Bool → Request → List Fact → List Fact
   refuse_known flag r facts = end_known limits wording c (refused flag r ∷ facts)
 
-  -- `Good` is what else is known of the history, and `special` are the requests whose refusals bring more than is noted
+  -- `Good` is what else is known of the history
   module _ (Good : List Fact → Type 0) (ends : (d : ℕ) (past : List Fact) → Good past → Good (Ended d NoRoom ∷ past))
       (over : (past : List Fact) → Good past → (rendering limits wording c past).is_over ≡ (known_rendering limits wording c (part_of past)).is_over)
-      (refusals : (flag : Bool) (r : Request) (past : List Fact) → Good past → Good (refused flag r ∷ past))
-      (refuse : Fact → Request → List Fact → List Fact) (special : Request → Bool) (plain : (why : Fact) (r : Request) (past : List Fact) → special r ≡ false → refuse why r past ≡ note limits wording why past) where
+      (refusals : (flag : Bool) (r : Request) (past : List Fact) → Good past → Good (refused flag r ∷ past)) where
     pub record Known_so (past : List Fact) : Type 0 where
       pub placed : Placed limits wording.blank restated R c past
       pub good : Good past
 
-    module _ (flag : Bool) where
+    -- the fact is noted, and what else is added the client isn't told
+    pub record IsNoted (fact : Fact) (past after : List Fact) : Type 0 where
+      pub same : part_of after ≡ part_of (note limits wording fact past)
+      pub known : Known_so (note limits wording fact past) → Known_so after
+      pub all : (other : Fact) → Contains (note limits wording fact past) other → Contains after other
+
+    pub noted_alone : (fact : Fact) (past after : List Fact) → after ≡ note limits wording fact past → IsNoted fact past after
+    noted_alone fact past after is = record { same = ap part_of is; known = λ K. subst Known_so (sym is) K; all = λ other at. subst (λ (l : List Fact). Contains l other) (sym is) at }
+
+    -- `special` are the requests whose refusals bring more than that
+    module _ (refuse : Fact → Request → List Fact → List Fact) (special : Request → Bool) (plain : (why : Fact) (r : Request) (past : List Fact) → special r ≡ false → IsNoted why past (refuse why r past)) (flag : Bool) where
       concerns_it : (r : Request) → concerns c (refused flag r) ≡ (r.conn == c)
       concerns_it r = elim flag as (λ f. concerns c (refused f r) ≡ (r.conn == c)) [ true ↦ refl | false ↦ refl ]
 
@@ -86,19 +95,18 @@ module _ {Known : Type 0} (limits : Limits) (wording : Wording Known) (restated 
       each_refused [] past K all none = record { same = refl; known = K }
       each_refused (r ∷ requests) past K all none =
           let waiting : Bool = is_pending r past in
-          let After : Bool → List Fact = λ (b : Bool). if b then note limits wording (refused flag r) past else past in
-          let is_so : (b : Bool) → (let after : List Fact = if b then refuse_it r past else past in after) ≡ After b =
-          λ b. elim b as (λ b. (let after : List Fact = if b then refuse_it r past else past in after) ≡ After b) [ true ↦ plain (refused flag r) r past none.0 | false ↦ refl ]
-          in
+          let After : Bool → List Fact = λ (b : Bool). if b then refuse_it r past else past in
+          let by_note : IsNoted (refused flag r) past (refuse_it r past) = plain (refused flag r) r past none.0 in
           let at : waiting ≡ true → Contains (pending past) r = λ e. waits limits past r K.placed.sound all.0 e in
           let knows : (b : Bool) → waiting ≡ b → Known_so (After b) =
-          λ b. elim b as (λ b. waiting ≡ b → Known_so (After b)) [ true ↦ λ e. known_noted r past K (at e) | false ↦ λ e. K ]
+          λ b. elim b as (λ b. waiting ≡ b → Known_so (After b)) [ true ↦ λ e. by_note.known (known_noted r past K (at e)) | false ↦ λ e. K ]
           in
           let keeps : (b : Bool) (q : Request) → Contains past (Forwarded q) → Contains (After b) (Forwarded q) =
           λ b. elim b as (λ b. (q : Request) → Contains past (Forwarded q) → Contains (After b) (Forwarded q)) [
             | true ↦ λ q there.
-                kept_by_note limits wording (λ after. Contains after (Forwarded q)) (λ d before was held. Contains-cons (Forwarded q) (Ended d NoRoom) before held)
-                (refused flag r) past (Contains-cons (Forwarded q) (refused flag r) past there)
+                by_note.all (Forwarded q)
+                (kept_by_note limits wording (λ after. Contains after (Forwarded q)) (λ d before was held. Contains-cons (Forwarded q) (Ended d NoRoom) before held)
+                (refused flag r) past (Contains-cons (Forwarded q) (refused flag r) past there))
             | false ↦ λ q there. there
           ]
           in
@@ -107,7 +115,7 @@ module _ {Known : Type 0} (limits : Limits) (wording : Wording Known) (restated 
           in
           let here : (b : Bool) → waiting ≡ b → part_of (After b) ≡ (if b then (if r.conn == c then refuse_known flag (as_sent r) (part_of past) else part_of past) else part_of past) =
           λ b. elim b as (λ b. waiting ≡ b → part_of (After b) ≡ (if b then (if r.conn == c then refuse_known flag (as_sent r) (part_of past) else part_of past) else part_of past)) [
-            | true ↦ λ e. noted_refusal r past K (at e)
+            | true ↦ λ e. by_note.same ∙ noted_refusal r past K (at e)
             | false ↦ λ e. refl
           ]
           in
@@ -129,8 +137,4 @@ module _ {Known : Type 0} (limits : Limits) (wording : Wording Known) (restated 
                 ∙ elim waiting as (λ b. (if b then part_of past else part_of past) ≡ part_of past) [ true ↦ refl | false ↦ refl ])
           ]
           in
-          let as_is = is_so waiting in
-          record {
-            same = ap (λ (l : List Fact). part_of (each_pending refuse_it requests l)) as_is ∙ step (r.conn == c) refl;
-            known = subst (λ (l : List Fact). Known_so (each_pending refuse_it requests l)) (sym as_is) rest.known;
-          }
+          record { same = step (r.conn == c) refl; known = rest.known }

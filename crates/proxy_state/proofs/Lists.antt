@@ -5,6 +5,7 @@ use Rattle.std.specs.List.{AllByRecursion}
 use Rattle.std.proofs.lemmas.Bool.Decides.{nat_tests}
 use Rattle.proxy_history.specs.Connections.{contains, without}
 use Rattle.proxy_history.proofs.Lists.{contains_filter, ne_apart}
+pub use Rattle.proxy_history.proofs.Lists.{filter_map_is}
 pub use Rattle.proxy_history.proofs.Sound.{contains-without_self as contains_without}
 
 pub map_pointwise : {X Y : Type 0} (f g : X → Y) → ((x : X) → f x ≡ g x) → (xs : List X) → map f xs ≡ map g xs
@@ -18,11 +19,6 @@ map_agrees f g (x ∷ xs) all = rw (all.0, map_agrees f g xs all.1) refl
 pub filter_passes : {X : Type 0} (p : X → Bool) (xs : List X) → AllByRecursion (λ x. p x ≡ true) xs → filter p xs ≡ xs
 filter_passes p [] all = refl
 filter_passes p (x ∷ xs) all = rw (all.0, filter_passes p xs all.1) refl
-
-pub filter_map_is : {X Y : Type 0} (p : Y → Bool) (f : X → Y) (xs : List X) → filter p (map f xs) ≡ map f (filter (λ x. p (f x)) xs)
-filter_map_is p f [] = refl
-filter_map_is p f (x ∷ xs) =
-    rw (filter_map_is p f xs) (elim (p (f x)) as (λ b. cond b (f x ∷ map f (filter (λ y. p (f y)) xs)) (map f (filter (λ y. p (f y)) xs)) ≡ map f (cond b (x ∷ filter (λ y. p (f y)) xs) (filter (λ y. p (f y)) xs))) [ true ↦ refl | false ↦ refl ])
 
 -- where f and g differ only on what is filtered out
 pub map_on_filter : {X Y : Type 0} (p : X → Bool) (f g : X → Y) → ((x : X) → p x ≡ true → f x ≡ g x) → (xs : List X) → map f (filter p xs) ≡ map g (filter p xs)

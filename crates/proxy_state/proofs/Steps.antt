@@ -50,7 +50,7 @@ module _ {Known T S : Type 0} (p : Protocol Known) (k : Kept Known T S) (h : Han
   unfolding history add_all
   history_took events c count = refl
 
-  history_timed : (events : List Event) (time : ℕ) → history p (Now time ∷ events) ≡ p.finish (unanswered.tick p.refuse p.order time (begun events))
+  history_timed : (events : List Event) (time : ℕ) → history p (Now time ∷ events) ≡ p.finish (p.on_clock (unanswered.tick p.refuse p.order time (begun events)))
   unfolding history add_all
   history_timed events time = refl
 

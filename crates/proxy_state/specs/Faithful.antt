@@ -96,5 +96,5 @@ pub record IsFaithful {Known T S : Type 0} (p : Protocol Known) (k : Kept Known 
   pub take_modem : (count : ℕ) (streams : Streams) (past : List Fact) (x : State T S) → count ≤ length (h.modem_queue x.beside) → Keeps p k Fine streams past x
       → Keeps p k Fine streams (ModemDrained count ∷ past) (record x { beside = h.take_modem count x.beside })
   pub tick : (time : ℕ) (streams : Streams) (past : List Fact) (x : State T S) → Keeps p k Fine streams past x
-      → Keeps p k Fine streams (unanswered.tick p.refuse p.order time past) (h.tick time x)
+      → Keeps p k Fine streams (p.on_clock (unanswered.tick p.refuse p.order time past)) (h.tick time x)
   pub finish : (streams : Streams) (past : List Fact) (x : State T S) → Keeps p k Fine streams past x → Keeps p k Fine streams (p.finish past) (h.finish x)

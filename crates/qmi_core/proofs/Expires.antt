@@ -6,12 +6,12 @@ use Rattle.qmux_frame.specs.Reply.{result_reply}
 use Rattle.qmi_proxy.specs.Errors.{aborted}
 use Rattle.number_space.specs.Table.{settled_where, settles_number, first_due, expires, expires_row}
 use Rattle.qmi_state.specs.declared.asked.Asked.{Asked}
-use Rattle.qmi_state.specs.Traffic.{Row, Numbers, Traffic, of_control, with_numbers, silences, gives_up}
+use Rattle.qmi_state.specs.Traffic.{Row, Numbers, Traffic, of_control, with_numbers, silences, frees_id, gives_up}
 use Rattle.connections.specs.Table.{connection_in, finds_room}
 use Rattle.proxy_state.specs.Step.{given_up_unless}
 use Rattle.proxy_state.proofs.Telling.{tell_is}
 use Rattle.qmi_state.specs.Core.{ModemSide, QmiState}
-use Rattle.qmi_state.specs.Transitions.{with_traffic, give_up, tell, refuses, expires_in, expires_space}
+use Rattle.qmi_state.specs.Transitions.{with_traffic, give_up, tell, refuses_sender, refuses, expires_in, expires_space}
 
 -- how many of the rows somebody waits for
 pub waiting_count : List Row → ℕ
@@ -92,9 +92,13 @@ of_silenced : (control : Bool) (numbers : Numbers) (traffic : Traffic) → of_co
 of_silenced true numbers traffic = refl
 of_silenced false numbers traffic = refl
 
-of_given_up : (control : Bool) (c : ℕ) (traffic : Traffic) → (of_control control (gives_up c traffic)).rows ≡ map (settled_where (λ (row : Row). c == row.conn)) (of_control control traffic).rows
-of_given_up true c traffic = refl
-of_given_up false c traffic = refl
+of_given_up : (control : Bool) (c time : ℕ) (traffic : Traffic) → (of_control control (gives_up c time traffic)).rows ≡ map (settled_where (λ (row : Row). c == row.conn)) (of_control control traffic).rows
+of_given_up true c time traffic = refl
+of_given_up false c time traffic = refl
+
+of_freed : (control : Bool) (c service client : ℕ) (traffic : Traffic) → (of_control control (frees_id c service client traffic)).rows ≡ (of_control control traffic).rows
+of_freed true c service client traffic = refl
+of_freed false c service client traffic = refl
 
 -- what is told adds no row that is waited for, and takes none away
 record TellsKeep (control : Bool) (c : ℕ) (bytes : List ℕ) (x : QmiState) : Type 0 where
@@ -112,8 +116,8 @@ tells_keep control c bytes x =
     by_room : (fits : Bool) → (waiting_count (of_control control (given_up_unless give_up fits c x.beside).traffic).rows ≤ waiting_count (rows_at control x)) × (length (of_control control (given_up_unless give_up fits c x.beside).traffic).rows ≡ length (rows_at control x))
     by_room true = (omega arith, refl)
     by_room false = (
-      subst (λ (l : List Row). waiting_count l ≤ waiting_count (rows_at control x)) (sym (of_given_up control c x.beside.traffic)) (count_settled (λ (row : Row). c == row.conn) (rows_at control x)),
-      ap length (of_given_up control c x.beside.traffic) ∙ length-map (rows_at control x) (settled_where (λ (row : Row). c == row.conn)),
+      subst (λ (l : List Row). waiting_count l ≤ waiting_count (rows_at control x)) (sym (of_given_up control c x.beside.time x.beside.traffic)) (count_settled (λ (row : Row). c == row.conn) (rows_at control x)),
+      ap length (of_given_up control c x.beside.time x.beside.traffic) ∙ length-map (rows_at control x) (settled_where (λ (row : Row). c == row.conn)),
     )
 
 pub refused_less : (control : Bool) (time : ℕ) (row : Row) (x : QmiState) → first_due time (rows_at control x) ≡ Some row
@@ -121,12 +125,19 @@ pub refused_less : (control : Bool) (time : ℕ) (row : Row) (x : QmiState) → 
 refused_less control time row x due =
     let y : QmiState = with_traffic (with_numbers control (silences row.number (of_control control x.beside.traffic)) x.beside.traffic) x in
     let silent : rows_at control y ≡ settles_number row.number (rows_at control x) = ap (λ (n : Numbers). n.rows) (of_silenced control (silences row.number (of_control control x.beside.traffic)) x.beside.traffic) in
-    let keep = tells_keep control row.conn (result_reply row.note.head aborted) y in
     let less = count_expired time (rows_at control x) row due in
     let same = ap waiting_count silent in
     let long = ap length silent ∙ length-map (rows_at control x) (settled_where (λ (q : Row). row.number == q.number)) in
-    let kept = keep.count in
-    (omega arith, keep.rows ∙ long)
+    let keep = sender_keeps (row.conn == 0) y in
+    let kept = keep.0 in
+    (omega arith, keep.1 ∙ long)
+  where
+    sender_keeps : (own : Bool) (y : QmiState) → (waiting_count (rows_at control (refuses_sender own row y)) ≤ waiting_count (rows_at control y)) × (length (rows_at control (refuses_sender own row y)) ≡ length (rows_at control y))
+    sender_keeps true y =
+        let same : rows_at control (refuses_sender true row y) ≡ rows_at control y = of_freed control 0 row.note.service row.note.client y.beside.traffic in
+        let count : waiting_count (rows_at control (refuses_sender true row y)) ≡ waiting_count (rows_at control y) = ap waiting_count same in
+        (omega (arith, count), ap length same)
+    sender_keeps false y = let keep = tells_keep control row.conn (result_reply row.note.head aborted) y in (keep.count, keep.rows)
 
 -- ---- enough turns ----
 

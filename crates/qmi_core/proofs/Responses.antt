@@ -6,14 +6,18 @@ use Rattle.qmi_proxy.specs.FromModem.{IdChange, NoChange, Grants, Collides, Free
 use Rattle.qmi_state.specs.declared.asked.Asked.{Asked}
 use Rattle.qmi_state.specs.Traffic.{Row, Traffic, of_control, with_numbers, row_numbered, frees}
 use Rattle.qmi_state.specs.Core.{QmiState}
-use Rattle.qmi_state.specs.Transitions.{with_traffic, change_by, holder_brought, answers, answers_if, fits, responds_if, responds_to, responds}
-use Rattle.qmi_core.specs.State.{answers_to, answers_noted}
+use Rattle.qmi_state.specs.Transitions.{with_traffic, change_by, holder_brought, answers, answers_sender, answers_if, fits, responds_if, responds_to, responds}
+use Rattle.qmi_core.specs.State.{answers_to, answers_from}
 
 answers_is : (row : Row) (m : List ℕ) (change : IdChange) (x : QmiState) → answers row m change x ≡ answers_to row.conn row.note m change x
 answers_is row m NoChange x = refl
 answers_is row m (Grants service client) x = refl
 answers_is row m Collides x = refl
 answers_is row m (Frees service client) x = refl
+
+sender_is : (own : Bool) (row : Row) (m : List ℕ) (x : QmiState) → answers_sender own row m x ≡ answers_from own row.conn row.note m x
+sender_is true row m x = refl
+sender_is false row m x = answers_is row m (change_by row.conn row.note m (holder_brought m x.beside.traffic)) x
 
 abbrev pub looked : Row → ℕ × Asked × Bool
 looked row = (row.conn, row.note, row.pending)
@@ -76,12 +80,12 @@ module _ (m : List ℕ) (was old : QmiState) (same : was ≡ old)
       ∙ ap (λ (d : Traffic). answers_if pending F.row m (with_traffic d was)) (sym freed)
 
   -- somebody waits for it
-  pub responded_waits : waits ≡ true → (after : QmiState) → after ≡ answers_noted name note m after_it → after ≡ responds m old
+  pub responded_waits : waits ≡ true → (after : QmiState) → after ≡ answers_from (name == 0) name note m after_it → after ≡ responds m old
   responded_waits waiting after is =
       is
-      ∙ ap (λ (n : ℕ). answers_noted n note m after_it) (sym F.conn)
-      ∙ ap (λ (a : Asked). answers_noted F.row.conn a m after_it) (sym F.asked)
-      ∙ sym (responds_is true (F.pending ∙ waiting) ∙ answers_is F.row m (change_by F.row.conn F.row.note m (holder_brought m traffic_after)) after_it)
+      ∙ ap (λ (n : ℕ). answers_from (n == 0) n note m after_it) (sym F.conn)
+      ∙ ap (λ (a : Asked). answers_from (F.row.conn == 0) F.row.conn a m after_it) (sym F.asked)
+      ∙ sym (responds_is true (F.pending ∙ waiting) ∙ sender_is (F.row.conn == 0) F.row m after_it)
       ∙ ap (responds m) same
 
   -- or nobody does

@@ -19,4 +19,4 @@ CanStep event core = proxy.CanStep qmi_handlers event core
 
 -- the modem is there at the opening
 abbrev pub setup_of : Limits → List ℕ → Setup
-setup_of limits device = record { device = device; time_limit = limits.time; starts_away = false }
+setup_of limits device = record { device = device; time_limit = limits.time; starts_away = false; release = limits.release }

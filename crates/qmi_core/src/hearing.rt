@@ -29,7 +29,7 @@ impl Hears<Qmux, Client> for ModemSide {
             let opens = message.is_opening(self.device.as_slice());
             return reply(&message, error, opens, client, outbox);
         }
-        let deadline = self.time.saturating_add(self.time_limit);
+        let deadline = self.deadline();
         if let Some(error) = self.traffic.forward(self.away, deadline, name, &message) {
             return reply(&message, error, false, client, outbox);
         }

@@ -4,6 +4,7 @@ ghost use Rattle.qmux_frame.specs.Kind.{framed_kind};
 ghost use Rattle.qmux_frame.specs.Control.{is_command, is_sync};
 ghost use Rattle.qmux_frame.specs.Reply.{result_reply, with_number};
 ghost use Rattle.qmi_proxy.specs.Messages.{value_of, has_length, byte_of, is_malformed, opens, has_bad_id, uses_id, used_service, used_client, is_success};
+ghost use Rattle.qmi_proxy.specs.Releases.{release_of};
 ghost use Rattle.qmi_state.specs.Asked.{asked_of};
 ghost use Rattle.qmi_core.specs.Message.{tells_id};
 ghost use Rattle.qmi_proxy.specs.OwnReplies.{view_decides, own_error, is_opening};
@@ -253,6 +254,16 @@ impl<'a> Message<'a> {
             _ => 0,
         }
     }
+}
+
+/// The message by which the proxy asks the modem to release the client id, with the number 0.
+pub fn release_message(service: u8, client: u8) -> [u8; 17]
+    ensures { result ≡ release_of service client }
+{
+    [
+        0x01, 0x10, 0x00, 0x00, 0x00, 0x00, 0x00, 0x00, 0x23, 0x00, 0x05, 0x00, 0x01, 0x02, 0x00,
+        service, client,
+    ]
 }
 
 // No client has this id: 0 is service 0's, and 255 is everybody's.

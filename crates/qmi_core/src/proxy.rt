@@ -52,7 +52,7 @@ impl QmiCore {
     {
         let device = Octets::from_slice(alloc, device.as_bytes())?;
         Ok(QmiCore {
-            state: State::open(alloc, device, limits.time)?,
+            state: State::open(alloc, device, limits.time, limits.release)?,
             cutter: Cutter::open(alloc)?,
         })
     }

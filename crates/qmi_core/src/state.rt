@@ -1,4 +1,4 @@
-ghost use Rattle.std.specs.Prelude.{◌≡◌, ◌+◌, ◌<◌, ◌≤◌, ◌++◌, [], false, not, length, position, slice_get, Some, IfOk, IfSome, IsNone};
+ghost use Rattle.std.specs.Prelude.{◌≡◌, ◌+◌, ◌<◌, ◌≤◌, ◌==◌, ◌++◌, [], false, not, length, position, slice_get, Some, IfOk, IfSome, IsNone};
 ghost use Rattle.connections.specs.Table.{Connection as TableConnection, AreRising, connection_in, finds_room, queue_of, first_waiting, first_dropped, asked};
 ghost use Rattle.qmux_frame.specs.Frame.{size_of};
 ghost use Rattle.qmux_frame.specs.Head.{is_control, number_of};
@@ -6,14 +6,14 @@ ghost use Rattle.qmux_frame.specs.Reply.{with_number};
 ghost use Rattle.proxy_state.specs.Step as proxy;
 ghost use Rattle.qmi_proxy.specs.Setup.{Setup};
 ghost use Rattle.qmi_state.specs.Core as core;
-ghost use Rattle.qmi_state.specs.Transitions.{give_up, tell, names_in, expires_space, expires, aborts, forgets_all, responds, indicates, hears_indication, hears_modem, tick, lose, regain, take_modem, qmi_handlers};
+ghost use Rattle.qmi_state.specs.Transitions.{give_up, tell, names_in, expires_space, expires, aborts, forgets_all, responds, indicates, hears_indication, hears_modem, releases_due, shows, tick, lose, regain, take_modem, qmi_handlers};
 ghost use Rattle.proxy_state.specs.Chosen.{StandsAt};
-ghost use Rattle.qmi_core.specs.State.{is_chosen, tell_from, answers_noted, allocates};
+ghost use Rattle.qmi_core.specs.State.{NextReleased, is_chosen, tell_from, answers_from, answers_noted, allocates, refuses_from};
 
 use crate::errors::{ABORTED, CLIENT_IDS_EXHAUSTED};
 use crate::message::Message;
 use crate::side::ModemSide;
-use crate::traffic::Traffic;
+use crate::traffic::{PROXY, Traffic};
 use connections::Connections;
 use framing::LONGEST_PIECE;
 use kit_bytes::Octets;
@@ -52,14 +52,20 @@ impl Model for State {
 
 impl State {
     /// Nobody is there yet, and the modem is there.
-    pub fn open(alloc: Global, device: Octets, time_limit: u64) -> Result<Self, AllocError>
-        ensures { IfOk result (λ state. state ≡ (core.opened (record { device = device; time_limit = time_limit; starts_away = false })).state) }
+    pub fn open(
+        alloc: Global,
+        device: Octets,
+        time_limit: u64,
+        release: Option<u64>,
+    ) -> Result<Self, AllocError>
+        ensures { IfOk result (λ state. state ≡ (core.opened (record { device = device; time_limit = time_limit; starts_away = false; release = release })).state) }
     {
         Ok(State {
             connections: Connections::open(alloc, CONNECTION_LIMIT, OUTBOX_LIMIT)?,
             side: ModemSide {
                 device,
                 time_limit,
+                release,
                 time: 0,
                 away: false,
                 traffic: Traffic::open(alloc)?,
@@ -81,7 +87,7 @@ impl State {
         ensures { self.new ≡ proxy.leave give_up name self.old }
     {
         if self.connections.leave(name) {
-            self.side.traffic.give_up(name);
+            self.side.give_up(name);
         }
     }
 
@@ -99,7 +105,7 @@ impl State {
         ensures { self.new ≡ proxy.bring qmi_handlers size_of name piece.now self.old }
     {
         if !self.connections.bring(name, piece, &mut self.side) {
-            self.side.traffic.give_up(name);
+            self.side.give_up(name);
         }
     }
 
@@ -112,7 +118,7 @@ impl State {
         if self.connections.tell(name, head, rest) {
             return true;
         }
-        self.side.traffic.give_up(name);
+        self.side.give_up(name);
         false
     }
 
@@ -168,17 +174,65 @@ impl State {
         ensures { self.new ≡ expires_space control time self.old }
     {
         while let Some((name, asked)) = self.side.traffic.expire(control, time) {
+            self.refuse(name, &asked);
+        }
+    }
+
+    // A request gets no answer: its sender is refused, or nobody holds the id that the proxy itself
+    // was to release.
+    fn refuse(&mut self, name: u64, asked: &Asked)
+        ensures { self.new ≡ refuses_from (name == 0) name asked.now self.old }
+    {
+        if name == PROXY {
+            self.side
+                .traffic
+                .release(PROXY, asked.service, asked.client);
+        } else {
             let reply = asked.reply(ABORTED);
             self.send(name, reply.bytes());
         }
     }
 
-    /// The clock shows this time.
+    /// The clock shows this time: requests whose time is over are refused, and then the ids are
+    /// released that are kept for so long.
     pub fn tick(&mut self, time: u64)
         ensures { self.new ≡ tick time self.old }
     {
+        let release = self.side.release;
+        self.show(time);
+        if let Some(after) = release {
+            self.release_due(after);
+        }
+    }
+
+    fn show(&mut self, time: u64)
+        ensures { self.new ≡ shows time self.old }
+    {
         self.side.time = time.max(self.side.time);
         self.expire(self.side.time);
+    }
+
+    // The ids that are kept for so long are released, up to the first for which no number is free or
+    // no room is there.
+    fn release_due(&mut self, after: u64)
+        ensures { self.new ≡ releases_due (Some after) self.old }
+    {
+        loop {
+            if !self.release_next(after) {
+                return;
+            }
+        }
+    }
+
+    // The first id that is kept for so long is released. Says whether one is, and went.
+    fn release_next(&mut self, after: u64) -> bool
+        ensures { NextReleased after self.old self.new result }
+    {
+        let deadline = self.side.deadline();
+        let Some((service, client)) = self.side.traffic.due(self.side.time, after) else {
+            return false;
+        };
+        self.side.traffic.ask_release(service, client, deadline)
     }
 
     // The requests whose time has come are refused.
@@ -256,8 +310,23 @@ impl State {
         }
     }
 
-    // A client gets the answer to its request, and what it brings or ends of a client id.
+    // The answer to a client's request, or to the proxy's own, whatever that one says: nobody holds the
+    // id any more.
     fn answer(&mut self, name: u64, asked: &Asked, message: &Message<'_>)
+        requires { is_control asked.now.head ≡ is_control message.now }
+        ensures { self.new ≡ answers_from (name == 0) name asked.now message.now self.old }
+    {
+        if name == PROXY {
+            self.side
+                .traffic
+                .release(PROXY, asked.service, asked.client);
+        } else {
+            self.answer_client(name, asked, message);
+        }
+    }
+
+    // A client gets the answer to its request, and what it brings or ends of a client id.
+    fn answer_client(&mut self, name: u64, asked: &Asked, message: &Message<'_>)
         requires { is_control asked.now.head ≡ is_control message.now }
         ensures { self.new ≡ answers_noted name asked.now message.now self.old }
     {

@@ -1,21 +1,26 @@
-ghost use Rattle.std.specs.Prelude.{◌≡◌, ◌≤◌, true, not, [], ◌++◌, length, drop, option_map, IfOk, IfSome, IsSome};
+ghost use Rattle.std.specs.Prelude.{◌≡◌, ◌≤◌, true, not, [], ◌++◌, length, drop, is_some, option_map, IfOk, IfSome};
 ghost use Rattle.qmux_frame.specs.Head.{is_control};
 ghost use Rattle.qmux_frame.specs.Reply.{with_number};
 ghost use Rattle.qmi_proxy.specs.Clients.{has_room};
 ghost use Rattle.proxy_history.specs.ClientIds.{holder_in, holds_some, is_other};
 ghost use Rattle.number_space.specs.Table.{first_due, expires};
-ghost use Rattle.holders.specs.Grants.{AreInOrder, is_taken, grants, releases};
-ghost use Rattle.qmi_state.specs.Traffic.{Row, traffic_of, of_control, with_numbers, row_numbered, number_at, gives_next, adopts_unless, frees, gives_up, forgets};
+ghost use Rattle.holders.specs.Grants.{is_taken};
+ghost use Rattle.holders.specs.Kept.{FirstDue};
+ghost use Rattle.qmi_core.specs.State.{id_of, asks_under, grants_unless};
+ghost use Rattle.qmi_state.specs.Traffic.{Row, traffic_of, of_control, with_numbers, row_numbered, number_at, gives_next, adopts_unless, frees, frees_id, gives_up, forgets, number_for_own};
 ghost use Rattle.qmi_state.specs.Transitions.{shared_of, refusal_of, forwards_as, holder_at};
 
 use crate::errors::{DEVICE_IN_USE, INTERNAL, INVALID_CLIENT_ID};
-use crate::message::Message;
+use crate::message::{Message, release_message};
 use holders::Holders;
 use number_space::Space;
 use outbox::Outbox;
 use qmi_state::Asked;
 use std::alloc::{AllocError, Global};
 use std::marker::Model;
+
+/// The proxy itself, which asks the modem to release ids and holds them meanwhile.
+pub const PROXY: u64 = 0;
 
 /// How many bytes wait for the modem at most.
 const OUTBOX_LIMIT: usize = 1_048_576;
@@ -36,7 +41,7 @@ impl Model for Traffic {
 
     ghost Value = { traffic.Traffic };
 
-    ghost view = { λ d. record { control = d.control; services = d.services; held = d.holders; waiting = d.outbox.bytes } };
+    ghost view = { λ d. record { control = d.control; services = d.services; held = d.holders.held; kept = d.holders.kept; waiting = d.outbox.bytes } };
 
     ghost invariant = { λ d. record {
       control : d.control.top ≡ 255;
@@ -87,15 +92,14 @@ impl Traffic {
         let Some(number) = self.give(name, message, deadline) else {
             return Some(DEVICE_IN_USE);
         };
-        self.adopt(holder, name, message);
+        self.adopt(name, message);
         self.queue(message, number);
         None
     }
 
     // The connection that holds the client id that the message uses.
     fn holder_at(&self, message: &Message<'_>) -> Option<u64>
-        ensures holder { result ≡ holder_at message.now self.now }
-        ensures ordered { IsSome result → AreInOrder self.now.held }
+        ensures { result ≡ holder_at message.now self.now }
     {
         if message.uses_id() {
             self.holder(message.used_service(), message.used_client())
@@ -111,12 +115,10 @@ impl Traffic {
     }
 
     // The sender holds the client id that the message uses, unless another connection does.
-    fn adopt(&mut self, holder: Option<u64>, name: u64, message: &Message<'_>)
-        requires holder { holder ≡ holder_at message.now self.old }
-        requires ordered { IsSome holder → AreInOrder self.old.held }
+    fn adopt(&mut self, name: u64, message: &Message<'_>)
         ensures { self.new ≡ adopts_unless (is_other name (holder_at message.now self.old)) name message.now self.old }
     {
-        if holder.is_none() && message.uses_id() {
+        if message.uses_id() {
             self.grant(name, message.used_service(), message.used_client());
         }
     }
@@ -148,8 +150,7 @@ impl Traffic {
 
     /// The connection that holds the client id.
     pub fn holder(&self, service: u8, client: u8) -> Option<u64>
-        ensures holder { result ≡ holder_in service client self.now.held }
-        ensures ordered { AreInOrder self.now.held }
+        ensures { result ≡ holder_in service client self.now.held }
     {
         self.holders.holder(service, client)
     }
@@ -164,16 +165,42 @@ impl Traffic {
     /// Grants the client id to the connection, unless another one holds it: then nothing changes.
     pub fn grant(&mut self, name: u64, service: u8, client: u8) -> bool
         ensures granted { result ≡ not (is_taken name service client self.old.held) }
-        ensures grants { self.new ≡ record self.old { held = grants name service client self.old.held } }
+        ensures grants { self.new ≡ grants_unless (is_taken name service client self.old.held) name service client self.old }
     {
         self.holders.grant(name, service, client)
     }
 
     /// The connection gives the client id back.
     pub fn release(&mut self, name: u64, service: u8, client: u8)
-        ensures { self.new ≡ record self.old { held = releases name service client self.old.held } }
+        ensures { self.new ≡ frees_id name service client self.old }
     {
         self.holders.released(name, service, client);
+    }
+
+    /// The first id that is kept for so long at this time.
+    pub fn due(&self, time: u64, after: u64) -> Option<(u8, u8)>
+        ensures { FirstDue after time self.now.kept result }
+    {
+        self.holders.due(time, after)
+    }
+
+    /// The proxy itself asks the modem to release the client id, and holds it from here on. Says
+    /// whether it did: it doesn't where no number is free, or the message finds no room.
+    pub fn ask_release(&mut self, service: u8, client: u8, deadline: u64) -> bool
+        ensures asked { result ≡ is_some (number_for_own (id_of service client) self.old) }
+        ensures traffic { self.new ≡ asks_under (number_for_own (id_of service client) self.old) deadline (id_of service client) self.old }
+    {
+        let bytes = release_message(service, client);
+        let message = Message::read(&bytes);
+        if !self.has_room(&message) {
+            return false;
+        }
+        let Some(number) = self.give(PROXY, &message, deadline) else {
+            return false;
+        };
+        self.holders.hold(PROXY, service, client);
+        self.queue(&message, number);
+        true
     }
 
     /// The sender, what is kept of its request, and whether it still waits, of a number in use; of
@@ -212,13 +239,14 @@ impl Traffic {
         }
     }
 
-    /// The connection of this name is gone: it waits for nothing and holds nothing.
-    pub fn give_up(&mut self, name: u64)
-        ensures { self.new ≡ gives_up name self.old }
+    /// The connection of this name is gone: it waits for nothing and holds nothing, and its ids are
+    /// kept since this time.
+    pub fn give_up(&mut self, name: u64, time: u64)
+        ensures { self.new ≡ gives_up name time self.old }
     {
         self.control.orphan(name);
         self.services.orphan(name);
-        self.holders.left(name);
+        self.holders.left(name, time);
     }
 
     /// The modem knows of no number and no client id.

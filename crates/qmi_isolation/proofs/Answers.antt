@@ -1,5 +1,6 @@
 -- Who gets the answers and the indications of the modem.
-use Rattle.std.proofs.Common.{◌≡◌, ◌≢◌, ℕ, ◌≤◌, Bool, true, false, ◌&&◌, ◌==◌, if◌then◌else◌, List, ◌∷◌, length, map, filter, refl, ap, sym, ◌∙◌, subst, All, Contains, Option, Some, None}
+use Rattle.std.proofs.Common.{◌≡◌, ◌≢◌, ℕ, ◌≤◌, Bool, true, false, not, cond, ◌&&◌, ◌==◌, if◌then◌else◌, List, [], ◌∷◌, length, map, filter, arith, ⊎_elim, refl, ap, sym, ◌∙◌, subst, All, Contains, Option, Some, None}
+use Rattle.std.proofs.lemmas.Bool.Decides.{nat_tests}
 use Rattle.std.proofs.lemmas.Bool.{eqb-true, eq-eqb, and_parts, false_from_ne_true}
 use Rattle.std.proofs.lemmas.List.Elements.{All-contains}
 use Rattle.qmux_frame.specs.Head.{service_of, is_control, client_of, number_of}
@@ -9,12 +10,13 @@ use Rattle.qmux_frame.specs.Control.{is_release}
 use Rattle.qmux_frame.specs.Reply.{with_number, result_reply}
 use Rattle.proxy_history.specs.Events.{Event}
 use Rattle.proxy_history.specs.Items.{ModemSays}
-use Rattle.proxy_history.specs.Facts.{Fact, Request, Answered, IdHeld, Late, Indicated, Stray, Granted, Freed, EventBegan}
+use Rattle.proxy_history.specs.Facts.{Fact, Request, Answered, IdHeld, Late, Indicated, Stray, Granted, Freed, EventBegan, Ended, NoRoom}
 use Rattle.proxy_history.specs.Connections.{contains, present}
 use Rattle.proxy_history.specs.Requests.{in_use, pending, has_request, is_pending}
-use Rattle.proxy_history.specs.ClientIds.{held, holder, is_holder, is_other, holds_some}
+use Rattle.proxy_history.specs.ClientIds.{Grant, is_of, held, holder, holder_in, is_holder, is_other, holds_some}
 use Rattle.proxy_history.specs.View.{Entry, Response, Refused, Indication, HeldId, entry_if, view}
 use Rattle.proxy_history.specs.Rendering.{render, put}
+use Rattle.proxy_history.specs.Noting.{end_overfull}
 use Rattle.proxy_history.specs.Sound.{IsSound}
 use Rattle.proxy_history.specs.Coming.{AreSound}
 use Rattle.proxy_history.proofs.Walk.{was_asked, each_message}
@@ -29,15 +31,16 @@ use Rattle.qmi_proxy.specs.Errors.{client_ids_exhausted}
 use Rattle.qmi_proxy.specs.Spaces.{space_of}
 use Rattle.qmi_proxy.specs.Messages.{is_success, byte_of, value_of, used_service, used_client}
 use Rattle.qmi_proxy.specs.Text.{note, text, blank, view_of, rendering, qmi_wording}
-use Rattle.qmi_proxy.specs.FromModem.{IdChange, NoChange, Frees, id_change, granted_unless, brings_id, holder_of_brought, is_answered_by, first_answered_by, answer, answer_or_late, respond, hear_as, hear_modem, open_ones, receivers, tell}
+use Rattle.qmi_proxy.specs.FromModem.{IdChange, NoChange, Frees, id_change, granted_unless, brings_id, holder_of_brought, is_answered_by, first_answered_by, answer, answer_to, answer_or_late, respond, hear_as, hear_modem, open_ones, receivers, tell}
 use Rattle.qmi_proxy.specs.History.{qmi_protocol, history}
-use Rattle.qmi_proxy.specs.Regular.{IsAsked, Regular}
+use Rattle.qmi_proxy.specs.Regular.{IsSent, Regular}
+use Rattle.qmi_proxy.specs.Releases.{freed_if}
 use Rattle.qmux_frame.proofs.Framed.{framed_long, number_last, responses_framed}
 use Rattle.qmi_proxy.proofs.Walk.{Asks}
 use Rattle.qmi_proxy.proofs.Sound.{sound_items, begun_is_sound, items_are_asked}
 use Rattle.qmi_proxy.proofs.Regulars.{asked_of_pending, regular_begun, regular_items, histories_are_regular}
 use Rattle.qmi_proxy.proofs.Answered.{one_is_answered, first_is, found_is}
-use Rattle.qmi_isolation.specs.Laws.{facts_before, IsDelivered}
+use Rattle.qmi_isolation.specs.Laws.{facts_before, IsDelivered, IsForNobody}
 
 -- ---- the facts before a message of the modem ----
 
@@ -54,12 +57,13 @@ regular_before s events earlier sound =
 space_in_use : (s : Setup) (events : List Event) (earlier : List (List ℕ)) (r : Request) → Contains (in_use (facts_before s events earlier)) r → r.space ≡ space_of r.message
 space_in_use s events earlier r at =
     let past : List Fact = facts_before s events earlier in
-    (was_asked (qmi_protocol s) (Asks s) past r (items_are_asked s (map (λ m. ModemSays m) earlier) events) (forwarded_from_in_use past r at)).1.space
+    let asked = was_asked (qmi_protocol s) (Asks s) past r (items_are_asked s (map (λ m. ModemSays m) earlier) events) (forwarded_from_in_use past r at) in
+    ⊎_elim (λ newest. newest.space) (λ own. own.space) asked.1
 
 -- ---- what comes of an answer ----
 
 module _ (device : List ℕ) where
-  module _ (r : Request) (m : List ℕ) (past : List Fact) (long : 12 ≤ length m) (asked : IsAsked past r) where
+  module _ (r : Request) (m : List ℕ) (past : List Fact) (long : 12 ≤ length m) (asked : IsSent past r) where
     -- the bytes that the sender gets behind these facts, which have its view as it was
     abbrev Delivers : List ℕ → List Fact → Type 0
     Delivers bytes after = (rendering device r.conn after ≡ put outbox_limit bytes (rendering device r.conn past))
@@ -114,6 +118,47 @@ module _ (device : List ℕ) where
         (byte_of 0 (value_of 0x01 m)) (byte_of 1 (value_of 0x01 m)) (used_service r.message) (used_client r.message) in
         record { sender = all.0; others = all.1; once = all.2 }
 
+-- a request that waits is a client's message, where the proxy itself didn't ask
+pub sent_by_client : (past : List Fact) (r : Request) → Regular past → Contains (pending past) r → r.conn ≢ 0 → IsSent past r
+sent_by_client past r R at clients = ⊎_elim (λ (sent : IsSent past r). sent) (λ (own : r.conn ≡ 0). absurd (clients own)) (asked_of_pending past r R at)
+
+-- ---- what comes of an answer to the proxy itself ----
+
+not_held : (service client : ℕ) (grants : List Grant) → is_holder 0 (holder_in service client (filter (λ g. not (is_of service client g && (0 == g.conn))) grants)) ≡ false
+not_held service client [] = refl
+not_held service client (g ∷ grants) =
+    let rest : List Grant = filter (λ (h : Grant). not (is_of service client h && (0 == h.conn))) grants in
+    let fewer : is_holder 0 (holder_in service client rest) ≡ false = not_held service client grants in
+    let step : (of own : Bool) → is_of service client g ≡ of → (0 == g.conn) ≡ own → is_holder 0 (holder_in service client (cond (not (of && own)) (g ∷ rest) rest)) ≡ false =
+    λ of own. elim of as (λ of. is_of service client g ≡ of → (0 == g.conn) ≡ own → is_holder 0 (holder_in service client (cond (not (of && own)) (g ∷ rest) rest)) ≡ false) [
+      | true ↦ elim own as (λ own. is_of service client g ≡ true → (0 == g.conn) ≡ own → is_holder 0 (holder_in service client (cond (not own) (g ∷ rest) rest)) ≡ false) [
+        | true ↦ λ e f. fewer
+        | false ↦ λ e f. ap (λ (b : Bool). is_holder 0 (if b then Some g.conn else holder_in service client rest)) e ∙ (let turned : (g.conn == 0) ≡ false = grind (arith, nat_tests, f) in turned)
+      ]
+      | false ↦ λ e f. ap (λ (b : Bool). is_holder 0 (if b then Some g.conn else holder_in service client rest)) e ∙ fewer
+    ]
+    in step (is_of service client g) (0 == g.conn) refl refl
+
+module _ (device : List ℕ) (r : Request) (m : List ℕ) (past : List Fact) (own : r.conn ≡ 0) (R : Regular past) where
+  abbrev facts : List Fact
+  facts = Freed 0 (used_service r.message) (used_client r.message) ∷ Answered r m ∷ past
+
+  -- the proxy isn't there to be ended
+  ends_nobody : note device (Answered r m) past ≡ Answered r m ∷ past
+  unfolding end_overfull present
+  ends_nobody = ap (λ (b : Bool). if b && (rendering device r.conn (Answered r m ∷ past)).is_over then Ended r.conn NoRoom ∷ Answered r m ∷ past else Answered r m ∷ past) (ap (λ (c : ℕ). contains c (present past)) own ∙ R.nobody)
+
+  for_nobody : IsForNobody device r m past (freed_if true r (note device (Answered r m) past))
+  unfolding view in_use held render
+  for_nobody = record {
+    facts = ap (λ (l : List Fact). Freed 0 (used_service r.message) (used_client r.message) ∷ l) ends_nobody;
+    clients = λ c differs.
+        ap (render outbox_limit (text device)) (noted_view qmi_limits (qmi_wording device) c (Answered r m) past)
+        ∙ ap (λ (b : Bool). render outbox_limit (text device) (entry_if b (Response r.place (blank m)) (view_of c past))) (false_from_ne_true (r.conn == c) (λ e. differs (sym (eqb-true r.conn c e) ∙ own)));
+    once = ap (has_request r) (noted_in_use qmi_limits (qmi_wording device) (Answered r m) past) ∙ none_left r (in_use past);
+    freed = not_held (used_service r.message) (used_client r.message) (held (note device (Answered r m) past));
+  }
+
 module _ (s : Setup) (events : List Event) (earlier : List (List ℕ)) (m : List ℕ) (response : framed_kind m ≡ Some kind.Response) where
   abbrev past : List Fact
   past = facts_before s events earlier
@@ -122,25 +167,37 @@ module _ (s : Setup) (events : List Event) (earlier : List (List ℕ)) (m : List
   heard = ap (λ answered. hear_as answered s.device m past) response
 
   -- the sender still waits, so this is what the modem's message does
-  replied : (r : Request) → Contains (pending past) r → is_answered_by m r ≡ true → hear_modem s.device m past ≡ answer s.device r m (id_change r.conn r.message m (holder_of_brought m past)) past
-  replied r at answers =
+  replied_to : (r : Request) → Contains (pending past) r → is_answered_by m r ≡ true → hear_modem s.device m past ≡ answer_to (r.conn == 0) s.device r m past
+  replied_to r at answers =
       let used : Contains (in_use past) r = in_use_from_pending past r at in
       let found : first_answered_by m (in_use past) ≡ Some r = first_is m (in_use past) r (λ q at_q is. one_is_answered past m q r (sound_before s events earlier) (space_in_use s events earlier) at_q used is answers) used answers in
       let waiting : is_pending r past ≡ true = contained_has (pending past) r at in
       heard ∙ ap (λ (o : Option Request). respond s.device o m past) found ∙ ap (λ (b : Bool). answer_or_late s.device b r m past) waiting
 
-  pub held_ids_are_not_granted : (r : Request) → Contains (pending past) r → is_answered_by m r ≡ true
+  -- a client's request
+  replied : (r : Request) → Contains (pending past) r → is_answered_by m r ≡ true → r.conn ≢ 0 → hear_modem s.device m past ≡ answer s.device r m (id_change r.conn r.message m (holder_of_brought m past)) past
+  replied r at answers clients =
+      let other : (r.conn == 0) ≡ false = false_from_ne_true (r.conn == 0) (λ e. clients (eqb-true r.conn 0 e)) in
+      replied_to r at answers ∙ ap (λ (own : Bool). answer_to own s.device r m past) other
+
+  pub held_ids_are_not_granted : (r : Request) → Contains (pending past) r → is_answered_by m r ≡ true → r.conn ≢ 0
       → brings_id r.message m ≡ true → is_other r.conn (holder_of_brought m past) ≡ true → hear_modem s.device m past ≡ note s.device (IdHeld r) past
-  held_ids_are_not_granted r at answers brings other =
+  held_ids_are_not_granted r at answers clients brings other =
       let change : Bool → Bool → IdChange = λ b o.
       if b then granted_unless o (byte_of 0 (value_of 0x01 m)) (byte_of 1 (value_of 0x01 m)) else if is_release r.message && is_success m then Frees (used_service r.message) (used_client r.message) else NoChange in
-      replied r at answers
+      replied r at answers clients
       ∙ ap (λ (b : Bool). answer s.device r m (change b (is_other r.conn (holder_of_brought m past))) past) brings
       ∙ ap (λ (o : Bool). answer s.device r m (change true o) past) other
 
-  pub answers_have_one_receiver : (r : Request) → AreSound (qmi_protocol s) events → Contains (pending past) r → is_answered_by m r ≡ true → IsDelivered s.device r m past (hear_modem s.device m past)
-  answers_have_one_receiver r sound at answers =
-      subst (IsDelivered s.device r m past) (sym (replied r at answers)) (delivered s.device r m past (framed_long m (responses_framed m response)) (asked_of_pending past r (regular_before s events earlier sound) at))
+  pub answers_have_one_receiver : (r : Request) → AreSound (qmi_protocol s) events → Contains (pending past) r → is_answered_by m r ≡ true → r.conn ≢ 0 → IsDelivered s.device r m past (hear_modem s.device m past)
+  answers_have_one_receiver r sound at answers clients =
+      subst (IsDelivered s.device r m past) (sym (replied r at answers clients)) (delivered s.device r m past (framed_long m (responses_framed m response)) (sent_by_client past r (regular_before s events earlier sound) at clients))
+
+  -- a request of the proxy itself
+  pub own_answers_are_for_nobody : (r : Request) → AreSound (qmi_protocol s) events → Contains (pending past) r → is_answered_by m r ≡ true → r.conn ≡ 0 → IsForNobody s.device r m past (hear_modem s.device m past)
+  own_answers_are_for_nobody r sound at answers own =
+      subst (IsForNobody s.device r m past) (sym (replied_to r at answers ∙ ap (λ (b : Bool). answer_to b s.device r m past) (eq-eqb r.conn 0 own)))
+      (for_nobody s.device r m past own (regular_before s events earlier sound))
 
   pub other_answers_have_none : (c : ℕ) → All (λ r. is_answered_by m r ≡ false) (pending past) → rendering s.device c (hear_modem s.device m past) ≡ rendering s.device c past
   unfolding view

@@ -6,20 +6,21 @@ use Rattle.qmux_frame.specs.Head.{service_of, is_control, client_of, number_of}
 use Rattle.qmux_frame.specs.Kind.{framed_kind}
 use Rattle.qmux_frame.specs.Reply.{with_number, result_reply}
 use Rattle.proxy_history.specs.Events.{Event, is_anothers}
-use Rattle.proxy_history.specs.Items.{ModemSays}
-use Rattle.proxy_history.specs.Facts.{Verdict, Forward, Fact, Request, EventBegan, Judged, Forwarded, IdHeld, Granted}
+use Rattle.proxy_history.specs.Items.{ModemSays, ClockShows}
+use Rattle.proxy_history.specs.Facts.{Verdict, Forward, Fact, Request, EventBegan, Judged, Forwarded, Answered, IdHeld, Granted, Freed}
 use Rattle.proxy_history.specs.Connections.{contains, message_count}
 use Rattle.proxy_history.specs.Requests.{in_use, pending, has_request, numbers_in_use}
-use Rattle.proxy_history.specs.ClientIds.{holder, is_other}
+use Rattle.proxy_history.specs.ClientIds.{holder, is_holder, is_other}
 use Rattle.proxy_history.specs.Rendering.{put}
 use Rattle.proxy_history.specs.Coming.{AreSound}
 use Rattle.qmi_proxy.specs.Limits.{outbox_limit}
 use Rattle.qmi_proxy.specs.Setup.{Setup}
 use Rattle.qmi_proxy.specs.Errors.{client_ids_exhausted}
+use Rattle.qmi_proxy.specs.Messages.{used_service, used_client}
 use Rattle.qmi_proxy.specs.Text.{note, rendering}
 use Rattle.qmi_proxy.specs.Clients.{holder_for, hear_client}
-use Rattle.qmi_proxy.specs.FromModem.{is_answered_by, brings_id, holder_of_brought, hear_modem, receivers, tell, tick, abort_all, lose}
-use Rattle.qmi_proxy.specs.History.{qmi_protocol, add_all, history, text_for}
+use Rattle.qmi_proxy.specs.FromModem.{is_answered_by, brings_id, holder_of_brought, hear_modem, receivers, tell, abort_all, lose}
+use Rattle.qmi_proxy.specs.History.{qmi_protocol, add, add_all, history, text_for}
 
 -- ---- what other clients do ----
 
@@ -34,7 +35,7 @@ OthersChangeNothing = (s : Setup) (c : ℕ) (event : Event) (events : List Event
 abbrev pub facts_before : Setup → List Event → List (List ℕ) → List Fact
 facts_before s events earlier = add_all s (map (λ m. ModemSays m) earlier) (EventBegan ∷ history s events)
 
--- what the sender of a request gets for this answer: the answer under its own number, or a refusal where it brings a client id that another client holds
+-- what the sender of a request gets for this answer: the answer under its own number, or a refusal where it brings a client id that another client or the proxy itself holds
 abbrev pub due : Request → List ℕ → List Fact → List ℕ
 due r m past =
     if brings_id r.message m && is_other r.conn (holder_of_brought m past) then result_reply r.message client_ids_exhausted
@@ -46,18 +47,31 @@ pub record IsDelivered (device : List ℕ) (r : Request) (m : List ℕ) (past af
   pub others : (c : ℕ) → c ≢ r.conn → rendering device c after ≡ rendering device c past
   pub once : has_request r (in_use after) ≡ false
 
--- these events may come, and `m` is the modem's answer to a request whose sender waits
+-- these events may come, and `m` is the modem's answer to a client's request whose sender waits
 abbrev pub AnswersHaveOneReceiver : Type 0
 AnswersHaveOneReceiver = (s : Setup) (events : List Event) (earlier : List (List ℕ)) (m : List ℕ) (r : Request)
     → AreSound (qmi_protocol s) events → framed_kind m ≡ Some kind.Response
-    → Contains (pending (facts_before s events earlier)) r → is_answered_by m r ≡ true
+    → Contains (pending (facts_before s events earlier)) r → is_answered_by m r ≡ true → r.conn ≢ 0
     → IsDelivered s.device r m (facts_before s events earlier) (hear_modem s.device m (facts_before s events earlier))
 
--- an answer that brings a client id which another client holds grants nothing: it is noted as such
+-- an answer to the proxy's own request is noted, whatever it says, and the proxy doesn't hold the client id any more that it was to release: no client gets anything, and no later message answers the request
+pub record IsForNobody (device : List ℕ) (r : Request) (m : List ℕ) (past after : List Fact) : Type 0 where
+  pub facts : after ≡ Freed 0 (used_service r.message) (used_client r.message) ∷ Answered r m ∷ past
+  pub clients : (c : ℕ) → c ≢ 0 → rendering device c after ≡ rendering device c past
+  pub once : has_request r (in_use after) ≡ false
+  pub freed : is_holder 0 (holder (used_service r.message) (used_client r.message) after) ≡ false
+
+abbrev pub OwnAnswersAreForNobody : Type 0
+OwnAnswersAreForNobody = (s : Setup) (events : List Event) (earlier : List (List ℕ)) (m : List ℕ) (r : Request)
+    → AreSound (qmi_protocol s) events → framed_kind m ≡ Some kind.Response
+    → Contains (pending (facts_before s events earlier)) r → is_answered_by m r ≡ true → r.conn ≡ 0
+    → IsForNobody s.device r m (facts_before s events earlier) (hear_modem s.device m (facts_before s events earlier))
+
+-- an answer to a client that brings a client id which another connection or the proxy itself holds grants nothing: it is noted as such
 abbrev pub HeldIdsAreNotGranted : Type 0
 HeldIdsAreNotGranted = (s : Setup) (events : List Event) (earlier : List (List ℕ)) (m : List ℕ) (r : Request)
     → framed_kind m ≡ Some kind.Response
-    → Contains (pending (facts_before s events earlier)) r → is_answered_by m r ≡ true
+    → Contains (pending (facts_before s events earlier)) r → is_answered_by m r ≡ true → r.conn ≢ 0
     → brings_id r.message m ≡ true → is_other r.conn (holder_of_brought m (facts_before s events earlier)) ≡ true
     → hear_modem s.device m (facts_before s events earlier) ≡ note s.device (IdHeld r) (facts_before s events earlier)
 
@@ -97,12 +111,12 @@ HoldersAloneAreTold = (device m : List ℕ) (past : List Fact) (c : ℕ)
 abbrev pub IsIdle : ℕ → List Fact → Type 0
 IsIdle c past = All (λ r. r.conn ≢ c) (pending past)
 
--- the clock, a modem that began anew and one that is lost bring refusals, and those who wait for nothing get none
+-- the clock, a modem that began anew and one that is lost bring refusals, and those who wait for nothing get none; nor do they get anything of the client ids that the proxy itself releases by the clock
 abbrev pub TheIdleAreNotRefused : Type 0
-TheIdleAreNotRefused = (device : List ℕ) (past : List Fact) (c : ℕ) → IsIdle c past
-    → ((time : ℕ) → rendering device c (tick device time past) ≡ rendering device c past)
-    × (rendering device c (abort_all device past) ≡ rendering device c past)
-    × (rendering device c (lose device past) ≡ rendering device c past)
+TheIdleAreNotRefused = (s : Setup) (past : List Fact) (c : ℕ) → IsIdle c past
+    → ((time : ℕ) → rendering s.device c (add s (ClockShows time) past) ≡ rendering s.device c past)
+    × (rendering s.device c (abort_all s.device past) ≡ rendering s.device c past)
+    × (rendering s.device c (lose s.device past) ≡ rendering s.device c past)
 
 -- ---- the numbers that the modem sees ----
 

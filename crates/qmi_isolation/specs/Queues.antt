@@ -1,6 +1,6 @@
 -- What stands in the queues at the end of an event, whatever the event brings behind it.
 -- Lists of events and of facts have the newest first; requests and bytes have the oldest first.
-use Rattle.std.specs.Prelude.{◌≡◌, ℕ, ◌+◌, true, List, ◌∷◌, ◌++◌, map, Some, Contains}
+use Rattle.std.specs.Prelude.{◌≡◌, ◌≢◌, ℕ, ◌+◌, true, List, ◌∷◌, ◌++◌, map, Some, Contains}
 use Rattle.qmux_frame.specs.declared.kind.MessageKind.TheVariants as kind
 use Rattle.qmux_frame.specs.Frame.{size_of}
 use Rattle.qmux_frame.specs.Kind.{framed_kind}
@@ -47,10 +47,10 @@ ForwardedRequestsAreQueued = (s : Setup) (events : List Event) (c : ℕ) (piece 
 
 -- ---- answers ----
 
--- these events may come, and then this piece of the modem comes; what it answers to a request whose sender waits stands in the sender's queue once the whole piece was met
+-- these events may come, and then this piece of the modem comes; what it answers to a client's request whose sender waits stands in the sender's queue once the whole piece was met
 abbrev pub AnswersStand : Type 0
 AnswersStand = (s : Setup) (events : List Event) (stream piece : List ℕ) (earlier later : List (List ℕ)) (m : List ℕ) (r : Request)
     → AreSound (qmi_protocol s) events → modem_stream size_of s.starts_away events ≡ Some stream
     → messages_of_piece size_of stream piece ≡ earlier ++ m ∷ later → framed_kind m ≡ Some kind.Response
-    → Contains (pending (facts_before s events earlier)) r → is_answered_by m r ≡ true
+    → Contains (pending (facts_before s events earlier)) r → is_answered_by m r ≡ true → r.conn ≢ 0
     → IsServed qmi_limits (qmi_wording s.device) r.conn (due r m (facts_before s events earlier)) (facts_before s events earlier) (history s (ModemPiece piece ∷ events))

@@ -1,4 +1,4 @@
-ghost use Rattle.qmi_isolation.specs.Laws.{OthersChangeNothing, AnswersHaveOneReceiver, OtherAnswersHaveNone, HeldIdsAreNotGranted, IdsAreFreeWhenGranted, HeldIdsAreNotUsed, IndicationsReachTheirReceivers, HoldersAloneAreTold, TheIdleAreNotRefused, NumbersAreFreeWhenGiven};
+ghost use Rattle.qmi_isolation.specs.Laws.{OthersChangeNothing, AnswersHaveOneReceiver, OwnAnswersAreForNobody, OtherAnswersHaveNone, HeldIdsAreNotGranted, IdsAreFreeWhenGranted, HeldIdsAreNotUsed, IndicationsReachTheirReceivers, HoldersAloneAreTold, TheIdleAreNotRefused, NumbersAreFreeWhenGiven};
 ghost use Rattle.qmi_isolation.specs.Queues.{ForwardedRequestsAreQueued, AnswersStand};
 
 /// The law that what other clients do, whatever it is, leaves a client's bytes as they are.
@@ -6,19 +6,21 @@ pub fn others_change_nothing()
     ensures { OthersChangeNothing }
 {}
 
-/// The law that an answer of the modem to a request whose sender waits comes to this sender alone,
-/// once, under its own number, with two exceptions: where it brings a client id that another client
-/// holds, the sender gets a refusal in its place, and where the sender's queue has no room it gets
-/// nothing more. An answer that nobody waits for reaches nobody.
+/// The law that an answer of the modem to a client's request whose sender waits comes to this sender
+/// alone, once, under its own number, with two exceptions: where it brings a client id that another
+/// client or the proxy itself holds, the sender gets a refusal in its place, and where the sender's
+/// queue has no room it gets nothing more. An answer to the proxy's own request reaches nobody, and
+/// neither does one that nobody waits for.
 pub fn answers_have_one_receiver()
     ensures one { AnswersHaveOneReceiver }
+    ensures own { OwnAnswersAreForNobody }
     ensures none { OtherAnswersHaveNone }
 {}
 
-/// The law that neither an answer nor a message takes a client id from the client that holds it. An
-/// answer of the modem to an Allocate which brings it for another client grants nothing, and is refused
-/// to its sender; another client's message which uses it isn't forwarded. So none is granted while
-/// another client holds it.
+/// The law that neither an answer nor a message takes a client id from the client that holds it, nor
+/// from the proxy itself while it releases it. An answer of the modem to an Allocate which brings it for
+/// another client grants nothing, and is refused to its sender; another client's message which uses it
+/// isn't forwarded. So none is granted while another holds it.
 pub fn held_ids_are_not_granted()
     ensures answers { HeldIdsAreNotGranted }
     ensures free { IdsAreFreeWhenGranted }
@@ -33,7 +35,7 @@ pub fn indications_reach_their_receivers()
 {}
 
 /// The law that the clock, a modem that begins anew and the loss of the modem bring nothing to a client
-/// that waits for no answer.
+/// that waits for no answer, whatever client ids the proxy itself releases by the clock.
 pub fn the_idle_are_not_refused()
     ensures { TheIdleAreNotRefused }
 {}
@@ -51,9 +53,9 @@ pub fn forwarded_requests_are_queued()
     ensures { ForwardedRequestsAreQueued }
 {}
 
-/// The law that what the sender of a request is due for the modem's answer stands in the sender's queue
-/// at the end of the answer's own event, whatever the same piece of the modem brings behind it. A sender
-/// whose queue has no room for it is ended, and gets nothing more.
+/// The law that what a client is due for the modem's answer to its request stands in its queue at the
+/// end of the answer's own event, whatever the same piece of the modem brings behind it. A client whose
+/// queue has no room for it is ended, and gets nothing more.
 pub fn answers_stand()
     ensures { AnswersStand }
 {}

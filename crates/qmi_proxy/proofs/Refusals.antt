@@ -1,5 +1,5 @@
 -- Every request is in one of the two number spaces, so the order of refusals loses none.
-use Rattle.std.proofs.Common.{◌≡◌, ◌↔◌, ◌⊎◌, ℕ, Bool, true, false, ◌==◌, if◌then◌else◌, List, refl, sym, inl, inr, subst, Contains}
+use Rattle.std.proofs.Common.{◌≡◌, ◌↔◌, ◌⊎◌, ℕ, Bool, true, false, ◌==◌, if◌then◌else◌, List, refl, sym, inl, inr, ⊎_elim, subst, Contains}
 use Rattle.std.proofs.lemmas.Bool.{eq-eqb}
 use Rattle.std.proofs.lemmas.List.Elements.{Contains-append_left, Contains-append_right}
 use Rattle.qmux_frame.specs.Head.{is_control}
@@ -24,7 +24,7 @@ in_the_spaces : (s : Setup) (events : List Event) (r : Request) → Contains (pe
 in_the_spaces s events r at =
     let past : List Fact = history s events in
     let asked = was_asked (qmi_protocol s) (Asks s) past r (requests_are_asked s events) (forwarded_from_in_use past r (in_use_from_pending past r at)) in
-    subst (λ (space : ℕ). (space ≡ control_space) ⊎ (space ≡ service_space)) (sym asked.1.space) (space_is_one (is_control r.message))
+    subst (λ (space : ℕ). (space ≡ control_space) ⊎ (space ≡ service_space)) (sym (⊎_elim (λ newest. newest.space) (λ own. own.space) asked.1)) (space_is_one (is_control r.message))
 
 in_order : (requests : List Request) (r : Request) → (r.space ≡ control_space) ⊎ (r.space ≡ service_space) → Contains requests r → Contains (in_expiry_order requests) r
 in_order requests r (inl control) at =

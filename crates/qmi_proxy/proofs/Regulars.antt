@@ -1,5 +1,5 @@
 -- A history stays regular from fact to fact.
-use Rattle.std.proofs.Common.{◌≡◌, ℕ, ◌+◌, ◌≤◌, Bool, true, false, not, ◌||◌, ◌==◌, nat_lt, List, [], ◌∷◌, ◌++◌, length, filter, refl, ap, sym, ◌∙◌, subst, arith, if◌then◌else◌, Contains}
+use Rattle.std.proofs.Common.{◌≡◌, ℕ, ◌+◌, ◌≤◌, Bool, true, false, not, ◌||◌, ◌==◌, nat_lt, List, [], ◌∷◌, ◌++◌, length, filter, refl, ap, sym, ◌∙◌, subst, arith, if◌then◌else◌, Contains, ⊎_elim, inl, inr}
 use Rattle.std.specs.List.{AllByRecursion}
 use Rattle.std.proofs.lemmas.Bool.Decides.{nat_tests}
 use Rattle.std.proofs.lemmas.Bool.{not-true}
@@ -9,7 +9,7 @@ use Rattle.kit_bytes.proofs.Lists.{all_weaker, all_passing, all_filter, all_push
 use Rattle.proxy_history.specs.Events.{Event, Joined, ModemTook}
 use Rattle.proxy_history.specs.Items.{Item}
 use Rattle.proxy_history.specs.Facts.{Fact, Request, EventBegan, NotAdmitted, BadStream, NoRoom, Closed, Admitted, Ended, Judged, Drained, Forwarded, Answered, IdHeld, Late, Expired, Aborted, Indicated, OpeningEnded, SessionsClosed, Reset, ModemLost, ModemDrained, Verdict}
-use Rattle.proxy_history.specs.Connections.{present, contains}
+use Rattle.proxy_history.specs.Connections.{present, dropped, contains}
 use Rattle.proxy_history.specs.Requests.{in_use, pending}
 use Rattle.proxy_history.specs.Modem.{to_modem, modem_drained}
 use Rattle.proxy_history.specs.Sound.{MayFollow, begins_anew}
@@ -21,13 +21,14 @@ use Rattle.proxy_history.specs.Adding.{MayAsk}
 use Rattle.proxy_history.proofs.Walk as walk
 use Rattle.proxy_history.proofs.Coming.{new_names, lets_in_or_drains, joins_or_modem_takes, new_alone, is_joining_or_modems, other_items, nothing_new_at_end}
 use Rattle.proxy_history.proofs.Lists.{ne_apart}
+use Rattle.proxy_history.proofs.Nobody.{IsNamed, still_no_client, still_never_dropped}
 use Rattle.proxy_history.proofs.Numbers.{contains_other}
 use Rattle.qmi_proxy.specs.Setup.{Setup}
 use Rattle.qmi_proxy.specs.Limits.{connection_limit, qmi_limits}
 use Rattle.qmi_proxy.specs.Text.{view_of, blank}
 use Rattle.qmi_proxy.specs.Clients.{wire}
 use Rattle.qmi_proxy.specs.History.{qmi_protocol, add_all, history}
-use Rattle.qmi_proxy.specs.Regular.{IsPlaced, IsAsked, Regular}
+use Rattle.qmi_proxy.specs.Regular.{IsPlaced, IsSent, IsAsked, Regular}
 use Rattle.qmi_proxy.proofs.Walk.{Asks, orderly}
 
 -- ---- the messages that a client sent ----
@@ -72,7 +73,7 @@ sent_same c _ past old other = same_view (view_of c past)
 
 -- ---- requests whose senders still wait ----
 
-asked_as : (later earlier : List Fact) (r : Request) → contains r.conn (present later) ≡ true → SentSame (view_of r.conn later) (view_of r.conn earlier) → IsAsked earlier r → IsAsked later r
+asked_as : (later earlier : List Fact) (r : Request) → contains r.conn (present later) ≡ true → SentSame (view_of r.conn later) (view_of r.conn earlier) → IsSent earlier r → IsSent later r
 asked_as later earlier r there same asked = (there, subst (λ (n : ℕ). r.place ≤ n) (sym same.count) asked.1, same.at r.place ∙ asked.2)
 
 -- what was sent before a message is sent at its place still
@@ -87,11 +88,17 @@ asked_behind : (there : Bool) (place : ℕ) (message m : List ℕ) (verdict : Ve
 asked_behind there place message m verdict true entries asked = (asked.0, let within = asked.1 in omega arith, sent_before place m verdict entries asked.1 ∙ asked.2)
 asked_behind there place message m verdict false entries asked = asked
 
--- who is let in wasn't there, and the modem took no more than waited
+-- who is let in wasn't there, neither it nor one that is refused is the proxy itself, and the modem took no more than waited
 abbrev pub IsNew : Fact → List Fact → Type 0
-IsNew (Admitted c) past = contains c (present past) ≡ false
+IsNew (Admitted c) past = (1 ≤ c) × (contains c (present past) ≡ false)
+IsNew (Ended c NotAdmitted) past = 1 ≤ c
 IsNew (ModemDrained count) past = modem_drained past + count ≤ length (to_modem wire past)
 IsNew _ past = Unit {0}
+
+named : (fact : Fact) (past : List Fact) → IsNew fact past → IsNamed fact
+named (Admitted c) past new = new.0
+named (Ended c NotAdmitted) past new = new
+named _ past new = tt
 
 joined_still : (c d : ℕ) (xs : List ℕ) → contains c xs ≡ true → contains c (xs ++ d ∷ []) ≡ true
 joined_still c d [] there = absurd (cc)
@@ -105,20 +112,23 @@ spares : ℕ → Fact → Bool
 spares c (Ended d why) = not (d == c)
 spares c _ = true
 
-still_asked : (fact : Fact) (past : List Fact) (r : Request) → IsNew fact past → spares r.conn fact ≡ true → IsAsked past r → IsAsked (fact ∷ past) r
+still_sent : (fact : Fact) (past : List Fact) (r : Request) → IsNew fact past → spares r.conn fact ≡ true → IsSent past r → IsSent (fact ∷ past) r
 unfolding present view is_judged spares
-still_asked (Admitted d) past r new spared asked =
-    asked_as (Admitted d ∷ past) past r (joined_still r.conn d (present past) asked.0) (sent_same r.conn (Admitted d) past (let other = ne_apart r.conn d (present past) asked.0 new in grind (arith, nat_tests, other)) refl) asked
-still_asked (Ended d NotAdmitted) past r new spared asked =
+still_sent (Admitted d) past r new spared asked =
+    asked_as (Admitted d ∷ past) past r (joined_still r.conn d (present past) asked.0) (sent_same r.conn (Admitted d) past (let other = ne_apart r.conn d (present past) asked.0 new.1 in grind (arith, nat_tests, other)) refl) asked
+still_sent (Ended d NotAdmitted) past r new spared asked =
     let other = not-true (d == r.conn) spared in asked_as (Ended d NotAdmitted ∷ past) past r (contains_other d r.conn (present past) other ∙ asked.0) (sent_same r.conn (Ended d NotAdmitted) past other refl) asked
-still_asked (Ended d BadStream) past r new spared asked =
+still_sent (Ended d BadStream) past r new spared asked =
     let other = not-true (d == r.conn) spared in asked_as (Ended d BadStream ∷ past) past r (contains_other d r.conn (present past) other ∙ asked.0) (sent_same r.conn (Ended d BadStream) past refl refl) asked
-still_asked (Ended d NoRoom) past r new spared asked =
+still_sent (Ended d NoRoom) past r new spared asked =
     let other = not-true (d == r.conn) spared in asked_as (Ended d NoRoom ∷ past) past r (contains_other d r.conn (present past) other ∙ asked.0) (sent_same r.conn (Ended d NoRoom) past refl refl) asked
-still_asked (Ended d Closed) past r new spared asked =
+still_sent (Ended d Closed) past r new spared asked =
     let other = not-true (d == r.conn) spared in asked_as (Ended d Closed ∷ past) past r (contains_other d r.conn (present past) other ∙ asked.0) (sent_same r.conn (Ended d Closed) past refl refl) asked
-still_asked (Judged d place m verdict) past r new spared asked = asked_behind (contains r.conn (present past)) r.place r.message m verdict (d == r.conn) (view_of r.conn past) asked
-still_asked fact past r new spared asked = asked_as (fact ∷ past) past r asked.0 (sent_same r.conn fact past refl refl) asked
+still_sent (Judged d place m verdict) past r new spared asked = asked_behind (contains r.conn (present past)) r.place r.message m verdict (d == r.conn) (view_of r.conn past) asked
+still_sent fact past r new spared asked = asked_as (fact ∷ past) past r asked.0 (sent_same r.conn fact past refl refl) asked
+
+still_asked : (fact : Fact) (past : List Fact) (r : Request) → IsNew fact past → spares r.conn fact ≡ true → IsAsked past r → IsAsked (fact ∷ past) r
+still_asked fact past r new spared asked = ⊎_elim (λ sent. inl (still_sent fact past r new spared sent)) (λ own. inr own) asked
 
 -- a request that is forwarded is the sender's
 abbrev pub IsPut : Fact → List Fact → Type 0
@@ -148,7 +158,7 @@ asked_more (Late r) past asked new all = passing (λ (q : Request). not (r.seria
 asked_more (Expired r) past asked new all = passing (λ (q : Request). not (r.serial == q.serial)) (Expired r) past new (λ c. refl) all
 asked_more (Aborted r) past asked new all = passing (λ (q : Request). not (r.serial == q.serial)) (Aborted r) past new (λ c. refl) all
 asked_more (Ended d why) past asked new all =
-    all_passing (λ (q : Request). not (d == q.conn)) (IsAsked past) (IsAsked (Ended d why ∷ past)) (λ r other held. still_asked (Ended d why) past r tt other held) (pending past) all
+    all_passing (λ (q : Request). not (d == q.conn)) (IsAsked past) (IsAsked (Ended d why ∷ past)) (λ r other held. still_asked (Ended d why) past r new other held) (pending past) all
 asked_more Reset past asked new all = tt
 asked_more ModemLost past asked new all = tt
 asked_more fact past asked new all = all_weaker (IsAsked past) (IsAsked (fact ∷ past)) (λ r held. still_asked fact past r new refl held) (pending past) all
@@ -166,6 +176,8 @@ regular_more fact past follows asked new R = record {
   placed = placed_more fact past asked R.placed;
   asked = asked_more fact past asked new R.asked;
   drained = drained_more fact past new R.drained;
+  nobody = still_no_client fact past (named fact past new) R.nobody;
+  never = still_never_dropped qmi_limits fact past follows (named fact past new) R.nobody R.never;
 }
 
 pub asked_of_pending : (past : List Fact) (r : Request) → Regular past → Contains (pending past) r → IsAsked past r
@@ -175,14 +187,17 @@ asked_of_pending past r R at = All-contains (IsAsked past) (pending past) r (All
 
 put_rightly : (s : Setup) (fact : Fact) (past : List Fact) → MayAsk (qmi_protocol s) (Asks s) fact past → IsPut fact past
 put_rightly s (Forwarded r) past asked =
-    let newest = asked.1 in
+    ⊎_elim
+    (λ newest.
     let place = newest.place in
     let deadline = newest.deadline in
-    ((newest.space, omega arith), (newest.sender, omega arith, newest.message))
+    ((newest.space, omega arith), inl (newest.sender, omega arith, newest.message)))
+    (λ own. let deadline = own.deadline in ((own.space, omega arith), inr own.sender)) asked.1
 put_rightly s _ past asked = tt
 
 nothing_new : (fact : Fact) (past : List Fact) → lets_in_or_drains fact ≡ false → IsNew fact past
 nothing_new (Admitted c) past other = absurd (cc)
+nothing_new (Ended c NotAdmitted) past other = absurd (cc)
 nothing_new (ModemDrained count) past other = absurd (cc)
 nothing_new _ past other = tt
 
@@ -204,18 +219,18 @@ module _ (s : Setup) where
       (λ fact past follows may asked held. regular_more fact past follows (put_rightly s fact past asked) (nothing_new fact past (nothing_new_at_end fact past may)) held)
       events (regular_begun (history s events) R)
 
-  regular_join : (past : List Fact) (c : ℕ) → contains c (present past) ≡ false → Regular past → Regular (join qmi_limits c past)
-  regular_join past c new R = by (nat_lt (length (present past)) connection_limit) refl
+  regular_join : (past : List Fact) (c : ℕ) → 1 ≤ c → contains c (present past) ≡ false → Regular past → Regular (join qmi_limits c past)
+  regular_join past c some new R = by (nat_lt (length (present past)) connection_limit) refl
     where
       by : (b : Bool) → nat_lt (length (present past)) connection_limit ≡ b → Regular (let after : List Fact = if b then Admitted c ∷ past else Ended c NotAdmitted ∷ past in after)
-      by true room = regular_more (Admitted c) past (grind (arith, nat_tests, room)) tt new R
-      by false full = regular_more (Ended c NotAdmitted) past (grind (arith, nat_tests, full)) tt tt R
+      by true room = regular_more (Admitted c) past (grind (arith, nat_tests, room)) tt (some, new) R
+      by false full = regular_more (Ended c NotAdmitted) past (grind (arith, nat_tests, full)) tt some R
 
   pub histories_are_regular : (events : List Event) → AreSound (qmi_protocol s) events → Regular (history s events)
-  unfolding proxy.history proxy.add_all in_use pending present modem_drained to_modem
-  histories_are_regular [] sound = record { sound = tt; placed = tt; asked = tt; drained = omega arith }
+  unfolding proxy.history proxy.add_all in_use pending present dropped modem_drained to_modem
+  histories_are_regular [] sound = record { sound = tt; placed = tt; asked = tt; drained = omega arith; nobody = refl; never = refl }
   histories_are_regular (Joined c ∷ events) sound =
-      regular_join (EventBegan ∷ history s events) c (new_names (qmi_protocol s) (Asks s) (orderly s) events c sound.0) (regular_begun (history s events) (histories_are_regular events sound.1))
+      regular_join (EventBegan ∷ history s events) c (let above = sound.0 in omega arith) (new_names (qmi_protocol s) (Asks s) (orderly s) events c sound.0) (regular_begun (history s events) (histories_are_regular events sound.1))
   histories_are_regular (ModemTook count ∷ events) sound =
       let R = histories_are_regular events sound.1 in
       let left = length-drop (modem_drained (history s events)) (to_modem wire (history s events)) in

@@ -1,5 +1,6 @@
 -- What each part of a QMI proxy adds to its history: one lemma for each, on which all laws of the history rest.
-use Rattle.std.proofs.Common.{◌≡◌, ℕ, ◌+◌, ◌≤◌, Bool, true, false, not, ◌&&◌, ◌==◌, if◌then◌else◌, List, [], ◌∷◌, length, refl, ap, sym, arith, All, Contains, filter, ⊎_elim, inl, Option, Some, None}
+use Rattle.std.proofs.Common.{◌≡◌, ◌∙◌, ℕ, zero, suc, ◌+◌, ◌-◌, ◌≤◌, nat_le, cond, subst, inr, Bool, true, false, not, ◌&&◌, ◌==◌, if◌then◌else◌, List, [], ◌∷◌, length, refl, ap, sym, arith, All, Contains, filter, ⊎_elim, inl, Option, Some, None}
+use Rattle.std.specs.List.{AllByRecursion}
 use Rattle.std.proofs.lemmas.Bool.{eq-eqb}
 use Rattle.std.proofs.lemmas.Bool.Decides.{nat_tests}
 use Rattle.std.proofs.lemmas.List.Elements.{All-filter, All-contains, Contains-append_cases}
@@ -15,19 +16,20 @@ use Rattle.proxy_history.specs.Facts.{Fact, Request, Verdict, Forward, Ended, No
 use Rattle.proxy_history.specs.Decision.{Decision, Replies, Forwards}
 use Rattle.proxy_history.specs.Connections.{present, message_count}
 use Rattle.proxy_history.specs.Requests.{in_use, pending, is_pending, last_number, of_space}
-use Rattle.proxy_history.specs.Modem.{to_modem, modem_drained, modem_queue}
+use Rattle.proxy_history.specs.Modem.{now, to_modem, modem_drained, modem_queue}
 use Rattle.proxy_history.specs.Wording.{Wording}
 use Rattle.proxy_history.specs.Noting.{receivers_of}
 use Rattle.proxy_history.specs.Noting as noting
 use Rattle.proxy_history.specs.View.{Entry, Sent, entry_if, view, sent_count, sent_at}
 use Rattle.proxy_history.specs.Sound.{IsPresent, IsParty, IsSound, IsFreeFor}
-use Rattle.proxy_history.specs.ClientIds.{held}
-use Rattle.proxy_history.specs.Adding.{MayAdd, MayRefuse, MayFinish, Adds, Soundly, AddsSoundly, IsOrderly}
+use Rattle.proxy_history.specs.ClientIds.{KeptId, held, kept, holder_in, is_other}
+use Rattle.proxy_history.proofs.Kept.{kept_are_nobodys}
+use Rattle.proxy_history.specs.Adding.{MayAdd, MayRefuse, MayTick, MayFinish, Adds, Soundly, AddsSoundly, IsOrderly}
 use Rattle.proxy_history.proofs.Lists.{Contains-filter_from}
 use Rattle.proxy_history.proofs.Sound.{each_contained, party_from_present, forwarded_from_in_use, waits}
 use Rattle.proxy_history.proofs.SoundLaws.{waiting_are_parties}
 use Rattle.proxy_history.proofs.Counting.{counted}
-use Rattle.proxy_history.proofs.Adding.{none, further, either, added, judged, noted, noted_by, adds_abort_all}
+use Rattle.proxy_history.proofs.Adding.{extends_sound, none, further, either, added, judged, noted, noted_by, adds_abort_all}
 use Rattle.qmi_proxy.specs.Setup.{Setup}
 use Rattle.qmi_proxy.specs.Spaces.{control_space, service_space}
 use Rattle.qmi_proxy.specs.Limits.{qmi_limits, modem_outbox_limit}
@@ -35,8 +37,9 @@ use Rattle.qmi_proxy.specs.Messages.{uses_id, used_service, used_client}
 use Rattle.qmi_proxy.specs.OwnReplies.{is_open}
 use Rattle.qmi_proxy.specs.Text.{qmi_wording, blank, view_of, note}
 use Rattle.qmi_proxy.specs.Clients.{wire, has_room, forward, grant_if, judge, decision_as, request_of}
-use Rattle.qmi_proxy.specs.Asked.{IsNewestMessage}
-use Rattle.qmi_proxy.specs.FromModem.{IdChange, NoChange, Grants, Collides, Frees, id_change, holder_of_brought, answer, answer_or_late, respond, first_answered_by, in_expiry_order, refuse, abort_all, receivers, tell, indicate, hear_as}
+use Rattle.qmi_proxy.specs.Asked.{IsNewestMessage, IsAskedSo}
+use Rattle.qmi_proxy.specs.Releases.{first_due, nearer, is_before, number_if, own_number, number_for_own, own_request, release_of, releases_one, releases, release_due, freed_if}
+use Rattle.qmi_proxy.specs.FromModem.{IdChange, NoChange, Grants, Collides, Frees, id_change, holder_of_brought, answer, answer_to, answer_or_late, respond, first_answered_by, in_expiry_order, refuse, abort_all, receivers, tell, indicate, hear_as}
 use Rattle.qmi_proxy.specs.History.{qmi_protocol}
 use Rattle.qmi_proxy.proofs.Answered.{found_is, change_free}
 use Rattle.qmi_proxy.proofs.Verdicts.{CanGo, can_go, used_id_is_free}
@@ -49,7 +52,7 @@ only_those requests r at =
 
 module _ (s : Setup) where
   abbrev pub Asks : Request → List Fact → Type 0
-  Asks r past = IsNewestMessage s r past
+  Asks r past = IsAskedSo s r past
 
   abbrev Sound : List Fact → Type 0
   Sound past = IsSound qmi_limits past
@@ -108,7 +111,7 @@ module _ (s : Setup) where
         let before : List Fact = judged_now past in
         let request : Request = request_of s c m n before in
         further qmi_limits wording By before (Forwarded request ∷ before) _
-        (added qmi_limits wording By (Forwarded request) before refl (record { serial = refl; sender = party_from_present c past there; number = can.number }, inl refl, (finds_room n past can.framed can.room, newest n past there)))
+        (added qmi_limits wording By (Forwarded request) before refl (record { serial = refl; sender = party_from_present c past there; number = can.number }, inl refl, (finds_room n past can.framed can.room, inl (newest n past there))))
         (grants (uses_id m) (Forwarded request ∷ before) there (used_id_is_free c m past can.free))
 
     judges : (opened : Bool) (decision : Decision) (past : List Fact) → IsPresent c past → decision_as s opened c m past ≡ decision → AddsOf (MayAdd (Says c m)) past (judge s c m decision past)
@@ -149,9 +152,16 @@ module _ (s : Setup) where
         let freed : List Fact = Freed r.conn service client ∷ past in
         further qmi_limits wording BySaying past freed _ (one (Freed r.conn service client) past refl (tt, tt, tt)) (told (Answered r m) freed (at, refl, tt))
 
-    answers_or_late : (waiting : Bool) (r : Request) (past : List Fact) → Sound past → Contains (in_use past) r → is_pending r past ≡ waiting → Heard past (answer_or_late s.device waiting r m past)
-    answers_or_late true r past sound at is =
+    answers_to : (own : Bool) (r : Request) (past : List Fact) → Sound past → Contains (in_use past) r → is_pending r past ≡ true → Heard past (answer_to own s.device r m past)
+    answers_to true r past sound at is =
+        let told_so = told (Answered r m) past (waits qmi_limits past r sound (forwarded_from_in_use past r at) is, refl, tt) in
+        let answered : List Fact = note s.device (Answered r m) past in
+        further qmi_limits wording BySaying past answered _ told_so (one (Freed 0 (used_service r.message) (used_client r.message)) answered refl (tt, tt, tt))
+    answers_to false r past sound at is =
         answers r (id_change r.conn r.message m (holder_of_brought m past)) past (λ service client e. change_free r.conn r.message m past service client e) sound (waits qmi_limits past r sound (forwarded_from_in_use past r at) is)
+
+    answers_or_late : (waiting : Bool) (r : Request) (past : List Fact) → Sound past → Contains (in_use past) r → is_pending r past ≡ waiting → Heard past (answer_or_late s.device waiting r m past)
+    answers_or_late true r past sound at is = answers_to (r.conn == 0) r past sound at is
     answers_or_late false r past sound at is = one (Late r) past refl (at, tt, tt)
 
     responds : (found : Option Request) (past : List Fact) → Sound past → first_answered_by m (in_use past) ≡ found → Heard past (respond s.device found m past)
@@ -181,9 +191,13 @@ module _ (s : Setup) where
         (further qmi_limits wording BySaying aborted (Reset ∷ aborted) _ (one Reset aborted refl (tt, tt, tt)) (tells (Reset ∷ aborted))))
         (λ other. either qmi_limits wording BySaying (not (is_control m) && client_of m == 0) past _ _ (λ nobody. one Stray past refl (tt, tt, tt)) (λ some. tells past))
       where
+        refuses : (own : Bool) (r : Request) (before : List Fact) → Heard before (note s.device (Aborted r) before) → Heard before (freed_if own r (note s.device (Aborted r) before))
+        refuses true r before told = further qmi_limits wording BySaying before (note s.device (Aborted r) before) _ told (one (Freed 0 (used_service r.message) (used_client r.message)) (note s.device (Aborted r) before) refl (tt, tt, tt))
+        refuses false r before told = told
+
         aborts : (past : List Fact) → Sound past → Heard past (abort_all s.device past)
         aborts past sound =
-            adds_abort_all qmi_limits wording BySaying (λ fact before may. may.0) (refuse s.device) in_expiry_order only_those (λ r before s at. told (Aborted r) before (at, tt, tt)) past sound
+            adds_abort_all qmi_limits wording BySaying (λ fact before may. may.0) (refuse s.device) in_expiry_order only_those (λ r before s at. refuses (r.conn == 0) r before (told (Aborted r) before (at, tt, tt))) past sound
 
     hears : (heard : Option MessageKind) (past : List Fact) → Sound past → Heard past (hear_as heard s.device m past)
     hears (Some kind.Response) past sound = responds (first_answered_by m (in_use past)) past sound refl
@@ -191,14 +205,78 @@ module _ (s : Setup) where
     hears (Some kind.Request) past sound = one Stray past refl (tt, tt, tt)
     hears None past sound = one Stray past refl (tt, tt, tt)
 
+  -- ---- requests of the proxy itself ----
+
+  abbrev ByClock : Fact → List Fact → Type 0
+  ByClock fact past = May MayTick fact past
+
+  refuses_own : (why : Fact) (own : Bool) (r : Request) (past : List Fact) → AddsOf (MayRefuse why) past (note s.device why past) → AddsOf (MayRefuse why) past (freed_if own r (note s.device why past))
+  refuses_own why true r past noted =
+      let after : List Fact = note s.device why past in
+      further qmi_limits wording (May (MayRefuse why)) past after _ noted (added qmi_limits wording (May (MayRefuse why)) (Freed 0 (used_service r.message) (used_client r.message)) after refl (tt, refl, tt))
+  refuses_own why false r past noted = noted
+
+  pub some_if : (room : Bool) (number : Option ℕ) (n : ℕ) → number_if room number ≡ Some n → (room ≡ true) × (number ≡ Some n)
+  some_if true number n is = (refl, is)
+  some_if false number n is = absurd (cc)
+
+  pub first_kept : (P : KeptId → Type 0) (after time : ℕ) (ids : List KeptId) (k : KeptId) → AllByRecursion P ids → first_due after time ids ≡ Some k → P k
+  unfolding first_due
+  first_kept P after time [] k all is = absurd (cc)
+  first_kept P after time (l ∷ ids) k all is = by (λ k is. first_kept P after time ids k all.1 is) (nat_le after (time - l.since)) (first_due after time ids) refl is
+    where
+      same : (l : KeptId) → P l → Some l ≡ Some k → P k
+      same l here is = let eq : l ≡ k = cc in subst P eq here
+
+      by_order : (m : KeptId) (b : Bool) → P m → Some (cond b l m) ≡ Some k → P k
+      by_order m true other is = same l all.0 is
+      by_order m false other is = same m other is
+
+      by : ((k : KeptId) → first_due after time ids ≡ Some k → P k) → (due : Bool) (found : Option KeptId) → first_due after time ids ≡ found → nearer due l found ≡ Some k → P k
+      by rest false found e is = rest k (e ∙ is)
+      by rest true None e is = same l all.0 is
+      by rest true (Some m) e is = by_order m (is_before l m) (rest m e) is
+
+  one_released : (k : KeptId) (n : ℕ) (past : List Fact) → holder_in k.service k.client (held past) ≡ None → number_for_own k past ≡ Some n → AddsOf MayTick past (releases_one s k n past)
+  unfolding in_use last_number held
+  one_released k n past free is =
+      let parts = some_if (has_room (length (modem_queue wire past)) (release_of k.service k.client)) (own_number past) n is in
+      let r : Request = own_request s k.service k.client n past in
+      let room : length (modem_queue wire past) + length (wire r) ≤ modem_outbox_limit = grind (arith, nat_tests, parts.0) in
+      further qmi_limits wording ByClock past (Forwarded r ∷ past) _
+      (added qmi_limits wording ByClock (Forwarded r) past refl (record { serial = refl; sender = refl; number = parts.1 }, refl, (room, inr (record { sender = refl; service = k.service; client = k.client; message = refl; space = refl; deadline = refl }))))
+      (added qmi_limits wording ByClock (Granted 0 k.service k.client) (Forwarded r ∷ past) refl ((refl, ap (is_other 0) free), refl, tt))
+
+  releases_ids : (after count : ℕ) (past : List Fact) → Sound past → AddsOf MayTick past (releases s after count past)
+  unfolding releases
+  releases_ids after zero past sound = none qmi_limits wording ByClock past
+  releases_ids after (suc count) past sound = by_id (λ next sound. releases_ids after count next sound) (first_due after (now past) (kept past)) refl
+    where
+      by_number : ((next : List Fact) → Sound next → AddsOf MayTick next (releases s after count next)) → (k : KeptId) (number : Option ℕ) → holder_in k.service k.client (held past) ≡ None → number_for_own k past ≡ number → AddsOf MayTick past (elim number [ None ↦ past | Some number ↦ releases s after count (releases_one s k number past) ])
+      by_number rest k None free is = none qmi_limits wording ByClock past
+      by_number rest k (Some n) free is =
+          let adds = one_released k n past free is in
+          further qmi_limits wording ByClock past (releases_one s k n past) _ adds
+          (rest (releases_one s k n past) (extends_sound qmi_limits wording ByClock (λ fact before may. may.0) past (releases_one s k n past) adds.extends sound))
+
+      by_id : ((next : List Fact) → Sound next → AddsOf MayTick next (releases s after count next)) → (found : Option KeptId) → first_due after (now past) (kept past) ≡ found
+          → AddsOf MayTick past (elim found [ None ↦ past | Some k ↦ elim (number_for_own k past) [ None ↦ past | Some number ↦ releases s after count (releases_one s k number past) ] ])
+      by_id rest None is = none qmi_limits wording ByClock past
+      by_id rest (Some k) is = by_number rest k (number_for_own k past) (first_kept (λ k. holder_in k.service k.client (held past) ≡ None) after (now past) (kept past) k (kept_are_nobodys past) is) refl
+
+  releases_due : (after : Option ℕ) (past : List Fact) → Sound past → AddsOf MayTick past (release_due s after past)
+  releases_due None past sound = none qmi_limits wording ByClock past
+  releases_due (Some after) past sound = releases_ids after (length (kept past)) past sound
+
   -- ---- the whole protocol ----
 
   pub orderly : IsOrderly (qmi_protocol s) Asks
   orderly = record {
     client = λ c m past sound there. judges c m (is_open s.device (view_of c past)) _ past there refl;
     modem = λ m past sound. hears m (framed_kind m) past sound;
-    refusal = λ why r past may sound. noted qmi_limits wording (May (MayRefuse why)) (λ c before there. (there, tt, tt)) why past may;
+    refusal = λ why r past may sound. refuses_own why (r.conn == 0) r past (noted qmi_limits wording (May (MayRefuse why)) (λ c before there. (there, tt, tt)) why past may);
     order = only_those;
     loss = λ past sound. none qmi_limits wording (May (MayAdd ModemFails)) past;
+    clock = λ past sound. releases_due s.release past sound;
     finish = λ past sound. none qmi_limits wording (May MayFinish) past;
   }

@@ -1,5 +1,5 @@
 -- What each request of a QMI proxy is when it is forwarded. A list of facts has the newest first.
-use Rattle.std.specs.Prelude.{◌≡◌, true, List}
+use Rattle.std.specs.Prelude.{◌≡◌, ◌⊎◌, ℕ, true, List}
 use Rattle.proxy_history.specs.Events.{Event}
 use Rattle.proxy_history.specs.Facts.{Fact, Request}
 use Rattle.proxy_history.specs.Connections.{is_present}
@@ -10,6 +10,7 @@ use Rattle.qmi_proxy.specs.Setup.{Setup}
 use Rattle.qmi_proxy.specs.Spaces.{space_of}
 use Rattle.qmi_proxy.specs.Text.{view_of}
 use Rattle.qmi_proxy.specs.Clients.{deadline_of}
+use Rattle.qmi_proxy.specs.Releases.{release_of}
 use Rattle.qmi_proxy.specs.History.{qmi_protocol, history}
 
 -- the newest message of a client that is there
@@ -20,6 +21,18 @@ pub record IsNewestMessage (s : Setup) (r : Request) (past : List Fact) : Type 0
   pub space : r.space ≡ space_of r.message
   pub deadline : r.deadline ≡ deadline_of (now past) s.time_limit
 
+-- the proxy's own request to release a client id
+pub record IsOwnRelease (s : Setup) (r : Request) (past : List Fact) : Type 0 where
+  pub sender : r.conn ≡ 0
+  pub service : ℕ
+  pub client : ℕ
+  pub message : r.message ≡ release_of service client
+  pub space : r.space ≡ space_of r.message
+  pub deadline : r.deadline ≡ deadline_of (now past) s.time_limit
+
+abbrev pub IsAskedSo : Setup → Request → List Fact → Type 0
+IsAskedSo s r past = IsNewestMessage s r past ⊎ IsOwnRelease s r past
+
 -- so was each request, and its bytes found room in the modem's outbox
 abbrev pub RequestsAreAsked : Type 0
-RequestsAreAsked = (s : Setup) (events : List Event) → AreAsked (qmi_protocol s) (IsNewestMessage s) (history s events)
+RequestsAreAsked = (s : Setup) (events : List Event) → AreAsked (qmi_protocol s) (IsAskedSo s) (history s events)

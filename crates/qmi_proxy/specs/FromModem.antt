@@ -13,6 +13,7 @@ use Rattle.proxy_history.specs.Unanswered as unanswered
 use Rattle.qmi_proxy.specs.Spaces.{control_space, service_space}
 use Rattle.qmi_proxy.specs.Messages.{value_of, has_length, byte_of, used_service, used_client, is_success}
 use Rattle.qmi_proxy.specs.OwnReplies.{is_open}
+use Rattle.qmi_proxy.specs.Releases.{freed_if}
 use Rattle.qmi_proxy.specs.Text.{view_of, note}
 
 -- ---- responses ----
@@ -62,9 +63,14 @@ answer device r m (Frees service client) past = note device (Answered r m) (Free
 abbrev pub holder_of_brought : List ℕ → List Fact → Option ℕ
 holder_of_brought m past = holder (byte_of 0 (value_of 0x01 m)) (byte_of 1 (value_of 0x01 m)) past
 
+-- the answer to the proxy's own request, whatever it says, and to a client's
+abbrev pub answer_to : Bool → List ℕ → Request → List ℕ → List Fact → List Fact
+answer_to true device r m past = freed_if true r (note device (Answered r m) past)
+answer_to false device r m past = answer device r m (id_change r.conn r.message m (holder_of_brought m past)) past
+
 -- the second argument says whether the request still waits
 abbrev pub answer_or_late : List ℕ → Bool → Request → List ℕ → List Fact → List Fact
-answer_or_late device true r m past = answer device r m (id_change r.conn r.message m (holder_of_brought m past)) past
+answer_or_late device true r m past = answer_to (r.conn == 0) device r m past
 answer_or_late device false r m past = Late r ∷ past
 
 abbrev pub respond : List ℕ → Option Request → List ℕ → List Fact → List Fact
@@ -79,7 +85,7 @@ in_expiry_order requests = of_space control_space requests ++ of_space service_s
 
 -- each gets a refusal in place of its answer
 abbrev pub refuse : List ℕ → Fact → Request → List Fact → List Fact
-refuse device fact r past = note device fact past
+refuse device fact r past = freed_if (r.conn == 0) r (note device fact past)
 
 abbrev pub abort_all : List ℕ → List Fact → List Fact
 abort_all device past = unanswered.abort_all (refuse device) in_expiry_order past

@@ -13,6 +13,7 @@ use Rattle.qmi_proxy.specs.Setup.{Setup}
 use Rattle.qmi_proxy.specs.Limits.{qmi_limits}
 use Rattle.qmi_proxy.specs.Text.{qmi_wording}
 use Rattle.qmi_proxy.specs.Clients.{hear_client_as, wire}
+use Rattle.qmi_proxy.specs.Releases.{release_due}
 use Rattle.qmi_proxy.specs.FromModem.{hear_modem, refuse, in_expiry_order}
 
 -- what a client's view tells is whether it has opened the device; no message comes in fragments
@@ -28,6 +29,7 @@ qmi_protocol s = record {
   hear_modem = hear_modem s.device;
   refuse = refuse s.device;
   order = in_expiry_order;
+  on_clock = λ past. release_due s s.release past;
   close = λ past. past;
   finish = λ past. past;
 }

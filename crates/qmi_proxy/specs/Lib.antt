@@ -6,6 +6,7 @@ pub mod Messages
 pub mod OwnReplies
 pub mod Text
 pub mod Clients
+pub mod Releases
 pub mod FromModem
 pub mod History
 pub mod Asked

@@ -1,9 +1,9 @@
 -- What a history has where those who join are new, and the modem takes no more than waits for it. A list of facts has the newest first.
-use Rattle.std.specs.Prelude.{◌≡◌, ◌-◌, ◌^◌, ◌≤◌, true, List, length}
+use Rattle.std.specs.Prelude.{◌≡◌, ◌⊎◌, ◌-◌, ◌^◌, ◌≤◌, true, false, List, length}
 use Rattle.std.specs.List.{AllByRecursion}
 use Rattle.proxy_history.specs.Events.{Event}
 use Rattle.proxy_history.specs.Facts.{Fact, Request}
-use Rattle.proxy_history.specs.Connections.{present, contains}
+use Rattle.proxy_history.specs.Connections.{present, dropped, contains}
 use Rattle.proxy_history.specs.Requests.{in_use, pending}
 use Rattle.proxy_history.specs.Modem.{to_modem, modem_drained}
 use Rattle.proxy_history.specs.Sound.{IsSound}
@@ -21,14 +21,21 @@ abbrev pub IsPlaced : Request → Type 0
 IsPlaced r = (r.space ≡ space_of r.message) × (r.deadline ≤ 2 ^ 64 - 1)
 
 -- the sender of a request is there, and its message is the sender's of that place
+abbrev pub IsSent : List Fact → Request → Type 0
+IsSent past r = (contains r.conn (present past) ≡ true) × (r.place ≤ sent_count (view_of r.conn past)) × (sent_at r.place (view_of r.conn past) ≡ r.message)
+
+-- so is each request but the proxy's own
 abbrev pub IsAsked : List Fact → Request → Type 0
-IsAsked past r = (contains r.conn (present past) ≡ true) × (r.place ≤ sent_count (view_of r.conn past)) × (sent_at r.place (view_of r.conn past) ≡ r.message)
+IsAsked past r = IsSent past r ⊎ (r.conn ≡ 0)
 
 pub record Regular (past : List Fact) : Type 0 where
   pub sound : IsSound qmi_limits past
   pub placed : AllByRecursion IsPlaced (in_use past)
   pub asked : AllByRecursion (IsAsked past) (pending past)
   pub drained : modem_drained past ≤ length (to_modem wire past)
+  -- no connection has the name of the proxy itself
+  pub nobody : contains 0 (present past) ≡ false
+  pub never : contains 0 (dropped past) ≡ false
 
 -- so is each history of events that may come
 abbrev pub HistoriesAreRegular : Type 0

@@ -86,15 +86,17 @@ pub fn the_order_of_refusals_loses_none()
     ensures { TheOrderLosesNone }
 {}
 
-/// The law that a request is its sender's newest message when it is forwarded, and that its bytes
-/// find room in the modem's outbox; so no more bytes wait for the modem than may.
+/// The law that a request, when it is forwarded, is its sender's newest message or the proxy's own
+/// Release of a client id, and that its bytes find room in the modem's outbox; so no more bytes wait
+/// for the modem than may.
 pub fn requests_are_asked()
     ensures asked { RequestsAreAsked }
     ensures within { NoMoreWaitForTheModemThanMay }
 {}
 
 /// The law that where the names of those who join rise, and the modem takes no more than waits for
-/// it, each request that waits is its sender's message of its place.
+/// it, each request that waits is its sender's message of its place, or the proxy's own, and no
+/// connection has the name 0, which is the proxy's.
 pub fn histories_are_regular()
     ensures { HistoriesAreRegular }
 {}

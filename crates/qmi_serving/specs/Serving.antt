@@ -6,4 +6,4 @@ use Rattle.qmi_proxy.specs.Setup.{Setup}
 
 -- the modem is there at the opening
 abbrev pub setup_for : Settings → Setup
-setup_for settings = record { device = encode_utf8_all settings.device; time_limit = settings.time; starts_away = false }
+setup_for settings = record { device = encode_utf8_all settings.device; time_limit = settings.time; starts_away = false; release = settings.release }

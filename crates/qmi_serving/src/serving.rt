@@ -23,6 +23,7 @@ pub fn serve_qmi<H: Hub>(alloc: Global, hub: &mut H, settings: &Settings) -> Ser
 {
     let limits = Limits {
         time: settings.time,
+        release: settings.release,
     };
     match QmiCore::open(alloc, &limits, settings.device.as_str()) {
         Ok(core) => serve(hub, core, settings.until, settings.turns),

@@ -27,7 +27,8 @@ use Rattle.qmi_solo.specs.Part.{part}
 use Rattle.proxy_solo.proofs.Reading.{AreGeneral}
 use Rattle.qmi_solo.proofs.Fit.{Fit}
 use Rattle.proxy_solo.proofs.Lists.{self}
-use Rattle.qmi_solo.proofs.Actions.{ticks-part, known_ticks}
+use Rattle.qmi_solo.proofs.Actions.{known_ticks}
+use Rattle.qmi_solo.proofs.Releasing.{clock-part}
 use Rattle.qmi_solo.proofs.Alone.{present_mine, none_there}
 use Rattle.qmi_solo.proofs.Fair.{AreFair}
 use Rattle.qmi_solo.proofs.Fits.{fit_add}
@@ -97,7 +98,7 @@ module _ (s : Setup) (c : ℕ) where
   ticks_alike time events solo times F A =
       let G : Fit true c (begun s c solo) = begun_fit s c true (history s solo) A.alone in
       met s c (Now time) (history s (Now time ∷ events)) solo (stream c (Now time ∷ events))
-      ((ticks-part s.device c time (begun s c events) (begun_fit s c false (history s events) A.fit)).same ∙ ap (known_ticks s.device c (max time (now (history s events)))) A.same ∙ ap (λ (t : ℕ). known_ticks s.device c (max time t) (part c (history s solo))) times ∙ sym (ticks-part s.device c time (begun s c solo) G).same) F
+      ((clock-part s c time (begun s c events) (begun_fit s c false (history s events) A.fit)).same ∙ ap (known_ticks s.device c (max time (now (history s events)))) A.same ∙ ap (λ (t : ℕ). known_ticks s.device c (max time t) (part c (history s solo))) times ∙ sym (clock-part s c time (begun s c solo) G).same) F
       (fit_add true c s (ClockShows time) (begun s c solo) G tt) A.sent A.whole
 
   -- the modem's streams are there in both or in neither

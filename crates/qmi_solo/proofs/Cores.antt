@@ -12,7 +12,7 @@ use Rattle.qmi_solo.specs.Cores.{CoresQueueTheSame, StepsAreWhatMayCome, CoresMe
 use Rattle.qmi_solo.proofs.Law.{gets_the_same_alone}
 
 pub cores_queue_the_same : CoresQueueTheSame
-cores_queue_the_same s c events core own = queue_the_same (qmi_protocol s) (kept_of s) (qmi_alone s) c events core own (gets_the_same_alone s c events)
+cores_queue_the_same s c events core own client = queue_the_same (qmi_protocol s) (kept_of s) (qmi_alone s) c events core own (gets_the_same_alone s c events client)
 
 pub steps_are_what_may_come : StepsAreWhatMayCome
 steps_are_what_may_come s event events core S none = (

@@ -20,7 +20,7 @@ use Rattle.qmi_solo.specs.Part.{part}
 use Rattle.qmi_solo.specs.Law.{MayCome}
 use Rattle.proxy_solo.proofs.Reading.{AreGeneral}
 use Rattle.qmi_solo.proofs.Fit.{Fit}
-use Rattle.qmi_solo.proofs.Actions.{ticks-part}
+use Rattle.qmi_solo.proofs.Releasing.{clock-part}
 use Rattle.qmi_solo.proofs.Fair.{AreFair, fair_each}
 use Rattle.qmi_solo.proofs.Fits.{fit_add}
 use Rattle.qmi_solo.proofs.Items.{joins_elsewhere, leaves_elsewhere, takes_elsewhere, piece_elsewhere, piece_fits, fair_piece}
@@ -32,7 +32,7 @@ module _ (s : Setup) (c : ℕ) where
   begun events = EventBegan ∷ history s events
 
   pub begun_fit : (alone : Bool) (past : List Fact) → Fit alone c past → Fit alone c (EventBegan ∷ past)
-  begun_fit alone past F = record { sound = (tt, F.sound); fits = (tt, F.fits) }
+  begun_fit alone past F = record { client = F.client; sound = (tt, F.sound); fits = (tt, F.fits) }
 
   abbrev pub bytes_of : List Event → Option (List ℕ)
   bytes_of events = modem_stream size_of s.starts_away events
@@ -144,6 +144,6 @@ module _ (s : Setup) (c : ℕ) where
       ] fair
   fair_event ModemBack events F fair =
       elim (bytes_of events) as (λ o. AreFair (part c (add_all s (returns_once o) (begun events))) → AreFair (part c (begun events))) [ None ↦ fair_cons ModemReturned (begun events) | Some before ↦ λ f. f ] fair
-  fair_event (Now time) events F fair = fair_each s.device c true _ _ (subst AreFair (ticks-part s.device c time (begun events) (begun_fit false (history s events) F)).same fair)
+  fair_event (Now time) events F fair = fair_each s.device c true _ _ (subst AreFair (clock-part s c time (begun events) (begun_fit false (history s events) F)).same fair)
   fair_event (Took d count) events F fair = fair_if (is_present d (begun events)) (Drained d count ∷ begun events) (begun events) (begun events) (fair_cons (Drained d count) (begun events)) (λ f. f) fair
   fair_event (ModemTook count) events F fair = fair

@@ -1,6 +1,6 @@
 -- Each item keeps a history fit.
-use Rattle.std.proofs.Common.{◌≡◌, ℕ, ◌+◌, ◌≤◌, Bool, true, false, not, ◌&&◌, ◌==◌, nat_lt, if◌then◌else◌, List, [], ◌∷◌, length, refl, ap, sym, ◌∙◌, arith, Option, Some, None}
-use Rattle.std.proofs.lemmas.Bool.{eqb-true}
+use Rattle.std.proofs.Common.{◌≡◌, ℕ, ◌+◌, ◌≤◌, Bool, true, false, not, ◌&&◌, ◌==◌, nat_lt, if◌then◌else◌, List, [], ◌∷◌, length, inl, ⊎_elim, refl, ap, sym, ◌∙◌, arith, Option, Some, None}
+use Rattle.std.proofs.lemmas.Bool.{eqb-true, eq-eqb}
 use Rattle.qmux_frame.specs.declared.kind.MessageKind.{MessageKind}
 use Rattle.qmux_frame.specs.declared.kind.MessageKind.TheVariants as kind
 use Rattle.qmux_frame.specs.Head.{is_control, client_of}
@@ -19,7 +19,7 @@ use Rattle.qmi_proxy.specs.Setup.{Setup}
 use Rattle.qmi_proxy.specs.Messages.{uses_id, used_service, used_client}
 use Rattle.qmi_proxy.specs.Text.{note, view_of}
 use Rattle.qmi_proxy.specs.Clients.{holder_for, wire, decision_on, request_of, grant_if, forward, judge}
-use Rattle.qmi_proxy.specs.FromModem.{IdChange, NoChange, Grants, Collides, Frees, id_change, holder_of_brought, answer, answer_or_late, respond, first_answered_by, abort_all, receivers, tell, hear_as}
+use Rattle.qmi_proxy.specs.FromModem.{IdChange, NoChange, Grants, Collides, Frees, id_change, holder_of_brought, answer, answer_to, answer_or_late, respond, first_answered_by, abort_all, receivers, tell, hear_as}
 use Rattle.qmi_proxy.specs.History.{add}
 use Rattle.qmi_proxy.proofs.Sound.{sound_add}
 use Rattle.qmi_proxy.specs.OwnReplies.{is_open}
@@ -28,10 +28,11 @@ use Rattle.qmi_proxy.proofs.Answered.{found_is, change_free}
 use Rattle.qmi_solo.specs.Part.{part}
 use Rattle.proxy_solo.proofs.Placed.{older}
 use Rattle.proxy_solo.proofs.Reading.{AreGeneral}
-use Rattle.qmi_solo.proofs.Fit.{ComesFrom, MayBe, IsFit, Fit, place_within}
+use Rattle.qmi_solo.proofs.Fit.{ComesFrom, Acts, MayBe, IsFit, Fit, place_within}
 use Rattle.qmi_solo.proofs.Alone.{forwarded_so}
 use Rattle.proxy_solo.proofs.Lists.{self}
-use Rattle.qmi_solo.proofs.Actions.{fit_ends, aborts-part, loses-part, ticks-part}
+use Rattle.qmi_solo.proofs.Actions.{fit_ends, aborts-part, loses-part}
+use Rattle.qmi_solo.proofs.Releasing.{clock-part}
 
 module _ (alone : Bool) (c : ℕ) (s : Setup) where
   abbrev FitFacts : List Fact → Type 0
@@ -44,6 +45,17 @@ module _ (alone : Bool) (c : ℕ) (s : Setup) where
   by_test : (b : Bool) (one other : List Fact) → (b ≡ true → FitFacts one) → (b ≡ false → FitFacts other) → FitFacts (if b then one else other)
   by_test true one other x y = x refl
   by_test false one other x y = y refl
+
+  -- ---- who acts ----
+
+  acts_own : (alone : Bool) (d : ℕ) (past : List Fact) → ComesFrom alone c d → Acts alone c d past
+  acts_own true d past from = inl from
+  acts_own false d past from = tt
+
+  -- a client that asked is the client itself
+  acts_later : (alone : Bool) (d : ℕ) (before past : List Fact) → (d == 0) ≡ false → Acts alone c d before → Acts alone c d past
+  acts_later true d before past clients acts = ⊎_elim (λ mine. inl mine) (λ own. absurd (let clash : (d == 0) ≡ true = eq-eqb d 0 own.0 in cc)) acts
+  acts_later false d before past clients acts = tt
 
   -- ---- messages of clients ----
 
@@ -61,7 +73,7 @@ module _ (alone : Bool) (c : ℕ) (s : Setup) where
     forwarded_fits : (n : ℕ) → FitFacts (Forwarded (request_of s d m n before) ∷ before)
     forwarded_fits n = (
       (
-        from,
+        acts_own alone d before from,
         refl,
         λ mine.
             let is : d ≡ c = eqb-true d c mine in
@@ -78,7 +90,7 @@ module _ (alone : Bool) (c : ℕ) (s : Setup) where
     )
 
     granted_fits : (b : Bool) (facts : List Fact) → (b ≡ true → is_other d (holder (used_service m) (used_client m) facts) ≡ false) → FitFacts facts → FitFacts (grant_if b d m facts)
-    granted_fits true facts free fits = ((from, free refl), fits)
+    granted_fits true facts free fits = ((acts_own alone d facts from, free refl), fits)
     granted_fits false facts free fits = fits
 
     forward_fits : (n : ℕ) → is_other d (holder_for m past) ≡ false → FitFacts (forward s d m n before)
@@ -105,11 +117,15 @@ module _ (alone : Bool) (c : ℕ) (s : Setup) where
   respond_fits : (found : Option Request) (m : List ℕ) (past : List Fact) → FitFacts past → first_answered_by m (in_use past) ≡ found → FitFacts (respond s.device found m past)
   respond_fits None m past fits is = (tt, fits)
   respond_fits (Some r) m past fits is =
-      let from : ComesFrom alone c r.conn = (forwarded_so alone c past r fits (forwarded_from_in_use past r (found_is m (in_use past) r is).0)).1.0 in
-      elim (is_pending r past) as (λ b. FitFacts (answer_or_late s.device b r m past)) [
-        | true ↦ answer_fits r m (id_change r.conn r.message m (holder_of_brought m past)) past fits (λ service client e. (from, change_free r.conn r.message m past service client e))
-        | false ↦ (tt, fits)
+      let asked = forwarded_so alone c past r fits (forwarded_from_in_use past r (found_is m (in_use past) r is).0) in
+      let to : (own : Bool) → (r.conn == 0) ≡ own → FitFacts (answer_to own s.device r m past) =
+      λ own. elim own as (λ own. (r.conn == 0) ≡ own → FitFacts (answer_to own s.device r m past)) [
+        | true ↦ λ e. (tt, fit_ends alone c s.device (r.conn ∷ []) (Answered r m ∷ past) (tt, fits))
+        | false ↦ λ e. answer_fits r m (id_change r.conn r.message m (holder_of_brought m past)) past fits
+            (λ service client f. (acts_later alone r.conn asked.0 past e asked.1.0, change_free r.conn r.message m past service client f))
       ]
+      in
+      elim (is_pending r past) as (λ b. FitFacts (answer_or_late s.device b r m past)) [ true ↦ to (r.conn == 0) refl | false ↦ (tt, fits) ]
 
   tell_fits : (m : List ℕ) (past : List Fact) → FitFacts past → FitFacts (tell s.device m past)
   tell_fits m past fits = fit_ends alone c s.device (receivers s.device m past) (Indicated m (receivers s.device m past) ∷ past) (tt, fits)
@@ -131,16 +147,16 @@ module _ (alone : Bool) (c : ℕ) (s : Setup) where
   MayMeet _ past = Unit {0}
 
   add_fits : (item : Item) (past : List Fact) → Fit alone c past → MayMeet item past → FitFacts (add s item past)
-  add_fits (Joins d) past F may = either (nat_lt (length (present past)) connection_limit) past (Admitted d ∷ past) (Ended d NotAdmitted ∷ past) (may, F.fits) (tt, F.fits)
+  add_fits (Joins d) past F may = either (nat_lt (length (present past)) connection_limit) past (Admitted d ∷ past) (Ended d NotAdmitted ∷ past) (may, F.fits) (may.0, F.fits)
   add_fits (Says d m) past F may = either (is_present d past) past _ past (says_fits d m past F may) F.fits
   add_fits (Garbles d) past F may = either (is_present d past) past _ past (tt, F.fits) F.fits
   add_fits (Leaves d) past F may = either (is_present d past) past _ past (tt, F.fits) F.fits
   add_fits (ModemSays m) past F may = hear_fits (framed_kind m) m past F
   add_fits ModemFails past F may = (loses-part s.device c past F).fit.fits
   add_fits ModemReturns past F may = (tt, F.fits)
-  add_fits (ClockShows time) past F may = (ticks-part s.device c time past F).fit.fits
+  add_fits (ClockShows time) past F may = (clock-part s c time past F).fit.fits
   add_fits (Takes d count) past F may = either (is_present d past) past _ past (tt, F.fits) F.fits
   add_fits (ModemTakes count) past F may = (may, F.fits)
 
   pub fit_add : (item : Item) (past : List Fact) → Fit alone c past → MayMeet item past → Fit alone c (add s item past)
-  fit_add item past F may = record { sound = sound_add s item past F.sound; fits = add_fits item past F may }
+  fit_add item past F may = record { client = F.client; sound = sound_add s item past F.sound; fits = add_fits item past F may }

@@ -11,7 +11,9 @@ use Rattle.proxy_history.specs.Unanswered.{due}
 use Rattle.proxy_history.proofs.Lists.{Contains-nil}
 use Rattle.proxy_solo.specs.Part as alone_part
 use Rattle.qmi_proxy.specs.Setup.{Setup}
-use Rattle.qmi_proxy.specs.FromModem.{respond, first_answered_by, abort_all, tell, hear_as, hear_modem, lose, tick, in_expiry_order}
+use Rattle.qmi_proxy.specs.FromModem.{respond, first_answered_by, abort_all, tell, hear_as, hear_modem, lose, in_expiry_order}
+use Rattle.qmi_proxy.specs.History.{add}
+use Rattle.proxy_history.specs.Items.{ClockShows}
 use Rattle.qmi_proxy.proofs.Answered.{found_is}
 use Rattle.qmi_solo.specs.Solo.{names_nobody}
 use Rattle.proxy_solo.specs.Part.{as_sent, sent_by}
@@ -19,7 +21,8 @@ use Rattle.qmi_solo.specs.Part.{part}
 use Rattle.proxy_solo.proofs.Reading.{AreGeneral}
 use Rattle.qmi_solo.proofs.Fit.{Fit}
 use Rattle.qmi_solo.proofs.Queries.{present-part, in_use-part}
-use Rattle.qmi_solo.proofs.Actions.{known_aborts, loses-part, ticks-part, known_ticks, refuse_known}
+use Rattle.qmi_solo.proofs.Actions.{known_aborts, loses-part, known_ticks, refuse_known}
+use Rattle.qmi_solo.proofs.Releasing.{clock-part}
 use Rattle.proxy_solo.proofs.Matching.{sent_there}
 use Rattle.qmi_solo.proofs.EachKind.{by_kind}
 use Rattle.qmi_solo.proofs.Hearing.{known_tell, tells-part, syncs-part, answered_elsewhere}
@@ -73,8 +76,8 @@ module _ (s : Setup) (c : ℕ) where
   pub general_loses : (past : List Fact) → Fit false c past → AreGeneral (part c past) → AreGeneral (part c (lose s.device past))
   general_loses past F general = subst AreGeneral (sym ((loses-part s.device c past F).same ∙ ap (λ (l : List Fact). ModemLost ∷ l) (no_aborts (part c past) general))) (refl, general)
 
-  pub general_ticks : (time : ℕ) (past : List Fact) → Fit false c past → AreGeneral (part c past) → AreGeneral (part c (tick s.device time past))
-  general_ticks time past F general = subst AreGeneral (sym (ticks-part s.device c time past F).same) (no_ticks (max time (now past)) (part c past) general)
+  pub general_ticks : (time : ℕ) (past : List Fact) → Fit false c past → AreGeneral (part c past) → AreGeneral (part c (add s (ClockShows time) past))
+  general_ticks time past F general = subst AreGeneral (sym (clock-part s c time past F).same) (no_ticks (max time (now past)) (part c past) general)
 
   theirs : (past : List Fact) (r : Request) → Fit false c past → AreGeneral (part c past) → Contains (in_use past) r → (r.conn == c) ≡ false
   theirs past r F general at =
@@ -92,7 +95,7 @@ module _ (s : Setup) (c : ℕ) where
       let answers : (found : Option Request) → first_answered_by m (in_use past) ≡ found → AreGeneral (part c (respond s.device found m past)) =
       λ found. elim found as (λ found. first_answered_by m (in_use past) ≡ found → AreGeneral (part c (respond s.device found m past))) [
         | None ↦ λ is. general
-        | Some r ↦ λ is. subst AreGeneral (sym (answered_elsewhere s c (is_pending r past) r m past (theirs past r F general (found_is m (in_use past) r is).0))) general
+        | Some r ↦ λ is. subst AreGeneral (sym (answered_elsewhere s c (is_pending r past) r m past F.client (theirs past r F general (found_is m (in_use past) r is).0))) general
       ]
       in
       let told : AreGeneral (part c (tell s.device m past)) = subst AreGeneral (sym (tells-part s c m past F.sound ∙ untold m (part c past) general)) general in

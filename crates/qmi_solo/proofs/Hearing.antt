@@ -1,6 +1,8 @@
 -- What a client hears of the modem, it hears alone as well.
-use Rattle.std.proofs.Common.{◌≡◌, ◌≢◌, ℕ, ◌≤◌, Bool, true, false, not, ◌&&◌, ◌||◌, ◌==◌, if◌then◌else◌, List, [], ◌∷◌, length, refl, ap, sym, ◌∙◌, subst, Contains, Option, Some, None, option_and_then}
+use Rattle.std.proofs.Common.{◌≡◌, ◌≢◌, ℕ, ◌≤◌, Bool, true, false, not, ◌&&◌, ◌||◌, ◌==◌, if◌then◌else◌, List, [], ◌∷◌, length, arith, refl, ap, sym, ◌∙◌, subst, Contains, Option, Some, None, option_and_then}
 use Rattle.std.proofs.lemmas.Bool.{eqb-true}
+use Rattle.std.proofs.lemmas.Bool.Decides.{nat_tests}
+use Rattle.std.proofs.lemmas.List.Elements.{All-contains}
 use Rattle.tlv_codec.specs.Outcome.{outcome_of}
 use Rattle.tlv_codec.specs.Outcome as outcome
 use Rattle.framing.specs.Framing.{IsMessage}
@@ -12,17 +14,18 @@ use Rattle.qmux_frame.specs.Kind.{framed_kind}
 use Rattle.qmux_frame.specs.Control.{is_allocate, is_release, is_sync}
 use Rattle.qmux_frame.specs.Reply.{with_number}
 use Rattle.proxy_history.specs.Facts.{Fact, Request, Answered, IdHeld, Late, Indicated, Stray, Granted, Freed, Reset}
-use Rattle.proxy_history.specs.Connections.{contains}
-use Rattle.proxy_history.specs.Requests.{in_use, is_pending}
+use Rattle.proxy_history.specs.Connections.{contains, present, is_present}
+use Rattle.proxy_history.specs.Requests.{in_use, pending, is_pending}
 use Rattle.proxy_history.specs.ClientIds.{held, is_other}
-use Rattle.proxy_history.proofs.Sound.{forwarded_from_in_use}
+use Rattle.proxy_history.proofs.Sound.{forwarded_from_in_use, waits}
+use Rattle.proxy_history.proofs.SoundLaws.{waiting_are_parties}
 use Rattle.proxy_solo.specs.Part as alone_part
-use Rattle.proxy_history.specs.Sound.{IsSound}
+use Rattle.proxy_history.specs.Sound.{IsSound, IsParty}
 use Rattle.qmi_proxy.specs.Limits.{qmi_limits}
 use Rattle.qmi_proxy.specs.Setup.{Setup}
 use Rattle.qmi_proxy.specs.Messages.{value_of, has_length, byte_of, used_service, used_client, is_success}
-use Rattle.qmi_proxy.specs.Text.{blank}
-use Rattle.qmi_proxy.specs.FromModem.{IdChange, NoChange, Grants, Collides, Frees, granted_unless, id_change, brings_id, holder_of_brought, answer_or_late, respond, first_answered_by, abort_all, receivers, tell, indicate, hear_as, hear_modem}
+use Rattle.qmi_proxy.specs.Text.{blank, note}
+use Rattle.qmi_proxy.specs.FromModem.{IdChange, NoChange, Grants, Collides, Frees, granted_unless, id_change, brings_id, holder_of_brought, answer_to, answer_or_late, respond, first_answered_by, abort_all, receivers, tell, indicate, hear_as, hear_modem}
 use Rattle.qmux_frame.proofs.Framed.{framed_long, responses_framed}
 use Rattle.qmi_proxy.proofs.Answered.{found_is}
 use Rattle.proxy_solo.specs.Answers.{number_at, numbered, answer_alone}
@@ -31,7 +34,8 @@ use Rattle.proxy_solo.specs.Part.{as_sent, sent_by}
 use Rattle.qmi_solo.specs.Part.{part}
 use Rattle.qmi_solo.proofs.Fit.{Fit}
 use Rattle.qmi_solo.proofs.Queries.{in_use-part, is_pending-part}
-use Rattle.qmi_solo.proofs.Actions.{end_known, known_aborts, aborts-part}
+use Rattle.proxy_solo.proofs.Noting.{only}
+use Rattle.qmi_solo.proofs.Actions.{end_known, noted, freed_same, known_aborts, aborts-part}
 use Rattle.qmi_solo.proofs.Telling.{known_answer, answer-part, late-part, known_told, told-part, tell-part}
 use Rattle.qmi_solo.proofs.Alone.{held_mine, nobody_else}
 use Rattle.qmi_solo.proofs.Fair.{AreFair, fair_end, fair_each}
@@ -69,28 +73,40 @@ module _ (s : Setup) (c : ℕ) where
   known_late true r m after facts = known_answer s.device c r m after facts
   known_late false r m after facts = Late r ∷ facts
 
-  answered-part : (waiting : Bool) (r : Request) (m : List ℕ) (past : List Fact) → (r.conn == c) ≡ true
+  -- the client isn't the proxy itself
+  clients : (0 == c) ≡ false → (r : Request) → (r.conn == c) ≡ true → (r.conn == 0) ≡ false
+  clients client r mine = grind (arith, nat_tests, client, mine)
+
+  answered-part : (waiting : Bool) (r : Request) (m : List ℕ) (past : List Fact) → (0 == c) ≡ false → (r.conn == c) ≡ true
       → part c (answer_or_late s.device waiting r m past) ≡ known_late waiting (as_sent r) (blank m) (id_change r.conn r.message m (holder_of_brought m past)) (part c past)
   unfolding known_late
-  answered-part true r m past mine =
-      answer-part s.device c r m (id_change r.conn r.message m (holder_of_brought m past)) past
+  answered-part true r m past client mine =
+      ap (λ (own : Bool). part c (answer_to own s.device r m past)) (clients client r mine)
+      ∙ answer-part s.device c r m (id_change r.conn r.message m (holder_of_brought m past)) past
       ∙ ap (λ (t : Bool). if t then known_answer s.device c (as_sent r) (blank m) (id_change r.conn r.message m (holder_of_brought m past)) (part c past) else part c past) mine
-  answered-part false r m past mine = late-part s.device c r past ∙ ap (λ (t : Bool). if t then Late (as_sent r) ∷ part c past else part c past) mine
+  answered-part false r m past client mine = late-part s.device c r past ∙ ap (λ (t : Bool). if t then Late (as_sent r) ∷ part c past else part c past) mine
 
-  pub answered_elsewhere : (waiting : Bool) (r : Request) (m : List ℕ) (past : List Fact) → (r.conn == c) ≡ false → part c (answer_or_late s.device waiting r m past) ≡ part c past
-  answered_elsewhere true r m past theirs =
+  to_elsewhere : (own : Bool) (r : Request) (m : List ℕ) (past : List Fact) → (0 == c) ≡ false → (r.conn == c) ≡ false → part c (answer_to own s.device r m past) ≡ part c past
+  to_elsewhere true r m past client theirs =
+      freed_same s.device c client (used_service r.message) (used_client r.message) (note s.device (Answered r m) past)
+      ∙ noted s.device c (Answered r m) past (only c r.conn)
+      ∙ ap (λ (t : Bool). if t then end_known s.device c (Answered (as_sent r) (blank m) ∷ part c past) else part c past) theirs
+  to_elsewhere false r m past client theirs =
       answer-part s.device c r m (id_change r.conn r.message m (holder_of_brought m past)) past
       ∙ ap (λ (t : Bool). if t then known_answer s.device c (as_sent r) (blank m) (id_change r.conn r.message m (holder_of_brought m past)) (part c past) else part c past) theirs
-  answered_elsewhere false r m past theirs = late-part s.device c r past ∙ ap (λ (t : Bool). if t then Late (as_sent r) ∷ part c past else part c past) theirs
+
+  pub answered_elsewhere : (waiting : Bool) (r : Request) (m : List ℕ) (past : List Fact) → (0 == c) ≡ false → (r.conn == c) ≡ false → part c (answer_or_late s.device waiting r m past) ≡ part c past
+  answered_elsewhere true r m past client theirs = to_elsewhere (r.conn == 0) r m past client theirs
+  answered_elsewhere false r m past client theirs = late-part s.device c r past ∙ ap (λ (t : Bool). if t then Late (as_sent r) ∷ part c past else part c past) theirs
 
   fair_late : (waiting : Bool) (r : Request) (m : List ℕ) (change : IdChange) (facts : List Fact) → AreFair (known_late waiting r m change facts) → AreFair facts
   unfolding known_late
   fair_late true r m after facts fair = (fair_answer r m after facts fair).1
   fair_late false r m after facts fair = fair.1
 
-  same_late : (waiting : Bool) (r : Request) (m : List ℕ) (one other : IdChange) (facts : List Fact) → (one ≢ Collides → one ≡ other) → AreFair (known_late waiting r m one facts) → known_late waiting r m one facts ≡ known_late waiting r m other facts
+  same_late : (waiting : Bool) (r : Request) (m : List ℕ) (one other : IdChange) (facts : List Fact) → (waiting ≡ true → one ≢ Collides → one ≡ other) → AreFair (known_late waiting r m one facts) → known_late waiting r m one facts ≡ known_late waiting r m other facts
   unfolding known_late
-  same_late true r m one other facts same fair = ap (λ (change : IdChange). known_answer s.device c r m change facts) (same (fair_answer r m one facts fair).0)
+  same_late true r m one other facts same fair = ap (λ (change : IdChange). known_answer s.device c r m change facts) (same refl (fair_answer r m one facts fair).0)
   same_late false r m one other facts same fair = refl
 
   -- a Sync, and what else is told
@@ -135,11 +151,18 @@ module _ (s : Setup) (c : ℕ) where
           ∙ ap (λ (x : Request). is_pending x (part c own)) (sym T.same)
           ∙ sym (is_pending-part c own q G (forwarded_from_in_use own q T.at) T.mine)
 
-      change_alike : id_change r.conn r.message m (holder_of_brought m past) ≢ Collides → id_change r.conn r.message m (holder_of_brought m past) ≡ id_change q.conn q.message later (holder_of_brought later own)
-      change_alike differs =
+      -- who waits is there
+      still_there : is_pending r past ≡ true → is_present c own ≡ true
+      still_there is =
+          let waiting : Contains (pending own) q = waits qmi_limits own q G.sound (forwarded_from_in_use own q T.at) (sym waiting_alike ∙ is) in
+          let party : IsParty q.conn own = All-contains (λ (x : Request). IsParty x.conn own) (pending own) q (waiting_are_parties qmi_limits own G.sound) waiting in
+          ap (λ (n : ℕ). contains n (present own)) (sym (eqb-true q.conn c T.mine)) ∙ (sym (ap (λ (b : Bool). b || contains q.conn (present own)) (clients G.client q T.mine)) ∙ party)
+
+      change_alike : is_present c own ≡ true → id_change r.conn r.message m (holder_of_brought m past) ≢ Collides → id_change r.conn r.message m (holder_of_brought m past) ≡ id_change q.conn q.message later (holder_of_brought later own)
+      change_alike there differs =
           let as_before = renumbered q.number m long in
           let nobody : is_other q.conn (holder_of_brought later own) ≡ false =
-          subst (λ (x : ℕ). is_other x (holder_of_brought later own) ≡ false) (sym (eqb-true q.conn c T.mine)) (nobody_else c (byte_of 0 (value_of 0x01 later)) (byte_of 1 (value_of 0x01 later)) (held own) (held_mine c own G.fits))
+          subst (λ (x : ℕ). is_other x (holder_of_brought later own) ≡ false) (sym (eqb-true q.conn c T.mine)) (nobody_else c (byte_of 0 (value_of 0x01 later)) (byte_of 1 (value_of 0x01 later)) (held own) (held_mine c own G there))
           in
           unless_other (brings_id r.message m) (is_other r.conn (holder_of_brought m past)) (byte_of 0 (value_of 0x01 m)) (byte_of 1 (value_of 0x01 m)) (if is_release r.message && is_success m then Frees (used_service r.message) (used_client r.message) else NoChange) differs
           ∙ ap (λ (v : Option (List ℕ)). change_of r.message v (value_of 0x02 m) false) (sym (as_before.value 0x01))
@@ -151,10 +174,10 @@ module _ (s : Setup) (c : ℕ) where
       answered_alike fair =
           let change : IdChange = id_change r.conn r.message m (holder_of_brought m past) in
           let change_own : IdChange = id_change q.conn q.message later (holder_of_brought later own) in
-          let here = answered-part (is_pending r past) r m past mine in
-          let there = answered-part (is_pending q own) q later own T.mine in
+          let here = answered-part (is_pending r past) r m past F.client mine in
+          let there = answered-part (is_pending q own) q later own G.client T.mine in
           here
-          ∙ same_late (is_pending r past) (as_sent r) (blank m) change change_own (part c past) change_alike (subst AreFair here fair)
+          ∙ same_late (is_pending r past) (as_sent r) (blank m) change change_own (part c past) (λ waits. change_alike (still_there waits)) (subst AreFair here fair)
           ∙ ap (λ (b : Bool). known_late b (as_sent r) (blank m) change_own (part c past)) waiting_alike
           ∙ ap (λ (x : Request). known_late (is_pending q own) x (blank m) change_own (part c past)) (sym T.same)
           ∙ ap (λ (l : List ℕ). known_late (is_pending q own) (as_sent q) l change_own (part c past)) (sym (renumbered q.number m long).blank)
@@ -189,7 +212,7 @@ module _ (s : Setup) (c : ℕ) where
               in
               subst (λ (o : Option ℕ). HeardAlike m (numbered with_number o m)) (sym (twin_number c own r G T))
               (message_too T.request.number m long message, heard ∙ answered_alike m r long at mine T fair ∙ ap (part c) (sym there))
-          | false ↦ λ theirs. heard ∙ answered_elsewhere (is_pending r past) r m past theirs
+          | false ↦ λ theirs. heard ∙ answered_elsewhere (is_pending r past) r m past F.client theirs
         ]
         in step (r.conn == c) refl
 
@@ -240,8 +263,8 @@ module _ (s : Setup) (c : ℕ) where
         | Some r ↦
             let step : (b : Bool) → (r.conn == c) ≡ b → AreFair (part c (answer_or_late s.device (is_pending r past) r m past)) → AreFair (part c past) =
             λ b. elim b as (λ b. (r.conn == c) ≡ b → AreFair (part c (answer_or_late s.device (is_pending r past) r m past)) → AreFair (part c past)) [
-              | true ↦ λ mine f. fair_late (is_pending r past) (as_sent r) (blank m) (id_change r.conn r.message m (holder_of_brought m past)) (part c past) (subst AreFair (answered-part (is_pending r past) r m past mine) f)
-              | false ↦ λ theirs f. subst AreFair (answered_elsewhere (is_pending r past) r m past theirs) f
+              | true ↦ λ mine f. fair_late (is_pending r past) (as_sent r) (blank m) (id_change r.conn r.message m (holder_of_brought m past)) (part c past) (subst AreFair (answered-part (is_pending r past) r m past F.client mine) f)
+              | false ↦ λ theirs f. subst AreFair (answered_elsewhere (is_pending r past) r m past F.client theirs) f
             ]
             in step (r.conn == c) refl
       ]

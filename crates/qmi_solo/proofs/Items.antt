@@ -138,8 +138,11 @@ module _ (s : Setup) (c : ℕ) where
       fair_if : (b : Bool) → is_present c past ≡ b → AreFair (part c (if b then hear_client s c m past else past))
       fair_if b is = subst (λ (t : Bool). AreFair (part c (if t then hear_client s c m past else past))) is fair
 
-      said : is_present c past ≡ true → SaidAlike s c m past own P.fit P.alone P.same P.time P.room
-      said is = says_alike s c m past own P.fit P.alone P.same P.time P.room (fair_if true is)
+      own_there : is_present c past ≡ true → is_present c own ≡ true
+      own_there is = sym (there_alike past own P.same) ∙ is
+
+      said : (is : is_present c past ≡ true) → SaidAlike s c m past own P.fit P.alone P.same P.time P.room (own_there is)
+      said is = says_alike s c m past own P.fit P.alone P.same P.time P.room (own_there is) (fair_if true is)
 
       same_by : (b b' : Bool) → b ≡ b' → is_present c past ≡ b → part c (if b then hear_client s c m past else past) ≡ part c (if b' then hear_client s c m own else own)
       same_by true true e is = (said is).part_same

@@ -1,5 +1,6 @@
 -- What a client gets beside others, it gets alone.
-use Rattle.std.proofs.Common.{◌≡◌, ℕ, Bool, true, false, ◌==◌, if◌then◌else◌, List, [], ◌∷◌, refl, ap, sym, ◌∙◌, subst, arith, Some, None, length}
+use Rattle.std.proofs.lemmas.Bool.{eqb-true, false_from_ne_true}
+use Rattle.std.proofs.Common.{◌≡◌, ◌≢◌, ℕ, Bool, true, false, ◌==◌, if◌then◌else◌, List, [], ◌∷◌, refl, ap, sym, ◌∙◌, subst, arith, Some, None, length}
 use Rattle.std.proofs.lemmas.List.Elements.{recursion_from_All, All-from_recursion}
 use Rattle.framing.specs.Cutting.{cut_from}
 use Rattle.qmux_frame.specs.Frame.{size_of}
@@ -41,7 +42,10 @@ use Rattle.qmi_proxy.proofs.Walk.{Asks, orderly}
 use Rattle.qmi_solo.proofs.Events.{fit_event, general_event, fair_event}
 use Rattle.qmi_solo.proofs.AlikeEvents.{alike_event}
 
-module _ (s : Setup) (c : ℕ) where
+module _ (s : Setup) (c : ℕ) (clients : c ≢ 0) where
+  isnt : (0 == c) ≡ false
+  isnt = false_from_ne_true (0 == c) (λ e. clients (sym (eqb-true 0 c e)))
+
   record Known (events : List Event) : Type 0 where
     fit : Fit false c (history s events)
     fresh : has_joined c events ≡ false → AreGeneral (part c (history s events))
@@ -52,7 +56,7 @@ module _ (s : Setup) (c : ℕ) where
 
   known : (events : List Event) → AreSound s events → Known events
   unfolding proxy.history alone_part.part
-  known [] sound = record { fit = record { sound = tt; fits = tt }; fresh = λ e. tt }
+  known [] sound = record { fit = record { client = isnt; sound = tt; fits = tt }; fresh = λ e. tt }
   known (event ∷ events) sound =
       let K = known events sound.1 in
       record {
@@ -62,7 +66,7 @@ module _ (s : Setup) (c : ℕ) where
 
   alike : (events : List Event) → AreSound s events → AreFair (part c (history s events)) → Alike s c (history s events) (solo s c events) (stream c events)
   unfolding proxy.history alone_part.part alone.solo stream modem_stream to_modem modem_drained cut_from
-  alike [] sound fair = record { same = refl; fit = record { sound = tt; fits = tt }; alone = record { sound = tt; fits = tt }; sent = refl; whole = elim s.starts_away as (λ b. rest_in size_of (if b then None else Some []) ≡ []) [ true ↦ refl | false ↦ refl ]; empty = refl }
+  alike [] sound fair = record { same = refl; fit = record { client = isnt; sound = tt; fits = tt }; alone = record { client = isnt; sound = tt; fits = tt }; sent = refl; whole = elim s.starts_away as (λ b. rest_in size_of (if b then None else Some []) ≡ []) [ true ↦ refl | false ↦ refl ]; empty = refl }
   alike (event ∷ events) sound fair =
       let K = known events sound.1 in
       alike_event s c event events (solo s c events) (solo_time (qmi_protocol s) (Asks s) (orderly s) (qmi_alone s) c events) (known (event ∷ events) sound).fit (joins_new event events sound.0 K) fair (alike events sound.1 (fair_event s c event events K.fit fair))
@@ -105,33 +109,33 @@ module _ (s : Setup) (c : ℕ) where
   empty_of (b ∷ bytes) e = absurd (omega (arith, e))
 
 pub gets_the_same_alone : GetsTheSameAlone
-gets_the_same_alone s c events L = sym (same_text s c events (solo s c events) (alike_alone s c events L).same)
+gets_the_same_alone s c events clients L = sym (same_text s c clients events (solo s c events) (alike_alone s c clients events L).same)
 
 pub alone_is_sound : AloneIsSound
-alone_is_sound s c events L =
-    solo_sound s c events L.sound
-    (fair_from_view c (history s events) (known s c events L.sound).fit.fits (recursion_from_All (λ (entry : Entry). tells_of_others entry ≡ false) (view_of c (history s events)) L.undisturbed))
+alone_is_sound s c events clients L =
+    solo_sound s c clients events L.sound
+    (fair_from_view c (history s events) (known s c clients events L.sound).fit.fits (recursion_from_All (λ (entry : Entry). tells_of_others entry ≡ false) (view_of c (history s events)) L.undisturbed))
 
 pub histories_are_same : HistoriesAreSame
-histories_are_same s c events L =
+histories_are_same s c events clients L =
     let past : List Fact = history s events in
     let own : List Fact = history s (solo s c events) in
-    let A = alike_alone s c events L in
+    let A = alike_alone s c clients events L in
     let same : part c past ≡ part c own = A.same in
     record {
       same = record {
         facts = same;
-        bytes = same_text s c events (solo s c events) same;
-        known = ap (λ (l : List Entry). told_by (qmi_wording s.device).fresh (qmi_wording s.device).step l) (entries_same s c past own same);
-        there = same_there s c past own same;
+        bytes = same_text s c clients events (solo s c events) same;
+        known = ap (λ (l : List Entry). told_by (qmi_wording s.device).fresh (qmi_wording s.device).step l) (entries_same s c clients past own same);
+        there = same_there s c clients past own same;
         requests = sym (in_use-part c past A.fit) ∙ ap in_use same ∙ in_use-part c own A.alone;
         waiting = sym (pending-part c past A.fit) ∙ ap pending same ∙ pending-part c own A.alone;
         ids = sym (held-part c past A.fit.sound) ∙ ap held same ∙ held-part c own A.alone.sound;
         time = solo_time (qmi_protocol s) (Asks s) (orderly s) (qmi_alone s) c events;
         away = sym (away-part c s.starts_away past) ∙ ap (is_away s.starts_away) same ∙ away-part c s.starts_away own;
-        queue = empty_of s c (modem_queue wire own) A.empty;
+        queue = empty_of s c clients (modem_queue wire own) A.empty;
       };
-      entries = entries_same s c past own same;
-      asks = All-from_recursion (λ (r : Request). (r.conn == c) ≡ true) (in_use own) (in_use_mine c own A.alone.fits);
-      holds = All-from_recursion (λ (g : Grant). (g.conn == c) ≡ true) (held own) (held_mine c own A.alone.fits);
+      entries = entries_same s c clients past own same;
+      asks = λ there. All-from_recursion (λ (r : Request). (r.conn == c) ≡ true) (in_use own) (in_use_mine c own A.alone there);
+      holds = λ there. All-from_recursion (λ (g : Grant). (g.conn == c) ≡ true) (held own) (held_mine c own A.alone there);
     }

@@ -2,6 +2,7 @@ pub mod Meets
 pub mod Fit
 pub mod Queries
 pub mod Actions
+pub mod Releasing
 pub mod Telling
 pub mod Alone
 pub mod Fair

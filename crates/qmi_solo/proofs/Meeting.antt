@@ -40,7 +40,7 @@ module _ (s : Setup) (c : ℕ) where
     pub empty : length (modem_queue wire (history s solo)) ≡ 0
 
   begun_fit : {alone : Bool} (past : List Fact) → Fit alone c past → Fit alone c (EventBegan ∷ past)
-  begun_fit past F = record { sound = (tt, F.sound); fits = (tt, F.fits) }
+  begun_fit past F = record { client = F.client; sound = (tt, F.sound); fits = (tt, F.fits) }
 
   -- the modem takes all that waits
   takes_all : (past : List Fact) (solo : List Event) (bytes : List ℕ) → part c past ≡ part c (history s solo) → Fit false c past → Fit true c (history s solo) → stream c solo ≡ bytes → rest_in size_of (modem_bytes solo) ≡ []
@@ -50,7 +50,7 @@ module _ (s : Setup) (c : ℕ) where
   takes_all past solo bytes same F G sent whole (suc count) is = record {
     same = same;
     fit = F;
-    alone = record { sound = (tt, (tt, G.sound)); fits = (omega (arith, is), (tt, G.fits)) };
+    alone = record { client = G.client; sound = (tt, (tt, G.sound)); fits = (omega (arith, is), (tt, G.fits)) };
     sent = sent;
     whole = whole;
     empty = omega (arith, is, length-drop (modem_drained (history s solo)) (to_modem wire (history s solo)), length-drop (modem_drained (history s solo) + suc count) (to_modem wire (history s solo)));

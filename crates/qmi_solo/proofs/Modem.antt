@@ -44,7 +44,7 @@ module _ (s : Setup) (c : ℕ) where
   fails_alike past solo bytes A there =
       let some = some_if (modem_bytes s c solo) (away_alike past solo bytes A ∙ there) in
       let own : List Fact = EventBegan ∷ history s solo in
-      let G : Fit true c own = record { sound = (tt, A.alone.sound); fits = (tt, A.alone.fits) } in
+      let G : Fit true c own = record { client = A.alone.client; sound = (tt, A.alone.sound); fits = (tt, A.alone.fits) } in
       let is : history s (ModemGone ∷ solo) ≡ lose s.device own = ap (λ (o : Option (List ℕ)). add_all s (fails_once o) own) some.1 in
       let all = loses-part s.device c past A.fit in
       let all_own = loses-part s.device c own G in

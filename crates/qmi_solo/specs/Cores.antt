@@ -1,5 +1,5 @@
 -- What the law of a client alone says of running cores of the QMI proxy. Lists of events have the newest first.
-use Rattle.std.specs.Prelude.{ℕ, List}
+use Rattle.std.specs.Prelude.{◌≢◌, ℕ, List}
 use Rattle.proxy_history.specs.Events.{Event}
 use Rattle.proxy_solo.specs.Cores as alone
 use Rattle.qmi_proxy.specs.Setup.{Setup}
@@ -18,4 +18,4 @@ CoresMeetWhatMayCome = (s : Setup) → alone.MeetsWhatMayCome (qmi_protocol s) (
 
 -- a core that met all these events, and one that met what the client would meet alone, queue it the same bytes
 abbrev pub CoresQueueTheSame : Type 0
-CoresQueueTheSame = (s : Setup) (c : ℕ) (events : List Event) (core own : QmiCore) → alone.QueueTheSame (qmi_protocol s) (kept_of s) (qmi_alone s) c events core own
+CoresQueueTheSame = (s : Setup) (c : ℕ) (events : List Event) (core own : QmiCore) → c ≢ 0 → alone.QueueTheSame (qmi_protocol s) (kept_of s) (qmi_alone s) c events core own

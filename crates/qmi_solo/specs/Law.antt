@@ -1,7 +1,8 @@
 -- What a client gets beside others, it gets alone. Lists of events and views have the newest first.
-use Rattle.std.specs.Prelude.{◌≡◌, ℕ, true, ◌==◌, List, All}
+use Rattle.std.specs.Prelude.{◌≡◌, ◌≢◌, ℕ, true, ◌==◌, List, All}
 use Rattle.proxy_history.specs.Events.{Event}
 use Rattle.proxy_history.specs.Facts.{Fact}
+use Rattle.proxy_history.specs.Connections.{is_present}
 use Rattle.proxy_history.specs.Requests.{in_use}
 use Rattle.proxy_history.specs.ClientIds.{held}
 use Rattle.proxy_history.specs.Coming as coming
@@ -20,7 +21,7 @@ MayCome s event events = coming.MayCome (qmi_protocol s) event events
 abbrev pub AreSound : Setup → List Event → Type 0
 AreSound s events = coming.AreSound (qmi_protocol s) events
 
--- ---- what a client gets that was let alone ----
+-- ---- what a client gets that was let alone; the proxy itself, whose requests have sender 0, is no client ----
 
 -- these events may come, and nothing that the client met tells of others
 abbrev pub IsLetAlone : Setup → ℕ → List Event → Type 0
@@ -28,11 +29,11 @@ IsLetAlone s c events = alone.IsLetAlone (qmi_protocol s) c events
 
 -- its bytes are those that it gets alone
 abbrev pub GetsTheSameAlone : Type 0
-GetsTheSameAlone = (s : Setup) (c : ℕ) (events : List Event) → IsLetAlone s c events → alone.GetsTheSame (qmi_protocol s) (qmi_alone s) c events
+GetsTheSameAlone = (s : Setup) (c : ℕ) (events : List Event) → c ≢ 0 → IsLetAlone s c events → alone.GetsTheSame (qmi_protocol s) (qmi_alone s) c events
 
 -- what it meets alone may come: a proxy can be run on it
 abbrev pub AloneIsSound : Type 0
-AloneIsSound = (s : Setup) (c : ℕ) (events : List Event) → IsLetAlone s c events → alone.MayComeAlone (qmi_protocol s) (qmi_alone s) c events
+AloneIsSound = (s : Setup) (c : ℕ) (events : List Event) → c ≢ 0 → IsLetAlone s c events → alone.MayComeAlone (qmi_protocol s) (qmi_alone s) c events
 
 -- ---- the two histories ----
 
@@ -40,9 +41,9 @@ AloneIsSound = (s : Setup) (c : ℕ) (events : List Event) → IsLetAlone s c ev
 pub record IsSameAlone (s : Setup) (c : ℕ) (past own : List Fact) : Type 0 where
   pub same : alone.IsSame (qmi_protocol s) (qmi_alone s) c past own
   pub entries : view_of c past ≡ view_of c own
-  -- alone nobody else asks or holds anything
-  pub asks : All (λ r. (r.conn == c) ≡ true) (in_use own)
-  pub holds : All (λ g. (g.conn == c) ≡ true) (held own)
+  -- while it is there nobody else asks or holds anything alone; once it has gone the proxy itself may release its client ids
+  pub asks : is_present c own ≡ true → All (λ r. (r.conn == c) ≡ true) (in_use own)
+  pub holds : is_present c own ≡ true → All (λ g. (g.conn == c) ≡ true) (held own)
 
 abbrev pub HistoriesAreSame : Type 0
-HistoriesAreSame = (s : Setup) (c : ℕ) (events : List Event) → IsLetAlone s c events → IsSameAlone s c (history s events) (history s (solo s c events))
+HistoriesAreSame = (s : Setup) (c : ℕ) (events : List Event) → c ≢ 0 → IsLetAlone s c events → IsSameAlone s c (history s events) (history s (solo s c events))

@@ -1,13 +1,13 @@
 -- What a response of the modem makes of a core.
-use Rattle.std.proofs.Common.{◌≡◌, ℕ, ◌≤◌, Bool, true, false, ◌&&◌, ◌==◌, List, ◌∷◌, length, map, refl, ap, sym, ◌∙◌, subst, Contains, Option, Some, None, if◌then◌else◌}
-use Rattle.std.proofs.lemmas.Bool.{eqb-true}
+use Rattle.std.proofs.Common.{◌≡◌, ℕ, ◌≤◌, Bool, true, false, ◌&&◌, ◌==◌, List, ◌∷◌, length, map, refl, ap, sym, ◌∙◌, subst, ⊎_elim, Contains, Option, Some, None, if◌then◌else◌}
+use Rattle.std.proofs.lemmas.Bool.{eqb-true, eq-eqb}
 use Rattle.std.proofs.lemmas.List.Elements.{All-contains}
 use Rattle.qmux_frame.specs.Head.{service_of, is_control, number_of}
 use Rattle.qmux_frame.specs.Reply.{result_reply, with_number}
 use Rattle.proxy_history.specs.Facts.{Fact, Request, Answered, IdHeld, Late, Stray, Granted, Freed}
 use Rattle.proxy_history.specs.Connections.{present, dropped}
 use Rattle.proxy_history.specs.Requests.{in_use, pending, last_number}
-use Rattle.proxy_history.specs.ClientIds.{Grant, holder_in}
+use Rattle.proxy_history.specs.ClientIds.{Grant, KeptId, holder_in}
 use Rattle.proxy_history.specs.Modem.{now, is_away, to_modem, modem_drained}
 use Rattle.proxy_history.specs.Noting.{end_overfull}
 use Rattle.proxy_history.specs.View.{view}
@@ -18,15 +18,16 @@ use Rattle.qmi_proxy.specs.Limits.{qmi_limits}
 use Rattle.qmi_proxy.specs.Spaces.{control_space, service_space, space_of}
 use Rattle.qmi_proxy.specs.Errors.{client_ids_exhausted}
 use Rattle.qmi_proxy.specs.Messages.{value_of, byte_of}
-use Rattle.qmi_proxy.specs.FromModem.{is_answered_by, IdChange, NoChange, Grants, Collides, Frees, id_change, holder_of_brought, answer, answer_or_late, respond, first_answered_by}
+use Rattle.qmi_proxy.specs.FromModem.{is_answered_by, IdChange, NoChange, Grants, Collides, Frees, id_change, holder_of_brought, answer, answer_to, answer_or_late, respond, first_answered_by}
 use Rattle.qmi_state.specs.Asked.{asked_of}
-use Rattle.qmi_proxy.specs.Regular.{IsAsked, Regular}
-use Rattle.holders.specs.Grants.{granted, releases}
+use Rattle.qmi_proxy.specs.Text.{note}
+use Rattle.qmi_proxy.specs.Releases.{freed_if}
+use Rattle.qmi_proxy.specs.Regular.{IsSent, Regular}
 use Rattle.proxy_state.specs.Requests.{RequestInUse, requests_in_use}
-use Rattle.qmi_state.specs.Traffic.{Row, Numbers, Traffic, row_of, rows_of, traffic_of, of_control, with_numbers, row_numbered, frees, ids}
+use Rattle.qmi_state.specs.Traffic.{Row, Numbers, Traffic, row_of, rows_of, traffic_of, of_control, with_numbers, row_numbered, frees, grants_id, frees_id, ids, kept_ids}
 use Rattle.proxy_state.specs.Stands.{Streams}
 use Rattle.qmi_state.specs.Core.{QmiState}
-use Rattle.qmi_state.specs.Transitions.{with_traffic, tell, change_by, holder_brought, with_held, answers, answers_if, fits, responds_if, responds_to, responds}
+use Rattle.qmi_state.specs.Transitions.{with_traffic, tell, change_by, holder_brought, frees_own, answers, answers_sender, answers_if, fits, responds_if, responds_to, responds}
 use Rattle.proxy_state.proofs.InUse.{request_in, in_use_is, request_in_use}
 use Rattle.proxy_state.proofs.Apart.{request_waits}
 use Rattle.qmi_state.proofs.Apart.{all_apart}
@@ -36,6 +37,7 @@ use Rattle.qmi_state.proofs.Ids.{holder_is}
 use Rattle.qmi_state.proofs.Heads.{service_kept, client_kept, number_kept, reply_kept, change_is}
 use Rattle.qmi_state.proofs.ClientStates.{answered_own, answered_other, held_own, held_other}
 use Rattle.qmi_state.proofs.TrafficSteps.{traffic_freed}
+use Rattle.qmi_state.proofs.OwnRequests.{kept_given_back, kept_own_ended}
 use Rattle.qmi_proxy.proofs.Answered.{change_free}
 use Rattle.qmi_proxy.proofs.Regulars.{regular_more, asked_of_pending}
 use Rattle.qmi_state.proofs.Keeping as keeping
@@ -50,66 +52,73 @@ numbers_at traffic past m is =
     ∙ elim (is_control m) as (λ b. (of_control b (traffic_of past)).rows ≡ rows_of (if b then control_space else service_space) (requests_in_use past)) [ true ↦ refl | false ↦ refl ]
 
 -- the other parts of the traffic don't matter
-of_control-held : (control : Bool) (traffic : Traffic) (held : List Grant) → of_control control (record traffic { held = held }) ≡ of_control control traffic
-of_control-held true traffic held = refl
-of_control-held false traffic held = refl
+of_control-held : (control : Bool) (traffic : Traffic) (held : List Grant) (kept : List KeptId) → of_control control (record traffic { held = held; kept = kept }) ≡ of_control control traffic
+of_control-held true traffic held kept = refl
+of_control-held false traffic held kept = refl
 
 abbrev freed_traffic : Bool → ℕ → Traffic → Traffic
 freed_traffic control number traffic = with_numbers control (frees number (of_control control traffic)) traffic
 
-freed-held : (control : Bool) (number : ℕ) (traffic : Traffic) (held : List Grant) → freed_traffic control number (record traffic { held = held }) ≡ record (freed_traffic control number traffic) { held = held }
-freed-held control number traffic held = ap (λ (n : Numbers). record (with_numbers control (frees number n) traffic) { held = held }) (of_control-held control traffic held)
+freed-held : (control : Bool) (number : ℕ) (traffic : Traffic) (held : List Grant) (kept : List KeptId) → freed_traffic control number (record traffic { held = held; kept = kept }) ≡ record (freed_traffic control number traffic) { held = held; kept = kept }
+freed-held control number traffic held kept = ap (λ (n : Numbers). let d : Traffic = record (with_numbers control (frees number n) traffic) { held = held; kept = kept } in d) (of_control-held control traffic held kept)
+
+granted-freed : (control : Bool) (number c service client : ℕ) (traffic : Traffic) → freed_traffic control number (grants_id c service client traffic) ≡ grants_id c service client (freed_traffic control number traffic)
+granted-freed control number c service client traffic = freed-held control number traffic (grants_id c service client traffic).held (grants_id c service client traffic).kept
+
+given_back-freed : (control : Bool) (number c service client : ℕ) (traffic : Traffic) → freed_traffic control number (frees_id c service client traffic) ≡ frees_id c service client (freed_traffic control number traffic)
+given_back-freed control number c service client traffic = freed-held control number traffic (frees_id c service client traffic).held traffic.kept
 
 module _ (s : Setup) (streams : Streams) where
   abbrev Kept : List Fact → QmiState → Type 0
   Kept past x = keeping.Kept s streams past x
 
   module _ (past : List Fact) (x : QmiState) (r : Request) (at : Contains (pending past) r) (used : Contains (in_use past) r) (placed : r.space ≡ space_of r.message) (K : Kept past x) where
-    asked : IsAsked past r
-    asked = asked_of_pending past r K.fine at
+    abbrev freed : Traffic
+    freed = freed_traffic (is_control r.message) r.number x.beside.traffic
 
-    freed_now : freed_traffic (is_control r.message) r.number x.beside.traffic ≡ freed_traffic (is_control r.message) r.number (traffic_of past)
+    freed_now : freed ≡ freed_traffic (is_control r.message) r.number (traffic_of past)
     freed_now = ap (freed_traffic (is_control r.message) r.number) (traffic_is s streams past x K)
 
-    told_answer : (m : List ℕ) → 12 ≤ length m
-        → Kept (end_if s streams r.conn (Answered r m ∷ past)) (tell r.conn (with_number (number_of r.message) m) (with_traffic (freed_traffic (is_control r.message) r.number x.beside.traffic) x))
-    unfolding requests_in_use now is_away present dropped last_number ids to_modem modem_drained
-    told_answer m long =
-        keeps_told s streams (Answered r m ∷ past) past x r.conn (with_number (number_of r.message) m) (freed_traffic (is_control r.message) r.number x.beside.traffic)
-        (answered_own s.device past r m long asked) (λ d differs. answered_other s.device past r m d differs) refl refl refl refl
-        (freed_now ∙ sym (traffic_freed r placed (Answered r m ∷ past) past (all_apart past r K.fine.sound used) (λ space. refl) refl refl refl))
-        (regular_more (Answered r m) past at tt tt K.fine) asked.0 K
+    answered_untold : (m : List ℕ) (waits : Bool) → r.conn ≡ 0 → Kept (freed_if true r (note s.device (Answered r m) past)) (frees_own (row_of (record { request = r; waits = waits })) (with_traffic freed x))
+    unfolding requests_in_use now is_away present dropped last_number ids kept_ids to_modem modem_drained
+    answered_untold m waits own =
+        kept_own_ended s streams past x r own (Answered r m) freed refl (λ d differs. answered_other s.device past r m d differs) refl refl refl refl
+        (freed_now ∙ sym (traffic_freed r placed (Answered r m ∷ past) past (all_apart past r K.fine.sound used) (λ space. refl) refl refl refl refl))
+        (regular_more (Answered r m) past at tt tt K.fine) K waits
 
-    told_held : Kept (end_if s streams r.conn (IdHeld r ∷ past)) (tell r.conn (result_reply r.message client_ids_exhausted) (with_traffic (freed_traffic (is_control r.message) r.number x.beside.traffic) x))
-    unfolding requests_in_use now is_away present dropped last_number ids to_modem modem_drained
-    told_held =
+    told_answer : (m : List ℕ) → 12 ≤ length m → IsSent past r
+        → Kept (end_if s streams r.conn (Answered r m ∷ past)) (tell r.conn (with_number (number_of r.message) m) (with_traffic (freed_traffic (is_control r.message) r.number x.beside.traffic) x))
+    unfolding requests_in_use now is_away present dropped last_number ids kept_ids to_modem modem_drained
+    told_answer m long sent =
+        keeps_told s streams (Answered r m ∷ past) past x r.conn (with_number (number_of r.message) m) (freed_traffic (is_control r.message) r.number x.beside.traffic)
+        (answered_own s.device past r m long sent) (λ d differs. answered_other s.device past r m d differs) refl refl refl refl
+        (freed_now ∙ sym (traffic_freed r placed (Answered r m ∷ past) past (all_apart past r K.fine.sound used) (λ space. refl) refl refl refl refl))
+        (regular_more (Answered r m) past at tt tt K.fine) sent.0 K
+
+    told_held : IsSent past r → Kept (end_if s streams r.conn (IdHeld r ∷ past)) (tell r.conn (result_reply r.message client_ids_exhausted) (with_traffic (freed_traffic (is_control r.message) r.number x.beside.traffic) x))
+    unfolding requests_in_use now is_away present dropped last_number ids kept_ids to_modem modem_drained
+    told_held sent =
         keeps_told s streams (IdHeld r ∷ past) past x r.conn (result_reply r.message client_ids_exhausted) (freed_traffic (is_control r.message) r.number x.beside.traffic)
-        (held_own s.device past r asked) (λ d differs. held_other s.device past r d differs) refl refl refl refl
-        (freed_now ∙ sym (traffic_freed r placed (IdHeld r ∷ past) past (all_apart past r K.fine.sound used) (λ space. refl) refl refl refl))
-        (regular_more (IdHeld r) past at tt tt K.fine) asked.0 K
+        (held_own s.device past r sent) (λ d differs. held_other s.device past r d differs) refl refl refl refl
+        (freed_now ∙ sym (traffic_freed r placed (IdHeld r ∷ past) past (all_apart past r K.fine.sound used) (λ space. refl) refl refl refl refl))
+        (regular_more (IdHeld r) past at tt tt K.fine) sent.0 K
 
   kept_late : (past : List Fact) (x : QmiState) (r : Request) → Contains (in_use past) r → r.space ≡ space_of r.message → Kept past x → Kept (Late r ∷ past) (with_traffic (freed_traffic (is_control r.message) r.number x.beside.traffic) x)
-  unfolding requests_in_use now is_away present dropped last_number ids to_modem modem_drained view
+  unfolding requests_in_use now is_away present dropped last_number ids kept_ids to_modem modem_drained view
   kept_late past x r used placed K =
       keeps_quiet s streams (Late r ∷ past) past x (freed_traffic (is_control r.message) r.number x.beside.traffic) (λ d. refl) refl refl refl refl
-      (ap (freed_traffic (is_control r.message) r.number) (traffic_is s streams past x K) ∙ sym (traffic_freed r placed (Late r ∷ past) past (all_apart past r K.fine.sound used) (λ space. refl) refl refl refl))
+      (ap (freed_traffic (is_control r.message) r.number) (traffic_is s streams past x K) ∙ sym (traffic_freed r placed (Late r ∷ past) past (all_apart past r K.fine.sound used) (λ space. refl) refl refl refl refl))
       (regular_more (Late r) past used tt tt K.fine) K
 
   pub kept_stray : (past : List Fact) (x : QmiState) → Kept past x → Kept (Stray ∷ past) x
-  unfolding requests_in_use now is_away present dropped last_number ids to_modem modem_drained view
+  unfolding requests_in_use now is_away present dropped last_number ids kept_ids to_modem modem_drained view
   kept_stray past x K = keeps_quiet s streams (Stray ∷ past) past x x.beside.traffic (λ d. refl) refl refl refl refl (traffic_is s streams past x K) (regular_more Stray past tt tt tt K.fine) K
 
-  kept_granted : (past : List Fact) (x : QmiState) (c service client : ℕ) → IsParty c past → IsFreeFor c service client past → Kept past x → Kept (Granted c service client ∷ past) (with_traffic (record x.beside.traffic { held = granted c service client x.beside.traffic.held }) x)
-  unfolding requests_in_use now is_away present dropped last_number ids to_modem modem_drained view
+  kept_granted : (past : List Fact) (x : QmiState) (c service client : ℕ) → IsParty c past → IsFreeFor c service client past → Kept past x → Kept (Granted c service client ∷ past) (with_traffic (grants_id c service client x.beside.traffic) x)
+  unfolding requests_in_use now is_away present dropped last_number ids kept_ids to_modem modem_drained view
   kept_granted past x c service client party free K =
-      keeps_quiet s streams (Granted c service client ∷ past) past x (record x.beside.traffic { held = granted c service client x.beside.traffic.held }) (λ d. refl) refl refl refl refl
-      (ap (λ (d : Traffic). let e : Traffic = record d { held = granted c service client d.held } in e) (traffic_is s streams past x K)) (regular_more (Granted c service client) past (party, free) tt tt K.fine) K
-
-  kept_given_back : (past : List Fact) (x : QmiState) (c service client : ℕ) → Kept past x → Kept (Freed c service client ∷ past) (with_traffic (record x.beside.traffic { held = releases c service client x.beside.traffic.held }) x)
-  unfolding requests_in_use now is_away present dropped last_number ids to_modem modem_drained view
-  kept_given_back past x c service client K =
-      keeps_quiet s streams (Freed c service client ∷ past) past x (record x.beside.traffic { held = releases c service client x.beside.traffic.held }) (λ d. refl) refl refl refl refl
-      (ap (λ (d : Traffic). let e : Traffic = record d { held = releases c service client d.held } in e) (traffic_is s streams past x K)) (regular_more (Freed c service client) past tt tt tt K.fine) K
+      keeps_quiet s streams (Granted c service client ∷ past) past x (grants_id c service client x.beside.traffic) (λ d. refl) refl refl refl refl
+      (ap (grants_id c service client) (traffic_is s streams past x K)) (regular_more (Granted c service client) past (party, free) tt tt K.fine) K
 
   -- ---- an answer to a request that waits ----
 
@@ -131,25 +140,25 @@ module _ (s : Setup) (streams : Streams) where
     is_at : Contains (pending past) r
     is_at = ask_waits past a K.fine at waiting
 
-    answered_by : (change : IdChange) → ((service client : ℕ) → change ≡ Grants service client → IsFreeFor r.conn service client past) → Kept (answer s.device r m change past) (answers (row_of a) m change x')
-    unfolding end_overfull pending in_use
-    answered_by NoChange free =
-        subst (λ (n : ℕ). Kept (end_if s streams r.conn (Answered r m ∷ past)) (tell r.conn (with_number n m) x')) (sym numbered) (told_answer past x r is_at (request_in_use past a at) placed K m long)
-    answered_by (Grants service client) free =
+    answered_by : IsSent past r → (change : IdChange) → ((service client : ℕ) → change ≡ Grants service client → IsFreeFor r.conn service client past) → Kept (answer s.device r m change past) (answers (row_of a) m change x')
+    unfolding end_overfull pending in_use present view
+    answered_by sent NoChange free =
+        subst (λ (n : ℕ). Kept (end_if s streams r.conn (Answered r m ∷ past)) (tell r.conn (with_number n m) x')) (sym numbered) (told_answer past x r is_at (request_in_use past a at) placed K m long sent)
+    answered_by sent (Grants service client) free =
         let before : List Fact = Granted r.conn service client ∷ past in
-        let held_now : List Grant = granted r.conn service client x.beside.traffic.held in
+        let now_held : Traffic = grants_id r.conn service client x.beside.traffic in
         let party : IsParty r.conn past = All-contains (λ (q : Request). IsParty q.conn past) (pending past) r (waiting_are_parties qmi_limits past K.fine.sound) is_at in
-        subst (λ (n : ℕ). Kept (end_if s streams r.conn (Answered r m ∷ before)) (tell r.conn (with_number n m) (with_held held_now x'))) (sym numbered)
-        (subst (λ (d : Traffic). Kept (end_if s streams r.conn (Answered r m ∷ before)) (tell r.conn (with_number (number_of r.message) m) (with_traffic d x))) (freed-held (is_control r.message) r.number x.beside.traffic held_now)
-        (told_answer before (with_traffic (record x.beside.traffic { held = held_now }) x) r is_at (request_in_use past a at) placed (kept_granted past x r.conn service client party (free service client refl) K) m long))
-    answered_by Collides free =
-        subst (λ (l : List ℕ). Kept (end_if s streams r.conn (IdHeld r ∷ past)) (tell r.conn l x')) (sym replied) (told_held past x r is_at (request_in_use past a at) placed K)
-    answered_by (Frees service client) free =
+        subst (λ (n : ℕ). Kept (end_if s streams r.conn (Answered r m ∷ before)) (tell r.conn (with_number n m) (with_traffic (grants_id r.conn service client x'.beside.traffic) x'))) (sym numbered)
+        (subst (λ (d : Traffic). Kept (end_if s streams r.conn (Answered r m ∷ before)) (tell r.conn (with_number (number_of r.message) m) (with_traffic d x))) (granted-freed (is_control r.message) r.number r.conn service client x.beside.traffic)
+        (told_answer before (with_traffic now_held x) r is_at (request_in_use past a at) placed (kept_granted past x r.conn service client party (free service client refl) K) m long sent))
+    answered_by sent Collides free =
+        subst (λ (l : List ℕ). Kept (end_if s streams r.conn (IdHeld r ∷ past)) (tell r.conn l x')) (sym replied) (told_held past x r is_at (request_in_use past a at) placed K sent)
+    answered_by sent (Frees service client) free =
         let before : List Fact = Freed r.conn service client ∷ past in
-        let held_now : List Grant = releases r.conn service client x.beside.traffic.held in
-        subst (λ (n : ℕ). Kept (end_if s streams r.conn (Answered r m ∷ before)) (tell r.conn (with_number n m) (with_held held_now x'))) (sym numbered)
-        (subst (λ (d : Traffic). Kept (end_if s streams r.conn (Answered r m ∷ before)) (tell r.conn (with_number (number_of r.message) m) (with_traffic d x))) (freed-held (is_control r.message) r.number x.beside.traffic held_now)
-        (told_answer before (with_traffic (record x.beside.traffic { held = held_now }) x) r is_at (request_in_use past a at) placed (kept_given_back past x r.conn service client K) m long))
+        let now_held : Traffic = frees_id r.conn service client x.beside.traffic in
+        subst (λ (n : ℕ). Kept (end_if s streams r.conn (Answered r m ∷ before)) (tell r.conn (with_number n m) (with_traffic (frees_id r.conn service client x'.beside.traffic) x'))) (sym numbered)
+        (subst (λ (d : Traffic). Kept (end_if s streams r.conn (Answered r m ∷ before)) (tell r.conn (with_number (number_of r.message) m) (with_traffic d x))) (given_back-freed (is_control r.message) r.number r.conn service client x.beside.traffic)
+        (told_answer before (with_traffic now_held x) r is_at (request_in_use past a at) placed (kept_given_back s streams past x r.conn service client K) m long sent))
 
     change_here : change_by (row_of a).conn (row_of a).note m (holder_brought m x'.beside.traffic) ≡ id_change r.conn r.message m (holder_of_brought m past)
     change_here =
@@ -157,10 +166,16 @@ module _ (s : Setup) (streams : Streams) where
         ∙ ap (λ (d : Traffic). id_change r.conn r.message m (holder_in (byte_of 0 (value_of 0x01 m)) (byte_of 1 (value_of 0x01 m)) d.held)) (traffic_is s streams past x K)
         ∙ ap (id_change r.conn r.message m) (holder_is (byte_of 0 (value_of 0x01 m)) (byte_of 1 (value_of 0x01 m)) past)
 
-    answered_now : Kept (answer s.device r m (id_change r.conn r.message m (holder_of_brought m past)) past) (answers (row_of a) m (change_by (row_of a).conn (row_of a).note m (holder_brought m x'.beside.traffic)) x')
-    answered_now =
+    answered_now : IsSent past r → Kept (answer s.device r m (id_change r.conn r.message m (holder_of_brought m past)) past) (answers (row_of a) m (change_by (row_of a).conn (row_of a).note m (holder_brought m x'.beside.traffic)) x')
+    answered_now sent =
         subst (λ (change : IdChange). Kept (answer s.device r m (id_change r.conn r.message m (holder_of_brought m past)) past) (answers (row_of a) m change x')) (sym change_here)
-        (answered_by (id_change r.conn r.message m (holder_of_brought m past)) (λ service client e. change_free r.conn r.message m past service client e))
+        (answered_by sent (id_change r.conn r.message m (holder_of_brought m past)) (λ service client e. change_free r.conn r.message m past service client e))
+
+    -- whoever asked
+    pub answered_to : (own : Bool) → (r.conn == 0) ≡ own → Kept (answer_to own s.device r m past) (answers_sender own (row_of a) m x')
+    answered_to true is = answered_untold past x r is_at (request_in_use past a at) placed K m a.waits (eqb-true r.conn 0 is)
+    answered_to false is =
+        answered_now (⊎_elim (λ (sent : IsSent past r). sent) (λ (own : r.conn ≡ 0). absurd (let clash : (r.conn == 0) ≡ true = eq-eqb r.conn 0 own in cc)) (asked_of_pending past r K.fine is_at))
 
   -- ---- a response ----
 
@@ -192,7 +207,7 @@ module _ (s : Setup) (streams : Streams) where
         let control : is_control r.message ≡ is_control m = same_control m r e in
         let waiting_if : (w : Bool) → a.waits ≡ w → Kept (answer_or_late s.device w r m past) (answers_if w (row_of a) m (with_traffic (freed_traffic (is_control r.message) r.number x.beside.traffic) x)) =
         λ w. elim w as (λ w. a.waits ≡ w → Kept (answer_or_late s.device w r m past) (answers_if w (row_of a) m (with_traffic (freed_traffic (is_control r.message) r.number x.beside.traffic) x))) [
-          | true ↦ λ is. answered_now past x a m long F.at is placed K
+          | true ↦ λ is. answered_to past x a m long F.at is placed K (r.conn == 0) refl
           | false ↦ λ is. kept_late past x r (request_in_use past a F.at) placed K
         ]
         in

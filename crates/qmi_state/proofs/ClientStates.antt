@@ -14,7 +14,7 @@ use Rattle.qmi_proxy.specs.Limits.{outbox_limit}
 use Rattle.qmi_proxy.specs.Errors.{aborted, client_ids_exhausted}
 use Rattle.qmi_proxy.specs.OwnReplies.{is_open, step}
 use Rattle.qmi_proxy.specs.Text.{text, view_of, rendering, blank}
-use Rattle.qmi_proxy.specs.Regular.{IsAsked}
+use Rattle.qmi_proxy.specs.Regular.{IsSent}
 use Rattle.proxy_state.specs.Stands as proxy
 use Rattle.proxy_state.proofs.ClientStates as client_states
 use Rattle.qmi_state.specs.declared.client.Client.{Client}
@@ -99,7 +99,7 @@ module _ (device : List ℕ) where
   unfolding view
   judged_other past c place d m verdict other = ap (λ (b : Bool). client_state_from (entry_if b (Sent m verdict) (view_of d past))) other
 
-  pub answered_own : (past : List Fact) (r : Request) (m : List ℕ) → 12 ≤ length m → IsAsked past r → client_state_of device (Answered r m ∷ past) r.conn ≡ put_to (with_number (number_of r.message) m) (client_state_of device past r.conn)
+  pub answered_own : (past : List Fact) (r : Request) (m : List ℕ) → 12 ≤ length m → IsSent past r → client_state_of device (Answered r m ∷ past) r.conn ≡ put_to (with_number (number_of r.message) m) (client_state_of device past r.conn)
   unfolding view
   answered_own past r m long asked =
       ap (λ (b : Bool). client_state_from (entry_if b (Response r.place (blank m)) (view_of r.conn past))) (eq-eqb r.conn r.conn refl)
@@ -111,7 +111,7 @@ module _ (device : List ℕ) where
   unfolding view
   answered_other past r m d other = ap (λ (b : Bool). client_state_from (entry_if b (Response r.place (blank m)) (view_of d past))) other
 
-  pub held_own : (past : List Fact) (r : Request) → IsAsked past r → client_state_of device (IdHeld r ∷ past) r.conn ≡ put_to (result_reply r.message client_ids_exhausted) (client_state_of device past r.conn)
+  pub held_own : (past : List Fact) (r : Request) → IsSent past r → client_state_of device (IdHeld r ∷ past) r.conn ≡ put_to (result_reply r.message client_ids_exhausted) (client_state_of device past r.conn)
   unfolding view
   held_own past r asked =
       ap (λ (b : Bool). client_state_from (entry_if b (Refused r.place HeldId) (view_of r.conn past))) (eq-eqb r.conn r.conn refl)
@@ -122,13 +122,13 @@ module _ (device : List ℕ) where
   unfolding view
   held_other past r d other = ap (λ (b : Bool). client_state_from (entry_if b (Refused r.place HeldId) (view_of d past))) other
 
-  unanswered : (past : List Fact) (r : Request) → IsAsked past r → client_state_from (entry_if (r.conn == r.conn) (Refused r.place NoAnswer) (view_of r.conn past)) ≡ put_to (result_reply r.message aborted) (client_state_of device past r.conn)
+  unanswered : (past : List Fact) (r : Request) → IsSent past r → client_state_from (entry_if (r.conn == r.conn) (Refused r.place NoAnswer) (view_of r.conn past)) ≡ put_to (result_reply r.message aborted) (client_state_of device past r.conn)
   unanswered past r asked =
       ap (λ (b : Bool). client_state_from (entry_if b (Refused r.place NoAnswer) (view_of r.conn past))) (eq-eqb r.conn r.conn refl)
       ∙ refused_unanswered r.place (view_of r.conn past)
       ∙ ap (λ (l : List ℕ). put_to (result_reply l aborted) (client_state_of device past r.conn)) asked.2
 
-  pub expired_own : (past : List Fact) (r : Request) → IsAsked past r → client_state_of device (Expired r ∷ past) r.conn ≡ put_to (result_reply r.message aborted) (client_state_of device past r.conn)
+  pub expired_own : (past : List Fact) (r : Request) → IsSent past r → client_state_of device (Expired r ∷ past) r.conn ≡ put_to (result_reply r.message aborted) (client_state_of device past r.conn)
   unfolding view
   expired_own past r asked = unanswered past r asked
 
@@ -136,7 +136,7 @@ module _ (device : List ℕ) where
   unfolding view
   expired_other past r d other = ap (λ (b : Bool). client_state_from (entry_if b (Refused r.place NoAnswer) (view_of d past))) other
 
-  pub aborted_own : (past : List Fact) (r : Request) → IsAsked past r → client_state_of device (Aborted r ∷ past) r.conn ≡ put_to (result_reply r.message aborted) (client_state_of device past r.conn)
+  pub aborted_own : (past : List Fact) (r : Request) → IsSent past r → client_state_of device (Aborted r ∷ past) r.conn ≡ put_to (result_reply r.message aborted) (client_state_of device past r.conn)
   unfolding view
   aborted_own past r asked = unanswered past r asked
 

@@ -1,13 +1,14 @@
 -- A core refuses the requests that its history refuses.
-use Rattle.std.proofs.Common.{◌≡◌, ℕ, zero, suc, ◌-◌, ◌^◌, nat_le, Bool, true, false, cond, List, [], ◌∷◌, map, filter, refl, ap, sym, ◌∙◌, subst, ⊎_elim, arith, Contains, Some, None, if◌then◌else◌}
+use Rattle.std.proofs.Common.{◌≡◌, ℕ, zero, suc, ◌-◌, ◌^◌, ◌==◌, nat_le, Bool, true, false, cond, List, [], ◌∷◌, map, filter, refl, ap, sym, ◌∙◌, subst, ⊎_elim, arith, Contains, Some, None, if◌then◌else◌}
 use Rattle.std.specs.List.{AllByRecursion}
 use Rattle.std.proofs.lemmas.Bool.Decides.{nat_tests}
+use Rattle.std.proofs.lemmas.Bool.{eqb-true, eq-eqb}
 use Rattle.qmux_frame.specs.Head.{is_control}
 use Rattle.qmux_frame.specs.Reply.{result_reply}
 use Rattle.proxy_history.specs.Facts.{Fact, Request, Expired, Aborted}
 use Rattle.proxy_history.specs.Connections.{present, dropped}
 use Rattle.proxy_history.specs.Requests.{pending, last_number}
-use Rattle.proxy_history.specs.Modem.{now, is_away, to_modem, modem_drained}
+use Rattle.proxy_history.specs.Modem.{now, is_away, to_modem, modem_drained, modem_queue}
 use Rattle.proxy_history.specs.Noting.{end_overfull, each_pending}
 use Rattle.proxy_history.specs.Unanswered.{due}
 use Rattle.proxy_history.proofs.Lists.{Contains-cons_cases, Contains-nil}
@@ -17,12 +18,15 @@ use Rattle.qmi_proxy.specs.Errors.{aborted}
 use Rattle.qmi_proxy.specs.FromModem.{in_expiry_order}
 use Rattle.number_space.specs.Table.{first_due}
 use Rattle.qmi_state.specs.Asked.{asked_of}
-use Rattle.qmi_proxy.specs.Regular.{IsPlaced, IsAsked}
-use Rattle.proxy_state.specs.Requests.{RequestInUse, requests_in_use}
-use Rattle.qmi_state.specs.Traffic.{Row, Traffic, row_of, rows_of, traffic_of, of_control, with_numbers, silences, ids}
+use Rattle.qmi_proxy.specs.Text.{note}
+use Rattle.qmi_proxy.specs.Clients.{wire}
+use Rattle.qmi_proxy.specs.Releases.{freed_if}
+use Rattle.qmi_proxy.specs.Regular.{IsPlaced, IsSent, IsAsked}
+use Rattle.proxy_state.specs.Requests.{RequestInUse, requests_in_use, silenced_if}
+use Rattle.qmi_state.specs.Traffic.{Row, Traffic, row_of, rows_of, traffic_of, of_control, with_numbers, silences, ids, kept_ids}
 use Rattle.proxy_state.specs.Stands.{Streams}
 use Rattle.qmi_state.specs.Core.{QmiState}
-use Rattle.qmi_state.specs.Transitions.{with_traffic, tell, refuses, expires_in, expires_space, expires}
+use Rattle.qmi_state.specs.Transitions.{with_traffic, tell, frees_own, refuses_sender, refuses, expires_in, expires_space, expires}
 use Rattle.proxy_state.proofs.InUse.{request_in, request_in_use, waits_in, pending_is}
 use Rattle.qmi_state.proofs.Apart.{all_apart}
 use Rattle.proxy_state.proofs.InUse.{waiting}
@@ -34,6 +38,8 @@ use Rattle.qmi_proxy.proofs.Regulars.{regular_more, asked_of_pending}
 use Rattle.qmi_state.proofs.Keeping as keeping
 use Rattle.qmi_state.proofs.Keeping.{traffic_is, keeps_told, end_if}
 use Rattle.qmi_state.proofs.Answering.{ask_waits}
+use Rattle.qmi_state.proofs.OwnRequests.{kept_own_ended}
+use Rattle.proxy_state.proofs.Refusing.{refusal}
 use Rattle.proxy_state.proofs.Expiring.{due_in, due_later, each_shrinks, each_waiting, each_append}
 use Rattle.proxy_state.proofs.Expired.{Refuses, kept_expired}
 use Rattle.qmi_state.proofs.Expiring.{pending_distinct, act, shrinks_act, gone}
@@ -76,6 +82,9 @@ module _ (s : Setup) (streams : Streams) where
     asked : IsAsked past r
     asked = asked_of_pending past r K.fine is_at
 
+    abbrev silenced : Traffic
+    silenced = silenced_traffic (is_control r.message) r.number x.beside.traffic
+
     placed : r.space ≡ space_of r.message
     placed = (placed_at (requests_in_use past) a at (all_placed past K.fine)).0
 
@@ -83,31 +92,50 @@ module _ (s : Setup) (streams : Streams) where
     unfolding asked_of
     replied = reply_kept r.message aborted
 
-    told_expired : Kept (end_if s streams r.conn (Expired r ∷ past)) (tell r.conn (result_reply r.message aborted) (with_traffic (silenced_traffic (is_control r.message) r.number x.beside.traffic) x))
-    unfolding requests_in_use now is_away present dropped last_number ids to_modem modem_drained
-    told_expired =
-        keeps_told s streams (Expired r ∷ past) past x r.conn (result_reply r.message aborted) (silenced_traffic (is_control r.message) r.number x.beside.traffic)
-        (expired_own s.device past r asked) (λ d differs. expired_other s.device past r d differs) refl refl refl refl
-        (ap (silenced_traffic (is_control r.message) r.number) (traffic_is s streams past x K) ∙ sym (traffic_silenced r placed (Expired r ∷ past) past (all_apart past r K.fine.sound (request_in_use past a at)) (λ space. refl) refl refl refl))
-        (regular_more (Expired r) past is_at tt tt K.fine) asked.0 K
+    silenced_is : (fact : Fact) → requests_in_use (fact ∷ past) ≡ map (λ a. silenced_if (r.serial == a.request.serial) a) (requests_in_use past) → ((space : ℕ) → last_number space (fact ∷ past) ≡ last_number space past)
+        → ids (fact ∷ past) ≡ ids past → kept_ids (fact ∷ past) ≡ kept_ids past → modem_queue wire (fact ∷ past) ≡ modem_queue wire past → silenced ≡ traffic_of (fact ∷ past)
+    silenced_is fact over last held kept queue =
+        ap (silenced_traffic (is_control r.message) r.number) (traffic_is s streams past x K) ∙ sym (traffic_silenced r placed (fact ∷ past) past (all_apart past r K.fine.sound (request_in_use past a at)) last held kept queue over)
 
-    told_aborted : Kept (end_if s streams r.conn (Aborted r ∷ past)) (tell r.conn (result_reply r.message aborted) (with_traffic (silenced_traffic (is_control r.message) r.number x.beside.traffic) x))
-    unfolding requests_in_use now is_away present dropped last_number ids to_modem modem_drained
-    told_aborted =
-        keeps_told s streams (Aborted r ∷ past) past x r.conn (result_reply r.message aborted) (silenced_traffic (is_control r.message) r.number x.beside.traffic)
-        (aborted_own s.device past r asked) (λ d differs. aborted_other s.device past r d differs) refl refl refl refl
-        (ap (silenced_traffic (is_control r.message) r.number) (traffic_is s streams past x K) ∙ sym (traffic_silenced r placed (Aborted r ∷ past) past (all_apart past r K.fine.sound (request_in_use past a at)) (λ space. refl) refl refl refl))
-        (regular_more (Aborted r) past is_at tt tt K.fine) asked.0 K
+    told_expired : IsSent past r → Kept (end_if s streams r.conn (Expired r ∷ past)) (tell r.conn (result_reply r.message aborted) (with_traffic (silenced_traffic (is_control r.message) r.number x.beside.traffic) x))
+    unfolding requests_in_use now is_away present dropped last_number ids kept_ids to_modem modem_drained
+    told_expired sent =
+        keeps_told s streams (Expired r ∷ past) past x r.conn (result_reply r.message aborted) silenced
+        (expired_own s.device past r sent) (λ d differs. expired_other s.device past r d differs) refl refl refl refl
+        (silenced_is (Expired r) refl (λ space. refl) refl refl refl) (regular_more (Expired r) past is_at tt tt K.fine) sent.0 K
 
-    told_either : (flag : Bool) → Kept (act s.device flag r past) (tell r.conn (result_reply r.message aborted) (with_traffic (silenced_traffic (is_control r.message) r.number x.beside.traffic) x))
+    told_aborted : IsSent past r → Kept (end_if s streams r.conn (Aborted r ∷ past)) (tell r.conn (result_reply r.message aborted) (with_traffic (silenced_traffic (is_control r.message) r.number x.beside.traffic) x))
+    unfolding requests_in_use now is_away present dropped last_number ids kept_ids to_modem modem_drained
+    told_aborted sent =
+        keeps_told s streams (Aborted r ∷ past) past x r.conn (result_reply r.message aborted) silenced
+        (aborted_own s.device past r sent) (λ d differs. aborted_other s.device past r d differs) refl refl refl refl
+        (silenced_is (Aborted r) refl (λ space. refl) refl refl refl) (regular_more (Aborted r) past is_at tt tt K.fine) sent.0 K
+
+    told_either : (flag : Bool) → IsSent past r → Kept (note s.device (refusal flag r) past) (tell r.conn (result_reply r.message aborted) (with_traffic silenced x))
     unfolding end_overfull
-    told_either true = told_expired
-    told_either false = told_aborted
+    told_either true sent = told_expired sent
+    told_either false sent = told_aborted sent
+
+    own_either : (flag : Bool) → r.conn ≡ 0 → Kept (freed_if true r (note s.device (refusal flag r) past)) (frees_own (row_of a) (with_traffic silenced x))
+    unfolding requests_in_use now is_away present dropped last_number ids kept_ids to_modem modem_drained
+    own_either true own =
+        kept_own_ended s streams past x r own (Expired r) silenced refl (λ d differs. expired_other s.device past r d differs) refl refl refl refl
+        (silenced_is (Expired r) refl (λ space. refl) refl refl refl) (regular_more (Expired r) past is_at tt tt K.fine) K a.waits
+    own_either false own =
+        kept_own_ended s streams past x r own (Aborted r) silenced refl (λ d differs. aborted_other s.device past r d differs) refl refl refl refl
+        (silenced_is (Aborted r) refl (λ space. refl) refl refl refl) (regular_more (Aborted r) past is_at tt tt K.fine) K a.waits
+
+    -- whoever asked
+    refused_by : (flag own : Bool) → (r.conn == 0) ≡ own → Kept (freed_if own r (note s.device (refusal flag r) past)) (refuses_sender own (row_of a) (with_traffic silenced x))
+    refused_by flag true is = own_either flag (eqb-true r.conn 0 is)
+    refused_by flag false is =
+        let sent : IsSent past r = ⊎_elim (λ (sent : IsSent past r). sent) (λ (own : r.conn ≡ 0). absurd (let clash : (r.conn == 0) ≡ true = eq-eqb r.conn 0 own in cc)) asked in
+        subst (λ (l : List ℕ). Kept (note s.device (refusal flag r) past) (tell r.conn l (with_traffic silenced x))) (sym replied) (told_either flag sent)
 
     pub kept_refused : (flag control : Bool) → r.space ≡ space_if control → Kept (act s.device flag r past) (refuses control (row_of a) x)
     kept_refused flag control space =
-        subst (λ (l : List ℕ). Kept (act s.device flag r past) (tell r.conn l (with_traffic (silenced_traffic control r.number x.beside.traffic) x))) (sym replied)
-        (subst (λ (b : Bool). Kept (act s.device flag r past) (tell r.conn (result_reply r.message aborted) (with_traffic (silenced_traffic b r.number x.beside.traffic) x))) (control_of r.message control (sym placed ∙ space)) (told_either flag))
+        subst (λ (b : Bool). Kept (act s.device flag r past) (refuses_sender (r.conn == 0) (row_of a) (with_traffic (silenced_traffic b r.number x.beside.traffic) x))) (control_of r.message control (sym placed ∙ space))
+        (refused_by flag (r.conn == 0) refl)
 
   -- ---- a space ----
 

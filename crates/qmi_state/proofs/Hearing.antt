@@ -1,5 +1,5 @@
 -- What a message of a client makes of a core.
-use Rattle.std.proofs.Common.{◌≡◌, ℕ, ◌+◌, Bool, true, false, ◌==◌, List, ◌∷◌, ◌++◌, length, refl, ap, sym, ◌∙◌, subst, arith, Option, Some, None, if◌then◌else◌}
+use Rattle.std.proofs.Common.{◌≡◌, ℕ, ◌+◌, Bool, true, false, ◌==◌, List, ◌∷◌, ◌++◌, length, inl, refl, ap, sym, ◌∙◌, subst, arith, Option, Some, None, if◌then◌else◌}
 use Rattle.std.proofs.lemmas.Bool.{eqb-true}
 use Rattle.connections.specs.Table.{Connection, Table}
 use Rattle.qmux_frame.specs.Head.{is_control}
@@ -30,11 +30,10 @@ use Rattle.qmi_proxy.specs.Clients as clients
 use Rattle.qmi_proxy.specs.History.{qmi_protocol}
 use Rattle.number_space.specs.Table.{next_number}
 use Rattle.qmi_proxy.specs.Regular.{IsPlaced, Regular}
-use Rattle.holders.specs.Grants.{granted}
 use Rattle.qmi_state.specs.declared.client.Client.{Client}
 use Rattle.proxy_state.specs.Requests.{requests_in_use}
 use Rattle.qmi_state.specs.Asked.{asked_of}
-use Rattle.qmi_state.specs.Traffic.{Traffic, row_of, traffic_of, of_control, with_numbers, gives, number_at, granted_if, row_for, forwards, ids}
+use Rattle.qmi_state.specs.Traffic.{Traffic, row_of, traffic_of, of_control, with_numbers, gives, number_at, granted_if, kept_if, grants_id, row_for, forwards, ids, kept_ids}
 use Rattle.qmi_state.specs.Core.{ModemSide, QmiState, side_of, kept_of}
 use Rattle.qmi_state.specs.Transitions.{with_traffic, reply_as, holder_at, decision_of, replied, act_on, hear_client, qmi_handlers}
 use Rattle.proxy_state.proofs.InUse.{numbers_used}
@@ -82,7 +81,7 @@ module _ (s : Setup) (streams : Streams) where
     after = Judged c place m Forward ∷ past
 
     kept_judged : Kept after x
-    unfolding present dropped requests_in_use now is_away last_number ids to_modem modem_drained
+    unfolding present dropped requests_in_use now is_away last_number ids kept_ids to_modem modem_drained
     kept_judged =
         keeps_quiet s streams after past x x.beside.traffic
         (λ d. same d) refl refl refl refl (traffic_is s streams past x K) (regular_more (Judged c place m Forward) past there tt tt K.fine) K
@@ -111,7 +110,7 @@ module _ (s : Setup) (streams : Streams) where
       regular_sent =
           let own = newest s c m n past there in
           let at : r.place ≡ sent_count (view_of c after) = own.place in
-          regular_more (Forwarded r) after (record { serial = refl; sender = party_from_present c after there; number = numbered }) (placed, (own.sender, omega arith, own.message)) tt kept_judged.fine
+          regular_more (Forwarded r) after (record { serial = refl; sender = party_from_present c after there; number = numbered }) (placed, inl (own.sender, omega arith, own.message)) tt kept_judged.fine
 
       traffic_sent : record (with_numbers (is_control m) (gives (row_of (record { request = r; waits = true })) (of_control (is_control m) x.beside.traffic)) x.beside.traffic) { waiting = x.beside.traffic.waiting ++ with_number n m } ≡ traffic_of sent
       traffic_sent =
@@ -122,22 +121,23 @@ module _ (s : Setup) (streams : Streams) where
       unfolding present dropped view now is_away
       kept_sent = keeps_quiet s streams sent after x _ (λ d. refl) refl refl refl refl traffic_sent regular_sent kept_judged
 
-      kept_granted_if : (b : Bool) (y : QmiState) → (b ≡ true → IsFreeFor c (used_service m) (used_client m) past) → Kept sent y → Kept (grant_if b c m sent) (with_traffic (record y.beside.traffic { held = granted_if b c m y.beside.traffic.held }) y)
-      unfolding present dropped view requests_in_use now is_away last_number ids held to_modem modem_drained
+      kept_granted_if : (b : Bool) (y : QmiState) → (b ≡ true → IsFreeFor c (used_service m) (used_client m) past) → Kept sent y → Kept (grant_if b c m sent) (with_traffic (record y.beside.traffic { held = granted_if b c m y.beside.traffic.held; kept = kept_if b m y.beside.traffic.kept }) y)
+      unfolding present dropped view requests_in_use now is_away last_number ids kept_ids held to_modem modem_drained
       kept_granted_if true y free L =
           keeps_quiet s streams (Granted c (used_service m) (used_client m) ∷ sent) sent y _ (λ d. refl) refl refl refl refl
-          (ap (λ (d : Traffic). let e : Traffic = record d { held = granted c (used_service m) (used_client m) d.held } in e) (traffic_is s streams sent y L))
+          (ap (grants_id c (used_service m) (used_client m)) (traffic_is s streams sent y L))
           (regular_more (Granted c (used_service m) (used_client m)) sent (party_from_present c sent there, free refl) tt tt L.fine) L
       kept_granted_if false y free L = L
 
       forwards_is : (deadline : ℕ) → deadline ≡ r.deadline
-          → record (with_numbers (is_control m) (gives (row_of (record { request = r; waits = true })) (of_control (is_control m) x.beside.traffic)) x.beside.traffic) { waiting = x.beside.traffic.waiting ++ with_number n m; held = granted_if (uses_id m) c m x.beside.traffic.held } ≡ forwards deadline c m n x.beside.traffic
+          → record (with_numbers (is_control m) (gives (row_of (record { request = r; waits = true })) (of_control (is_control m) x.beside.traffic)) x.beside.traffic) { waiting = x.beside.traffic.waiting ++ with_number n m; held = granted_if (uses_id m) c m x.beside.traffic.held; kept = kept_if (uses_id m) m x.beside.traffic.kept } ≡ forwards deadline c m n x.beside.traffic
       forwards_is deadline same =
-          elim (is_control m) as (λ b. (let e : Traffic = record (with_numbers b (gives (row_for r.deadline c m n) (of_control b x.beside.traffic)) x.beside.traffic) { waiting = x.beside.traffic.waiting ++ with_number n m; held = granted_if (uses_id m) c m x.beside.traffic.held } in e)
+          elim (is_control m) as (λ b. (let e : Traffic = record (with_numbers b (gives (row_for r.deadline c m n) (of_control b x.beside.traffic)) x.beside.traffic) { waiting = x.beside.traffic.waiting ++ with_number n m; held = granted_if (uses_id m) c m x.beside.traffic.held; kept = kept_if (uses_id m) m x.beside.traffic.kept } in e)
           ≡ record {
             control = if b then gives (row_for r.deadline c m n) x.beside.traffic.control else x.beside.traffic.control;
             services = if b then x.beside.traffic.services else gives (row_for r.deadline c m n) x.beside.traffic.services;
             held = granted_if (uses_id m) c m x.beside.traffic.held;
+            kept = kept_if (uses_id m) m x.beside.traffic.kept;
             waiting = x.beside.traffic.waiting ++ with_number n m;
           }) [ true ↦ refl | false ↦ refl ]
           ∙ ap (λ (t : ℕ). forwards t c m n x.beside.traffic) (sym same)
@@ -169,7 +169,7 @@ module _ (s : Setup) (streams : Streams) where
       reply = reply_as s.device was.client.opened m verdict
 
       replied_is : Kept (end_if s streams c facts) (settled qmi_handlers c (replied reply (step s.device was.client.opened (Sent m verdict)) it.client it.outbox x.beside) x)
-      unfolding present dropped now is_away requests_in_use last_number ids to_modem modem_drained connection_of
+      unfolding present dropped now is_away requests_in_use last_number ids kept_ids to_modem modem_drained connection_of
       replied_is =
           replying.keeps_replied (qmi_protocol s) (kept_of s) qmi_handlers Regular (follows_connections s) streams facts past x c reply
           (λ found. record { opened = if found then step s.device was.client.opened (Sent m verdict) else was.client.opened }) x.beside

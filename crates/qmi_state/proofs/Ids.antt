@@ -11,7 +11,7 @@ use Rattle.proxy_history.proofs.Lists.{Contains-cons, Contains-cons_cases, Conta
 use Rattle.proxy_history.proofs.SoundLaws.{holders_are_parties}
 use Rattle.qmi_proxy.specs.Limits.{qmi_limits}
 use Rattle.holders.specs.Grants.{granted, is_before, is_behind}
-use Rattle.qmi_state.specs.Traffic.{ids}
+use Rattle.qmi_state.specs.Traffic.{ids, kept_ids}
 use Rattle.proxy_state.proofs.Filters.{filter_swap}
 use Rattle.proxy_state.proofs.Rows.{both_ways}
 
@@ -108,8 +108,8 @@ granted_last_of s i c service client grants =
 
 -- ---- each id has the same grants ----
 
-ids_of : (past : List Fact) (s i : ℕ) → of s i (ids past) ≡ of s i (held past)
-unfolding ids held
+pub ids_of : (past : List Fact) (s i : ℕ) → of s i (ids past) ≡ of s i (held past)
+unfolding ids kept_ids held
 ids_of [] s i = refl
 ids_of (Granted c service client ∷ past) s i =
     granted_of s i c service client (ids past)
@@ -145,7 +145,7 @@ holder_is s i past = holder_of_list s i (ids past) ∙ ap (holder_in s i) (ids_o
 is_of_itself : (g : Grant) → is_of g.service g.client g ≡ true
 is_of_itself g = ap (λ (b : Bool). b && (g.client == g.client)) (eq-eqb g.service g.service refl) ∙ eq-eqb g.client g.client refl
 
-moved : (one other : List Grant) → ((s i : ℕ) → of s i one ≡ of s i other) → (g : Grant) → Contains one g → Contains other g
+pub moved : (one other : List Grant) → ((s i : ℕ) → of s i one ≡ of s i other) → (g : Grant) → Contains one g → Contains other g
 moved one other same g at =
     Contains-filter_from (is_of g.service g.client) other g
     (subst (λ (l : List Grant). Contains l g) (same g.service g.client) (Contains-filter (is_of g.service g.client) one g at (is_of_itself g)))

@@ -30,7 +30,7 @@ use Rattle.qmi_proxy.specs.Regular.{Regular}
 use Rattle.qmi_proxy.proofs.Regulars.{regular_more}
 use Rattle.qmi_state.specs.declared.client.Client.{Client}
 use Rattle.proxy_state.specs.Requests.{requests_in_use}
-use Rattle.qmi_state.specs.Traffic.{Traffic, ids}
+use Rattle.qmi_state.specs.Traffic.{Traffic, ids, kept_ids}
 use Rattle.qmi_state.specs.Core.{QmiState, kept_of}
 use Rattle.qmi_state.specs.Transitions.{give_up, tell, tell_all, names_in, opened_ones, holders_of, tells_holder, indicates, qmi_handlers}
 use Rattle.qmi_state.proofs.Ids.{holder_is, some_is}
@@ -47,7 +47,7 @@ module _ (s : Setup) (streams : Streams) where
     told_facts cs past = end_overfull qmi_limits (qmi_wording s.device) cs (Indicated m cs ∷ past)
 
     kept_all : (p : ℕ → Bool) (past : List Fact) (x : QmiState) → Kept past x → Kept (told_facts (filter p (present past)) past) (tell_all m (filter p (present past)) x)
-    unfolding present dropped now is_away requests_in_use last_number ids to_modem modem_drained
+    unfolding present dropped now is_away requests_in_use last_number ids kept_ids to_modem modem_drained
     kept_all p past x K =
         let cs : List ℕ = filter p (present past) in
         let there : AreThere (present past) cs = chosen_there p (present past) in

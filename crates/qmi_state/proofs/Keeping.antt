@@ -17,7 +17,7 @@ use Rattle.qmi_proxy.specs.Regular.{Regular}
 use Rattle.qmi_proxy.specs.History.{qmi_protocol}
 use Rattle.qmi_proxy.proofs.Regulars.{regular_more}
 use Rattle.proxy_state.specs.Requests.{requests_in_use}
-use Rattle.qmi_state.specs.Traffic.{Traffic, traffic_of, ids}
+use Rattle.qmi_state.specs.Traffic.{Traffic, traffic_of, ids, kept_ids}
 use Rattle.qmi_state.specs.Core.{ModemSide, QmiState, side_of, kept_of}
 use Rattle.qmi_state.specs.Transitions.{with_traffic, tell, qmi_handlers}
 use Rattle.qmi_state.proofs.ClientStates.{client_state_of, put_to}
@@ -28,7 +28,8 @@ use Rattle.qmi_state.proofs.Strangers.{traffic_of_stranger}
 
 regular_behind : (fact : Fact) (past : List Fact) → MayFollow qmi_limits fact past → IsOfConnections fact past → Regular past → Regular (fact ∷ past)
 regular_behind EventBegan past follows of R = regular_more EventBegan past tt tt tt R
-regular_behind (Admitted c) past follows of R = regular_more (Admitted c) past follows tt of.1 R
+regular_behind (Admitted c) past follows of R = regular_more (Admitted c) past follows tt of R
+regular_behind (Ended c NotAdmitted) past follows of R = regular_more (Ended c NotAdmitted) past follows tt of R
 regular_behind (Ended c why) past follows of R = regular_more (Ended c why) past follows tt tt R
 regular_behind (Drained c count) past follows of R = regular_more (Drained c count) past follows tt tt R
 regular_behind _ past follows of R = absurd of
@@ -39,7 +40,7 @@ module _ (s : Setup) where
   side_with past traffic = record (side_of s past) { traffic = traffic }
 
   pub follows_connections : FollowsConnections (qmi_protocol s) (kept_of s) qmi_handlers Regular
-  unfolding now is_away requests_in_use last_number ids to_modem modem_drained
+  unfolding now is_away requests_in_use last_number ids kept_ids to_modem modem_drained
   follows_connections = record {
     fine_more = regular_behind;
     fresh = refl;
@@ -62,7 +63,7 @@ module _ (s : Setup) (streams : Streams) where
   traffic_is past x K = ap (λ (b : ModemSide). b.traffic) K.holds.beside
 
   module _ (later past : List Fact) (x : QmiState) (traffic : Traffic) (same_time : now later ≡ now past) (same_away : is_away s.starts_away later ≡ is_away s.starts_away past) (is : traffic ≡ traffic_of later) (K : Kept past x) where
-    beside_is : record x.beside { traffic = traffic } ≡ side_of s later
+    pub beside_is : record x.beside { traffic = traffic } ≡ side_of s later
     beside_is =
         ap (λ (b : ModemSide). let c : ModemSide = record b { traffic = traffic } in c) K.holds.beside
         ∙ ap (λ (n : ℕ). let c : ModemSide = record (side_with s past traffic) { time = n } in c) (sym same_time)

@@ -5,15 +5,14 @@ use Rattle.std.proofs.lemmas.List.{drop-drop, drop-append-le}
 use Rattle.qmux_frame.specs.Head.{is_control}
 use Rattle.proxy_history.specs.Facts.{Fact, Request, Why, Ended, Forwarded, Granted, Freed, Reset, ModemLost, ModemDrained}
 use Rattle.proxy_history.specs.Requests.{last_number}
-use Rattle.proxy_history.specs.ClientIds.{Grant}
-use Rattle.proxy_history.specs.Modem.{to_modem, modem_drained, modem_queue}
+use Rattle.proxy_history.specs.ClientIds.{Grant, KeptId}
+use Rattle.proxy_history.specs.Modem.{now, to_modem, modem_drained, modem_queue}
 use Rattle.qmi_proxy.specs.Spaces.{control_space, service_space, space_of, limit_of, top_of}
 use Rattle.qmi_proxy.specs.Clients.{wire}
 use Rattle.number_space.specs.Table.{orphans}
-use Rattle.holders.specs.Grants.{granted, releases}
 use Rattle.proxy_state.specs.Requests.{requests_in_use, silenced_if}
 use Rattle.qmi_state.specs.Asked.{asked_of}
-use Rattle.qmi_state.specs.Traffic.{Row, Numbers, Traffic, row_of, rows_of, numbers_of, traffic_of, of_control, with_numbers, gives, frees, silences, gives_up, forgets, ids}
+use Rattle.qmi_state.specs.Traffic.{Row, Numbers, Traffic, row_of, rows_of, numbers_of, traffic_of, of_control, with_numbers, gives, frees, silences, grants_id, frees_id, gives_up, forgets, ids, kept_ids}
 use Rattle.proxy_state.proofs.Rows.{AreApart, rows_more, rows_freed, rows_elsewhere, rows_silenced, rows_unsilenced, rows_orphaned}
 
 -- a number of a space changes, or nothing
@@ -21,8 +20,8 @@ abbrev if_in : Bool → (Numbers → Numbers) → Numbers → Numbers
 if_in true change numbers = change numbers
 if_in false change numbers = numbers
 
-abbrev traffic_with : Numbers → Numbers → List Grant → List ℕ → Traffic
-traffic_with control services held waiting = record { control = control; services = services; held = held; waiting = waiting }
+abbrev traffic_with : Numbers → Numbers → List Grant → List KeptId → List ℕ → Traffic
+traffic_with control services held kept waiting = record { control = control; services = services; held = held; kept = kept; waiting = waiting }
 
 control_test : (m : List ℕ) → (space_of m == control_space) ≡ is_control m
 control_test m = elim (is_control m) as (λ b. ((if b then control_space else service_space) == control_space) ≡ b) [ true ↦ refl | false ↦ refl ]
@@ -38,13 +37,13 @@ module _ (r : Request) (placed : r.space ≡ space_of r.message) where
   in_services = ap (λ (n : ℕ). n == service_space) placed ∙ service_test r.message
 
   -- what changes the numbers of the request's space
-  changed_in : (change : Numbers → Numbers) (traffic : Traffic) (held : List Grant) (waiting : List ℕ) (control services : Numbers)
+  changed_in : (change : Numbers → Numbers) (traffic : Traffic) (held : List Grant) (kept : List KeptId) (waiting : List ℕ) (control services : Numbers)
       → control ≡ if_in (r.space == control_space) change traffic.control → services ≡ if_in (r.space == service_space) change traffic.services
-      → traffic_with control services held waiting ≡ record (with_numbers (is_control r.message) (change (of_control (is_control r.message) traffic)) traffic) { held = held; waiting = waiting }
-  changed_in change traffic held waiting control services c s =
-      ap (λ (n : Numbers). traffic_with n services held waiting) (c ∙ ap (λ (b : Bool). if_in b change traffic.control) in_control)
-      ∙ ap (λ (n : Numbers). traffic_with (if_in (is_control r.message) change traffic.control) n held waiting) (s ∙ ap (λ (b : Bool). if_in b change traffic.services) in_services)
-      ∙ elim (is_control r.message) as (λ b. traffic_with (if_in b change traffic.control) (if_in (not b) change traffic.services) held waiting ≡ record (with_numbers b (change (of_control b traffic)) traffic) { held = held; waiting = waiting }) [ true ↦ refl | false ↦ refl ]
+      → traffic_with control services held kept waiting ≡ record (with_numbers (is_control r.message) (change (of_control (is_control r.message) traffic)) traffic) { held = held; kept = kept; waiting = waiting }
+  changed_in change traffic held kept waiting control services c s =
+      ap (λ (n : Numbers). traffic_with n services held kept waiting) (c ∙ ap (λ (b : Bool). if_in b change traffic.control) in_control)
+      ∙ ap (λ (n : Numbers). traffic_with (if_in (is_control r.message) change traffic.control) n held kept waiting) (s ∙ ap (λ (b : Bool). if_in b change traffic.services) in_services)
+      ∙ elim (is_control r.message) as (λ b. traffic_with (if_in b change traffic.control) (if_in (not b) change traffic.services) held kept waiting ≡ record (with_numbers b (change (of_control b traffic)) traffic) { held = held; kept = kept; waiting = waiting }) [ true ↦ refl | false ↦ refl ]
 
   -- ---- a request goes to the modem ----
 
@@ -59,16 +58,16 @@ module _ (r : Request) (placed : r.space ≡ space_of r.message) where
 
   pub traffic_forwarded : (past : List Fact) → modem_drained past ≤ length (to_modem wire past)
       → traffic_of (Forwarded r ∷ past) ≡ record (with_numbers (is_control r.message) (gives (row_of (record { request = r; waits = true })) (of_control (is_control r.message) (traffic_of past))) (traffic_of past)) { waiting = (traffic_of past).waiting ++ wire r }
-  unfolding ids to_modem modem_drained
+  unfolding ids kept_ids to_modem modem_drained
   traffic_forwarded past drained =
-      ap (λ (l : List ℕ). traffic_with (numbers_of control_space (Forwarded r ∷ past)) (numbers_of service_space (Forwarded r ∷ past)) (ids past) l) (drop-append-le (modem_drained past) (to_modem wire past) (wire r) drained)
-      ∙ changed_in (gives (row_of (record { request = r; waits = true }))) (traffic_of past) (ids past) ((traffic_of past).waiting ++ wire r) _ _
+      ap (λ (l : List ℕ). traffic_with (numbers_of control_space (Forwarded r ∷ past)) (numbers_of service_space (Forwarded r ∷ past)) (ids past) (kept_ids past) l) (drop-append-le (modem_drained past) (to_modem wire past) (wire r) drained)
+      ∙ changed_in (gives (row_of (record { request = r; waits = true }))) (traffic_of past) (ids past) (kept_ids past) ((traffic_of past).waiting ++ wire r) _ _
       (numbers_forwarded past control_space (r.space == control_space) refl) (numbers_forwarded past service_space (r.space == service_space) refl)
 
   -- ---- an answer, or a refusal in its place ----
 
   module _ (later past : List Fact) (apart : AllByRecursion (λ a. AreApart r a.request) (requests_in_use past)) (last : (space : ℕ) → last_number space later ≡ last_number space past)
-      (same_held : ids later ≡ ids past) (same_queue : modem_queue wire later ≡ modem_queue wire past) where
+      (same_held : ids later ≡ ids past) (same_kept : kept_ids later ≡ kept_ids past) (same_queue : modem_queue wire later ≡ modem_queue wire past) where
     with_rows : (space : ℕ) (rows : List Row) → rows_of space (requests_in_use later) ≡ rows → numbers_of space later ≡ record { rows = rows; last = last_number space past; limit = limit_of space; top = top_of space }
     with_rows space rows is =
         ap (λ (l : List Row). let n : Numbers = record { rows = l; last = last_number space later; limit = limit_of space; top = top_of space } in n) is ∙ ap (λ (l : ℕ). let n : Numbers = record { rows = rows; last = l; limit = limit_of space; top = top_of space } in n) (last space)
@@ -84,9 +83,10 @@ module _ (r : Request) (placed : r.space ≡ space_of r.message) where
     changed : (change : Numbers → Numbers) → ((space : ℕ) (in_it : Bool) → (r.space == space) ≡ in_it → numbers_of space later ≡ if_in in_it change (numbers_of space past))
         → traffic_of later ≡ with_numbers (is_control r.message) (change (of_control (is_control r.message) (traffic_of past))) (traffic_of past)
     changed change numbers =
-        ap (λ (l : List Grant). traffic_with (numbers_of control_space later) (numbers_of service_space later) l (modem_queue wire later)) same_held
-        ∙ ap (λ (l : List ℕ). traffic_with (numbers_of control_space later) (numbers_of service_space later) (ids past) l) same_queue
-        ∙ changed_in change (traffic_of past) (ids past) (modem_queue wire past) _ _ (numbers control_space (r.space == control_space) refl) (numbers service_space (r.space == service_space) refl)
+        ap (λ (l : List Grant). traffic_with (numbers_of control_space later) (numbers_of service_space later) l (kept_ids later) (modem_queue wire later)) same_held
+        ∙ ap (λ (l : List KeptId). traffic_with (numbers_of control_space later) (numbers_of service_space later) (ids past) l (modem_queue wire later)) same_kept
+        ∙ ap (λ (l : List ℕ). traffic_with (numbers_of control_space later) (numbers_of service_space later) (ids past) (kept_ids past) l) same_queue
+        ∙ changed_in change (traffic_of past) (ids past) (kept_ids past) (modem_queue wire past) _ _ (numbers control_space (r.space == control_space) refl) (numbers service_space (r.space == service_space) refl)
 
     pub traffic_freed : requests_in_use later ≡ filter (λ a. not (r.serial == a.request.serial)) (requests_in_use past) → traffic_of later ≡ with_numbers (is_control r.message) (frees r.number (of_control (is_control r.message) (traffic_of past))) (traffic_of past)
     traffic_freed gone = changed (frees r.number) (numbers_freed gone)
@@ -96,28 +96,28 @@ module _ (r : Request) (placed : r.space ≡ space_of r.message) where
 
 -- ---- the other facts ----
 
-pub traffic_ended : (past : List Fact) (c : ℕ) (why : Why) → traffic_of (Ended c why ∷ past) ≡ gives_up c (traffic_of past)
-unfolding requests_in_use last_number ids to_modem modem_drained
+pub traffic_ended : (past : List Fact) (c : ℕ) (why : Why) → traffic_of (Ended c why ∷ past) ≡ gives_up c (now past) (traffic_of past)
+unfolding requests_in_use last_number ids kept_ids to_modem modem_drained
 traffic_ended past c why =
-    ap (λ (rows : List Row). traffic_with (record { rows = rows; last = last_number control_space past; limit = limit_of control_space; top = top_of control_space }) (numbers_of service_space (Ended c why ∷ past)) (ids (Ended c why ∷ past)) (modem_queue wire past)) (rows_orphaned asked_of control_space c (requests_in_use past))
-    ∙ ap (λ (rows : List Row). traffic_with (orphans c (numbers_of control_space past)) (record { rows = rows; last = last_number service_space past; limit = limit_of service_space; top = top_of service_space }) (ids (Ended c why ∷ past)) (modem_queue wire past)) (rows_orphaned asked_of service_space c (requests_in_use past))
+    ap (λ (rows : List Row). traffic_with (record { rows = rows; last = last_number control_space past; limit = limit_of control_space; top = top_of control_space }) (numbers_of service_space (Ended c why ∷ past)) (ids (Ended c why ∷ past)) (kept_ids (Ended c why ∷ past)) (modem_queue wire past)) (rows_orphaned asked_of control_space c (requests_in_use past))
+    ∙ ap (λ (rows : List Row). traffic_with (orphans c (numbers_of control_space past)) (record { rows = rows; last = last_number service_space past; limit = limit_of service_space; top = top_of service_space }) (ids (Ended c why ∷ past)) (kept_ids (Ended c why ∷ past)) (modem_queue wire past)) (rows_orphaned asked_of service_space c (requests_in_use past))
 
 pub traffic_reset : (past : List Fact) → traffic_of (Reset ∷ past) ≡ forgets (traffic_of past)
-unfolding requests_in_use last_number ids to_modem modem_drained
+unfolding requests_in_use last_number ids kept_ids to_modem modem_drained
 traffic_reset past = refl
 
 pub traffic_lost : (past : List Fact) → traffic_of (ModemLost ∷ past) ≡ record (forgets (traffic_of past)) { waiting = [] }
-unfolding requests_in_use last_number ids to_modem modem_drained
+unfolding requests_in_use last_number ids kept_ids to_modem modem_drained
 traffic_lost past = refl
 
-pub traffic_granted : (past : List Fact) (c service client : ℕ) → traffic_of (Granted c service client ∷ past) ≡ record (traffic_of past) { held = granted c service client (ids past) }
-unfolding requests_in_use last_number ids to_modem modem_drained
+pub traffic_granted : (past : List Fact) (c service client : ℕ) → traffic_of (Granted c service client ∷ past) ≡ grants_id c service client (traffic_of past)
+unfolding requests_in_use last_number ids kept_ids to_modem modem_drained
 traffic_granted past c service client = refl
 
-pub traffic_given_back : (past : List Fact) (c service client : ℕ) → traffic_of (Freed c service client ∷ past) ≡ record (traffic_of past) { held = releases c service client (ids past) }
-unfolding requests_in_use last_number ids to_modem modem_drained
+pub traffic_given_back : (past : List Fact) (c service client : ℕ) → traffic_of (Freed c service client ∷ past) ≡ frees_id c service client (traffic_of past)
+unfolding requests_in_use last_number ids kept_ids to_modem modem_drained
 traffic_given_back past c service client = refl
 
 pub traffic_drained : (past : List Fact) (count : ℕ) → traffic_of (ModemDrained count ∷ past) ≡ record (traffic_of past) { waiting = drop count (traffic_of past).waiting }
-unfolding requests_in_use last_number ids to_modem modem_drained
-traffic_drained past count = ap (λ (l : List ℕ). traffic_with (numbers_of control_space past) (numbers_of service_space past) (ids past) l) (sym (drop-drop count (modem_drained past) (to_modem wire past)))
+unfolding requests_in_use last_number ids kept_ids to_modem modem_drained
+traffic_drained past count = ap (λ (l : List ℕ). traffic_with (numbers_of control_space past) (numbers_of service_space past) (ids past) (kept_ids past) l) (sym (drop-drop count (modem_drained past) (to_modem wire past)))

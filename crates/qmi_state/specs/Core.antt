@@ -1,6 +1,6 @@
 -- What a core of the QMI proxy keeps, and what it stands for.
 -- Lists of events and of facts have the newest first.
-use Rattle.std.specs.Prelude.{ℕ, Bool, List, []}
+use Rattle.std.specs.Prelude.{ℕ, Bool, List, [], Option}
 use Rattle.connections.specs.Table as table
 use Rattle.proxy_history.specs.Events.{Event}
 use Rattle.proxy_history.specs.Facts.{Fact}
@@ -20,11 +20,13 @@ pub record ModemSide : Type 0 where
   pub device : List ℕ
   -- how long a request waits for its answer
   pub time_limit : ℕ
+  -- after what time it releases a client id whose holder went; never where it has none
+  pub release : Option ℕ
   -- what the clock shows
   pub time : ℕ
   -- whether the modem is away
   pub away : Bool
-  -- numbers in use with their senders and deadlines, client ids with their holders, and what waits for the modem
+  -- numbers in use with their senders and deadlines, client ids with their holders or since when they are kept, and what waits for the modem
   pub traffic : Traffic
 
 abbrev pub QmiState : Type 0
@@ -36,7 +38,7 @@ QmiCore = Core Client ModemSide
 -- ---- what a core stands for ----
 
 abbrev pub side_of : Setup → List Fact → ModemSide
-side_of s past = record { device = s.device; time_limit = s.time_limit; time = now past; away = is_away s.starts_away past; traffic = traffic_of past }
+side_of s past = record { device = s.device; time_limit = s.time_limit; release = s.release; time = now past; away = is_away s.starts_away past; traffic = traffic_of past }
 
 -- of a client it keeps whether it has opened the device
 abbrev pub kept_of : Setup → Kept Bool Client ModemSide
@@ -58,7 +60,7 @@ abbrev pub opened : Setup → QmiCore
 opened s = record {
   state = record {
     table = table.opened connection_limit outbox_limit;
-    beside = record { device = s.device; time_limit = s.time_limit; time = 0; away = s.starts_away; traffic = traffic_of [] };
+    beside = record { device = s.device; time_limit = s.time_limit; release = s.release; time = 0; away = s.starts_away; traffic = traffic_of [] };
   };
   rest = [];
 }

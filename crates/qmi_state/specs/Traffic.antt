@@ -1,19 +1,21 @@
--- What a core keeps between the clients and the modem: the numbers in use, the client ids that are held, and the bytes that wait for the modem.
+-- What a core keeps between the clients and the modem: the numbers in use, the client ids that are held or kept, and the bytes that wait for the modem.
 -- Lists of facts have the newest first; all other lists have the oldest first.
-use Rattle.std.specs.Prelude.{ℕ, Bool, true, false, if◌then◌else◌, List, [], ◌∷◌, ◌++◌, Option}
+use Rattle.std.specs.Prelude.{ℕ, Bool, true, false, if◌then◌else◌, List, [], ◌∷◌, ◌++◌, ◌==◌, filter, length, Option}
 use Rattle.qmux_frame.specs.Head.{is_control}
 use Rattle.qmux_frame.specs.Reply.{with_number}
 use Rattle.proxy_history.specs.Facts.{Fact, Ended, Granted, Freed, Reset, ModemLost}
-use Rattle.proxy_history.specs.ClientIds.{Grant}
-use Rattle.proxy_history.specs.Modem.{modem_queue}
+use Rattle.proxy_history.specs.ClientIds.{Grant, KeptId}
+use Rattle.proxy_history.specs.Modem.{now, modem_queue}
 use Rattle.proxy_history.specs.Requests as requests
 use Rattle.qmi_proxy.specs.Spaces.{control_space, service_space, limit_of, top_of}
 use Rattle.qmi_proxy.specs.Messages.{uses_id, used_service, used_client}
-use Rattle.qmi_proxy.specs.Clients.{wire}
+use Rattle.qmi_proxy.specs.Clients.{wire, has_room}
+use Rattle.qmi_proxy.specs.Releases.{release_of, number_if}
 use Rattle.number_space.specs.declared.space.Row as space
 use Rattle.number_space.specs.Table.{Table, next_number, answers, settles_number, orphans, resets}
 use Rattle.number_space.specs.Table as table
 use Rattle.holders.specs.Grants.{granted, releases, leaves}
+use Rattle.holders.specs.Kept.{kept_without, all_kept_from}
 use Rattle.proxy_state.specs.Requests as requests_of
 use Rattle.proxy_state.specs.Requests.{RequestInUse, requests_in_use}
 use Rattle.qmi_state.specs.Asked.{Asked, asked_of}
@@ -30,7 +32,9 @@ pub record Traffic : Type 0 where
   -- the numbers of service 0, and those of all other services
   pub control : Numbers
   pub services : Numbers
+  -- the client ids that are held, and those whose holders went
   pub held : List Grant
+  pub kept : List KeptId
   -- the bytes that wait for the modem
   pub waiting : List ℕ
 
@@ -46,6 +50,15 @@ ids (Reset ∷ past) = []
 ids (ModemLost ∷ past) = []
 ids (_ ∷ past) = ids past
 
+-- and those whose holders went
+unfoldable pub kept_ids : List Fact → List KeptId
+kept_ids [] = []
+kept_ids (Granted c service client ∷ past) = kept_without service client (kept_ids past)
+kept_ids (Ended c why ∷ past) = all_kept_from (now past) (filter (λ g. c == g.conn) (ids past)) (kept_ids past)
+kept_ids (Reset ∷ past) = []
+kept_ids (ModemLost ∷ past) = []
+kept_ids (_ ∷ past) = kept_ids past
+
 abbrev pub row_of : RequestInUse → Row
 row_of a = requests_of.row_of asked_of a
 
@@ -56,7 +69,7 @@ abbrev pub numbers_of : ℕ → List Fact → Numbers
 numbers_of space past = record { rows = rows_of space (requests_in_use past); last = requests.last_number space past; limit = limit_of space; top = top_of space }
 
 abbrev pub traffic_of : List Fact → Traffic
-traffic_of past = record { control = numbers_of control_space past; services = numbers_of service_space past; held = ids past; waiting = modem_queue wire past }
+traffic_of past = record { control = numbers_of control_space past; services = numbers_of service_space past; held = ids past; kept = kept_ids past; waiting = modem_queue wire past }
 
 -- ---- the numbers of a space ----
 
@@ -94,6 +107,10 @@ abbrev pub granted_if : Bool → ℕ → List ℕ → List Grant → List Grant
 granted_if true c m held = granted c (used_service m) (used_client m) held
 granted_if false c m held = held
 
+abbrev pub kept_if : Bool → List ℕ → List KeptId → List KeptId
+kept_if true m kept = kept_without (used_service m) (used_client m) kept
+kept_if false m kept = kept
+
 abbrev pub row_for : ℕ → ℕ → List ℕ → ℕ → Row
 row_for deadline c m number = record { number = number; conn = c; note = asked_of m; deadline = deadline; pending = true }
 
@@ -103,16 +120,31 @@ forwards deadline c m number traffic = record {
   control = if is_control m then gives (row_for deadline c m number) traffic.control else traffic.control;
   services = if is_control m then traffic.services else gives (row_for deadline c m number) traffic.services;
   held = granted_if (uses_id m) c m traffic.held;
+  kept = kept_if (uses_id m) m traffic.kept;
   waiting = traffic.waiting ++ with_number number m;
 }
 
--- a connection is gone
-abbrev pub gives_up : ℕ → Traffic → Traffic
-gives_up c traffic = record traffic { control = orphans c traffic.control; services = orphans c traffic.services; held = leaves c traffic.held }
+-- the connection holds the id, which is kept no more
+abbrev pub grants_id : ℕ → ℕ → ℕ → Traffic → Traffic
+grants_id conn service client traffic = record traffic { held = granted conn service client traffic.held; kept = kept_without service client traffic.kept }
+
+-- the id is nobody's, where this connection held it
+abbrev pub frees_id : ℕ → ℕ → ℕ → Traffic → Traffic
+frees_id conn service client traffic = record traffic { held = releases conn service client traffic.held }
+
+-- a connection is gone, and its ids are kept since this time
+abbrev pub gives_up : ℕ → ℕ → Traffic → Traffic
+gives_up c time traffic = record {
+  control = orphans c traffic.control;
+  services = orphans c traffic.services;
+  held = leaves c traffic.held;
+  kept = all_kept_from time (filter (λ g. c == g.conn) traffic.held) traffic.kept;
+  waiting = traffic.waiting;
+}
 
 -- the modem knows of no number and no client id
 abbrev pub forgets : Traffic → Traffic
-forgets traffic = record traffic { control = resets traffic.control; services = resets traffic.services; held = [] }
+forgets traffic = record traffic { control = resets traffic.control; services = resets traffic.services; held = []; kept = [] }
 
 -- a message of c gets the next number of its space, where one is free
 abbrev pub gives_next : ℕ → ℕ → List ℕ → Traffic → Traffic
@@ -120,4 +152,20 @@ gives_next deadline c m traffic = with_numbers (is_control m) (table.gives c (as
 
 abbrev pub adopts_unless : Bool → ℕ → List ℕ → Traffic → Traffic
 adopts_unless true c m traffic = traffic
-adopts_unless false c m traffic = record traffic { held = granted_if (uses_id m) c m traffic.held }
+adopts_unless false c m traffic = record traffic { held = granted_if (uses_id m) c m traffic.held; kept = kept_if (uses_id m) m traffic.kept }
+
+-- ---- requests of the proxy itself ----
+
+-- the number under which the proxy's own Release of this id would go, where one is free and there is room
+abbrev pub number_for_own : KeptId → Traffic → Option ℕ
+number_for_own k traffic = number_if (has_room (length traffic.waiting) (release_of k.service k.client)) (next_number traffic.control)
+
+-- the proxy itself asks the modem to release the id, and holds it from then on
+abbrev pub asks_release : ℕ → KeptId → ℕ → Traffic → Traffic
+asks_release deadline k number traffic = record {
+  control = gives (row_for deadline 0 (release_of k.service k.client) number) traffic.control;
+  services = traffic.services;
+  held = granted 0 k.service k.client traffic.held;
+  kept = kept_without k.service k.client traffic.kept;
+  waiting = traffic.waiting ++ with_number number (release_of k.service k.client);
+}

@@ -14,7 +14,7 @@ use Rattle.proxy_history.specs.Events.{Event}
 use Rattle.proxy_history.specs.Facts.{Verdict, Own, Foreign, Away, Full}
 use Rattle.proxy_history.specs.Decision.{Decision, Replies, Forwards}
 use Rattle.proxy_history.specs.View.{Sent}
-use Rattle.proxy_history.specs.ClientIds.{Grant, holder_in, is_other, holds_some}
+use Rattle.proxy_history.specs.ClientIds.{Grant, KeptId, holder_in, is_other, holds_some}
 use Rattle.proxy_state.specs.State.{Handlers}
 use Rattle.proxy_state.specs.Step as proxy
 use Rattle.proxy_state.specs.Telling as telling
@@ -25,12 +25,12 @@ use Rattle.qmi_proxy.specs.OwnReplies.{view_decides}
 use Rattle.qmi_proxy.specs.OwnReplies as own
 use Rattle.qmi_proxy.specs.Text.{text_as}
 use Rattle.qmi_proxy.specs.Clients.{shared_decision_of, has_room, deadline_of}
+use Rattle.qmi_proxy.specs.Releases as release
 use Rattle.qmi_proxy.specs.FromModem.{IdChange, NoChange, Grants, Collides, Frees, brings_id, granted_unless}
-use Rattle.holders.specs.Grants.{granted, releases}
 use Rattle.qmi_state.specs.Asked.{Asked}
 use Rattle.number_space.specs.Table.{first_due}
 use Rattle.qmi_state.specs.declared.client.Client.{Client}
-use Rattle.qmi_state.specs.Traffic.{Row, Traffic, of_control, with_numbers, row_numbered, frees, silences, number_at, forwards, gives_up, forgets}
+use Rattle.qmi_state.specs.Traffic.{Row, Traffic, of_control, with_numbers, row_numbered, frees, silences, number_at, forwards, grants_id, frees_id, gives_up, forgets, number_for_own, asks_release}
 use Rattle.qmi_state.specs.Core.{ModemSide, QmiState, QmiCore}
 
 abbrev pub with_traffic : Traffic → QmiState → QmiState
@@ -38,9 +38,9 @@ with_traffic traffic x = record x { beside = record x.beside { traffic = traffic
 
 -- ---- bytes for a client ----
 
--- a connection is gone
+-- a connection is gone, and its client ids are kept from now on
 abbrev pub give_up : ℕ → ModemSide → ModemSide
-give_up c side = record side { traffic = gives_up c side.traffic }
+give_up c side = record side { traffic = gives_up c side.time side.traffic }
 
 -- c gets these bytes, or is dropped where they find no room
 abbrev pub tell : ℕ → List ℕ → QmiState → QmiState
@@ -99,10 +99,19 @@ hear_client name m client outbox side = act_on name m (decision_of side.away nam
 
 -- ---- requests that get no answer ----
 
+-- nobody holds the id of an own request that ended
+abbrev pub frees_own : Row → QmiState → QmiState
+frees_own row x = with_traffic (frees_id 0 row.note.service row.note.client x.beside.traffic) x
+
+-- the first argument says whether the proxy itself asked
+abbrev pub refuses_sender : Bool → Row → QmiState → QmiState
+refuses_sender true row x = frees_own row x
+refuses_sender false row x = tell row.conn (result_reply row.note.head aborted) x
+
 -- the sender of a request is refused, and its number stays in use
 abbrev pub refuses : Bool → Row → QmiState → QmiState
 refuses control row x =
-    tell row.conn (result_reply row.note.head aborted)
+    refuses_sender (row.conn == 0) row
     (with_traffic (with_numbers control (silences row.number (of_control control x.beside.traffic)) x.beside.traffic) x)
 
 -- those of a space whose time has come, each where it still waits when its turn comes, at most so many
@@ -134,19 +143,21 @@ change_by c note m holder =
 abbrev pub holder_brought : List ℕ → Traffic → Option ℕ
 holder_brought m traffic = holder_in (byte_of 0 (value_of 0x01 m)) (byte_of 1 (value_of 0x01 m)) traffic.held
 
-abbrev pub with_held : List Grant → QmiState → QmiState
-with_held held x = with_traffic (record x.beside.traffic { held = held }) x
-
 -- the response under the sender's own number, or a refusal in its place
 abbrev pub answers : Row → List ℕ → IdChange → QmiState → QmiState
 answers row m NoChange x = tell row.conn (with_number (number_of row.note.head) m) x
-answers row m (Grants service client) x = tell row.conn (with_number (number_of row.note.head) m) (with_held (granted row.conn service client x.beside.traffic.held) x)
+answers row m (Grants service client) x = tell row.conn (with_number (number_of row.note.head) m) (with_traffic (grants_id row.conn service client x.beside.traffic) x)
 answers row m Collides x = tell row.conn (result_reply row.note.head client_ids_exhausted) x
-answers row m (Frees service client) x = tell row.conn (with_number (number_of row.note.head) m) (with_held (releases row.conn service client x.beside.traffic.held) x)
+answers row m (Frees service client) x = tell row.conn (with_number (number_of row.note.head) m) (with_traffic (frees_id row.conn service client x.beside.traffic) x)
+
+-- the first argument says whether the proxy itself asked: then nobody is told, whatever the answer says
+abbrev pub answers_sender : Bool → Row → List ℕ → QmiState → QmiState
+answers_sender true row m x = frees_own row x
+answers_sender false row m x = answers row m (change_by row.conn row.note m (holder_brought m x.beside.traffic)) x
 
 -- a late answer is for nobody
 abbrev pub answers_if : Bool → Row → List ℕ → QmiState → QmiState
-answers_if true row m x = answers row m (change_by row.conn row.note m (holder_brought m x.beside.traffic)) x
+answers_if true row m x = answers_sender (row.conn == 0) row m x
 answers_if false row m x = x
 
 abbrev pub fits : List ℕ → Row → Bool
@@ -216,12 +227,33 @@ regain side = record side { away = false }
 abbrev pub take_modem : ℕ → ModemSide → ModemSide
 take_modem count side = record side { traffic = record side.traffic { waiting = drop count side.traffic.waiting } }
 
+-- the proxy's own Release of this id goes to the modem under this number
+abbrev pub releases_one : KeptId → ℕ → QmiState → QmiState
+releases_one k number x = with_traffic (asks_release (deadline_of x.beside.time x.beside.time_limit) k number x.beside.traffic) x
+
+-- the ids that are kept for so long, one after the other, up to the first for which no number or no room is there, and at most so many
+unfoldable pub releases_in : (after : ℕ) → ℕ → QmiState → QmiState
+releases_in after zero x = x
+releases_in after (suc count) x =
+    elim (release.first_due after x.beside.time x.beside.traffic.kept) [
+      | None ↦ x
+      | Some k ↦ elim (number_for_own k x.beside.traffic) [ None ↦ x | Some number ↦ releases_in after count (releases_one k number x) ]
+    ]
+
+abbrev pub releases_due : Option ℕ → QmiState → QmiState
+releases_due None x = x
+releases_due (Some after) x = releases_in after (length x.beside.traffic.kept) x
+
+abbrev pub shows : ℕ → QmiState → QmiState
+shows time x = expires (max time x.beside.time) (record x { beside = record x.beside { time = max time x.beside.time } })
+
+-- requests whose time is over are refused, and then ids are released that are due
 abbrev pub tick : ℕ → QmiState → QmiState
-tick time x = expires (max time x.beside.time) (record x { beside = record x.beside { time = max time x.beside.time } })
+tick time x = releases_due x.beside.release (shows time x)
 
 -- ---- each event ----
 
--- QMI's core asks the modem nothing by itself
+-- QMI's core asks the modem nothing by itself but when the clock shows a time
 abbrev pub qmi_handlers : Handlers Client ModemSide
 qmi_handlers = record {
   time = λ side. side.time;

@@ -1,5 +1,5 @@
 -- The laws of each rig for QMI.
-use Rattle.std.proofs.Common.{ℕ, ◌≤◌, List, length, refl, ap, ◌∙◌}
+use Rattle.std.proofs.Common.{ℕ, ◌≤◌, List, length, refl, ap, ◌∙◌, arith}
 use Rattle.proxy_history.specs.Events.{Event}
 use Rattle.qmi_proxy.specs.Proxy.{proxy_of}
 use Rattle.qmi_proxy.specs.History.{qmi_protocol}
@@ -29,7 +29,7 @@ module _ (clients turns number : ℕ) (some : 1 ≤ clients) (within : clients �
   qmi_is_lawful = record {
     meets = each_meets_its_part clients turns number some within;
     same = each_takes_the_same clients turns number some within;
-    takes = λ c low high. takes_what_waits (qmi_protocol setup) (λ past. 0) (solo setup c events) (alone_is_sound setup c events (let_alone c));
+    takes = λ c low high. takes_what_waits (qmi_protocol setup) (λ past. 0) (solo setup c events) (alone_is_sound setup c events (λ e. absurd (omega (arith, low, e))) (let_alone c));
     counts = requests_are_counted clients turns number some within few;
     its_clients = refl;
     its_turns = refl;

@@ -1,5 +1,5 @@
 -- A response that the modem writes suits the request that it answers.
-use Rattle.std.proofs.Common.{◌≡◌, ℕ, ◌+◌, ◌≤◌, Bool, true, false, ◌&&◌, ◌==◌, if◌then◌else◌, List, ◌∷◌, ◌++◌, length, Option, Some, None, refl, ap, sym, ◌∙◌, arith, lit≤, length-append}
+use Rattle.std.proofs.Common.{◌≡◌, ℕ, ◌≤◌, true, false, ◌&&◌, ◌==◌, if◌then◌else◌, List, ◌∷◌, ◌++◌, length, Option, Some, None, ap, sym, ◌∙◌, arith, lit≤, length-append}
 use Rattle.std.proofs.lemmas.Bool.{eq-eqb, and_from}
 use Rattle.kit_bytes.specs.Numbers.{u16_bytes}
 use Rattle.qmux_frame.specs.declared.head.Head.{Head}
@@ -11,7 +11,6 @@ use Rattle.qmux_frame.specs.Kind.{kind_by}
 use Rattle.qmux_frame.specs.Control.{is_release}
 use Rattle.qmux_frame.specs.Writing.{head_text, inner_head, message_text}
 use Rattle.qmux_frame.proofs.Written.{written_is_read}
-use Rattle.proxy_history.specs.Coming.{piece_limit}
 use Rattle.proxy_history.specs.Facts.{Request}
 use Rattle.qmi_proxy.specs.Messages.{value_of, byte_of}
 use Rattle.qmi_proxy.specs.FromModem.{brings_id}

@@ -1,6 +1,7 @@
 -- What holds of a rig's facts at every moment, and how each fact keeps it. Lists of facts have the newest first.
-use Rattle.std.proofs.Common.{◌≡◌, ℕ, ◌+◌, ◌<◌, ◌≤◌, Bool, true, false, not, ◌&&◌, ◌||◌, ◌==◌, if◌then◌else◌, List, [], ◌∷◌, ◌++◌, length, drop, refl, ap, sym, ◌∙◌, arith, append_assoc, append-nil, length-append}
-use Rattle.std.specs.List.{range_with_len}
+use Rattle.std.proofs.Common.{◌≡◌, ℕ, ◌+◌, ◌≤◌, Bool, true, false, not, ◌&&◌, ◌==◌, if◌then◌else◌, List, [], ◌∷◌, ◌++◌, length, drop, refl, ap, sym, ◌∙◌, arith, append_assoc, append-nil, length-append}
+use Rattle.std.specs.List.{AllByRecursion, range_with_len}
+use Rattle.kit_bytes.proofs.Lists.{all_filter, all_push}
 use Rattle.std.proofs.lemmas.Bool.{or_left, or_right}
 use Rattle.std.proofs.lemmas.Bool.Decides.{nat_tests}
 use Rattle.std.proofs.Math.Seq.{drop-append_seam}
@@ -18,6 +19,9 @@ use Rattle.qmi_proxy.specs.Clients.{wire}
 use Rattle.rig_laws.proofs.Lists.{range-more}
 use Rattle.rig_laws.proofs.Harmless.{AreHarmless}
 
+abbrev pub IsClients : Request → Type 0
+IsClients r = (r.conn == 0) ≡ false
+
 module _ (s : Setup) where
   -- so many clients joined, and the first of them have opened the device; these requests are in use, and these bytes wait for the modem
   pub record Calm (joined opened : ℕ) (requests : List Request) (queue : List ℕ) (past : List Fact) : Type 0 where
@@ -25,6 +29,8 @@ module _ (s : Setup) where
     pub harmless : AreHarmless s past
     pub open_ones : (c : ℕ) → 1 ≤ c → c ≤ opened → is_open s.device (view_of c past) ≡ true
     pub uses : in_use past ≡ requests
+    -- the proxy itself asks nothing
+    pub clients : AllByRecursion IsClients requests
     -- before anybody opened the device nobody said anything
     pub quiet : opened ≡ 0 → (c : ℕ) → message_count c past ≡ 0
     -- what the modem took, and what waits for it
@@ -51,11 +57,11 @@ module _ (s : Setup) where
 
     pub begun : Calm joined opened requests queue (EventBegan ∷ past)
     unfolding present in_use view message_count to_modem modem_drained
-    begun = record { there = calm.there; harmless = (tt, calm.harmless); open_ones = calm.open_ones; uses = calm.uses; quiet = calm.quiet; taken = calm.taken; to_it = calm.to_it; count = calm.count }
+    begun = record { there = calm.there; harmless = (tt, calm.harmless); open_ones = calm.open_ones; uses = calm.uses; clients = calm.clients; quiet = calm.quiet; taken = calm.taken; to_it = calm.to_it; count = calm.count }
 
     pub timed : (time : ℕ) → Calm joined opened requests queue (TimeIs time ∷ past)
     unfolding present in_use view message_count to_modem modem_drained
-    timed time = record { there = calm.there; harmless = (tt, calm.harmless); open_ones = calm.open_ones; uses = calm.uses; quiet = calm.quiet; taken = calm.taken; to_it = calm.to_it; count = calm.count }
+    timed time = record { there = calm.there; harmless = (tt, calm.harmless); open_ones = calm.open_ones; uses = calm.uses; clients = calm.clients; quiet = calm.quiet; taken = calm.taken; to_it = calm.to_it; count = calm.count }
 
     pub drained : (c count : ℕ) → Calm joined opened requests queue (Drained c count ∷ past)
     unfolding present in_use view message_count to_modem modem_drained
@@ -64,6 +70,7 @@ module _ (s : Setup) where
       harmless = (tt, calm.harmless);
       open_ones = λ c low high. stays_open (d == c) (Collected count) (view_of c past) (calm.open_ones c low high);
       uses = calm.uses;
+      clients = calm.clients;
       quiet = calm.quiet;
       taken = calm.taken;
       to_it = calm.to_it;
@@ -77,6 +84,7 @@ module _ (s : Setup) where
       harmless = (tt, calm.harmless);
       open_ones = λ c low high. stays_open (r.conn == c) (Refused r.place NoAnswer) (view_of c past) (calm.open_ones c low high);
       uses = calm.uses;
+      clients = calm.clients;
       quiet = calm.quiet;
       taken = calm.taken;
       to_it = calm.to_it;
@@ -85,7 +93,7 @@ module _ (s : Setup) where
 
     pub granted : (c service client : ℕ) → client ≡ c → Calm joined opened requests queue (Granted c service client ∷ past)
     unfolding present in_use view message_count to_modem modem_drained
-    granted c service client own = record { there = calm.there; harmless = (own, calm.harmless); open_ones = calm.open_ones; uses = calm.uses; quiet = calm.quiet; taken = calm.taken; to_it = calm.to_it; count = calm.count }
+    granted c service client own = record { there = calm.there; harmless = (own, calm.harmless); open_ones = calm.open_ones; uses = calm.uses; clients = calm.clients; quiet = calm.quiet; taken = calm.taken; to_it = calm.to_it; count = calm.count }
 
     pub judged : (c place : ℕ) (m : List ℕ) → 1 ≤ c → c ≤ opened → Calm joined opened requests queue (Judged c place m Forward ∷ past)
     unfolding present in_use view message_count to_modem modem_drained
@@ -94,6 +102,7 @@ module _ (s : Setup) where
       harmless = (tt, calm.harmless);
       open_ones = λ c low high. stays_open (d == c) (Sent m Forward) (view_of c past) (calm.open_ones c low high);
       uses = calm.uses;
+      clients = calm.clients;
       quiet = λ none c. absurd (omega (arith, none, low, high));
       taken = calm.taken;
       to_it = calm.to_it;
@@ -102,13 +111,14 @@ module _ (s : Setup) where
 
     -- ---- requests ----
 
-    pub forwarded : (r : Request) → Calm joined opened (requests ++ r ∷ []) (queue ++ wire r) (Forwarded r ∷ past)
+    pub forwarded : (r : Request) → IsClients r → Calm joined opened (requests ++ r ∷ []) (queue ++ wire r) (Forwarded r ∷ past)
     unfolding present in_use view message_count to_modem modem_drained
-    forwarded r = record {
+    forwarded r client = record {
       there = calm.there;
       harmless = (tt, calm.harmless);
       open_ones = calm.open_ones;
       uses = ap (λ (l : List Request). l ++ r ∷ []) calm.uses;
+      clients = all_push IsClients requests r calm.clients client;
       quiet = calm.quiet;
       taken = calm.taken;
       to_it = ap (λ (l : List ℕ). l ++ wire r) calm.to_it ∙ append_assoc calm.taken queue (wire r);
@@ -122,6 +132,7 @@ module _ (s : Setup) where
       harmless = (tt, calm.harmless);
       open_ones = λ c low high. stays_open (r.conn == c) (Response r.place (blank m)) (view_of c past) (calm.open_ones c low high);
       uses = ap (without_request r) calm.uses;
+      clients = all_filter IsClients _ requests calm.clients;
       quiet = calm.quiet;
       taken = calm.taken;
       to_it = calm.to_it;
@@ -130,7 +141,7 @@ module _ (s : Setup) where
 
     pub late : (r : Request) → Calm joined opened (without_request r requests) queue (Late r ∷ past)
     unfolding present in_use view message_count to_modem modem_drained
-    late r = record { there = calm.there; harmless = (tt, calm.harmless); open_ones = calm.open_ones; uses = ap (without_request r) calm.uses; quiet = calm.quiet; taken = calm.taken; to_it = calm.to_it; count = calm.count }
+    late r = record { there = calm.there; harmless = (tt, calm.harmless); open_ones = calm.open_ones; uses = ap (without_request r) calm.uses; clients = all_filter IsClients _ requests calm.clients; quiet = calm.quiet; taken = calm.taken; to_it = calm.to_it; count = calm.count }
 
     -- ---- the modem takes all that waits ----
 
@@ -141,6 +152,7 @@ module _ (s : Setup) where
       harmless = (tt, calm.harmless);
       open_ones = calm.open_ones;
       uses = calm.uses;
+      clients = calm.clients;
       quiet = calm.quiet;
       taken = calm.taken ++ queue;
       to_it = calm.to_it ∙ sym (append-nil (calm.taken ++ queue));
@@ -160,6 +172,7 @@ module _ (s : Setup) where
     harmless = (tt, calm.harmless);
     open_ones = λ c low high. absurd (omega arith);
     uses = calm.uses;
+    clients = calm.clients;
     quiet = λ none c. quiet_still (joined + 1 == c) (message_count c past) (calm.quiet none c);
     taken = calm.taken;
     to_it = calm.to_it;
@@ -180,6 +193,7 @@ module _ (s : Setup) where
     harmless = ((fine, opening), calm.harmless);
     open_ones = λ c low high. opened_now (opened + 1 == c) m (view_of c past) fine opening (λ other. calm.open_ones c low (grind (arith, nat_tests, other)));
     uses = calm.uses;
+    clients = calm.clients;
     quiet = λ none c. absurd (omega (arith, none));
     taken = calm.taken;
     to_it = calm.to_it;

@@ -1,6 +1,7 @@
 -- What holds of a rig's events at every moment, and how each event keeps it. Lists of events and of facts have the newest first.
-use Rattle.std.proofs.Common.{◌≡◌, ℕ, ◌+◌, ◌*◌, ◌<◌, ◌≤◌, max, Bool, true, false, ◌==◌, nat_lt, if◌then◌else◌, List, [], ◌∷◌, ◌++◌, length, map, Option, Some, None, refl, ap, sym, ◌∙◌, arith, subst, Contains}
-use Rattle.std.specs.List.{range_with_len}
+use Rattle.std.proofs.Common.{◌≡◌, ℕ, ◌+◌, ◌*◌, ◌<◌, ◌≤◌, max, Bool, true, false, ◌==◌, nat_lt, nat_le, ⊎_elim, if◌then◌else◌, List, [], ◌∷◌, ◌++◌, length, map, Option, Some, None, refl, ap, sym, ◌∙◌, arith, subst, Contains}
+use Rattle.std.specs.List.{AllByRecursion}
+use Rattle.std.proofs.lemmas.List.Elements.{All-contains, All-weaker, All-contains_itself, All-from_recursion, recursion_from_All}
 use Rattle.std.proofs.lemmas.Bool.{lt-ltb}
 use Rattle.framing.specs.Framing.{IsMessage}
 use Rattle.framing.specs.Cutting.{cut, cut_from}
@@ -13,12 +14,13 @@ use Rattle.proxy_history.specs.Items.{Says, Garbles, ModemSays, ModemFails, item
 use Rattle.proxy_history.specs.Facts.{Fact, Request, EventBegan, Own, NotAdmitted, Ended, Admitted, Judged, Drained, TimeIs}
 use Rattle.proxy_history.specs.Connections.{present, is_present, contains, message_count}
 use Rattle.proxy_history.specs.Requests.{in_use, pending}
-use Rattle.proxy_history.specs.Modem.{now, to_modem, modem_drained, modem_queue}
+use Rattle.proxy_history.specs.Modem.{now, modem_queue}
 use Rattle.proxy_history.specs.View.{view}
 use Rattle.proxy_history.specs.Unanswered.{due}
 use Rattle.proxy_history.specs.History as proxy
 use Rattle.proxy_history.proofs.Walk.{was_asked}
-use Rattle.proxy_history.proofs.Sound.{forwarded_from_in_use}
+use Rattle.proxy_history.proofs.Sound.{forwarded_from_in_use, in_use_from_pending}
+use Rattle.proxy_history.proofs.Lists.{Contains-filter_from}
 use Rattle.proxy_solo.proofs.Pieces.{ends_message}
 use Rattle.qmi_proxy.specs.Setup.{Setup}
 use Rattle.qmi_proxy.specs.Limits.{connection_limit, outbox_limit}
@@ -27,15 +29,16 @@ use Rattle.qmi_proxy.specs.Messages.{is_malformed, opens}
 use Rattle.qmi_proxy.specs.Clients.{wire, hear_client}
 use Rattle.qmi_proxy.specs.FromModem.{hear_modem, in_expiry_order}
 use Rattle.qmi_proxy.specs.History.{qmi_protocol, add_all, history, text_for}
-use Rattle.qmi_proxy.proofs.Walk.{Asks}
+use Rattle.qmi_proxy.proofs.Walk.{only_those, Asks}
 use Rattle.qmi_proxy.proofs.Sound.{begun_is_sound, requests_are_asked}
 use Rattle.qmi_proxy.proofs.Room.{nobody_there_is_over}
 use Rattle.qmi_solo.specs.Law.{AreSound}
 use Rattle.rig_laws.proofs.Lists.{in_range, length-range}
 use Rattle.rig_laws.proofs.Few.{few_expire}
 use Rattle.rig_laws.proofs.Plain.{ArePlain, AtEach, IsHarmlessNow}
-use Rattle.rig_laws.proofs.Calm.{Calm, queue_is, taken_within, begun, timed, drained, modem_drained_all, admitted, judged_opening}
-use Rattle.rig_laws.proofs.Room.{HasRoom, AllHaveRoom, fewer, all_expire}
+use Rattle.rig_laws.proofs.Harmless.{none_released}
+use Rattle.rig_laws.proofs.Calm.{IsClients, Calm, queue_is, taken_within, begun, timed, drained, modem_drained_all, admitted, judged_opening}
+use Rattle.rig_laws.proofs.Room.{AllHaveRoom, fewer, all_expire}
 use Rattle.rig_laws.proofs.Says.{IsRequestOf, IsForwarded, opening_is_answered, request_is_forwarded}
 use Rattle.rig_laws.proofs.Hears.{Suits, answer_is_heard}
 
@@ -221,7 +224,9 @@ module _ (s : Setup) where
   -- each request in use is of its message's space
   pub placed : (events : List Event) (r : Request) → Contains (in_use (EventBegan ∷ history s events)) r → r.space ≡ space_of r.message
   unfolding in_use
-  placed events r at = (was_asked (qmi_protocol s) (Asks s) (history s events) r (requests_are_asked s events) (forwarded_from_in_use (history s events) r at)).1.space
+  placed events r at =
+      let asked = was_asked (qmi_protocol s) (Asks s) (history s events) r (requests_are_asked s events) (forwarded_from_in_use (history s events) r at) in
+      ⊎_elim (λ newest. newest.space) (λ own. own.space) asked.1
 
   pub answers : {joined opened : ℕ} {events : List Event} (m : List ℕ) (before : List Request) (r : Request) (behind : List Request) → Suits m r → Going joined opened (before ++ r ∷ behind) [] events → AllAreServed events
       → Going joined opened (before ++ behind) [] (ModemPiece m ∷ events)
@@ -263,7 +268,14 @@ module _ (s : Setup) where
       let calm : Calm s joined opened requests queue began = begun s going.calm in
       let count : length due_ones ≤ 400 = let used : length (in_use began) ≡ length requests = ap length calm.uses in omega (arith, few_expire shown began, used, few) in
       let room : AllHaveRoom s (20 * length due_ones) began = fewer s (20 * length due_ones) outbox_limit began (omega (arith, count)) (all_have_room events served) in
-      let after : Calm s joined opened requests queue (history s (Now time ∷ events)) = all_expire s due_ones (TimeIs shown ∷ began) (timed s calm shown) (room_then (20 * length due_ones) shown began room) in
+      let clients : AllByRecursion IsClients due_ones =
+      recursion_from_All IsClients due_ones
+      (All-weaker (Contains due_ones) IsClients
+      (λ r at. All-contains IsClients requests r (All-from_recursion IsClients requests calm.clients)
+      (subst (λ (l : List Request). Contains l r) calm.uses (in_use_from_pending began r (Contains-filter_from (λ r. nat_le r.deadline shown) (pending began) r (only_those (due shown (pending began)) r at))))) due_ones (All-contains_itself due_ones))
+      in
+      let expired = all_expire s due_ones (TimeIs shown ∷ began) clients (timed s calm shown) (room_then (20 * length due_ones) shown began room) in
+      let after : Calm s joined opened requests queue (history s (Now time ∷ events)) = subst (Calm s joined opened requests queue) (sym (none_released s s.release _ expired.harmless)) expired in
       record {
         sound = (tt, going.sound);
         names = going.names;

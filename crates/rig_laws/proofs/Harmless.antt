@@ -1,11 +1,11 @@
 -- Facts that tell nobody of others and refuse nothing, and what they leave as it is.
-use Rattle.std.proofs.Common.{◌≡◌, ℕ, Bool, true, false, not, ◌&&◌, ◌==◌, if◌then◌else◌, List, [], ◌∷◌, Some, refl, ap, sym, ◌∙◌, arith}
+use Rattle.std.proofs.Common.{◌≡◌, ℕ, Bool, true, false, not, ◌&&◌, ◌==◌, if◌then◌else◌, List, [], ◌∷◌, length, filter, Option, Some, None, refl, ap, sym, ◌∙◌, arith}
 use Rattle.std.specs.List.{AllByRecursion}
 use Rattle.std.proofs.lemmas.Bool.{eqb-true, eq-eqb, and_parts}
 use Rattle.kit_bytes.proofs.Lists.{all_filter, all_push}
 use Rattle.proxy_history.specs.Facts.{Fact, Own, Foreign, Away, Full, Forward, Ready, Waits, Admitted, Ended, Judged, Drained, Answered, IdHeld, Expired, Aborted, Indicated, OpeningEnded, SessionsClosed, Granted, Freed, Reset, ModemLost, ModemReturned}
 use Rattle.proxy_history.specs.Connections.{contains}
-use Rattle.proxy_history.specs.ClientIds.{Grant, is_of, held, holder_in, holder, is_other}
+use Rattle.proxy_history.specs.ClientIds.{Grant, KeptId, is_of, held, kept, holder_in, holder, is_other}
 use Rattle.proxy_history.specs.Modem.{is_away}
 use Rattle.proxy_history.specs.View.{Entry, Sent, Response, Refused, Indication, OpenedWith, Shut, Collected, NoAnswer, entry_if, view}
 use Rattle.proxy_solo.specs.Law.{tells_of_others}
@@ -14,6 +14,7 @@ use Rattle.qmi_proxy.specs.Setup.{Setup}
 use Rattle.qmi_proxy.specs.Errors.{malformed_message, no_error, internal, invalid_client_id}
 use Rattle.qmi_proxy.specs.Messages.{is_malformed, opens}
 use Rattle.qmi_proxy.specs.OwnReplies.{is_open, own_error}
+use Rattle.qmi_proxy.specs.Releases.{releases, release_due}
 use Rattle.qmi_proxy.specs.Text.{blank, view_of}
 use Rattle.rig_runs.specs.Counts as rig
 use Rattle.rig_runs.specs.Lines.{one_if, refused}
@@ -106,6 +107,21 @@ module _ (s : Setup) where
   is_there there (_ ∷ past) all = is_there there past all.1
 
   -- ---- client ids ----
+
+  -- nobody has gone, so no id is kept, and the proxy itself releases none
+  none_kept : (past : List Fact) → AreHarmless past → kept past ≡ []
+  unfolding kept
+  none_kept [] all = refl
+  none_kept (Granted c service client ∷ past) all = ap (filter (λ (k : KeptId). not (k.service == service && (k.client == client)))) (none_kept past all.1)
+  none_kept (Ended c why ∷ past) all = absurd all.0
+  none_kept (Reset ∷ past) all = absurd all.0
+  none_kept (ModemLost ∷ past) all = absurd all.0
+  none_kept (_ ∷ past) all = none_kept past all.1
+
+  pub none_released : (after : Option ℕ) (past : List Fact) → AreHarmless past → release_due s after past ≡ past
+  unfolding releases
+  none_released None past all = refl
+  none_released (Some after) past all = ap (λ (l : List KeptId). releases s after (length l) past) (none_kept past all)
 
   abbrev AreOwn : List Grant → Type 0
   AreOwn grants = AllByRecursion (λ g. g.client ≡ g.conn) grants

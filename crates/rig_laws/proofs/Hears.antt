@@ -1,7 +1,7 @@
 -- What an answer of the modem adds to a rig's facts. Lists of facts have the newest first.
-use Rattle.std.proofs.Common.{◌≡◌, ℕ, zero, ◌+◌, ◌<◌, ◌≤◌, Bool, true, false, ◌&&◌, ◌==◌, if◌then◌else◌, List, [], ◌∷◌, ◌++◌, length, Option, Some, None, refl, ap, sym, ◌∙◌, arith, subst, AllPairs, Contains}
+use Rattle.std.proofs.Common.{◌≡◌, ℕ, zero, ◌+◌, ◌≤◌, Bool, true, false, ◌&&◌, ◌==◌, if◌then◌else◌, List, [], ◌∷◌, ◌++◌, length, Option, Some, refl, ap, sym, ◌∙◌, arith, subst, AllPairs, Contains}
 use Rattle.std.proofs.lemmas.Bool.{eq-eqb}
-use Rattle.std.proofs.lemmas.List.Elements.{Contains-append_right}
+use Rattle.std.proofs.lemmas.List.Elements.{All-contains, All-from_recursion, Contains-append_right}
 use Rattle.framing.specs.Framing.{IsMessage}
 use Rattle.qmux_frame.specs.Frame.{size_of}
 use Rattle.qmux_frame.specs.Head.{number_of}
@@ -12,7 +12,7 @@ use Rattle.qmux_frame.specs.Reply.{with_number}
 use Rattle.qmux_frame.proofs.Framed.{framed_long, responses_framed, numbered_length}
 use Rattle.proxy_history.specs.Coming.{piece_limit}
 use Rattle.proxy_history.specs.Facts.{Fact, Request, Answered, Late, Granted}
-use Rattle.proxy_history.specs.Connections.{present, is_present}
+use Rattle.proxy_history.specs.Connections.{present}
 use Rattle.proxy_history.specs.Requests.{in_use, is_pending, without_request}
 use Rattle.proxy_history.specs.ClientIds.{holder, is_other}
 use Rattle.proxy_history.specs.Sound.{IsSound, Differ}
@@ -24,12 +24,12 @@ use Rattle.qmi_proxy.specs.Limits.{qmi_limits, outbox_limit}
 use Rattle.qmi_proxy.specs.Spaces.{space_of}
 use Rattle.qmi_proxy.specs.Messages.{is_success, byte_of, value_of, used_service, used_client}
 use Rattle.qmi_proxy.specs.Text.{blank, text, view_of, rendering, note}
-use Rattle.qmi_proxy.specs.FromModem.{IdChange, NoChange, Frees, granted_unless, id_change, brings_id, holder_of_brought, is_answered_by, first_answered_by, answer, answer_or_late, respond, hear_as, hear_modem}
+use Rattle.qmi_proxy.specs.FromModem.{IdChange, NoChange, Frees, granted_unless, brings_id, holder_of_brought, is_answered_by, first_answered_by, answer, answer_to, answer_or_late, respond, hear_as, hear_modem}
 use Rattle.qmi_proxy.proofs.Apart.{within}
 use Rattle.qmi_proxy.proofs.Answered.{one_is_answered, first_is}
 use Rattle.rig_laws.proofs.Lists.{goes_from_between}
 use Rattle.rig_laws.proofs.Harmless.{own_id_is_free}
-use Rattle.rig_laws.proofs.Calm.{Calm, answered, late, granted}
+use Rattle.rig_laws.proofs.Calm.{IsClients, Calm, answered, late, granted}
 use Rattle.rig_laws.proofs.Room.{HasRoom, AllHaveRoom, put_has_room, less_room, noted}
 
 -- the modem's answer to the request, which brings no client id but that of its client's own number
@@ -114,8 +114,12 @@ module _ (s : Setup) (m : List ℕ) (r : Request) (suits : Suits m r) where
     changed true e = brings (is_other r.conn (holder_of_brought m past)) (not_others (suits.own_id e)) (suits.own_id e)
     changed false e = frees_none (is_release r.message) suits.keeps_ids
 
+    client : IsClients r
+    client =
+        All-contains IsClients (before ++ r ∷ behind) r (All-from_recursion IsClients (before ++ r ∷ behind) calm.clients) (Contains-append_right before (r ∷ behind) r (zero, omega arith, refl))
+
     waits_or_not : (b : Bool) → IsCalm (answer_or_late s.device b r m past)
-    waits_or_not true = changed (brings_id r.message m) refl
+    waits_or_not true = subst (λ (own : Bool). IsCalm (answer_to own s.device r m past)) (sym client) (changed (brings_id r.message m) refl)
     waits_or_not false = calm_without (Late r ∷ past) (late s calm r)
 
     pub answer_is_heard : IsCalm (hear_modem s.device m past)

@@ -1,5 +1,5 @@
 -- Whatever is drawn, each client of a rig gets the bytes that it gets alone.
-use Rattle.std.proofs.Common.{◌≡◌, ℕ, ◌+◌, ◌*◌, ◌≤◌, Bool, true, false, not, ◌&&◌, ◌==◌, List, [], ◌∷◌, ◌++◌, length, filter, codes, decimal, bytes_eq, refl, ap, sym, ◌∙◌, arith, subst, append_assoc}
+use Rattle.std.proofs.Common.{◌≡◌, ◌≢◌, ℕ, ◌+◌, ◌*◌, ◌≤◌, true, false, not, ◌==◌, List, [], ◌∷◌, ◌++◌, length, filter, codes, decimal, bytes_eq, refl, ap, ◌∙◌, arith, append_assoc}
 use Rattle.std.specs.List.{list_all, range_with_len}
 use Rattle.std.proofs.lemmas.Bool.{and_from, eq-eqb, not_from_false}
 use Rattle.std.proofs.lemmas.List.Elements.{All-from_recursion}
@@ -16,14 +16,13 @@ use Rattle.qmi_proxy.specs.Text.{view_of}
 use Rattle.qmi_proxy.specs.History.{qmi_protocol, history, text_for}
 use Rattle.qmi_proxy.proofs.Walk.{Asks, orderly}
 use Rattle.qmi_solo.specs.Law.{AreSound, IsLetAlone}
-use Rattle.qmi_solo.specs.Solo.{solo}
 use Rattle.qmi_solo.proofs.Law.{gets_the_same_alone}
 use Rattle.rig_runs.specs.Qmi.{setup, script, qmi_rig}
 use Rattle.rig_runs.specs.Qmi as rig
 use Rattle.rig_runs.specs.Rig.{played, ended}
 use Rattle.rig_runs.specs.Lines.{is_let_alone, gets_the_same, refused, counted, equal, Summary, summary, line, lines_of}
-use Rattle.rig_laws.specs.Laws.{OfEachRig, EventsMayCome, NobodyIsDisturbed, EachGetsTheSame, NothingIsRefused, EndsWithAll, LastLinesSayAll, last_line}
-use Rattle.rig_laws.proofs.Lists.{in_range, filter-all, length-range}
+use Rattle.rig_laws.specs.Laws.{OfEachRig, EventsMayCome, NobodyIsDisturbed, EachGetsTheSame, NothingIsRefused, LastLinesSayAll}
+use Rattle.rig_laws.proofs.Lists.{in_range, filter-all, length-range, each_of}
 use Rattle.rig_laws.proofs.Harmless.{AreHarmless, AreUndisturbed, undisturbed, none_refused}
 use Rattle.rig_laws.proofs.Plain.{ArePlain, AtEach, IsHarmlessNow}
 use Rattle.rig_laws.proofs.Events.{AllAreServed}
@@ -62,15 +61,16 @@ module _ (clients turns number : ℕ) (some : 1 ≤ clients) (within : clients �
       filter-all (is_let_alone setup (history setup events)) (range_with_len 1 clients)
       (every (λ (c : ℕ). is_let_alone setup (history setup events) c ≡ true) (λ c. let_alone (view_of c (history setup events)) (nobody c)) (range_with_len 1 clients))
 
-  gets_it : (c : ℕ) → gets_the_same setup events c ≡ true
-  gets_it c =
+  gets_it : (c : ℕ) → 1 ≤ c → gets_the_same setup events c ≡ true
+  gets_it c low =
+      let client : c ≢ 0 = λ e. absurd (omega (arith, low, e)) in
       let alone : IsLetAlone setup c events = let_alone_now c events sound usual.stands.going.calm.harmless in
-      ap (λ (r : Rendering). bytes_eq (text_for setup c events).bytes r.bytes) (gets_the_same_alone setup c events alone) ∙ same_bytes (text_for setup c events).bytes
+      ap (λ (r : Rendering). bytes_eq (text_for setup c events).bytes r.bytes) (gets_the_same_alone setup c events client alone) ∙ same_bytes (text_for setup c events).bytes
 
   all_are_equal : equal setup clients events ≡ range_with_len 1 clients
   all_are_equal =
       ap (filter (gets_the_same setup events)) all_are_counted
-      ∙ filter-all (gets_the_same setup events) (range_with_len 1 clients) (every (λ (c : ℕ). gets_the_same setup events c ≡ true) gets_it (range_with_len 1 clients))
+      ∙ filter-all (gets_the_same setup events) (range_with_len 1 clients) (each_of (λ (c : ℕ). gets_the_same setup events c ≡ true) clients 1 (omega arith) gets_it)
 
   is_there : (c : ℕ) → 1 ≤ c → c ≤ clients → is_present c (history setup events) ≡ true
   is_there c low high = ap (contains c) usual.stands.going.calm.there ∙ in_range clients 1 c low (omega (arith, high))

@@ -1,5 +1,5 @@
 -- Lists of numbers, and requests that differ.
-use Rattle.std.proofs.Common.{◌≡◌, ℕ, zero, suc, ◌+◌, ◌<◌, ◌≤◌, Bool, true, false, not, cond, ◌||◌, ◌==◌, List, [], ◌∷◌, ◌++◌, length, filter, refl, ap, sym, ◌∙◌, arith, All, AllPairs, Contains}
+use Rattle.std.proofs.Common.{◌≡◌, ℕ, zero, suc, ◌+◌, ◌<◌, ◌≤◌, Bool, true, false, not, cond, ◌||◌, ◌==◌, List, [], ◌∷◌, ◌++◌, length, filter, refl, ap, sym, ◌∙◌, arith, AllPairs}
 use Rattle.std.specs.List.{AllByRecursion, range_with_len}
 use Rattle.std.proofs.lemmas.Bool.Decides.{nat_tests}
 use Rattle.std.proofs.lemmas.Bool.{eqb-true, eq-eqb, false_from_ne_true}
@@ -78,3 +78,8 @@ pub filter_none : (p : ℕ → Bool) (n a : ℕ) → ((c : ℕ) → a ≤ c → 
 filter_none p zero a none = refl
 filter_none p (suc n) a none =
     ap (λ (b : Bool). cond b (a ∷ filter p (range_with_len (a + 1) n)) (filter p (range_with_len (a + 1) n))) (none a (omega arith)) ∙ filter_none p n (a + 1) (λ c low. none c (omega (arith, low)))
+
+-- what holds of each number from 1 on
+pub each_of : (P : ℕ → Type 0) (n a : ℕ) → 1 ≤ a → ((c : ℕ) → 1 ≤ c → P c) → AllByRecursion P (range_with_len a n)
+each_of P zero a some each = tt
+each_of P (suc n) a some each = (each a some, each_of P n (a + 1) (omega arith) each)

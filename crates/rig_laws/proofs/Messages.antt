@@ -1,11 +1,10 @@
 -- The messages that the rig's clients say.
-use Rattle.std.proofs.Common.{◌≡◌, ℕ, ◌≤◌, Bool, true, false, ◌||◌, ◌==◌, if◌then◌else◌, List, [], ◌∷◌, length, Option, Some, None, refl, ap, ◌∙◌, arith, lit≤}
+use Rattle.std.proofs.Common.{◌≡◌, ℕ, ◌≤◌, Bool, true, false, ◌==◌, if◌then◌else◌, List, [], ◌∷◌, length, Some, refl, lit≤}
 use Rattle.std.specs.Char.{encode_utf8}
 use Rattle.std.proofs.lemmas.Bool.{or_from}
 use Rattle.framing.specs.Framing.{IsMessage}
 use Rattle.framing.specs.Cutting.{cut_from}
 use Rattle.tlv_codec.specs.Tlv.{tlv_text}
-use Rattle.qmux_frame.specs.declared.head.Head.{Head}
 use Rattle.qmux_frame.specs.declared.kind.MessageKind.TheVariants as kind
 use Rattle.qmux_frame.specs.declared.writing.NewMessage.{NewMessage}
 use Rattle.qmux_frame.specs.declared.writing.Sender.TheVariants.{Host}
@@ -17,14 +16,12 @@ use Rattle.qmux_frame.specs.Reply.{with_number}
 use Rattle.qmux_frame.specs.Writing.{head_text, message_text}
 use Rattle.qmux_frame.proofs.Written.{written_is_read}
 use Rattle.proxy_history.specs.Coming.{piece_limit}
-use Rattle.qmi_requests.specs.declared.QmiRequest.{QmiRequest}
 use Rattle.qmi_requests.specs.declared.QmiRequest.TheVariants.{ProxyOpen, Allocate, NasGetSignalStrength, NasNetworkScan, NasGetServingSystem, NasGetHomeNetwork}
 use Rattle.qmi_services.specs.Table as table
 use Rattle.qmi_services.specs.Table.{Row}
 use Rattle.qmi_services.specs.Requests.{tlv}
 use Rattle.device_core.specs.Requests.{message_of}
 use Rattle.qmi_proxy.specs.Messages.{is_malformed, opens}
-use Rattle.qmi_proxy.specs.OwnReplies.{view_decides}
 use Rattle.rig_runs.specs.Qmi.{device, says, asks_for}
 use Rattle.rig_laws.proofs.Says.{IsRequestOf}
 

@@ -1,18 +1,14 @@
 -- The setup of the rig: all clients join, and each opens the device and gets the client id of its own number.
-use Rattle.std.proofs.Common.{◌≡◌, ℕ, zero, suc, ◌+◌, ◌<◌, ◌≤◌, true, false, List, [], ◌∷◌, length, fold, refl, ap, sym, ◌∙◌, arith, subst}
+use Rattle.std.proofs.Common.{◌≡◌, ℕ, zero, suc, ◌+◌, ◌<◌, ◌≤◌, true, false, List, [], length, fold, refl, ap, sym, ◌∙◌, arith, subst}
 use Rattle.std.specs.List.{range_with_len}
 use Rattle.framing.specs.Cutting.{cut_from}
-use Rattle.qmux_frame.specs.Reply.{with_number}
 use Rattle.qmux_frame.specs.Writing.{head_text}
-use Rattle.proxy_history.specs.Facts.{Request}
 use Rattle.proxy_history.specs.Streams.{stream, modem_stream}
 use Rattle.proxy_history.specs.Connections.{present, message_count}
 use Rattle.proxy_history.specs.Requests.{in_use}
 use Rattle.proxy_history.specs.Modem.{to_modem, modem_drained}
 use Rattle.proxy_history.specs.History as proxy
 use Rattle.qmi_proxy.specs.Spaces.{space_of, top_of}
-use Rattle.qmi_services.specs.Table as table
-use Rattle.qmi_requests.specs.declared.QmiRequest.TheVariants.{Allocate}
 use Rattle.sim_modem.specs.Sim.{Answering, answers}
 use Rattle.sim_qmi.specs.Modem.{machine}
 use Rattle.modem_profile.specs.Profile.{default_profile}
@@ -43,7 +39,7 @@ nothing_yet = record {
   said = [];
   said_is = refl;
   said_whole = refl;
-  calm = record { there = refl; harmless = tt; open_ones = λ c low high. absurd (omega arith); uses = refl; quiet = λ none c. refl; taken = []; to_it = refl; count = refl };
+  calm = record { there = refl; harmless = tt; open_ones = λ c low high. absurd (omega arith); uses = refl; clients = tt; quiet = λ none c. refl; taken = []; to_it = refl; count = refl };
 }
 
 module _ (clients : ℕ) (within : clients ≤ 64) where

@@ -1,5 +1,5 @@
 -- What the simulated modem replies to the rig's requests.
-use Rattle.std.proofs.Common.{◌≡◌, ℕ, zero, suc, ◌+◌, ◌%◌, ◌<◌, ◌≤◌, Bool, true, false, ◌&&◌, ◌||◌, ◌==◌, if◌then◌else◌, List, [], ◌∷◌, ◌++◌, length, Option, Some, None, Err, refl, ap, sym, ◌∙◌, arith, subst, lit≤, append-nil}
+use Rattle.std.proofs.Common.{◌≡◌, ℕ, zero, suc, ◌+◌, ◌%◌, ◌<◌, ◌≤◌, Bool, true, false, ◌&&◌, ◌||◌, ◌==◌, if◌then◌else◌, List, [], ◌∷◌, ◌++◌, length, Option, Some, Err, refl, ap, sym, ◌∙◌, arith, subst, lit≤, append-nil}
 use Rattle.std.proofs.lemmas.Bool.{or_from, or_left, or_right}
 use Rattle.std.proofs.lemmas.Bool.Decides.{nat_tests}
 use Rattle.std.proofs.lemmas.List.Folds.{list_any-append}
@@ -9,23 +9,19 @@ use Rattle.tlv_codec.specs.Tlv.{tlv_text, tlv_value}
 use Rattle.qmux_frame.specs.declared.head.Head.{Head}
 use Rattle.qmux_frame.specs.declared.writing.NewMessage.{NewMessage}
 use Rattle.qmux_frame.specs.declared.kind.MessageKind.{MessageKind}
-use Rattle.qmux_frame.specs.declared.kind.MessageKind.TheVariants as kind
 use Rattle.qmux_frame.specs.Frame.{size_of}
-use Rattle.qmux_frame.specs.Head.{head_of, tlvs_in, service_of, client_of}
-use Rattle.qmux_frame.specs.Kind.{framed_kind}
+use Rattle.qmux_frame.specs.Head.{tlvs_in, service_of, client_of}
 use Rattle.qmux_frame.specs.Control.{is_allocate, is_release}
 use Rattle.qmux_frame.specs.Reply.{with_number, reply_to}
 use Rattle.qmux_frame.specs.Writing.{head_text, message_text}
 use Rattle.qmux_frame.proofs.Written.{written_is_read}
-use Rattle.proxy_history.specs.Facts.{Request}
 use Rattle.modem_profile.specs.Profile.{default_profile}
 use Rattle.qmi_values.specs.Value.{Value}
 use Rattle.qmi_services.specs.Table as table
 use Rattle.qmi_services.specs.Modem.{row_at}
 use Rattle.qmi_services.specs.Requests.{tlv}
 use Rattle.qmi_proxy.specs.Setup.{Setup}
-use Rattle.qmi_proxy.specs.Messages.{byte_of, value_of}
-use Rattle.qmi_proxy.specs.FromModem.{brings_id}
+use Rattle.qmi_proxy.specs.Messages.{byte_of}
 use Rattle.sim_modem.specs.Sim.{Answering, answers, state_after}
 use Rattle.sim_qmi.specs.State.{State, fresh, free_id, is_given, is_client, with_client}
 use Rattle.sim_qmi.specs.Step.{failure, success}
@@ -36,7 +32,6 @@ use Rattle.sim_qmi.specs.Nas.{serving_system as told_system}
 use Rattle.sim_qmi.specs.Requests.{asked, asked_of, is_known}
 use Rattle.sim_qmi.specs.Modem.{Exchange, answer_tlvs, response, takes, takes_kind, meets, machine}
 use Rattle.sim_qmi.proofs.ClientIds.{free_from, first_free, given_isnt_free, free_here}
-use Rattle.rig_laws.proofs.Hears.{Suits}
 use Rattle.rig_laws.proofs.Answering.{suits_its_request}
 use Rattle.rig_laws.proofs.Messages.{NasKind, signal_strength, network_scan, serving_system, home_network, row_of, allocate_head, allocate_message, allocate_is, nas_head, nas_message, nas_is}
 use Rattle.rig_laws.proofs.Stage.{one_message, RepliesWell}

@@ -1,22 +1,22 @@
 -- Room for what is due to a client: nobody ends for want of it. Lists of facts have the newest first.
-use Rattle.std.proofs.Common.{◌≡◌, ℕ, ◌+◌, ◌*◌, ◌<◌, ◌≤◌, Bool, true, false, ◌&&◌, ◌||◌, ◌==◌, nat_lt, if◌then◌else◌, List, [], ◌∷◌, ◌++◌, length, refl, ap, sym, ◌∙◌, arith, subst, slice_index, lit≤, length-append}
+use Rattle.std.proofs.Common.{◌≡◌, ℕ, ◌+◌, ◌*◌, ◌≤◌, Bool, true, false, ◌&&◌, ◌||◌, ◌==◌, nat_lt, if◌then◌else◌, List, [], ◌∷◌, ◌++◌, length, refl, ap, sym, ◌∙◌, arith, subst, slice_index, lit≤, length-append}
 use Rattle.std.proofs.lemmas.Bool.Decides.{nat_tests}
-use Rattle.qmux_frame.specs.Head.{service_of, is_control, client_of, number_of}
-use Rattle.qmux_frame.specs.Reply.{with_number, result_tlv, result_reply}
-use Rattle.qmux_frame.proofs.Framed.{numbered_length}
-use Rattle.proxy_history.specs.Facts.{Fact, Request, Own, Judged, Ended, NoRoom, Answered, Expired}
+use Rattle.qmux_frame.specs.Head.{service_of, is_control, client_of}
+use Rattle.qmux_frame.specs.Reply.{result_tlv, result_reply}
+use Rattle.proxy_history.specs.Facts.{Fact, Request, Ended, NoRoom, Expired}
 use Rattle.proxy_history.specs.Connections.{present, is_present}
 use Rattle.proxy_history.specs.Requests.{is_pending}
-use Rattle.proxy_history.specs.View.{Entry, Sent, Response, Refused, NoAnswer, entry_if, view, sent_at}
+use Rattle.proxy_history.specs.View.{Entry, Refused, NoAnswer, entry_if, view, sent_at}
 use Rattle.proxy_history.specs.Rendering.{Rendering, render, put}
 use Rattle.proxy_history.specs.Noting.{end_overfull, each_pending, receivers_of}
 use Rattle.qmi_proxy.specs.Setup.{Setup}
 use Rattle.qmi_proxy.specs.Limits.{outbox_limit, qmi_limits}
-use Rattle.qmi_proxy.specs.OwnReplies.{is_open, own_error}
 use Rattle.qmi_proxy.specs.Errors.{aborted}
-use Rattle.qmi_proxy.specs.Text.{blank, text, view_of, rendering, note, qmi_wording}
+use Rattle.qmi_proxy.specs.Text.{text, view_of, rendering, note, qmi_wording}
+use Rattle.std.specs.List.{AllByRecursion}
+use Rattle.qmi_proxy.specs.Releases.{freed_if}
 use Rattle.qmi_proxy.specs.FromModem.{refuse}
-use Rattle.rig_laws.proofs.Calm.{Calm, expired}
+use Rattle.rig_laws.proofs.Calm.{IsClients, Calm, expired}
 
 -- ---- one entry ----
 
@@ -90,8 +90,10 @@ module _ (s : Setup) where
       (λ mine old. put_has_room count reply (rendering s.device c past) (less_room (length reply + count) (20 + count) (rendering s.device c past) (omega (arith, reply_is_short (sent_at r.place (view_of c past)) aborted)) old))
       (has c there))
 
-  refused_alone : (count : ℕ) (r : Request) (past : List Fact) → AllHaveRoom (20 + count) past → refuse s.device (Expired r) r past ≡ Expired r ∷ past
-  refused_alone count r past has = noted (Expired r) past r.conn refl (λ there. (expired_room count r past has r.conn there).fits)
+  refused_alone : (count : ℕ) (r : Request) (past : List Fact) → IsClients r → AllHaveRoom (20 + count) past → refuse s.device (Expired r) r past ≡ Expired r ∷ past
+  refused_alone count r past client has =
+      ap (λ (own : Bool). freed_if own r (note s.device (Expired r) past)) client
+      ∙ noted (Expired r) past r.conn refl (λ there. (expired_room count r past has r.conn there).fits)
 
   -- ---- several that expire ----
 
@@ -101,15 +103,15 @@ module _ (s : Setup) where
   pub fewer : (less more : ℕ) (past : List Fact) → less ≤ more → AllHaveRoom more past → AllHaveRoom less past
   fewer less more past low has c there = less_room less more (rendering s.device c past) low (has c there)
 
-  pub all_expire : {joined opened : ℕ} {used : List Request} {queue : List ℕ} (requests : List Request) (past : List Fact) → Calm s joined opened used queue past → AllHaveRoom (20 * length requests) past
+  pub all_expire : {joined opened : ℕ} {used : List Request} {queue : List ℕ} (requests : List Request) (past : List Fact) → AllByRecursion IsClients requests → Calm s joined opened used queue past → AllHaveRoom (20 * length requests) past
       → Calm s joined opened used queue (expire_each requests past)
   unfolding each_pending
-  all_expire [] past calm has = calm
-  all_expire {joined} {opened} {used} {queue} (r ∷ requests) past calm has =
+  all_expire [] past clients calm has = calm
+  all_expire {joined} {opened} {used} {queue} (r ∷ requests) past clients calm has =
       let has_more : AllHaveRoom (20 + 20 * length requests) past = fewer (20 + 20 * length requests) (20 * length (r ∷ requests)) past (omega arith) has in
-      let alone : refuse s.device (Expired r) r past ≡ Expired r ∷ past = refused_alone (20 * length requests) r past has_more in
+      let alone : refuse s.device (Expired r) r past ≡ Expired r ∷ past = refused_alone (20 * length requests) r past clients.0 has_more in
       elim (is_pending r past) as (λ b. Calm s joined opened used queue (expire_each requests (if b then refuse s.device (Expired r) r past else past))) [
         | true ↦ subst (λ (l : List Fact). Calm s joined opened used queue (expire_each requests l)) (sym alone)
-            (all_expire requests (Expired r ∷ past) (expired s calm r) (expired_room (20 * length requests) r past has_more))
-        | false ↦ all_expire requests past calm (fewer (20 * length requests) (20 * length (r ∷ requests)) past (omega arith) has)
+            (all_expire requests (Expired r ∷ past) clients.1 (expired s calm r) (expired_room (20 * length requests) r past has_more))
+        | false ↦ all_expire requests past clients.1 calm (fewer (20 * length requests) (20 * length (r ∷ requests)) past (omega arith) has)
       ]

@@ -1,5 +1,5 @@
 -- What a message of a client adds to a rig's facts. Lists of facts have the newest first.
-use Rattle.std.proofs.Common.{◌≡◌, ℕ, suc, ◌+◌, ◌<◌, ◌≤◌, Bool, true, false, not, cond, ◌&&◌, ◌||◌, ◌==◌, nat_le, nat_lt, if◌then◌else◌, List, [], ◌∷◌, ◌++◌, length, Option, Some, None, refl, ap, sym, ◌∙◌, arith, subst, IsSomeAnd}
+use Rattle.std.proofs.Common.{◌≡◌, ℕ, suc, ◌+◌, ◌<◌, ◌≤◌, Bool, true, false, not, cond, ◌||◌, ◌==◌, nat_le, nat_lt, if◌then◌else◌, List, [], ◌∷◌, ◌++◌, length, Option, Some, None, refl, ap, sym, ◌∙◌, arith, subst, IsSomeAnd}
 use Rattle.std.proofs.lemmas.Bool.{eqb-true, eq-eqb, and_parts}
 use Rattle.std.proofs.lemmas.Bool.Decides.{nat_tests}
 use Rattle.framing.specs.Framing.{IsMessage}
@@ -9,12 +9,12 @@ use Rattle.qmux_frame.specs.Reply.{result_reply}
 use Rattle.proxy_history.specs.Coming.{piece_limit}
 use Rattle.proxy_history.specs.Facts.{Fact, Request, Own, Foreign, Away, Full, Forward, Judged, Forwarded}
 use Rattle.proxy_history.specs.Decision.{Decision, Replies, Forwards, forwards_under}
-use Rattle.proxy_history.specs.Connections.{present, is_present, message_count}
+use Rattle.proxy_history.specs.Connections.{present, message_count}
 use Rattle.proxy_history.specs.Requests.{in_use, last_number, of_space, numbers_of, numbers_in_use, number_after, following, free_from}
 use Rattle.proxy_history.specs.ClientIds.{holder, is_other}
 use Rattle.proxy_history.specs.Modem.{is_away, modem_queue}
 use Rattle.proxy_history.specs.Sound.{IsSound}
-use Rattle.proxy_history.specs.View.{Entry, Sent, entry_if, view}
+use Rattle.proxy_history.specs.View.{Sent, entry_if, view}
 use Rattle.proxy_history.specs.Rendering.{Rendering, render, put}
 use Rattle.proxy_history.specs.Laws.{IsFirstFree}
 use Rattle.proxy_history.proofs.Numbers.{number_after-free}
@@ -30,8 +30,8 @@ use Rattle.qmi_proxy.proofs.Apart.{within}
 use Rattle.qmi_proxy.proofs.Verdicts.{own_replies_are_of_the_view}
 use Rattle.qmux_frame.specs.Control.{is_sync}
 use Rattle.rig_laws.proofs.Harmless.{is_there, own_id_is_free}
-use Rattle.rig_laws.proofs.Calm.{Calm, queue_is, judged, forwarded, granted, judged_opening}
-use Rattle.rig_laws.proofs.Room.{HasRoom, AllHaveRoom, put_has_room, less_room, noted, reply_is_short}
+use Rattle.rig_laws.proofs.Calm.{Calm, queue_is, judged, forwarded, granted}
+use Rattle.rig_laws.proofs.Room.{AllHaveRoom, put_has_room, less_room, noted, reply_is_short}
 
 -- ---- the number that a request gets ----
 
@@ -166,7 +166,8 @@ module _ (s : Setup) (c : ℕ) (m : List ℕ) where
     request_is_forwarded =
         let asks : List Fact = Judged c (message_count c past + 1) m Forward ∷ past in
         let added : Request = request_of s c m given asks in
-        let after : Calm s joined opened (requests ++ added ∷ []) (wire added) (judge s c m (Forwards given) past) = granted_if (uses_id m) refl (forwarded s (judged s calm c (message_count c past + 1) m low high) added) in
+        let client : (c == 0) ≡ false = grind (arith, nat_tests, low) in
+        let after : Calm s joined opened (requests ++ added ∷ []) (wire added) (judge s c m (Forwards given) past) = granted_if (uses_id m) refl (forwarded s (judged s calm c (message_count c past + 1) m low high) added client) in
         record {
           r = added;
           conn = refl;

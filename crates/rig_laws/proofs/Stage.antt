@@ -1,5 +1,5 @@
 -- What holds of a rig's stage between two actions, and how each action keeps it. Lists of events have the newest first.
-use Rattle.std.proofs.Common.{◌≡◌, ℕ, zero, suc, ◌+◌, ◌<◌, ◌≤◌, Bool, true, false, List, [], ◌∷◌, ◌++◌, length, take, drop, fold, nat_le, refl, ap, sym, ◌∙◌, arith, subst, append-nil}
+use Rattle.std.proofs.Common.{◌≡◌, ℕ, zero, suc, ◌+◌, ◌<◌, ◌≤◌, Bool, true, false, List, [], ◌∷◌, ◌++◌, length, take, drop, fold, nat_le, refl, ap, sym, ◌∙◌, arith, subst}
 use Rattle.std.specs.List.{range_with_len}
 use Rattle.std.proofs.lemmas.Bool.Decides.{nat_tests}
 use Rattle.framing.specs.Framing.{IsMessage}
@@ -10,7 +10,6 @@ use Rattle.qmux_frame.specs.Reply.{with_number}
 use Rattle.proxy_history.specs.Events.{Event, Joined, Piece, ModemPiece, Now}
 use Rattle.proxy_history.specs.Coming.{piece_limit}
 use Rattle.proxy_history.specs.Facts.{Request}
-use Rattle.proxy_history.specs.Modem.{modem_queue}
 use Rattle.proxy_solo.specs.Solo as alone
 use Rattle.proxy_solo.specs.Solo.{pieces_of}
 use Rattle.proxy_solo.proofs.Pieces.{ends_message}
@@ -21,15 +20,14 @@ use Rattle.qmi_proxy.specs.Spaces.{space_of, top_of}
 use Rattle.qmi_proxy.specs.Messages.{is_malformed, opens}
 use Rattle.qmi_proxy.specs.Clients.{wire}
 use Rattle.qmi_proxy.specs.Proxy.{proxy_of}
-use Rattle.qmi_proxy.specs.History.{history}
-use Rattle.rig_runs.specs.Stage.{Cast, Stage, clients_take, modem_takes, ask_all, meet, arrive, arrive_first, arrive_last, longest_arrives, shortest_arrives, arrive_each, all_arrive}
+use Rattle.rig_runs.specs.Stage.{Cast, Stage, clients_take, modem_takes, ask_all, meet, arrive}
 use Rattle.rig_runs.specs.Rig.{join, say, pass}
 use Rattle.rig_laws.proofs.Calm.{queue_is}
 use Rattle.rig_laws.proofs.Says.{IsRequestOf}
 use Rattle.rig_laws.proofs.Hears.{Suits}
 use Rattle.rig_laws.proofs.Pairs.{Pairs, Found, as_many, one_more, find}
 use Rattle.rig_laws.proofs.Events.{Going, AllAreServed, HasAsked, joins, opens_device, asks, answers, goes_on}
-use Rattle.rig_laws.proofs.Taking.{AreServed, clients_are_served, modem_is_served}
+use Rattle.rig_laws.proofs.Taking.{clients_are_served, modem_is_served}
 
 pub one_message : (x : List ℕ) → IsMessage size_of x → (cut size_of x).messages ≡ x ∷ []
 unfolding cut_from

@@ -1,8 +1,7 @@
 -- Behind an event each client and the modem take all that waits for them. Lists of events have the newest first.
-use Rattle.std.proofs.Common.{◌≡◌, ℕ, zero, suc, ◌+◌, ◌<◌, ◌≤◌, ◌⊎◌, Bool, true, false, ◌||◌, ◌==◌, if◌then◌else◌, List, [], ◌∷◌, length, drop, refl, ap, sym, ◌∙◌, arith, subst, inl, inr, ⊎_elim, drop_of_length-le, le_of_eq}
+use Rattle.std.proofs.Common.{◌≡◌, ℕ, zero, suc, ◌≤◌, ◌⊎◌, Bool, true, false, ◌||◌, ◌==◌, if◌then◌else◌, List, [], ◌∷◌, length, refl, ap, sym, ◌∙◌, arith, subst, inl, inr, ⊎_elim, drop_of_length-le, le_of_eq}
 use Rattle.std.specs.List.{range_with_len}
 use Rattle.std.proofs.lemmas.Bool.{eqb-true}
-use Rattle.std.proofs.lemmas.Bool.Decides.{nat_tests}
 use Rattle.hub_io.specs.Record.{taking}
 use Rattle.proxy_history.specs.Events.{Event, Took, ModemTook}
 use Rattle.proxy_history.specs.Facts.{Request}

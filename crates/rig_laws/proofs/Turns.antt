@@ -1,15 +1,13 @@
 -- The turns of the rig, and what comes behind them.
 use Rattle.std.proofs.Common.{◌≡◌, ℕ, zero, suc, ◌+◌, ◌/◌, ◌%◌, ◌^◌, ◌<◌, ◌≤◌, Bool, true, false, ◌==◌, nat_lt, if◌then◌else◌, List, [], ◌∷◌, length, fold, refl, ap, sym, ◌∙◌, arith, subst, length-append}
-use Rattle.std.specs.List.{range_with_len}
 use Rattle.std.proofs.lemmas.Bool.Decides.{nat_tests}
-use Rattle.modem_profile.specs.Profile.{default_profile}
-use Rattle.rig_runs.specs.Draws.{Turn, next, drawn, turn_after, turns_after}
+use Rattle.rig_runs.specs.Draws.{Turn, next, turn_after, turns_after}
 use Rattle.rig_runs.specs.Qmi.{setup, script, says, asks_for}
 use Rattle.rig_runs.specs.Qmi as rig
 use Rattle.rig_runs.specs.Stage.{Stage, longest_arrives, shortest_arrives, all_arrive}
 use Rattle.rig_runs.specs.Rig.{say, pass, request_or_arrive, play, played, ready, ended, next_number, most_held, tick, last_tick}
 use Rattle.rig_laws.proofs.Lists.{length-range}
-use Rattle.rig_laws.proofs.Stage.{Stands, HasMet, HasSaid, asks_stage, passes}
+use Rattle.rig_laws.proofs.Stage.{HasSaid, asks_stage, passes}
 use Rattle.rig_laws.proofs.Arriving.{others, longest_is_heard, shortest_is_heard, all_are_heard}
 use Rattle.rig_laws.proofs.Messages.{row_of, kind_for, nas_message, said_nas, nas_is_request}
 use Rattle.rig_laws.proofs.Replies.{nas_is_answered}

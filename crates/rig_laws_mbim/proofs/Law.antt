@@ -19,17 +19,13 @@ use Rattle.rig_runs.specs.Rig.{device, time_limit}
 use Rattle.rig_runs.specs.Mbim.{setup, mbim_rig}
 use Rattle.rig_runs.specs.MbimLines.{counted, equal, refused, summary}
 use Rattle.rig_laws_mbim.specs.Law.{all_equal, EndsWithLine, IsFair, EachRunIsFair}
-use Rattle.rig_laws.proofs.Lists.{filter-all, length-range}
+use Rattle.rig_laws.proofs.Lists.{filter-all, length-range, each_of}
 use Rattle.rig_laws_mbim.proofs.Harmless.{AreUndisturbed, undisturbed, none_refused}
 use Rattle.rig_laws_mbim.proofs.Playing.{rig_stands}
 
 all_are : (entries : List Entry) → AreUndisturbed entries → list_all (λ entry. not (tells_of_others entry)) entries ≡ true
 all_are [] all = refl
 all_are (entry ∷ entries) all = ap (λ (b : Bool). not b && list_all (λ entry. not (tells_of_others entry)) entries) all.0 ∙ all_are entries all.1
-
-each_of : (P : ℕ → Type 0) (n a : ℕ) → 1 ≤ a → ((c : ℕ) → 1 ≤ c → P c) → AllByRecursion P (range_with_len a n)
-each_of P zero a some each = tt
-each_of P (suc n) a some each = (each a some, each_of P n (a + 1) (omega arith) each)
 
 itself : (xs : List ℕ) → bytes_eq xs xs ≡ true
 itself xs = (bytes_eq-Decides xs xs).1 refl

@@ -14,7 +14,7 @@ told_opened run earlier None (Some new) adds told = absurd adds
 told_opened run earlier (Some old) (Some new) adds told = adds ∙ ap (λ runs. run ∷ runs) told
 
 abbrev proxy_of : Kind → Proxy
-proxy_of kind = proxy_for kind (record { time = time_limit }) device
+proxy_of kind = proxy_for kind (record { time = time_limit; release = None }) device
 
 pub runs_opened : {B : Type 0} {keeps : Proxy → List Event → B → Type 0} {tells : B → Option (List Run)} (kind : Kind) {opened : Kind} (p : Proxy) (old new : B) → opened ≡ kind → proxy_of kind ≡ p
     → keeps (proxy_of opened) [] new → AddsRun (tells old) (run_of opened []) (tells new) → (earlier : List Run) → AreTold (tells old) earlier → Runs keeps tells p (run_of kind []) earlier [] new

@@ -1,5 +1,5 @@
 -- What holds of the proxy of an MBIM rig.
-use Rattle.std.proofs.Common.{◌≡◌, false, [], refl, ap}
+use Rattle.std.proofs.Common.{◌≡◌, false, [], None, refl, ap}
 use Rattle.std.specs.Str.{chars}
 use Rattle.kit_bytes.specs.declared.kind.Kind.TheVariants.{Mbim}
 use Rattle.mbim_proxy.specs.Setup.{mbim_setup}
@@ -24,5 +24,5 @@ unfolding chars
 device_has = refl
 
 -- it is the one that is opened for the device
-pub opens : proxy_for Mbim (record { time = time_limit }) device ≡ proxy_of setup
+pub opens : proxy_for Mbim (record { time = time_limit; release = None }) device ≡ proxy_of setup
 opens = ap (λ path. proxy_of (mbim_setup path time_limit false)) device_has

@@ -1,4 +1,4 @@
-ghost use Rattle.std.specs.Prelude.{◌≡◌, ◌<◌, ◌≤◌, [], ℕ, List, length, IfOk};
+ghost use Rattle.std.specs.Prelude.{◌≡◌, ◌<◌, ◌≤◌, [], ℕ, List, None, length, IfOk};
 ghost use Rattle.kit_bytes.specs.declared.kind.Kind as spec;
 ghost use Rattle.proxy_history.specs.Events.{Event};
 ghost use Rattle.proxy_history.specs.Proxy.{Proxy};
@@ -75,7 +75,7 @@ pub trait Protocol {
     ghost numbered: { (0 < FIRST_NUMBER) × (FIRST_NUMBER ≤ 65535) };
 
     // The proxy is the one of this kind for the device of the rig.
-    ghost opens: { proxy_for kind (record { time = time_limit }) device ≡ proxy };
+    ghost opens: { proxy_for kind (record { time = time_limit; release = None }) device ≡ proxy };
 
     // The clock of the proxy begins at 0.
     ghost begins: { proxy.time [] ≡ 0 };

@@ -20,7 +20,10 @@ pub fn open_core<P: Protocol, B: Bench>(alloc: Global, bench: &mut B) -> Result<
     ensures runs { OnOk result ((earlier : List Run) → AreTold (B.runs bench.old) earlier → Runs B.keeps B.runs P.proxy (run_of P.kind []) earlier [] bench.new) }
     ensures err { OnErr result (bench.new ≡ bench.old) }
 {
-    let limits = Limits { time: TIME_LIMIT };
+    let limits = Limits {
+        time: TIME_LIMIT,
+        release: None,
+    };
     bench.open(alloc, P::kind(), &limits, DEVICE)?;
     Ok(())
 }

@@ -1,5 +1,5 @@
 -- The rig for QMI.
-use Rattle.std.specs.Prelude.{ℕ, ◌==◌, false, if◌then◌else◌, List, [], ◌∷◌}
+use Rattle.std.specs.Prelude.{ℕ, ◌==◌, false, if◌then◌else◌, List, [], ◌∷◌, None}
 use Rattle.std.specs.List.{range_with_len}
 use Rattle.modem_profile.specs.Profile.{default_profile}
 use Rattle.qmi_requests.specs.declared.QmiRequest.{QmiRequest}
@@ -18,7 +18,7 @@ use Rattle.rig_runs.specs.Rig.{Script}
 pub use Rattle.rig_runs.specs.Rig.{device, time_limit}
 
 abbrev pub setup : Setup
-setup = record { device = device; time_limit = time_limit; starts_away = false }
+setup = record { device = device; time_limit = time_limit; starts_away = false; release = None }
 
 -- so many clients, named from 1 on, and the simulated modem that says nothing of its own
 abbrev pub cast : (clients : ℕ) → Cast

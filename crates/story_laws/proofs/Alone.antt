@@ -1,6 +1,6 @@
 -- What a client meets alone of the story of plain events is what it would meet alone of the events, and so alone it takes the same bytes.
 -- Lists of events and of facts have the newest first, and a story is told in its order.
-use Rattle.std.proofs.Common.{◌≡◌, ℕ, zero, suc, ◌+◌, ◌≤◌, Bool, true, false, ◌&&◌, ◌==◌, if◌then◌else◌, List, [], ◌∷◌, length, take, map, fold, refl, ap, sym, ◌∙◌, subst, arith, Option, Some, None, option_map, length-take-le}
+use Rattle.std.proofs.Common.{◌≡◌, ◌≢◌, ℕ, zero, suc, ◌+◌, ◌≤◌, Bool, true, false, ◌&&◌, ◌==◌, if◌then◌else◌, List, [], ◌∷◌, length, take, map, fold, refl, ap, sym, ◌∙◌, subst, arith, Option, Some, None, option_map, length-take-le}
 use Rattle.std.proofs.lemmas.Bool.{eqb-true, eq-eqb}
 use Rattle.std.proofs.lemmas.Bool.Decides.{nat_tests}
 use Rattle.std.proofs.lemmas.List.Sums.{fold-append}
@@ -118,7 +118,7 @@ numbered_response number m response =
       kind = same.kind ∙ response.kind;
     }
 
-module _ (s : Setup) (there : s.starts_away ≡ false) (limit : s.time_limit ≡ time_limit) (c : ℕ) where
+module _ (s : Setup) (there : s.starts_away ≡ false) (limit : s.time_limit ≡ time_limit) (never : s.release ≡ None) (c : ℕ) (client : c ≢ 0) where
   -- ---- a moment ----
 
   -- what the client met alone so far
@@ -130,12 +130,12 @@ module _ (s : Setup) (there : s.starts_away ≡ false) (limit : s.time_limit ≡
     pub plain : ArePlain s (solo s c events)
 
   mirrored : (events : List Event) → ArePlain s events → AreSound s events → Mirrored (history s events) (ledger_of qmi_reading (proxy_of s) events)
-  mirrored events plain sound = is_mirrored s there limit events (all_within s events sound) plain
+  mirrored events plain sound = is_mirrored s there limit never events (all_within s events sound) plain
 
   moment : (events : List Event) → IsLetAlone s c events → ArePlain s (solo s c events) → Moment events
   moment events others plain =
-      let A = alike_alone s c events others in
-      record { same = histories_are_same s c events others; alike = A.same; fit = A.alone; ledger = mirrored (solo s c events) plain (alone_is_sound s c events others); plain = plain }
+      let A = alike_alone s c client events others in
+      record { same = histories_are_same s c events client others; alike = A.same; fit = A.alone; ledger = mirrored (solo s c events) plain (alone_is_sound s c events client others); plain = plain }
 
   -- the request of the client is found alone, and under the number that the ledger has
   record IsFound (events : List Event) (r : Request) : Type 0 where
@@ -388,6 +388,6 @@ module _ (s : Setup) (there : s.starts_away ≡ false) (limit : s.time_limit ≡
   pub takes_the_same : (events : List Event) → ArePlain s events → AllLetAlone s c events → AllJoinFirst s c events → (text_for s c events).waiting ≡ [] → TakesTheSame qmi_reading (proxy_of s) c events
   takes_the_same events plain others first none =
       let T = told events plain others first in
-      let same = (histories_are_same s c events (is_let_alone s c events others)).same.bytes in
+      let same = (histories_are_same s c events client (is_let_alone s c events others)).same.bytes in
       same_alone qmi_reading (proxy_of s) c [] (story_of qmi_reading (proxy_of s) events) T.so_far
       (ap (λ (own : List Event). (text_for s c own).waiting) T.is ∙ ap (λ (r : Rendering). r.waiting) (sym same) ∙ none)

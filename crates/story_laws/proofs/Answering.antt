@@ -12,7 +12,8 @@ use Rattle.qmi_proxy.specs.Setup.{Setup}
 use Rattle.qmi_proxy.specs.Limits.{qmi_limits}
 use Rattle.qmi_proxy.specs.Clients.{wire}
 use Rattle.qmi_proxy.specs.Text.{qmi_wording, note}
-use Rattle.qmi_proxy.specs.FromModem.{IdChange, NoChange, Grants, Collides, Frees, is_answered_by, first_answered_by, id_change, holder_of_brought, answer, answer_or_late, respond}
+use Rattle.qmi_proxy.specs.FromModem.{IdChange, NoChange, Grants, Collides, Frees, is_answered_by, first_answered_by, id_change, holder_of_brought, answer, answer_to, answer_or_late, respond}
+use Rattle.qmi_proxy.specs.Releases.{freed_if}
 use Rattle.qmi_solo.proofs.Numbering.{Same, renumbered}
 use Rattle.rig_story.specs.declared.rows.Row.{Row}
 use Rattle.rig_story.specs.Rows.{Ledger, is_same_key, first_with, without_row, has_answered}
@@ -71,6 +72,12 @@ module _ (requests : List Request) (count time : ℕ) (said : ℕ → ℕ) where
   pub noted_has : (s : Setup) (fact : Fact) (past : List Fact) → Has requests count time said (fact ∷ past) → Has requests count time said (note s.device fact past)
   noted_has s fact past H = kept_by_note qmi_limits (qmi_wording s.device) (Has requests count time said) (λ c before there H. ended_has c _ before H) fact past H
 
+  -- a client id that the proxy itself holds no more changes nothing of that
+  pub freed_has : (own : Bool) (r : Request) (past : List Fact) → Has requests count time said past → Has requests count time said (freed_if own r past)
+  unfolding in_use forward_count now message_count
+  freed_has true r past H = record { in_use = H.in_use; count = H.count; time = H.time; said = H.said }
+  freed_has false r past H = H
+
 module _ (s : Setup) (m : List ℕ) (past : List Fact) where
   abbrev counts : ℕ → ℕ
   counts c = message_count c past
@@ -86,9 +93,14 @@ module _ (s : Setup) (m : List ℕ) (past : List Fact) where
     answered Collides = noted_has _ _ _ _ s (IdHeld r) past (record { in_use = refl; count = refl; time = refl; said = λ c. refl })
     answered (Frees service client) = noted_has _ _ _ _ s (Answered r m) (Freed r.conn service client ∷ past) (record { in_use = refl; count = refl; time = refl; said = λ c. refl })
 
+    answered_to : (own : Bool) → IsTakenOut (answer_to own s.device r m past)
+    unfolding in_use forward_count now message_count
+    answered_to true = freed_has _ _ _ _ true r (note s.device (Answered r m) past) (noted_has _ _ _ _ s (Answered r m) past (record { in_use = refl; count = refl; time = refl; said = λ c. refl }))
+    answered_to false = answered (id_change r.conn r.message m (holder_of_brought m past))
+
     pub taken_out : (waits : Bool) → IsTakenOut (answer_or_late s.device waits r m past)
     unfolding in_use forward_count now message_count
-    taken_out true = answered (id_change r.conn r.message m (holder_of_brought m past))
+    taken_out true = answered_to (r.conn == 0)
     taken_out false = record { in_use = refl; count = refl; time = refl; said = λ c. refl }
 
   -- the row that an answer finds

@@ -24,7 +24,7 @@ use Rattle.qmi_proxy.specs.Setup.{Setup}
 use Rattle.qmi_proxy.specs.Spaces.{control_space, service_space, space_of}
 use Rattle.qmi_proxy.specs.Messages.{equals, value_of, uses_id}
 use Rattle.qmi_proxy.specs.Clients.{wire, grant_if, judge}
-use Rattle.qmi_proxy.specs.FromModem.{IdChange, NoChange, Grants, Collides, Frees, is_answered_by, first_answered_by, id_change, holder_of_brought, answer, answer_or_late, respond, in_expiry_order, tick}
+use Rattle.qmi_proxy.specs.FromModem.{IdChange, NoChange, Grants, Collides, Frees, is_answered_by, first_answered_by, id_change, holder_of_brought, answer, answer_to, answer_or_late, respond, in_expiry_order, tick}
 use Rattle.qmi_proxy.specs.Text.{note}
 use Rattle.qmi_solo.proofs.Numbering.{renumbered}
 use Rattle.rig_runs.specs.Rig.{time_limit}
@@ -206,7 +206,9 @@ module _ (s : Setup) where
 
       heard_tells : (waits : Bool) → AreHarmless s (answer_or_late s.device waits r m past)
           → Tells (answer_or_late s.device waits r m past) (if waits then one_more else record counts { late = counts.late + 1 })
-      heard_tells true harmless = change_tells (id_change r.conn r.message m (holder_of_brought m past)) harmless
+      heard_tells true harmless =
+          subst (λ (own : Bool). AreHarmless s (answer_to own s.device r m past) → Tells (answer_to own s.device r m past) one_more) (sym client)
+          (λ harmless. change_tells (id_change r.conn r.message m (holder_of_brought m past)) harmless) harmless
       heard_tells false harmless = late_tells past counts client T
 
   stray_same : (past : List Fact) → Same past (Stray ∷ past)

@@ -19,6 +19,7 @@ use Rattle.qmi_proxy.specs.Setup.{Setup}
 use Rattle.qmi_proxy.specs.Limits.{qmi_limits}
 use Rattle.qmi_proxy.specs.Spaces.{control_space, service_space, space_of}
 use Rattle.qmi_proxy.specs.Text.{qmi_wording, rendering, note}
+use Rattle.qmi_proxy.specs.Releases.{freed_if}
 use Rattle.qmi_proxy.specs.FromModem.{refuse, in_expiry_order}
 use Rattle.qmux_frame.specs.Head.{is_control}
 use Rattle.rig_runs.specs.Counts.{count, is_forwarded, is_answered, is_expired, is_late}
@@ -52,13 +53,19 @@ module _ (s : Setup) where
   abbrev pub expire_each : List Request → List Fact → List Fact
   expire_each requests past = each_pending (λ r before. refuse s.device (Expired r) r before) requests past
 
+  harmless_noted : (own : Bool) (r : Request) (past : List Fact) → AreHarmless s (freed_if own r past) → AreHarmless s past
+  harmless_noted true r past harmless = absurd harmless.0
+  harmless_noted false r past harmless = harmless
+
   harmless_before : (requests : List Request) (past : List Fact) → AreHarmless s (expire_each requests past) → AreHarmless s past
   unfolding each_pending
   harmless_before [] past harmless = harmless
   harmless_before (r ∷ requests) past harmless =
       let step : (b : Bool) → AreHarmless s (if b then refuse s.device (Expired r) r past else past) → AreHarmless s past =
       λ b. elim b as (λ b. AreHarmless s (if b then refuse s.device (Expired r) r past else past) → AreHarmless s past) [
-        | true ↦ λ is. let noted : AreHarmless s (Expired r ∷ past) = subst (AreHarmless s) (noted_alone (Expired r) r.conn past refl is) is in noted.1
+        | true ↦ λ is.
+            let refused = harmless_noted (r.conn == 0) r (note s.device (Expired r) past) is in
+            let noted : AreHarmless s (Expired r ∷ past) = subst (AreHarmless s) (noted_alone (Expired r) r.conn past refl refused) refused in noted.1
         | false ↦ λ is. is
       ]
       in step (is_pending r past) (harmless_before requests (if is_pending r past then refuse s.device (Expired r) r past else past) harmless)
@@ -101,7 +108,8 @@ module _ (s : Setup) where
       let step : (b : Bool) → is_pending r past ≡ b → AreHarmless s (expire_each requests (if b then refuse s.device (Expired r) r past else past)) → Expires (r ∷ requests) past (expire_each requests (if b then refuse s.device (Expired r) r past else past)) =
       λ b. elim b as (λ b. is_pending r past ≡ b → AreHarmless s (expire_each requests (if b then refuse s.device (Expired r) r past else past)) → Expires (r ∷ requests) past (expire_each requests (if b then refuse s.device (Expired r) r past else past))) [
         | true ↦ λ waits harmless.
-            let alone : refuse s.device (Expired r) r past ≡ Expired r ∷ past = noted_alone (Expired r) r.conn past refl (harmless_before requests (refuse s.device (Expired r) r past) harmless) in
+            let refused = harmless_noted (r.conn == 0) r (note s.device (Expired r) past) (harmless_before requests (refuse s.device (Expired r) r past) harmless) in
+            let alone : refuse s.device (Expired r) r past ≡ Expired r ∷ past = ap (λ (own : Bool). freed_if own r (note s.device (Expired r) past)) clients.0 ∙ noted_alone (Expired r) r.conn past refl refused in
             subst (λ (between : List Fact). Expires (r ∷ requests) past (expire_each requests between)) (sym alone)
             (goes_first waits (each_expires requests (Expired r ∷ past) (subst (λ (between : List Fact). AreHarmless s (expire_each requests between)) alone harmless) (AllPairs-filter Differ (λ (q : Request). not (r.serial == q.serial)) (pending past) differ) clients.1))
         | false ↦ λ isnt harmless. waited_not isnt (each_expires requests past harmless differ clients.1)

@@ -17,7 +17,7 @@ use Rattle.story_laws.proofs.Moments.{all_within, tells}
 pub rows_are_in_use : RowsAreInUse
 rows_are_in_use clients turns number some within =
     let events : List Event = qmi_rig clients turns number in
-    all_mirror setup refl refl events (all_within setup events (rigs_are_harmless clients turns number some within)) (rigs_are_plain clients turns number some within)
+    all_mirror setup refl refl refl events (all_within setup events (rigs_are_harmless clients turns number some within)) (rigs_are_plain clients turns number some within)
 
 pub requests_are_counted : RequestsAreCounted
 requests_are_counted clients turns number some within few =
@@ -25,7 +25,7 @@ requests_are_counted clients turns number some within few =
     let late = rigs_end_in_time clients turns number some within in
     let early : now (history setup events) < 2 ^ 64 - 1 = omega (arith, late, few) in
     let told : Tells (history setup events) (ledger_of qmi_reading (proxy_of setup) events).counts =
-    tells setup refl refl events (rigs_are_plain clients turns number some within) (rigs_are_harmless clients turns number some within) early in
+    tells setup refl refl refl events (rigs_are_plain clients turns number some within) (rigs_are_harmless clients turns number some within) early in
     record {
       forwarded = ap (λ (k : Counts). k.forwarded) told.counts_are;
       answered = ap (λ (k : Counts). k.answered) told.counts_are;

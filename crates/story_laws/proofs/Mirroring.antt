@@ -1,5 +1,5 @@
 -- A ledger that is fed with plain events mirrors their history. Lists of events and of facts have the newest first.
-use Rattle.std.proofs.Common.{◌≡◌, ℕ, ◌≤◌, max, Bool, true, false, if◌then◌else◌, List, [], ◌∷◌, length, map, refl, ap, sym, ◌∙◌, subst, arith, Option}
+use Rattle.std.proofs.Common.{◌≡◌, ℕ, ◌≤◌, max, Bool, true, false, ◌==◌, if◌then◌else◌, List, [], ◌∷◌, length, map, refl, ap, sym, ◌∙◌, subst, arith, Option, None}
 use Rattle.std.specs.List.{AllByRecursion}
 use Rattle.std.proofs.lemmas.Bool.Decides.{nat_tests}
 use Rattle.std.proofs.lemmas.List.{length-replicate, get_or-replicate}
@@ -19,7 +19,9 @@ use Rattle.proxy_history.specs.History as proxy
 use Rattle.proxy_history.specs.History.{known_of}
 use Rattle.proxy_solo.proofs.Lists.{every}
 use Rattle.qmi_proxy.specs.Setup.{Setup}
-use Rattle.qmi_proxy.specs.FromModem.{first_answered_by, hear_as, respond, refuse}
+use Rattle.qmi_proxy.specs.Text.{note}
+use Rattle.qmi_proxy.specs.Releases.{release_due}
+use Rattle.qmi_proxy.specs.FromModem.{first_answered_by, hear_as, respond, refuse, tick}
 use Rattle.qmi_proxy.specs.Clients.{wire, decision_as, judge}
 use Rattle.qmi_proxy.specs.Proxy.{proxy_of}
 use Rattle.qmi_proxy.specs.History.{qmi_protocol, history}
@@ -32,7 +34,7 @@ use Rattle.rig_story.proofs.Numbers.{no_more_said}
 use Rattle.story_laws.specs.Laws.{row_of}
 use Rattle.story_laws.proofs.Streams.{says_one, hears_one, adds_one}
 use Rattle.story_laws.proofs.Saying.{Mirrored, Brings, asked_on, brings, new_bytes}
-use Rattle.story_laws.proofs.Answering.{Has, noted_has, answer_mirrored}
+use Rattle.story_laws.proofs.Answering.{Has, noted_has, freed_has, answer_mirrored}
 
 pub begun : (past : List Fact) (ledger : Ledger) → Mirrored past ledger → Mirrored (EventBegan ∷ past) ledger
 unfolding in_use forward_count now message_count
@@ -132,7 +134,7 @@ module _ (s : Setup) (there : s.starts_away ≡ false) where
   unfolding in_use forward_count now message_count
   expired_has requests count time said due past H =
       kept_by_each (Has requests count time said) (λ r. Unit {0}) (λ r before. refuse s.device (Expired r) r before)
-      (λ r before u H. noted_has requests count time said s (Expired r) before (record { in_use = H.in_use; count = H.count; time = H.time; said = H.said })) due past (every (λ (r : Request). Unit {0}) (λ r. tt) due) H
+      (λ r before u H. freed_has requests count time said (r.conn == 0) r (note s.device (Expired r) before) (noted_has requests count time said s (Expired r) before (record { in_use = H.in_use; count = H.count; time = H.time; said = H.said }))) due past (every (λ (r : Request). Unit {0}) (λ r. tt) due) H
 
   timed_has : (shown : ℕ) (past : List Fact) → Has (in_use past) (forward_count past) shown (λ d. message_count d past) (TimeIs shown ∷ EventBegan ∷ past)
   unfolding in_use forward_count now message_count
@@ -151,11 +153,15 @@ module _ (s : Setup) (there : s.starts_away ≡ false) where
     long = subst (λ (l : List Request). AllByRecursion (λ r. 12 ≤ length r.message) l) (sym H.in_use) all.long;
   }
 
-  time_event : (time : ℕ) (events : List Event) (asked : List ℕ) (ledger : Ledger) → Mirrored (history s events) ledger → Mirrored (history s (Now time ∷ events)) (follow qmi_reading (Now time) asked ledger)
+  -- no id is ever released
+  pub clock_is : s.release ≡ None → (time : ℕ) (events : List Event) → history s (Now time ∷ events) ≡ tick s.device time (began events)
+  clock_is never time events = adds_one s there (Now time) events (ClockShows time) refl ∙ ap (λ (after : Option ℕ). release_due s after (tick s.device time (began events))) never
+
+  time_event : s.release ≡ None → (time : ℕ) (events : List Event) (asked : List ℕ) (ledger : Ledger) → Mirrored (history s events) ledger → Mirrored (history s (Now time ∷ events)) (follow qmi_reading (Now time) asked ledger)
   unfolding now
-  time_event time events asked ledger all =
+  time_event never time events asked ledger all =
       let past : List Fact = history s events in
-      subst (λ (after : List Fact). Mirrored after (has_passed time ledger)) (sym (adds_one s there (Now time) events (ClockShows time) refl))
+      subst (λ (after : List Fact). Mirrored after (has_passed time ledger)) (sym (clock_is never time events))
       (passed_mirrored time past _ ledger (expired_has (in_use past) (forward_count past) (max time (now past)) (λ d. message_count d past) _ _ (timed_has (max time (now past)) past)) all)
 
   -- ---- every event ----
@@ -163,7 +169,7 @@ module _ (s : Setup) (there : s.starts_away ≡ false) where
   still : (after : List Fact) {added : List Fact} (ledger : Ledger) → added ≡ after → Mirrored after ledger → Mirrored added ledger
   still after ledger same all = subst (λ (facts : List Fact). Mirrored facts ledger) (sym same) all
 
-  module _ (limit : s.time_limit ≡ time_limit) where
+  module _ (limit : s.time_limit ≡ time_limit) (never : s.release ≡ None) where
     mirrored_event : (event : Event) (events : List Event) → IsWithin s events → ArePlain s (event ∷ events) → (ledger : Ledger) → Mirrored (history s events) ledger
         → Mirrored (history s (event ∷ events)) (follow qmi_reading event (asked_by (proxy_of s) event events) ledger)
     mirrored_event (Piece c m) events within plain ledger all = said_event limit c m events within plain.1 plain.0 ledger all
@@ -174,7 +180,7 @@ module _ (s : Setup) (there : s.starts_away ≡ false) where
         let past : List Fact = history s events in still _ ledger (adds_one s there (Took c count) events (Takes c count) refl) (mirrored_by past _ ledger (taken_has c count past _) all)
     mirrored_event (ModemTook count) events within plain ledger all =
         let past : List Fact = history s events in still _ ledger (adds_one s there (ModemTook count) events (ModemTakes count) refl) (mirrored_by past _ ledger (modem_taken_has count past) all)
-    mirrored_event (Now time) events within plain ledger all = time_event time events (asked_by (proxy_of s) (Now time) events) ledger all
+    mirrored_event (Now time) events within plain ledger all = time_event never time events (asked_by (proxy_of s) (Now time) events) ledger all
     mirrored_event (Left c) events within plain ledger all = absurd plain.0
     mirrored_event ModemGone events within plain ledger all = absurd plain.0
     mirrored_event ModemBack events within plain ledger all = absurd plain.0

@@ -1,5 +1,5 @@
 -- At every moment of a rig its ledger counts what the facts say. Lists of events and of facts have the newest first.
-use Rattle.std.proofs.Common.{◌≡◌, ℕ, ◌-◌, ◌^◌, ◌<◌, ◌≤◌, false, List, [], ◌∷◌, refl, sym, subst, arith, Option, AllPairs}
+use Rattle.std.proofs.Common.{◌≡◌, ℕ, ◌-◌, ◌^◌, ◌<◌, ◌≤◌, false, List, [], ◌∷◌, refl, sym, subst, arith, Option, None, AllPairs}
 use Rattle.proxy_history.specs.Events.{Event, Joined, Piece, Left, ModemPiece, ModemGone, ModemBack, Now, Took, ModemTook}
 use Rattle.proxy_history.specs.Items.{Joins, ClockShows, Takes, ModemTakes}
 use Rattle.proxy_history.specs.Facts.{Fact, Request}
@@ -29,7 +29,7 @@ use Rattle.rig_story.specs.Qmi.{qmi_reading}
 use Rattle.story_laws.proofs.Streams.{adds_one}
 use Rattle.story_laws.proofs.Saying.{Mirrored, asked_on}
 use Rattle.story_laws.proofs.Answering.{row_found}
-use Rattle.story_laws.proofs.Mirroring.{IsWithin, here, long_enough, began, begun, decision, piece_is, piece_asks, answer_is, is_mirrored}
+use Rattle.story_laws.proofs.Mirroring.{IsWithin, here, long_enough, began, begun, decision, piece_is, piece_asks, answer_is, clock_is, is_mirrored}
 use Rattle.story_laws.proofs.Counting.{Tells, tells_same, tells_begun, joined_same, taken_same, modem_taken_same, said_tells, responded_tells, time_tells}
 
 pub all_within : (s : Setup) (events : List Event) → AtEach (IsHarmlessNow s) events → AtEach (IsWithin s) events
@@ -42,7 +42,7 @@ time_stands : (event : Event) (time : ℕ) → time ≤ time_then event time
 time_stands (Now shown) time = omega arith
 time_stands _ time = omega arith
 
-module _ (s : Setup) (there : s.starts_away ≡ false) (limit : s.time_limit ≡ time_limit) where
+module _ (s : Setup) (there : s.starts_away ≡ false) (limit : s.time_limit ≡ time_limit) (never : s.release ≡ None) where
   no_later : (event : Event) (events : List Event) → now (history s events) ≤ now (history s (event ∷ events))
   no_later event events = let agrees = time_agrees (qmi_protocol s) (Asks s) (orderly s) event events in let stands = time_stands event (now (history s events)) in omega (arith, agrees, stands)
 
@@ -93,7 +93,7 @@ module _ (s : Setup) (there : s.starts_away ≡ false) (limit : s.time_limit ≡
 
     clock_tells : (time : ℕ) → AreHarmless s (history s (Now time ∷ events)) → (asked : List ℕ) → Tells (history s (Now time ∷ events)) (follow qmi_reading (Now time) asked ledger).counts
     clock_tells time harmless asked =
-        let is = adds_one s there (Now time) events (ClockShows time) refl in
+        let is = clock_is s there never time events in
         subst (λ (after : List Fact). Tells after (follow qmi_reading (Now time) asked ledger).counts) (sym is)
         (time_tells s time (began s there events) differ (placed s events) ledger behind.mirrors.time behind.mirrors.rows tells_behind (subst (AreHarmless s) is harmless))
 
@@ -117,4 +117,4 @@ module _ (s : Setup) (there : s.starts_away ≡ false) (limit : s.time_limit ≡
       let before : now (history s events) < 2 ^ 64 - 1 = (let later = no_later event events in omega (arith, later, early)) in
       let others : ArePlain s events = plain.1 in
       let space : AtEach (IsWithin s) events = all_within s events moments.1 in
-      event_tells events others (here (IsWithin s) events space) before (ledger_behind events) (is_mirrored s there limit events space others) (tells events plain.1 moments.1 before) event plain.0 moments.0.harmless
+      event_tells events others (here (IsWithin s) events space) before (ledger_behind events) (is_mirrored s there limit never events space others) (tells events plain.1 moments.1 before) event plain.0 moments.0.harmless

@@ -1,5 +1,5 @@
 -- Each client of a rig meets its part of the story alone, and takes the same bytes. Lists of events and of facts have the newest first.
-use Rattle.std.proofs.Common.{◌≡◌, ℕ, ◌<◌, ◌≤◌, max, Bool, true, false, ◌==◌, if◌then◌else◌, List, [], ◌∷◌, length, refl, ap, ◌∙◌, subst, arith}
+use Rattle.std.proofs.Common.{◌≡◌, ◌≢◌, ℕ, ◌<◌, ◌≤◌, max, Bool, true, false, ◌==◌, if◌then◌else◌, List, [], ◌∷◌, length, refl, ap, ◌∙◌, subst, arith}
 use Rattle.std.proofs.lemmas.Bool.{eqb-true}
 use Rattle.std.proofs.lemmas.Bool.Decides.{nat_tests}
 use Rattle.proxy_history.specs.Events.{Event, Joined, Piece, Left, ModemPiece, ModemGone, ModemBack, Now, Took, ModemTook}
@@ -24,7 +24,7 @@ use Rattle.story_laws.specs.Laws.{EachMeetsItsPart, EachTakesTheSame}
 use Rattle.story_laws.proofs.Alone.{AllLetAlone, is_let_alone, AllJoinFirst, meets_its_part, takes_the_same}
 use Rattle.story_laws.proofs.Joining.{AreQuiet, AllJoinEarly, all_join_early}
 
-module _ (s : Setup) (c : ℕ) where
+module _ (s : Setup) (c : ℕ) (client : c ≢ 0) where
   -- ---- before it joins it meets nothing ----
 
   nobody : is_present c (history s []) ≡ false
@@ -46,7 +46,7 @@ module _ (s : Setup) (c : ℕ) where
   met_nothing (Took d count ∷ events) quiet sound others before =
       let none : solo s c events ≡ [] = met_nothing events quiet.1 sound.1 others.1 before in
       let absent : is_present c (history s events) ≡ false =
-      (histories_are_same s c events (is_let_alone s c events others.1)).same.there ∙ ap (λ (own : List Event). is_present c (history s own)) none ∙ nobody in
+      (histories_are_same s c events client (is_let_alone s c events others.1)).same.there ∙ ap (λ (own : List Event). is_present c (history s own)) none ∙ nobody in
       let step : (b : Bool) → (d == c) ≡ b → meet_if b s (Took d count) (solo s c events) ≡ [] =
       λ b. elim b as (λ b. (d == c) ≡ b → meet_if b s (Took d count) (solo s c events) ≡ []) [
         | true ↦ λ is.
@@ -78,7 +78,10 @@ module _ (s : Setup) (c : ℕ) where
 
 -- ---- rigs ----
 
-module _ (clients turns number : ℕ) (some : 1 ≤ clients) (within : clients ≤ 64) (c : ℕ) where
+module _ (clients turns number : ℕ) (some : 1 ≤ clients) (within : clients ≤ 64) (c : ℕ) (low : 1 ≤ c) where
+  client : c ≢ 0
+  client e = absurd (omega (arith, low, e))
+
   abbrev events : List Event
   events = qmi_rig clients turns number
 
@@ -92,16 +95,16 @@ module _ (clients turns number : ℕ) (some : 1 ≤ clients) (within : clients �
   others = each_is_let_alone clients turns number some within c
 
   first : AllJoinFirst setup c events
-  first = all_join_first setup c events (all_join_early (rig.cast clients) script turns number) sound others
+  first = all_join_first setup c client events (all_join_early (rig.cast clients) script turns number) sound others
 
   its_part : MeetsItsPart qmi_reading (proxy_of setup) (solo setup) c events
-  its_part = meets_its_part setup refl refl c events plain others first
+  its_part = meets_its_part setup refl refl refl c client events plain others first
 
-  the_same : 1 ≤ c → c ≤ clients → TakesTheSame qmi_reading (proxy_of setup) c events
-  the_same low high = takes_the_same setup refl refl c events plain others first (nothing_waits clients turns number some within c low high)
+  the_same : c ≤ clients → TakesTheSame qmi_reading (proxy_of setup) c events
+  the_same high = takes_the_same setup refl refl refl c client events plain others first (nothing_waits clients turns number some within c low high)
 
 pub each_meets_its_part : EachMeetsItsPart
-each_meets_its_part clients turns number some within c low high = its_part clients turns number some within c
+each_meets_its_part clients turns number some within c low high = its_part clients turns number some within c low
 
 pub each_takes_the_same : EachTakesTheSame
 each_takes_the_same clients turns number some within c low high = the_same clients turns number some within c low high

@@ -11,7 +11,7 @@ use Rattle.proxy_history.specs.Modem.{to_modem, modem_drained}
 use Rattle.proxy_history.specs.Sound.{IsSound}
 use Rattle.proxy_history.specs.Adding.{MayAdd}
 use Rattle.proxy_history.specs.History.{add, add_all}
-use Rattle.proxy_history.proofs.Walk.{kept_by_items}
+use Rattle.proxy_history.proofs.Walk.{MayAddStill, kept_by_items, kept_by_still_items}
 use Rattle.mbim_proxy.specs.ModemStates.{ModemState, IsShut, IsOpening, IsReady, is_own_open, state}
 use Rattle.mbim_proxy.specs.Lists.{last_list}
 use Rattle.mbim_proxy.specs.Forwarding.{wire}
@@ -110,7 +110,7 @@ is_heard (ModemSays m) = true
 is_heard (ClockShows time) = true
 is_heard _ = false
 
-counts_fact : (c : ℕ) (before : List Fact) (item : Item) → is_heard item ≡ true → (fact : Fact) (past : List Fact) → MayAdd item fact past → SameCounts c before past → SameCounts c before (fact ∷ past)
+counts_fact : (c : ℕ) (before : List Fact) (item : Item) → is_heard item ≡ true → (fact : Fact) (past : List Fact) → MayAddStill item fact past → SameCounts c before past → SameCounts c before (fact ∷ past)
 unfolding forward_count message_count to_modem modem_drained
 counts_fact c before (Joins d) heard fact past may same = absurd (let no : false ≡ true = heard in cc)
 counts_fact c before (Says d m) heard fact past may same = absurd (let no : false ≡ true = heard in cc)
@@ -128,7 +128,7 @@ counts_fact c before _ heard (ModemDrained count) past may same = absurd may
 counts_fact c before _ heard _ past may same = record { forwarded = same.forwarded; said = same.said; to_it = same.to_it; taken = same.taken }
 
 -- a request that expires stays in use
-used_fact : (requests : List Request) (time : ℕ) (fact : Fact) (past : List Fact) → MayAdd (ClockShows time) fact past → in_use past ≡ requests → in_use (fact ∷ past) ≡ requests
+used_fact : (requests : List Request) (time : ℕ) (fact : Fact) (past : List Fact) → MayAddStill (ClockShows time) fact past → in_use past ≡ requests → in_use (fact ∷ past) ≡ requests
 unfolding in_use
 used_fact requests time (Forwarded r) past may same = absurd may
 used_fact requests time (Answered r m) past may same = absurd may
@@ -165,11 +165,11 @@ module _ (item : Item) (past : List Fact) (sound : IsSound setup.limits past) wh
   pub same_counts : (c : ℕ) → is_heard item ≡ true → SameCounts c past after
   unfolding add_all
   same_counts c heard =
-      kept_by_items (mbim_protocol setup) (Asks setup) (orderly setup) (SameCounts c past) (λ i. is_heard i ≡ true)
+      kept_by_still_items (mbim_protocol setup) (Asks setup) (orderly setup) (SameCounts c past) (λ past. refl) (λ i. is_heard i ≡ true)
       (λ i heard fact before follows may asked held. counts_fact c past i heard fact before may held) (item ∷ []) past (heard, tt) sound (record { forwarded = refl; said = refl; to_it = refl; taken = refl })
 
 pub clock_uses : (time : ℕ) (past : List Fact) → IsSound setup.limits past → in_use (add (mbim_protocol setup) (ClockShows time) past) ≡ in_use past
 unfolding add_all
 clock_uses time past sound =
-    kept_by_items (mbim_protocol setup) (Asks setup) (orderly setup) (λ facts. in_use facts ≡ in_use past) (λ i. i ≡ ClockShows time)
-    (λ i is fact before follows may asked held. used_fact (in_use past) time fact before (subst (λ (x : Item). MayAdd x fact before) is may) held) (ClockShows time ∷ []) past (refl, tt) sound refl
+    kept_by_still_items (mbim_protocol setup) (Asks setup) (orderly setup) (λ facts. in_use facts ≡ in_use past) (λ past. refl) (λ i. i ≡ ClockShows time)
+    (λ i is fact before follows may asked held. used_fact (in_use past) time fact before (subst (λ (x : Item). MayAddStill x fact before) is may) held) (ClockShows time ∷ []) past (refl, tt) sound refl

@@ -61,6 +61,9 @@ pub enum ToolCommand {
         exit_when_lost: bool,
         /// After how many milliseconds a request expires.
         time: u64,
+        /// For how many milliseconds a client id is kept whose holder went, before the proxy releases it;
+        /// it never does where there is none.
+        release: Option<u64>,
         /// After how many events it ends.
         turns: u64,
     },

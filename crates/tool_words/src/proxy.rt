@@ -1,14 +1,14 @@
 ghost use Rattle.std.specs.Prelude.{◌≡◌, ◌≤◌, true, IfOk, option_and_then, option_map};
 ghost use Rattle.clap.specs.Words.{app_of, found_of, rows_of};
 ghost use Rattle.tool_words.specs.Answers.{Answers};
-ghost use Rattle.tool_words.specs.Proxy.{empty_time, proxy_app, proxy_asked, proxy_name, proxy_options, proxy_spelling, proxy_values};
-ghost use Rattle.tool_words.specs.Values.{Gives, path_in};
+ghost use Rattle.tool_words.specs.Proxy.{empty_time, own_options, proxy_app, proxy_asked, proxy_name, proxy_options, proxy_spelling, proxy_values, release_in};
+ghost use Rattle.tool_words.specs.Values.{Gives, optional, path_in};
 
 use crate::defaults::{bridge_socket, proxy_socket};
 use crate::given::{is_given, value_given};
 use crate::options::{OptionSpelling, ToolOption, flag, valued};
 use crate::reader::{add_options, without_options};
-use crate::values::{number_or, path, path_or, turns};
+use crate::values::{number_or, number_within, or_fault, path, path_or, turns};
 use crate::{ToolCommand, UsageKind, WordFault};
 use clap::{ArgMatches, Command};
 use kit_bytes::{Kind, PathText};
@@ -34,6 +34,7 @@ pub enum ProxyOption {
     ExitWhenLost,
     EmptyTimeout,
     Time,
+    ReleaseAfter,
     Turns,
 }
 
@@ -49,6 +50,7 @@ impl ToolOption for ProxyOption {
             ProxyOption::ExitWhenLost => flag("exit-when-lost"),
             ProxyOption::EmptyTimeout => valued("empty-timeout"),
             ProxyOption::Time => valued("time"),
+            ProxyOption::ReleaseAfter => valued("release-after"),
             ProxyOption::Turns => valued("turns"),
         }
     }
@@ -72,12 +74,24 @@ fn options() -> &'static [ProxyOption]
     PROXY_OPTIONS.as_slice()
 }
 
+static QMI_OPTIONS: [ProxyOption; 1] = [ProxyOption::ReleaseAfter];
+
+fn own_options(kind: Kind) -> &'static [ProxyOption]
+    ensures { result.now ≡ own_options kind }
+{
+    match kind {
+        Kind::Qmi => QMI_OPTIONS.as_slice(),
+        Kind::Mbim => &[],
+    }
+}
+
 /// The options of a proxy.
 pub fn proxy_reader<'a>(alloc: Global, kind: Kind) -> Result<Command<'a>, AllocError>
     ensures { IfOk result (λ command. app_of command ≡ proxy_app kind) }
 {
     let name: &'a str = proxy_name(kind);
-    add_options(alloc, without_options(alloc, name), options())
+    let reader = add_options(alloc, without_options(alloc, name), options())?;
+    add_options(alloc, reader, own_options(kind))
 }
 
 fn modem(alloc: Global, text: Option<&str>) -> Result<PathText, WordFault>
@@ -100,6 +114,17 @@ fn empty_time(stays: bool, seconds: u64) -> Option<u64>
     }
 }
 
+#[tactic(auto, unfolding(crate::specs::Proxy::release_in))]
+fn release_time(text: Option<&str>) -> Result<Option<u64>, WordFault>
+    ensures { Gives (optional release_in (option_map (λ t. t.now) text.entry)) result }
+{
+    let Some(text) = text else {
+        return Ok(None);
+    };
+    let seconds = or_fault(number_within(1, 86_400, text))?;
+    Ok(Some(seconds * 1_000))
+}
+
 #[tactic(auto, unfolding(crate::specs::Proxy::proxy_values))]
 fn values(alloc: Global, kind: Kind, matches: &ArgMatches<'_>) -> Result<ToolCommand, WordFault>
     ensures { Gives (proxy_values kind (rows_of (found_of matches.now))) result }
@@ -110,6 +135,7 @@ fn values(alloc: Global, kind: Kind, matches: &ArgMatches<'_>) -> Result<ToolCom
     let seconds = number_or(30, 0, 86_400, seconds)?;
     let time = value_given(matches, ProxyOption::Time);
     let time = number_or(30_000, 1, 86_400_000, time)?;
+    let release = release_time(value_given(matches, ProxyOption::ReleaseAfter))?;
     let turns = turns(value_given(matches, ProxyOption::Turns))?;
     let device = modem(alloc, value_given(matches, ProxyOption::Device))?;
     let socket = value_given(matches, ProxyOption::Socket);
@@ -124,6 +150,7 @@ fn values(alloc: Global, kind: Kind, matches: &ArgMatches<'_>) -> Result<ToolCom
         empty: empty_time(stays, seconds),
         exit_when_lost,
         time,
+        release,
         turns,
     })
 }

@@ -134,7 +134,7 @@ fn qmi_again(
     start: usize,
     run: &mut Run,
 ) -> Result<(), RowFault> {
-    let mut proxy = qmi_proxy(alloc, "rig")?;
+    let mut proxy = qmi_proxy(alloc, "rig", None)?;
     let met = run.meet_all(alloc, log, start, &mut proxy);
     drop(proxy);
     met

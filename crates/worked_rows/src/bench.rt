@@ -76,7 +76,10 @@ fn opening_of(kind: &str) -> Result<BenchNote, RowFault> {
         "mbim" => Kind::Mbim,
         _ => return Err(RowFault::new("no kind")),
     };
-    let limits = Limits { time: 30_000 };
+    let limits = Limits {
+        time: 30_000,
+        release: None,
+    };
     Ok(BenchNote::Opened { kind, limits })
 }
 

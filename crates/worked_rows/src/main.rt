@@ -85,9 +85,8 @@ fn run_row(
 ) -> Result<bool, RowFault> {
     match row.first.key {
         "words" => tool::is_as_told(rt, rt.alloc(), place, rows, row),
-        "story" => {
-            Ok(qmi_story(rt, place, rows, row, true)? && qmi_story(rt, place, rows, row, false)?)
-        }
+        "story" => qmi_stories(rt, place, rows, row, None),
+        "releasing-story" => qmi_stories(rt, place, rows, row, Some(60_000)),
         "mbim-story" => {
             Ok(mbim_story(rt, place, rows, row, true)? && mbim_story(rt, place, rows, row, false)?)
         }
@@ -99,15 +98,30 @@ fn run_row(
     }
 }
 
-// Whether a story of a QMI proxy is what is found.
+// Whether a story of a QMI proxy is what is found, where bytes come whole and byte by byte. The proxy
+// releases the client ids that are kept for so many milliseconds.
+fn qmi_stories(
+    rt: &HostRuntime,
+    place: Place<'_>,
+    rows: &Rows<'_>,
+    row: &Row<'_>,
+    release: Option<u64>,
+) -> Result<bool, RowFault> {
+    Ok(
+        qmi_story(rt, place, rows, row, release, true)?
+            && qmi_story(rt, place, rows, row, release, false)?,
+    )
+}
+
 fn qmi_story(
     rt: &HostRuntime,
     place: Place<'_>,
     rows: &Rows<'_>,
     row: &Row<'_>,
+    release: Option<u64>,
     whole: bool,
 ) -> Result<bool, RowFault> {
-    let mut proxy = qmi_proxy(rt.alloc(), "/dev/cdc-wdm0")?;
+    let mut proxy = qmi_proxy(rt.alloc(), "/dev/cdc-wdm0", release)?;
     let same = story::is_as_told(rt, rt.alloc(), place, rows, row, &mut proxy, whole);
     drop(proxy);
     same

@@ -23,9 +23,17 @@ pub struct Proxy<C: ProxyCore> {
     ghost greatest_is: { sound ≡ true → (C.face core).greatest ≡ greatest },
 }
 
-/// A QMI proxy of a device with 30 seconds for an answer, to which nothing has happened.
-pub fn qmi_proxy(alloc: Global, device: &str) -> Result<Proxy<QmiCore>, AllocError> {
-    let limits = Limits { time: 30_000 };
+/// A QMI proxy of a device with 30 seconds for an answer, to which nothing has happened, and which
+/// releases the client ids that are kept for so many milliseconds.
+pub fn qmi_proxy(
+    alloc: Global,
+    device: &str,
+    release: Option<u64>,
+) -> Result<Proxy<QmiCore>, AllocError> {
+    let limits = Limits {
+        time: 30_000,
+        release,
+    };
     let core = QmiCore::open(alloc, &limits, device)?;
     Ok(Proxy {
         core,
@@ -36,7 +44,10 @@ pub fn qmi_proxy(alloc: Global, device: &str) -> Result<Proxy<QmiCore>, AllocErr
 
 /// And an MBIM proxy.
 pub fn mbim_proxy(alloc: Global, device: &str) -> Result<Proxy<MbimCore>, AllocError> {
-    let limits = Limits { time: 30_000 };
+    let limits = Limits {
+        time: 30_000,
+        release: None,
+    };
     let device = Text::from_str(alloc, device)?;
     let core = MbimCore::open(alloc, &limits, device)?;
     Ok(Proxy {

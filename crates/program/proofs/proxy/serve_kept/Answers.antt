@@ -14,7 +14,7 @@ returns-in-Ok-clause-serves g c =
     let socket : c.as_str.result.now ≡ encode_utf8_all c.args.socket.now = c.as_str.ensures ∙ ap encode_utf8_all c.value.ensures.same in
     let opened = c.in-Ok.ensures.opens in
     let opening = opened.are.on_hub in
-    let Ends : List Call → Type 0 = EndsSo (proxy_for c.args.kind asked.device asked.time) asked.until asked.turns c.serve_opened.result in
+    let Ends : List Call → Type 0 = EndsSo (proxy_for c.args.kind asked.device asked.time asked.release) asked.until asked.turns c.serve_opened.result in
     record {
       starts = opened.starts;
       are = served opening c.serve_opened.result (subst (λ (path : List ℕ). Opens path (place_in c.args.device.now) (Ok tt) opening opened.starts) socket opened.are.are)

@@ -13,7 +13,7 @@ serve-requires-clause-opened g c = (_, record { setup = _; same = refl; stands =
 pub returns-in-Ok-clause-served : goal.returns-in-Ok-clause-served
 returns-in-Ok-clause-served g c =
     let settings = c.args.settings.now in
-    let Opened : List ℕ → Type 0 = λ device. Stands (record { device = device; time_limit = settings.time; starts_away = false }) [] c.in-Ok.core in
+    let Opened : List ℕ → Type 0 = λ device. Stands (record { device = device; time_limit = settings.time; starts_away = false; release = settings.release }) [] c.in-Ok.core in
     served_so (proxy_of (setup_for settings)) settings.until settings.turns _ _ c.serve.result
     (c.serve.ensures.served (proxy_of (setup_for settings)) (record { setup = setup_for settings; same = refl; stands = subst Opened c.as_str.ensures c.in-Ok.ensures }))
 

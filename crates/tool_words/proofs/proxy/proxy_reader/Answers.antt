@@ -3,4 +3,4 @@ use Rattle.tool_words.proofs.proxy.proxy_reader.Goals as goal
 
 pub returns : goal.returns
 unfolding proxy_app
-returns c = rw (c.without_options.ensures, c.proxy_name-name.ensures, c.options.ensures) at c.add_options.ensures
+returns c = rw (c.in_ok-reader.ensures, c.without_options.ensures, c.proxy_name-name.ensures, c.options.ensures, c.own_options.ensures) at c.add_options-2.ensures

@@ -18,7 +18,7 @@ returns-in-Some c =
     let m : List ℕ = c.args.message.now in
     let client : Client = c.args.client.now in
     let outbox : Queue = c.args.outbox.now in
-    let side : ModemSide = record { device = c.self.inside.device; time_limit = c.self.inside.time_limit; time = c.self.inside.time; away = c.self.inside.away; traffic = c.self.inside.traffic } in
+    let side : ModemSide = record { device = c.self.inside.device; time_limit = c.self.inside.time_limit; release = c.self.inside.release; time = c.self.inside.time; away = c.self.inside.away; traffic = c.self.inside.traffic } in
     let error : ℕ = c.in-Some.error in
     let read : c.read-message.result ≡ m = c.read-message.ensures in
     let own : true ≡ view_decides client.opened m = c.in-Some.ensures.own ∙ ap (view_decides client.opened) read in
@@ -42,14 +42,14 @@ returns-in-Some-forward c =
     let m : List ℕ = c.args.message.now in
     let client : Client = c.args.client.now in
     let outbox : Queue = c.args.outbox.now in
-    let side : ModemSide = record { device = c.self.inside.device; time_limit = c.self.inside.time_limit; time = c.self.inside.time; away = c.self.inside.away; traffic = c.self.inside.traffic } in
+    let side : ModemSide = record { device = c.self.inside.device; time_limit = c.self.inside.time_limit; release = c.self.inside.release; time = c.self.inside.time; away = c.self.inside.away; traffic = c.self.inside.traffic } in
     let error : ℕ = c.in-Some-forward.error in
     let own : false ≡ view_decides client.opened m = c.in_default.ensures.own ∙ ap (view_decides client.opened) c.read-message.ensures in
     let refused : Some error ≡ refusal_of (shared_of side.away c.args.name m side.traffic) = c.in-Some-forward.ensures.refusal ∙ ap (λ (l : List ℕ). refusal_of (shared_of side.away c.args.name l side.traffic)) c.read-message.ensures in
     let heard = heard_refused c.args.name m client outbox side own error refused in
     let traffic : c.forward.new.self ≡ forwards_as (shared_of side.away c.args.name m side.traffic) (deadline_of side.time side.time_limit) c.args.name m side.traffic =
-    c.in-Some-forward.ensures.forwarded ∙ ap (λ (l : List ℕ). forwards_as (shared_of side.away c.args.name l side.traffic) c.saturating_add-deadline.result c.args.name l side.traffic) c.read-message.ensures
-    ∙ ap (λ (t : ℕ). forwards_as (shared_of side.away c.args.name m side.traffic) t c.args.name m side.traffic) c.saturating_add-deadline.ensures in
+    c.in-Some-forward.ensures.forwarded ∙ ap (λ (l : List ℕ). forwards_as (shared_of side.away c.args.name l side.traffic) c.deadline-deadline.result c.args.name l side.traffic) c.read-message.ensures
+    ∙ ap (λ (t : ℕ). forwards_as (shared_of side.away c.args.name m side.traffic) t c.args.name m side.traffic) (c.deadline-deadline.ensures ∙ ap (λ (s : ModemSide). deadline_of s.time s.time_limit) (sym c.self.view_is)) in
     let made : replied (result_reply c.read-message.result error) client.opened client outbox (record side { traffic = c.forward.new.self }) ≡ replied (result_reply m error) client.opened client outbox (record side { traffic = forwards_as (shared_of side.away c.args.name m side.traffic) (deadline_of side.time side.time_limit) c.args.name m side.traffic }) =
     ap (λ (l : List ℕ). replied (result_reply l error) client.opened client outbox (record side { traffic = c.forward.new.self })) c.read-message.ensures ∙ ap (λ (d : Traffic). replied (result_reply m error) client.opened client outbox (record side { traffic = d })) traffic in
     let all = made ∙ sym heard ∙ ap (λ (s : ModemSide). hear_client c.args.name m client outbox s) c.self.view_is in
@@ -65,13 +65,13 @@ returns c =
     let m : List ℕ = c.args.message.now in
     let client : Client = c.args.client.now in
     let outbox : Queue = c.args.outbox.now in
-    let side : ModemSide = record { device = c.self.inside.device; time_limit = c.self.inside.time_limit; time = c.self.inside.time; away = c.self.inside.away; traffic = c.self.inside.traffic } in
+    let side : ModemSide = record { device = c.self.inside.device; time_limit = c.self.inside.time_limit; release = c.self.inside.release; time = c.self.inside.time; away = c.self.inside.away; traffic = c.self.inside.traffic } in
     let own : false ≡ view_decides client.opened m = c.in_default.ensures.own ∙ ap (view_decides client.opened) c.read-message.ensures in
     let refused : None ≡ refusal_of (shared_of side.away c.args.name m side.traffic) = c.in_default-forward.ensures.refusal ∙ ap (λ (l : List ℕ). refusal_of (shared_of side.away c.args.name l side.traffic)) c.read-message.ensures in
     let heard = heard_forwarded c.args.name m client outbox side own refused in
     let traffic : c.forward.new.self ≡ forwards_as (shared_of side.away c.args.name m side.traffic) (deadline_of side.time side.time_limit) c.args.name m side.traffic =
-    c.in_default-forward.ensures.forwarded ∙ ap (λ (l : List ℕ). forwards_as (shared_of side.away c.args.name l side.traffic) c.saturating_add-deadline.result c.args.name l side.traffic) c.read-message.ensures
-    ∙ ap (λ (t : ℕ). forwards_as (shared_of side.away c.args.name m side.traffic) t c.args.name m side.traffic) c.saturating_add-deadline.ensures in
+    c.in_default-forward.ensures.forwarded ∙ ap (λ (l : List ℕ). forwards_as (shared_of side.away c.args.name l side.traffic) c.deadline-deadline.result c.args.name l side.traffic) c.read-message.ensures
+    ∙ ap (λ (t : ℕ). forwards_as (shared_of side.away c.args.name m side.traffic) t c.args.name m side.traffic) (c.deadline-deadline.ensures ∙ ap (λ (s : ModemSide). deadline_of s.time s.time_limit) (sym c.self.view_is)) in
     let made : (let h : Hearing Client ModemSide = record { client = client; outbox = outbox; beside = record side { traffic = c.forward.new.self }; has_room = true } in h)
     ≡ record { client = client; outbox = outbox; beside = record side { traffic = forwards_as (shared_of side.away c.args.name m side.traffic) (deadline_of side.time side.time_limit) c.args.name m side.traffic }; has_room = true } =
     ap (λ (d : Traffic). let h : Hearing Client ModemSide = record { client = client; outbox = outbox; beside = record side { traffic = d }; has_room = true } in h) traffic in

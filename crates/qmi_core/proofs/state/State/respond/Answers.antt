@@ -11,7 +11,7 @@ returns-then-waits c =
     let m : List ℕ = c.args.message.now in
     let inside = c.self-inside.inside.0 in
     let traffic : Traffic = inside.1.0.traffic in
-    let was : QmiState = record { table = inside.0; beside = record { device = inside.1.0.device; time_limit = inside.1.0.time_limit; time = inside.1.0.time; away = inside.1.0.away; traffic = traffic } } in
+    let was : QmiState = record { table = inside.0; beside = record { device = inside.1.0.device; time_limit = inside.1.0.time_limit; release = inside.1.0.release; time = inside.1.0.time; away = inside.1.0.away; traffic = traffic } } in
     let same = ap (λ (v : Inside). let x : QmiState = record { table = v.connections; beside = v.side } in x) c.self-inside.view_is ∙ c.self.view_is in
     let F = found_row (number_of m) c.in-Some.name c.in-Some.asked c.in-Some.waits (of_control (is_control m) traffic).rows
     (c.in-Some.ensures ∙ ap (λ (b : Bool). option_map looked (row_numbered c.number.result (of_control b traffic).rows)) c.is_control.ensures ∙ ap (λ (n : ℕ). option_map looked (row_numbered n (of_control (is_control m) traffic).rows)) c.number.ensures) in
@@ -26,7 +26,7 @@ returns-else-waits c =
     let m : List ℕ = c.args.message.now in
     let inside = c.self-inside.inside.0 in
     let traffic : Traffic = inside.1.0.traffic in
-    let was : QmiState = record { table = inside.0; beside = record { device = inside.1.0.device; time_limit = inside.1.0.time_limit; time = inside.1.0.time; away = inside.1.0.away; traffic = traffic } } in
+    let was : QmiState = record { table = inside.0; beside = record { device = inside.1.0.device; time_limit = inside.1.0.time_limit; release = inside.1.0.release; time = inside.1.0.time; away = inside.1.0.away; traffic = traffic } } in
     let same = ap (λ (v : Inside). let x : QmiState = record { table = v.connections; beside = v.side } in x) c.self-inside.view_is ∙ c.self.view_is in
     let F = found_row (number_of m) c.in-Some.name c.in-Some.asked c.in-Some.waits (of_control (is_control m) traffic).rows
     (c.in-Some.ensures ∙ ap (λ (b : Bool). option_map looked (row_numbered c.number.result (of_control b traffic).rows)) c.is_control.ensures ∙ ap (λ (n : ℕ). option_map looked (row_numbered n (of_control (is_control m) traffic).rows)) c.number.ensures) in

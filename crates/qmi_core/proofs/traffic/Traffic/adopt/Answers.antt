@@ -1,13 +1,14 @@
-use Rattle.std.proofs.Common.{◌≡◌, ap, sym, ◌∙◌}
-use Rattle.qmi_core.proofs.Granted.{nobody, somebody, adopts_none, adopts_held}
+use Rattle.std.proofs.Common.{ℕ, ap₂, sym, ◌∙◌}
+use Rattle.holders.specs.Grants.{is_taken}
+use Rattle.qmi_core.specs.State.{grants_unless}
+use Rattle.qmi_core.proofs.Granted.{adopts_used, adopts_none}
 use Rattle.qmi_core.proofs.traffic.Traffic.adopt.Goals as goal
-use Rattle.qmi_core.proofs.traffic.Traffic.adopt.Goals.{else-is_none-via-then-is_none+else-uses_id, else-is_none-via-else-is_none}
 
-pub returns-else-is_none : goal.returns-else-is_none
-returns-else-is_none c =
-    elim c.else-is_none.branch [
-      | else-is_none-via-then-is_none+else-uses_id w ↦
-          adopts_none c.args.name c.args.message.now c.args.self.now (sym c.requires.holder ∙ nobody c.args.holder c.is_none.result c.is_none.ensures (sym w.if-is_none.true)) (sym w.uses_id.ensures ∙ w.if-uses_id.false)
-      | else-is_none-via-else-is_none w ↦
-          adopts_held c.args.name c.args.message.now c.args.self.now c.args.holder (somebody c.args.holder c.is_none.result c.is_none.ensures (sym w.if-is_none.false)) c.requires.ordered (sym c.requires.holder)
-    ]
+pub returns-then-uses_id : goal.returns-then-uses_id
+returns-then-uses_id c =
+    c.grant.ensures.grants
+    ∙ ap₂ (λ (s i : ℕ). grants_unless (is_taken c.args.name s i c.args.self.now.held) c.args.name s i c.args.self.now) c.used_service.ensures c.used_client.ensures
+    ∙ adopts_used c.args.name c.args.message.now c.args.self.now (sym c.uses_id.ensures ∙ c.if-uses_id.true)
+
+pub returns-else-uses_id : goal.returns-else-uses_id
+returns-else-uses_id c = adopts_none c.args.name c.args.message.now c.args.self.now (sym c.uses_id.ensures ∙ c.if-uses_id.false)

@@ -4,7 +4,7 @@ use Rattle.std.proofs.lemmas.List.Sorted.{IsPartitionPoint-from_clause}
 use Rattle.proxy_history.specs.ClientIds.{is_of}
 use Rattle.holders.specs.Grants.{is_before}
 use Rattle.holders.proofs.Places.{halved, place_none, place_other}
-use Rattle.holders.proofs.holders.find.Goals as goal
+use Rattle.holders.proofs.by_id.find.Goals as goal
 
 pub returns-then-place-rows-clause-absent : goal.returns-then-place-rows-clause-absent
 returns-then-place-rows-clause-absent c =

@@ -2,7 +2,7 @@ use Rattle.std.proofs.Common.{arith}
 use Rattle.holders.specs.Grants.{IsAhead}
 use Rattle.kit_bytes.proofs.Sorted.{in_order_none}
 use Rattle.holders.proofs.Order.{bytes_none}
-use Rattle.holders.proofs.holders.Holders.open.Goals as goal
+use Rattle.holders.proofs.by_id.ById.open.Goals as goal
 
 pub invariant_of-result : goal.invariant_of-result
 invariant_of-result c = record {
