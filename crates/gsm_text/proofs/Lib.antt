@@ -1,0 +1,4 @@
+pub mod Tables
+pub mod Characters
+pub mod Digits
+pub mod Unpacking

@@ -1,0 +1,4 @@
+pub mod Alphabet
+pub mod Packing
+pub mod Laws
+pub mod Examples

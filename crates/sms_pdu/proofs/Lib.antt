@@ -1,0 +1,13 @@
+pub mod Writing
+pub mod Halves
+pub mod Elements
+pub mod Whole
+pub mod Pieces
+pub mod Sending
+pub mod Joins
+pub mod Laying
+pub mod Telling
+pub mod UserData
+pub mod Unity
+pub mod Coming
+pub mod Returning

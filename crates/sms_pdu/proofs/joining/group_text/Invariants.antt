@@ -1,0 +1,6 @@
+use Rattle.std.proofs.Common.{string_bytes}
+use Rattle.sms_pdu.proofs.Joins.{HasTextUpTo}
+use Rattle.sms_pdu.proofs.joining.group_text.Given as goal
+
+abbrev pub invariant-loop-place : goal.invariant-loop-place
+invariant-loop-place l = HasTextUpTo l.pdus l.pdu l.place (string_bytes l.text)

@@ -1,0 +1,11 @@
+pub mod Fields
+pub mod Coding
+pub mod Address
+pub mod Time
+pub mod Header
+pub mod Reading
+pub mod Parts
+pub mod Joining
+pub mod Examples
+pub mod Vectors
+pub mod Laws

@@ -1,0 +1,34 @@
+//! Short messages: the bodies of those that the network delivers, and of those that are submitted
+//! to it, read and made, in parts where they are long.
+#![tactic(auto)]
+
+mod address;
+mod body;
+mod coding;
+mod data;
+mod fields;
+mod header;
+mod joined;
+mod joining;
+mod laws;
+mod messages;
+mod number;
+mod parts;
+mod pdu;
+mod reading;
+mod splitting;
+mod texts;
+mod time;
+
+pub use fields::Field;
+pub use joined::{Joined, JoinedList, Pdus};
+pub use joining::join;
+pub use laws::{
+    a_text_comes_back, addresses_are_read, codings_are_read, edges_of_parts, headers_are_read,
+    long_texts_are_split, messages_are_made, messages_are_read, parts_are_joined, texts_are_sent,
+    validity_is_passed,
+};
+pub use messages::submit_pdus;
+pub use parts::{PduList, SubmitFault};
+pub use pdu::{Body, Part, Pdu, PduFault};
+pub use reading::read_pdu;
