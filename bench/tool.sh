@@ -1,8 +1,9 @@
 #!/bin/sh
 # One command of each tool against a modem on this machine, beside libqmi's qmicli and libmbim's mbimcli: wall time
 # and peak memory of both in one run, as ratios. The real tools want a character device, so their modem is behind a
-# raw pseudo terminal; ours is behind a Unix socket.
-# MODEMKIT names a program that is built already.
+# raw pseudo terminal; ours is behind a Unix socket. With --node ours is at that terminal too, over a bridge and two pumps that
+# it starts and ends.
+# tool.sh [--node]. MODEMKIT names a program that is built already.
 top=$(CDPATH= cd -- "$(dirname -- "$0")/.." && pwd) || exit 70
 . "$top/bench/needs.sh"
 needs "Debian: gcc, hyperfine, libqmi-utils, libmbim-utils, python3, time" cc hyperfine qmicli mbimcli python3 /usr/bin/time
@@ -43,7 +44,8 @@ print(f"ratio: best {ours['min'] / theirs['min']:.2f}, median {ours['median'] / 
 P
 }
 
-compare qmicli "$program qmicli -d $folder/qmi.sock --get-service-version-info" \
-    "qmicli -d $(readlink "$folder/qmi.tty") --device-open-qmi --get-service-version-info"
-compare mbimcli "$program mbimcli -d $folder/mbim.sock --query-radio-state" \
-    "mbimcli -d $(readlink "$folder/mbim.tty") --query-radio-state"
+qmi_tty=$(readlink "$folder/qmi.tty") mbim_tty=$(readlink "$folder/mbim.tty")
+qmi="-d $folder/qmi.sock" mbim="-d $folder/mbim.sock"
+[ "$1" != --node ] || qmi="-d $qmi_tty --bridge $folder/qmi.bridge" mbim="-d $mbim_tty --bridge $folder/mbim.bridge"
+compare qmicli "$program qmicli $qmi --get-service-version-info" "qmicli -d $qmi_tty --device-open-qmi --get-service-version-info"
+compare mbimcli "$program mbimcli $mbim --query-radio-state" "mbimcli -d $mbim_tty --query-radio-state"

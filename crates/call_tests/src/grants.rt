@@ -13,7 +13,10 @@ fn an_id_has_one_holder(rt: HostRuntime) {
     assert!(rt; holders.due(60_999, 60_000).is_none());
     assert!(rt; holders.due(61_000, 60_000) == Some((1, 9)));
     assert!(rt; holders.grant(0, 1, 9) && holders.kept(1, 9).is_none());
-    assert!(rt; holders.grant(1, 2, 5));
+    holders.left(0, 70_000);
+    assert!(rt; holders.kept(1, 9) == Some(70_000));
+    holders.used(1, 9);
+    assert!(rt; holders.kept(1, 9).is_none() && holders.grant(1, 2, 5));
     holders.clear();
     assert!(rt; holders.holder(2, 5).is_none());
 }

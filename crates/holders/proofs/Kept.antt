@@ -6,11 +6,12 @@ use Rattle.std.proofs.lemmas.Bool.{true≢false}
 use Rattle.std.proofs.lemmas.List.{map-append}
 use Rattle.kit_bytes.proofs.Lists.{all_weaker}
 use Rattle.kit_bytes.specs.Sorted.{IsInOrder}
-use Rattle.proxy_history.specs.ClientIds.{Grant, KeptId, is_of, holder_in}
+use Rattle.proxy_history.specs.ClientIds.{Grant, KeptId, is_of, holder_in, is_other}
 use Rattle.proxy_history.proofs.Lists.{filter_map_is, Contains-cons, Contains-cons_cases, Contains-nil}
 use Rattle.holders.specs.Grants.{AreInOrder, is_before, is_behind, granted}
-use Rattle.holders.specs.Kept.{Ids, held_unless, is_kept_of, is_kept_before, is_kept_behind, since_in, kept_from, all_kept_from, is_due, FirstDue}
+use Rattle.holders.specs.Kept.{Ids, kept_without, held_unless, held_by, is_kept_of, is_kept_before, is_kept_behind, since_in, kept_from, all_kept_from, is_due, FirstDue}
 use Rattle.holders.specs.Rows.{kept_of, id_of, is_old, all_granted}
+use Rattle.holders.proofs.Places.{granted_again}
 
 pub since_is : (s i : ℕ) (rows : List Grant) → holder_in s i rows ≡ since_in s i (map kept_of rows)
 since_is s i [] = refl
@@ -28,13 +29,27 @@ pub all_kept_granted : (time : ℕ) (grants rows : List Grant) → map kept_of (
 all_kept_granted time [] rows = refl
 all_kept_granted time (g ∷ grants) rows = all_kept_granted time grants (granted time g.service g.client rows) ∙ ap (all_kept_from time grants) (kept_granted time g rows)
 
--- the id is this connection's, and kept no more
-pub granted_ids : (conn s i : ℕ) (held rows new others : List Grant) (ids : Ids) → record { held = held; kept = map kept_of rows } ≡ ids → new ≡ granted conn s i held
-    → others ≡ filter (λ g. not (is_of s i g)) rows → record { held = new; kept = map kept_of others } ≡ held_unless false conn s i ids
-granted_ids conn s i held rows new others ids is now without =
-    ap (λ (l : List Grant). let v : Ids = record { held = l; kept = map kept_of others } in v) now
-    ∙ ap (λ (l : List KeptId). let v : Ids = record { held = granted conn s i held; kept = l } in v) (ap (map kept_of) without ∙ sym (filter_map_is (λ k. not (is_kept_of s i k)) kept_of rows))
-    ∙ ap (held_unless false conn s i) is
+-- the id is kept no more
+pub kept_no_more : (s i : ℕ) (held rows others : List Grant) (ids : Ids) → record { held = held; kept = map kept_of rows } ≡ ids → others ≡ filter (λ g. not (is_of s i g)) rows
+    → record { held = held; kept = map kept_of others } ≡ record ids { kept = kept_without s i ids.kept }
+kept_no_more s i held rows others ids is without =
+    ap (λ (l : List KeptId). let v : Ids = record { held = held; kept = l } in v) (ap (map kept_of) without ∙ sym (filter_map_is (λ k. not (is_kept_of s i k)) kept_of rows))
+    ∙ ap (λ (v : Ids). record v { kept = kept_without s i v.kept }) is
+
+-- ---- the grant of an id that nobody holds, that another connection holds, or that the connection itself holds ----
+
+pub held_by_none : (conn s i : ℕ) (ids : Ids) → holder_in s i ids.held ≡ None → held_unless false conn s i ids ≡ held_by conn s i ids
+held_by_none conn s i ids none = sym (ap (λ (h : Option ℕ). held_unless (is_other conn h) conn s i ids) none)
+
+pub held_by_other : (conn s i d : ℕ) (ids : Ids) → holder_in s i ids.held ≡ Some d → (d ≡ conn → ⊥) → ids ≡ held_by conn s i ids
+held_by_other conn s i d ids held other =
+    let is : is_other conn (Some d) ≡ true = grind (arith, nat_tests, other) in
+    sym (ap (λ (b : Bool). held_unless b conn s i ids) (ap (is_other conn) held ∙ is))
+
+pub held_by_itself : (conn s i : ℕ) (ids : Ids) → holder_in s i ids.held ≡ Some conn → AreInOrder ids.held → record ids { kept = kept_without s i ids.kept } ≡ held_by conn s i ids
+held_by_itself conn s i ids held ordered =
+    let free : is_other conn (Some conn) ≡ false = grind (arith, nat_tests) in
+    sym (ap (λ (b : Bool). held_unless b conn s i ids) (ap (is_other conn) held ∙ free) ∙ ap (λ (l : List Grant). record ids { held = l; kept = kept_without s i ids.kept }) (granted_again conn s i ids.held ordered held))
 
 -- ---- which are due ----
 

@@ -1,6 +1,6 @@
 -- Where an id stands in a list of grants that is in order, or would stand.
-use Rattle.std.proofs.Common.{◌≡◌, not, ℕ, zero, suc, ◌+◌, ◌<◌, true, false, List, [], ◌∷◌, ◌++◌, length, take, drop, filter, get_or, set, refl, ap, sym, ◌∙◌, arith, Some, None, ⊎_elim, ◌||◌}
-use Rattle.std.proofs.lemmas.List.{get_or_default}
+use Rattle.std.proofs.Common.{◌≡◌, not, ℕ, zero, suc, ◌+◌, ◌<◌, true, false, List, [], ◌∷◌, ◌++◌, length, take, drop, filter, get_or, set, refl, ap, ap₂, sym, ◌∙◌, arith, Some, None, ⊎_elim, ◌||◌, Bool, if◌then◌else◌}
+use Rattle.std.proofs.lemmas.List.{get_or_default, set-get_or}
 use Rattle.std.specs.List.{AllByRecursion, AllWithin, list_any, remove}
 use Rattle.std.specs.List.Sorted.{IsPartitionedBy}
 use Rattle.std.proofs.Math.Nat.{eq-or-lt_of_le}
@@ -10,7 +10,7 @@ use Rattle.kit_bytes.proofs.Lists.{all_weaker, all_at, all_insert, all_set}
 use Rattle.kit_bytes.proofs.Sorted.{in_order_at, partitioned, in_order_insert, in_order_set}
 use Rattle.proxy_history.specs.ClientIds.{Grant, is_of, holder_in, holds_some}
 use Rattle.holders.specs.Grants.{is_before, is_behind, is_of_service, IsAhead, AreInOrder, AreBytes, IsFoundAt, IsPlaceOf, granted}
-use Rattle.holders.proofs.Order.{of_not_before, of_not_behind, before_not_of, before_not_behind, behind_not_of, behind_not_before, behind_else, before_of_behind, before_before, behind_both, behind_behind, kept_all, kept_none, few_ids}
+use Rattle.holders.proofs.Order.{of_not_before, of_not_behind, before_not_of, before_not_behind, behind_not_of, behind_not_before, behind_else, is_of-is, before_of_behind, before_before, behind_both, behind_behind, kept_all, kept_none, few_ids}
 
 -- ---- what a binary search finds ----
 
@@ -118,6 +118,41 @@ found_set number s i zero (g ∷ grants) d ordered found =
 found_set number s i (suc place) (g ∷ grants) d ordered found =
     let before = stands_before s i place g grants ordered found in
     rw (before, before_not_behind s i g before) (ap (λ t. g ∷ t) (found_set number s i place grants d ordered.1 (found_behind s i place g grants found)))
+
+grant_is : (conn s i : ℕ) (g : Grant) → g.conn ≡ conn → is_of s i g ≡ true → g ≡ record { conn = conn; service = s; client = i }
+grant_is conn s i g same of =
+    ap (λ (n : ℕ). let h : Grant = record { conn = n; service = g.service; client = g.client } in h) same
+    ∙ ap₂ (λ (t j : ℕ). let h : Grant = record { conn = conn; service = t; client = j } in h) (is_of-is s i g of).0 (is_of-is s i g of).1
+
+-- the id of a connection stands somewhere
+record Place (s i : ℕ) (grants : List Grant) : Type 0 where
+  place : ℕ
+  found : IsFoundAt s i grants place
+
+found_first : (s i : ℕ) (g : Grant) (grants : List Grant) → is_of s i g ≡ true → Place s i (g ∷ grants)
+found_first s i g grants of = record { place = 0; found = record { within = omega arith; is = λ d. of } }
+
+found_later : (s i : ℕ) (g : Grant) (grants : List Grant) → Place s i grants → Place s i (g ∷ grants)
+found_later s i g grants later = record { place = suc later.place; found = record { within = omega (arith, later.found.within); is = λ d. later.found.is d } }
+
+place_of : (conn s i : ℕ) (grants : List Grant) → holder_in s i grants ≡ Some conn → Place s i grants
+place_of conn s i [] held = absurd (cc)
+place_of conn s i (g ∷ grants) held = decided (place_of conn s i grants) (is_of s i g) refl
+  where
+    decided : (holder_in s i grants ≡ Some conn → Place s i grants) → (of : Bool) → is_of s i g ≡ of → Place s i (g ∷ grants)
+    decided later true of = found_first s i g grants of
+    decided later false of = found_later s i g grants (later (sym (ap (λ (b : Bool). if b then Some g.conn else holder_in s i grants) of) ∙ held))
+
+-- granting an id to the connection that holds it changes nothing
+pub granted_again : (conn s i : ℕ) (grants : List Grant) → AreInOrder grants → holder_in s i grants ≡ Some conn → granted conn s i grants ≡ grants
+granted_again conn s i grants ordered held =
+    let at = place_of conn s i grants held in
+    let new : Grant = record { conn = conn; service = s; client = i } in
+    let row : Grant = get_or grants at.place new in
+    let holds : Some row.conn ≡ Some conn = sym (found_holder s i at.place grants new ordered at.found) ∙ held in
+    let same : row.conn ≡ conn = cc in
+    let is : row ≡ new = grant_is conn s i row same (at.found.is new) in
+    sym (found_set conn s i at.place grants new ordered at.found) ∙ sym (ap (set grants at.place) is) ∙ set-get_or grants at.place new
 
 before_same : (s i : ℕ) (g h new : Grant) → is_of s i g ≡ true → new.service ≡ s → new.client ≡ i → IsAhead h g → IsAhead h new
 before_same s i g h new of service client ahead = grind (arith, nat_tests, of, service, client, ahead)

@@ -200,10 +200,11 @@ same_some conn s xs ys tell = both (holds_some conn s ys) (holds_some conn s xs)
     both false false e f = e ∙ sym f
 
 -- a grant that may be refused
-pub same_held_by : (conn s i : ℕ) (xs : List Grant) (ids : Ids) → TellTheSame xs ids.held → AreInOrder ids.held → TellTheSame (granted_last_unless (is_taken conn s i xs) conn s i xs) (held_by conn s i ids).held
-same_held_by conn s i xs ids tell ordered =
+pub same_held_by : (conn s i : ℕ) (xs : List Grant) (ids new : Ids) → new ≡ held_by conn s i ids → AreInOrder ids.held → TellTheSame xs ids.held → TellTheSame (granted_last_unless (is_taken conn s i xs) conn s i xs) new.held
+same_held_by conn s i xs ids new is ordered tell =
     let taken : is_taken conn s i ids.held ≡ is_taken conn s i xs = ap (is_other conn) (same_holder s i xs ids.held tell ordered) in
-    subst (λ (b : Bool). TellTheSame (granted_last_unless b conn s i xs) (held_by conn s i ids).held) taken (either (is_taken conn s i ids.held))
+    subst (λ (v : Ids). TellTheSame (granted_last_unless (is_taken conn s i xs) conn s i xs) v.held) (sym is)
+    (subst (λ (b : Bool). TellTheSame (granted_last_unless b conn s i xs) (held_by conn s i ids).held) taken (either (is_taken conn s i ids.held)))
   where
     either : (b : Bool) → TellTheSame (granted_last_unless b conn s i xs) (held_unless b conn s i ids).held
     either true = tell

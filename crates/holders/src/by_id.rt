@@ -82,10 +82,15 @@ impl ById {
     }
 
     /// The id has no number. Says whether it had one.
+    ///
+    /// Where no id has a number, it answers at once.
     pub fn forget(&mut self, service: u8, client: u8) -> bool
         ensures ids { self.new ≡ filter (λ g. not (is_of service client g)) self.old }
         ensures had { result ≡ false → self.new ≡ self.old }
     {
+        if self.rows.is_empty() {
+            return false;
+        }
         match find(&self.rows, service, client) {
             Ok(index) => {
                 self.rows.remove(index);

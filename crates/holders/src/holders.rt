@@ -1,7 +1,7 @@
 ghost use Rattle.std.specs.Prelude.{◌≡◌, ◌↔◌, false, not, List, [], ◌∷◌, IfOk, Option, Some, None, Contains};
-ghost use Rattle.proxy_history.specs.ClientIds.{KeptId, holder_in, holds_some, is_other};
+ghost use Rattle.proxy_history.specs.ClientIds.{KeptId, holder_in, holds_some};
 ghost use Rattle.holders.specs.Grants.{AreInOrder, is_taken};
-ghost use Rattle.holders.specs.Kept.{FirstDue, held_by, held_unless, freed_by, left_at, since_in};
+ghost use Rattle.holders.specs.Kept.{FirstDue, held_by, held_unless, freed_by, kept_without, left_at, since_in};
 ghost use Rattle.holders.specs.Calls.{Call, Grants, Releases, Leaves, Clears, held_after, StandsFor};
 
 use crate::by_id::ById;
@@ -83,10 +83,14 @@ impl Holders {
         ensures ids { self.new ≡ held_by conn service cid self.old }
         ensures stands { (calls : List Call) → StandsFor calls self.old → StandsFor (Grants conn service cid ∷ calls) self.new }
     {
-        if is_other(conn, self.held.number(service, cid)) {
+        let Some(holder) = self.held.number(service, cid) else {
+            self.hold(conn, service, cid);
+            return true;
+        };
+        if holder != conn {
             return false;
         }
-        self.hold(conn, service, cid);
+        self.used(service, cid);
         true
     }
 
@@ -95,6 +99,16 @@ impl Holders {
         ensures { self.new ≡ held_unless false conn service cid self.old }
     {
         self.held.set(conn, service, cid);
+        self.used(service, cid);
+    }
+
+    /// The connection that holds the id used it: the id is kept no more.
+    ///
+    /// Where no id is kept, this costs the same however many are held.
+    pub fn used(&mut self, service: u8, cid: u8)
+        ensures ids { self.new ≡ record self.old { kept = kept_without service cid self.old.kept } }
+        ensures stands { (calls : List Call) → StandsFor calls self.old → StandsFor calls self.new }
+    {
         if self.kept.forget(service, cid) {
             self.oldest = self.kept.least();
         }
@@ -134,15 +148,5 @@ impl Holders {
         ensures stands { (calls : List Call) → StandsFor calls self.now → result ≡ holds_some conn service (held_after calls) }
     {
         self.held.has_some(conn, service)
-    }
-}
-
-// Whether this is another connection.
-fn is_other(conn: u64, holder: Option<u64>) -> bool
-    ensures { result ≡ is_other conn holder }
-{
-    match holder {
-        Some(holder) => holder != conn,
-        None => false,
     }
 }

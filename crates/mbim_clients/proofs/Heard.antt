@@ -10,7 +10,7 @@ use Rattle.mbim_frame.specs.Head.{is_kind, number_of}
 use Rattle.mbim_frame.specs.Writing.{open_done, unsplit}
 use Rattle.mbim_fragments.specs.Runs.{Joining, Whole}
 use Rattle.mbim_fragments.specs.Assembling.{joining_behind, assembled_after}
-use Rattle.proxy_history.specs.Facts.{Own}
+use Rattle.proxy_history.specs.Facts.{Own, Share}
 use Rattle.proxy_history.specs.Decision.{Decision, Replies, forwards_under}
 use Rattle.mbim_proxy.specs.Setup.{Setup, fragment_for}
 use Rattle.mbim_proxy.specs.Known.{Known}
@@ -18,6 +18,7 @@ use Rattle.mbim_proxy.specs.OwnReplies as own
 use Rattle.mbim_proxy.specs.OwnReplies.{OwnReply, reply_to_command, reply_to_joining, own_reply, is_open_request, is_command_fragment, may_open, is_for_modem, view_decides}
 use Rattle.mbim_proxy.specs.Step.{whole_body, command_with, with_reply, with_message}
 use Rattle.mbim_proxy.specs.Text as text
+use Rattle.mbim_proxy.specs.Text.{SHARE_PASSED}
 use Rattle.mbim_proxy.specs.ModemStates.{ModemState, IsAway, IsShut, IsOpening, IsReady}
 use Rattle.mbim_proxy.specs.Forwarding.{own_open}
 use Rattle.mbim_proxy.specs.Clients.{opening_decision, command_message}
@@ -29,6 +30,7 @@ use Rattle.mbim_clients.specs.declared.reply.Reply.{Reply}
 use Rattle.mbim_clients.specs.declared.reply.Reply.TheVariants.{Silent, Opened, Done}
 use Rattle.mbim_clients.specs.Requests.{request_of, opens, carries}
 use Rattle.mbim_clients.specs.Replies.{done_head_to, reply_as, reply_text, says, heard_with, IsHeard}
+use Rattle.mbim_clients.specs.Traffic.{has_share}
 use Rattle.mbim_clients.proofs.Requests.{opens_it, carries_it, kind_of_opening, kind_of_command, length_asked, own_for, own_is, decides_for, decides_is}
 
 module _ (c : ℕ) (m : List ℕ) (client : Client) (side : ModemSide) where
@@ -48,14 +50,16 @@ module _ (c : ℕ) (m : List ℕ) (client : Client) (side : ModemSide) where
   abbrev known_left : (opening : Bool) → (asked : ℕ) → (fragment : Bool) → Known
   known_left o asked f = record known { sent = known.sent + 1; begun = if f then assembled_after 65536 client.begun m else client.begun; fragment = if o then fragment_for s asked else client.fragment }
 
-  abbrev shared : Decision
-  shared = if is_kind kind.Open m then opening_decision side.modem (number_at s (own_open s) side) else forwards_under (number_at s (command_message s known m) side)
+  -- the tests: the client's own view decides, the modem is to be opened, the client has its share
+  abbrev decided_by : (own opening passed : Bool) → Decision
+  decided_by own opening passed =
+      if not own && not opening && passed then Replies Share
+      else if own then Replies Own
+      else if opening then opening_decision side.modem (number_at s (own_open s) side)
+      else forwards_under (number_at s (command_message s known m) side)
 
-  abbrev Heard : Type 0
-  Heard = Hearing Client ModemSide
-
-  decided : (outbox : Queue) (b : Bool) → view_decides s known m ≡ b → hear_client s c m client outbox side ≡ act_on s c m (if b then Replies Own else shared) client outbox side
-  decided outbox b is = ap (λ (b : Bool). act_on s c m (if b then Replies Own else shared) client outbox side) is
+  decided : (outbox : Queue) (own : Bool) → view_decides s known m ≡ own → hear_client s c m client outbox side ≡ act_on s c m (decided_by own (is_kind kind.Open m) (has_share c side.numbers)) client outbox side
+  decided outbox own is = ap (λ (b : Bool). act_on s c m (decided_by b (is_kind kind.Open m) (has_share c side.numbers)) client outbox side) is
 
   module _ (r : Request) (is : request_of m ≡ r) where
     abbrev pub left : (asked : ℕ) → Client
@@ -97,12 +101,11 @@ module _ (c : ℕ) (m : List ℕ) (client : Client) (side : ModemSide) where
 
     -- ---- what all clients share decides ----
 
-    heard_shared : decides_for s known joining r ≡ false → (opening : Bool) → is_kind kind.Open m ≡ opening → (decision : Decision)
-        → (if opening then opening_decision side.modem (number_at s (own_open s) side) else forwards_under (number_at s (command_message s known m) side)) ≡ decision
+    heard_shared : decides_for s known joining r ≡ false → (opening : Bool) → is_kind kind.Open m ≡ opening → (decision : Decision) → decided_by false opening (has_share c side.numbers) ≡ decision
         → (outbox : Queue) → hear_client s c m client outbox side ≡ act_on s c m decision client outbox side
     heard_shared decides kind of_kind decision same outbox =
         decided outbox false (decides_is s known m r is ∙ decides)
-        ∙ ap (λ (b : Bool). act_on s c m (if b then opening_decision side.modem (number_at s (own_open s) side) else forwards_under (number_at s (command_message s known m) side)) client outbox side) of_kind
+        ∙ ap (λ (b : Bool). act_on s c m (decided_by false b (has_share c side.numbers)) client outbox side) of_kind
         ∙ ap (λ (d : Decision). act_on s c m d client outbox side) same
 
   -- ---- requests that neither open the modem nor carry a part of a command ----
@@ -193,27 +196,43 @@ module _ (c : ℕ) (m : List ℕ) (client : Client) (side : ModemSide) where
       abbrev message : List ℕ
       message = unsplit (kind_number kind.Command) (number_of m) command
 
-      asking : (number : Option ℕ) → number_at s message side ≡ number → (outbox : Queue) → hear_client s c m client outbox side ≡ act_on s c m (forwards_under number) client outbox side
-      asking number given outbox =
-          heard_shared Command is (ap (λ (j : Joining). not (is_for_modem known j)) same ∙ ap not for_modem) false (kind_of_command m Command is refl) (forwards_under number)
-          (ap (λ (j : Joining). forwards_under (number_at s (unsplit (kind_number kind.Command) (number_of m) (whole_body j)) side)) same ∙ ap forwards_under given) outbox
+      by_decision : (decision : Decision) → decided_by false false (has_share c side.numbers) ≡ decision → (outbox : Queue) → hear_client s c m client outbox side ≡ act_on s c m decision client outbox side
+      by_decision decision decides outbox = heard_shared Command is (ap (λ (j : Joining). not (is_for_modem known j)) same ∙ ap not for_modem) false (kind_of_command m Command is refl) decision decides outbox
 
-      pub heard_busy : number_at s message side ≡ None → IsHeard c m client side (Some (Done (done_head_to command BUSY))) joiner side
-      heard_busy none = record {
-        heard = λ outbox.
-            asking None none outbox
-            ∙ ap₂ (λ (b : Bool) (j : Joining). says (if b then open_done (number_of m) BUSY else text.done_to known (number_of m) (whole_body j) BUSY []) (client_of (with_message s m known)) outbox side) (kind_of_command m Command is refl) same
-            ∙ ap (λ (k : Known). says (reply_text client (number_of m) (Done (done_head_to command BUSY))) (client_of k) outbox side) (with_message_is Command is);
+      -- the reply that it gets with such a status
+      refused_with : (status : ℕ) (outbox : Queue) → says (text.done_to known (number_of m) (command_with s known m) status []) (client_of (with_message s m known)) outbox side
+          ≡ says (reply_text client (number_of m) (Done (done_head_to command status))) joiner outbox side
+      refused_with status outbox =
+          ap (λ (j : Joining). says (text.done_to known (number_of m) (whole_body j) status []) (client_of (with_message s m known)) outbox side) same
+          ∙ ap (λ (k : Known). says (reply_text client (number_of m) (Done (done_head_to command status))) (client_of k) outbox side) (with_message_is Command is)
+
+      pub heard_passed : has_share c side.numbers ≡ true → IsHeard c m client side (Some (Done (done_head_to command SHARE_PASSED))) joiner side
+      heard_passed passed = record {
+        heard = λ outbox. by_decision (Replies Share) (ap (decided_by false false) passed) outbox ∙ refused_with SHARE_PASSED outbox;
       }
 
-      pub heard_forwarded : (n : ℕ) → number_at s message side ≡ Some n → IsHeard c m client side None joiner (forwards s c message n side)
-      heard_forwarded n some = record {
-        heard = λ outbox.
-            asking (Some n) some outbox
-            ∙ ap (λ (b : Bool). asks_modem b s c m n client outbox side) (kind_of_command m Command is refl)
-            ∙ ap (λ (j : Joining). heard_with (number_of m) None (client_of (with_message s m known)) outbox (forwards s c (unsplit (kind_number kind.Command) (number_of m) (whole_body j)) n side)) same
-            ∙ ap (λ (k : Known). heard_with (number_of m) None (client_of k) outbox (forwards s c message n side)) (with_message_is Command is);
-      }
+      module _ (within : has_share c side.numbers ≡ false) where
+        asking : (number : Option ℕ) → number_at s message side ≡ number → (outbox : Queue) → hear_client s c m client outbox side ≡ act_on s c m (forwards_under number) client outbox side
+        asking number given outbox =
+            by_decision (forwards_under number)
+            (ap (decided_by false false) within ∙ ap (λ (j : Joining). forwards_under (number_at s (unsplit (kind_number kind.Command) (number_of m) (whole_body j)) side)) same ∙ ap forwards_under given) outbox
+
+        pub heard_busy : number_at s message side ≡ None → IsHeard c m client side (Some (Done (done_head_to command BUSY))) joiner side
+        heard_busy none = record {
+          heard = λ outbox.
+              asking None none outbox
+              ∙ ap (λ (b : Bool). says (if b then open_done (number_of m) BUSY else text.done_to known (number_of m) (command_with s known m) BUSY []) (client_of (with_message s m known)) outbox side) (kind_of_command m Command is refl)
+              ∙ refused_with BUSY outbox;
+        }
+
+        pub heard_forwarded : (n : ℕ) → number_at s message side ≡ Some n → IsHeard c m client side None joiner (forwards s c message n side)
+        heard_forwarded n some = record {
+          heard = λ outbox.
+              asking (Some n) some outbox
+              ∙ ap (λ (b : Bool). asks_modem b s c m n client outbox side) (kind_of_command m Command is refl)
+              ∙ ap (λ (j : Joining). heard_with (number_of m) None (client_of (with_message s m known)) outbox (forwards s c (unsplit (kind_number kind.Command) (number_of m) (whole_body j)) n side)) same
+              ∙ ap (λ (k : Known). heard_with (number_of m) None (client_of k) outbox (forwards s c message n side)) (with_message_is Command is);
+        }
 
 -- ---- the same with other names for what comes of it ----
 

@@ -13,6 +13,7 @@ use Rattle.mbim_fragments.specs.Runs.{Joining, More, Whole, OutOfSequence, TooLo
 use Rattle.mbim_fragments.specs.Assembling.{Assembled, is_due_behind, joining_behind, assembled_after, body_given}
 use Rattle.mbim_fragments.specs.Splitting.{split, split_size}
 use Rattle.mbim_proxy.specs.OwnReplies.{OwnReply, reply_to_command, is_for_modem}
+use Rattle.mbim_proxy.specs.Text.{SHARE_PASSED}
 use Rattle.mbim_state.specs.declared.asked.Asked.{Asked}
 use Rattle.mbim_state.specs.declared.asked.Asked.TheVariants as asked
 use Rattle.mbim_state.specs.Core.{Client, known_by, ModemSide}
@@ -21,9 +22,9 @@ use Rattle.mbim_clients.specs.declared.reply.Reply.{Reply}
 use Rattle.mbim_clients.specs.declared.reply.Reply.TheVariants.{Done}
 use Rattle.mbim_clients.specs.Requests.{request_of}
 use Rattle.mbim_clients.specs.Replies.{done_head_to, reply_as, IsHeard}
-use Rattle.mbim_clients.specs.Traffic.{Traffic, number_for}
+use Rattle.mbim_clients.specs.Traffic.{Traffic, has_share, number_for}
 use Rattle.mbim_clients.specs.Commands.{served, own_reply_to, replied_with, left_with, sends}
-use Rattle.mbim_clients.proofs.Heard.{heard_joined, heard_busy, heard_forwarded, heard_as}
+use Rattle.mbim_clients.proofs.Heard.{heard_joined, heard_passed, heard_busy, heard_forwarded, heard_as}
 use Rattle.mbim_clients.proofs.Sent.{traffic_of, with_traffic, number_of_command, sent_command}
 
 -- ---- what an assembly told ----
@@ -112,25 +113,28 @@ module _ (c : ℕ) (m : List ℕ) (client : Client) (side : ModemSide) (is : req
       next_joined : next ≡ joined
       next_joined = next_of ∙ ap (λ (b : Bool). if b then joined else replied_with own joined) for_modem
 
+      pub heard_unshared : has_share c side.numbers ≡ true → IsHeard c m client side (Some (Done (done_head_to command SHARE_PASSED))) next side
+      heard_unshared passed = heard_as c m client side _ _ _ _ _ _ (heard_passed c m client side is command same for_modem passed) refl next_joined refl
+
       -- what is sent, under a number where one is given
-      module _ (o : Option ℕ) (given : o ≡ number_for (split_size 4096 (length command)) (traffic_of side)) where
+      module _ (within : has_share c side.numbers ≡ false) (o : Option ℕ) (given : o ≡ number_for (split_size 4096 (length command)) (traffic_of side)) where
         pub heard_unsent : (traffic : Traffic) (request : Asked) (deadline : ℕ) → traffic ≡ sends o c request deadline (λ number. split (kind_number kind.Command) number 4096 command) (traffic_of side)
             → is_some o ≡ false → IsHeard c m client side (Some (Done (done_head_to command BUSY))) next (with_traffic side traffic)
         heard_unsent traffic request deadline sent unsent =
             let no_number = is_none_by o unsent in
-            heard_as c m client side _ _ _ _ _ _ (heard_busy c m client side is command same for_modem (number_of_command side (number_of m) command ∙ sym given ∙ no_number))
+            heard_as c m client side _ _ _ _ _ _ (heard_busy c m client side is command same for_modem within (number_of_command side (number_of m) command ∙ sym given ∙ no_number))
             refl next_joined (ap (with_traffic side) (sent ∙ ap (λ (o : Option ℕ). sends o c request deadline (λ number. split (kind_number kind.Command) number 4096 command) (traffic_of side)) no_number))
           where
             is_none_by : (o : Option ℕ) → is_some o ≡ false → o ≡ None
             is_none_by None e = refl
             is_none_by (Some n) e = absurd (cc)
 
-      pub heard_sent : (o : Option ℕ) → o ≡ number_for (split_size 4096 (length command)) (traffic_of side) → (traffic : Traffic)
+      pub heard_sent : has_share c side.numbers ≡ false → (o : Option ℕ) → o ≡ number_for (split_size 4096 (length command)) (traffic_of side) → (traffic : Traffic)
           → traffic ≡ sends o c (asked.Command (record { number = number_of m; uuid = uuid_of command; cid = cid_of command })) (deadline_of side.time side.time_limit) (λ number. split (kind_number kind.Command) number 4096 command) (traffic_of side)
           → is_some o ≡ true → number_of m < 2 ^ 32 → IsHeard c m client side None next (with_traffic side traffic)
-      heard_sent None given traffic sent some fits = absurd (cc)
-      heard_sent (Some n) given traffic sent some fits =
-          heard_as c m client side _ _ _ _ _ _ (heard_forwarded c m client side is command same for_modem n (number_of_command side (number_of m) command ∙ sym given))
+      heard_sent within None given traffic sent some fits = absurd (cc)
+      heard_sent within (Some n) given traffic sent some fits =
+          heard_as c m client side _ _ _ _ _ _ (heard_forwarded c m client side is command same for_modem within n (number_of_command side (number_of m) command ∙ sym given))
           refl next_joined (ap (with_traffic side) sent ∙ sent_command side c (number_of m) n command fits (short_whole 65536 client.begun m command same))
 
 -- ---- beside the same ----

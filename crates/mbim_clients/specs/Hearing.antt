@@ -7,7 +7,7 @@ use Rattle.mbim_frame.specs.declared.kind.MessageKind.TheVariants.{Open}
 use Rattle.mbim_frame.specs.Head.{is_kind}
 use Rattle.mbim_proxy.specs.Setup.{Setup}
 use Rattle.mbim_state.specs.Core.{Client, ModemSide, setup_of}
-use Rattle.mbim_state.specs.Transitions.{text, asks_modem, decision_of, act_on, hear_client}
+use Rattle.mbim_state.specs.Transitions.{text, asks_modem, decision_for, act_on, hear_client}
 
 queued_capacity : (bytes : List ℕ) (outbox : Queue) (b : Bool) → (queues_if b bytes outbox).capacity ≡ outbox.capacity
 queued_capacity bytes outbox true = refl
@@ -22,4 +22,4 @@ act_on-capacity s name m (Replies verdict) client outbox side = queued_capacity 
 act_on-capacity s name m (Forwards number) client outbox side = asking_capacity (is_kind Open m) s name m number client outbox side
 
 pub hear_client-capacity : (name : ℕ) (m : List ℕ) (client : Client) (outbox : Queue) (side : ModemSide) → (hear_client (setup_of side) name m client outbox side).outbox.capacity ≡ outbox.capacity
-hear_client-capacity name m client outbox side = act_on-capacity (setup_of side) name m (decision_of (setup_of side) client m side) client outbox side
+hear_client-capacity name m client outbox side = act_on-capacity (setup_of side) name m (decision_for (setup_of side) name client m side) client outbox side

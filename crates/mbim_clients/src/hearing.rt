@@ -24,6 +24,9 @@ use mbim_frame::{DoneHead, MHead, Mbim};
 use mbim_state::CommandName;
 use outbox::Outbox;
 
+/// The status of the answer to a command of a client of which as many wait as may.
+const SHARE_PASSED: u32 = 13;
+
 impl Hears<Mbim, Client> for ModemSide {
     ghost use Rattle.mbim_state.specs.Core.{setup_of};
     ghost use Rattle.mbim_state.specs.Transitions.{hear_client};
@@ -124,6 +127,9 @@ impl ModemSide {
         if reply.is_some() {
             return reply;
         }
+        if self.traffic.has_share(name) {
+            return Some(Reply::Done(refused(&self.body, SHARE_PASSED)));
+        }
         let kept = kept_of(MHead::read(message).number, &self.body);
         let deadline = self.time.saturating_add(self.time_limit);
         let sent = send_command(
@@ -137,7 +143,7 @@ impl ModemSide {
         if sent.is_some() {
             return None;
         }
-        Some(Reply::Done(busy(&self.body)))
+        Some(Reply::Done(refused(&self.body, BUSY)))
     }
 }
 
@@ -154,15 +160,15 @@ fn kept_of(number: u32, body: &Body) -> CommandName
     }
 }
 
-// The head of the answer to a command for which no number or no room is there.
-fn busy(body: &Body) -> DoneHead
+// The head of the answer to a command that doesn't go to the modem.
+fn refused(body: &Body, status: u32) -> DoneHead
     requires { 20 ≤ length body.now }
-    ensures { result ≡ done_head_to body.now BUSY }
+    ensures { result ≡ done_head_to body.now status }
 {
     let command = body.as_slice();
     DoneHead {
         uuid: uuid_at(command, 0),
         cid: u32_at(command, 16),
-        status: BUSY,
+        status,
     }
 }

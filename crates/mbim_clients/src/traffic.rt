@@ -6,7 +6,7 @@ ghost use Rattle.number_space.specs.declared.space.Row.{Row};
 ghost use Rattle.number_space.specs.Table.{row_of, gives_number, answers, first_due, expires, orphans, resets};
 ghost use Rattle.number_space.specs.Table as numbers;
 ghost use Rattle.mbim_state.specs.declared.asked.Asked.{Asked as NotedAsked};
-ghost use Rattle.mbim_clients.specs.Traffic.{number_for, queues};
+ghost use Rattle.mbim_clients.specs.Traffic.{has_share, number_for, queues};
 
 use mbim_state::Asked;
 use number_space::Space;
@@ -19,6 +19,9 @@ pub const OUTBOX_LIMIT: usize = 1_048_576;
 
 /// How many numbers may be in use.
 const NUMBER_LIMIT: u32 = 256;
+
+/// How many requests of one client wait at most.
+const SHARE_LIMIT: u32 = 16;
 
 /// What stands between the clients and the modem: the numbers in use, and the bytes that wait for the
 /// modem.
@@ -131,6 +134,13 @@ impl Traffic {
         ensures { result ≡ list_any (λ (row : Row NotedAsked). row.pending && (row.conn == name)) self.now.numbers.rows }
     {
         self.numbers.is_awaited(name)
+    }
+
+    /// Whether as many requests of the connection of this name wait as may.
+    pub fn has_share(&self, name: u64) -> bool
+        ensures { result ≡ has_share name self.now.numbers }
+    {
+        self.numbers.pending(name) >= SHARE_LIMIT
     }
 
     /// The modem knows of no number, and nothing waits for it.

@@ -27,7 +27,7 @@ use Rattle.mbim_state.specs.Asked.{ask_by}
 use Rattle.mbim_state.specs.declared.asked.Asked.{Asked}
 use Rattle.mbim_state.specs.declared.asked.Asked.TheVariants as asked
 use Rattle.mbim_state.specs.Core.{Client, known_by, ModemSide, MbimState, setup_of}
-use Rattle.mbim_state.specs.Transitions.{with_side, with_numbers, give_up, decision_of, asks_modem, act_on, hear_client, after, text, answer, answer_if, is_for, respond_if, respond_to, receivers_in, hear_as, hear_each, hear_modem, refuse, expire_in, expire, lose, merged_in, number_of_list, send_under, mbim_handlers}
+use Rattle.mbim_state.specs.Transitions.{with_side, with_numbers, give_up, decision_for, asks_modem, act_on, hear_client, after, text, answer, answer_if, is_for, respond_if, respond_to, receivers_in, hear_as, hear_each, hear_modem, refuse, expire_in, expire, lose, merged_in, number_of_list, send_under, mbim_handlers}
 use Rattle.mbim_core.specs.Core.{MbimCore, setup_in, meet, step}
 use Rattle.mbim_core.proofs.Told.{Leaves, told_leaves, told_each_leaves, ended_keeps}
 use Rattle.mbim_core.proofs.Expires.{refused}
@@ -118,7 +118,7 @@ decided s c m (Replies verdict) client outbox side = refl
 decided s c m (Forwards number) client outbox side = acted (is_kind kind.Open m) s c m number client outbox side
 
 pub heard_client : (s : Setup) (c : ℕ) (m : List ℕ) (client : Client) (outbox : Queue) (side : ModemSide) → lasting (hear_client s c m client outbox side).beside ≡ lasting side
-heard_client s c m client outbox side = decided s c m (decision_of s client m side) client outbox side
+heard_client s c m client outbox side = decided s c m (decision_for s c client m side) client outbox side
 
 heard_clients : (s : Setup) (c : ℕ) (messages : List (List ℕ)) (client : Client) (outbox : Queue) (side : ModemSide) → lasting (hears_all (hear_client s) c messages client outbox side).beside ≡ lasting side
 unfolding hears_all

@@ -5,3 +5,4 @@ pub mod Answers
 pub mod Fragments
 pub mod Lists
 pub mod Losses
+pub mod Shares

@@ -13,7 +13,7 @@ setup = mbim_setup (codes "/dev/cdc-wdm0") 30000 false
 -- a proxy of few: 3 connections, 3 numbers up to 5, an outbox of 230 bytes and of 150 for the modem, bodies of 120 bytes in fragments of 84, and lists of 3 pairs
 abbrev pub small : Setup
 small = record setup {
-  limits = record { connections = 3; outbox = 230; modem_outbox = 150; in_use = λ space. 3; top = λ space. 5 };
+  limits = record { connections = 3; share = 4; outbox = 230; modem_outbox = 150; in_use = λ space. 3; top = λ space. 5 };
   longest_body = 120;
   longest_fragment = 84;
   longest_list = 3;

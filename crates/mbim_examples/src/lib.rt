@@ -7,3 +7,4 @@ pub mod lists;
 pub mod losses;
 pub mod malformed;
 pub mod openings;
+pub mod shares;

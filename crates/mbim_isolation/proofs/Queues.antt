@@ -27,7 +27,7 @@ use Rattle.mbim_proxy.specs.Text.{mbim_wording}
 use Rattle.mbim_proxy.specs.ModemStates.{is_own_open}
 use Rattle.mbim_proxy.specs.Lists.{waiting}
 use Rattle.mbim_proxy.specs.Forwarding.{own_open, wire, number_for, request_of}
-use Rattle.mbim_proxy.specs.Clients.{command_message, decision_on, forward_for, judge, hear_client}
+use Rattle.mbim_proxy.specs.Clients.{command_message, decision_for, forward_for, judge, hear_client}
 use Rattle.mbim_proxy.specs.FromModem.{heard_as, is_answered_by, opening_status, hear_modem}
 use Rattle.mbim_proxy.specs.History.{mbim_protocol, history}
 use Rattle.mbim_proxy.proofs.Verdicts.{forwarded_have_the_next_number}
@@ -41,7 +41,7 @@ use Rattle.mbim_isolation.proofs.Openings.{waits_is, opening_bytes, openings_ans
 
 -- ---- commands ----
 
-module _ (s : Setup) (c : ℕ) (m : List ℕ) (n : ℕ) (past after : List Fact) (regular : Regular s past) (there : is_present c past ≡ true) (command : is_kind Open m ≡ false) (decided : decision_on s (known_now s c past) m past ≡ Forwards n)
+module _ (s : Setup) (c : ℕ) (m : List ℕ) (n : ℕ) (past after : List Fact) (regular : Regular s past) (there : is_present c past ≡ true) (command : is_kind Open m ≡ false) (decided : decision_for s (known_now s c past) c m past ≡ Forwards n)
     (rest : Adds (wire s) (proxy.add (mbim_protocol s) (Says c m) past) after) where
   abbrev known : Known
   known = known_now s c past
@@ -90,14 +90,14 @@ module _ (s : Setup) (c : ℕ) (m : List ℕ) (n : ℕ) (past after : List Fact)
     sender = refl;
     place = counts;
     message = refl;
-    number = sym (ap (λ (b : Bool). number_for s (if b then own_open s else command_message s known m) past) command) ∙ forwarded_have_the_next_number s known m n past decided;
+    number = sym (ap (λ (b : Bool). number_for s (if b then own_open s else command_message s known m) past) command) ∙ forwarded_have_the_next_number s known c m n past decided;
     waits = waits_behind (wire s) request past sent after in_use_then bytes_then drained_then serial_then behind (taken_within s past regular.new);
   }
 
 pub forwarded_commands_are_queued : (s : Setup) (events : List Event) (c : ℕ) (piece : List ℕ) (earlier later : List (List ℕ)) (m : List ℕ) (n : ℕ)
     → AreSound (mbim_protocol s) events → messages_of_piece size_of (stream c events) piece ≡ earlier ++ m ∷ later
     → is_present c (facts_before_saying s events c earlier) ≡ true → is_kind Open m ≡ false
-    → decision_on s (known_now s c (facts_before_saying s events c earlier)) m (facts_before_saying s events c earlier) ≡ Forwards n
+    → decision_for s (known_now s c (facts_before_saying s events c earlier)) c m (facts_before_saying s events c earlier) ≡ Forwards n
     → IsQueued s c m (facts_before_saying s events c earlier) (history s (Piece c piece ∷ events))
 forwarded_commands_are_queued s events c piece earlier later m n coming brings there command decided =
     queued s c m n (facts_before_saying s events c earlier) (history s (Piece c piece ∷ events))

@@ -22,7 +22,7 @@ use Rattle.mbim_proxy.specs.Text.{mbim_wording}
 use Rattle.mbim_proxy.specs.ModemStates.{is_own_open}
 use Rattle.mbim_proxy.specs.Lists.{waiting}
 use Rattle.mbim_proxy.specs.Forwarding.{wire, number_for}
-use Rattle.mbim_proxy.specs.Clients.{command_message, decision_on}
+use Rattle.mbim_proxy.specs.Clients.{command_message, decision_for}
 use Rattle.mbim_proxy.specs.FromModem.{heard_as, is_answered_by, opening_status}
 use Rattle.mbim_proxy.specs.History.{mbim_protocol, history}
 use Rattle.mbim_state.specs.Core.{HasNumbers}
@@ -49,7 +49,7 @@ abbrev pub ForwardedCommandsAreQueued : Type 0
 ForwardedCommandsAreQueued = (s : Setup) (events : List Event) (c : ℕ) (piece : List ℕ) (earlier later : List (List ℕ)) (m : List ℕ) (number : ℕ)
     → AreSound (mbim_protocol s) events → messages_of_piece size_of (stream c events) piece ≡ earlier ++ m ∷ later
     → is_present c (facts_before_saying s events c earlier) ≡ true → is_kind Open m ≡ false
-    → decision_on s (known_now s c (facts_before_saying s events c earlier)) m (facts_before_saying s events c earlier) ≡ Forwards number
+    → decision_for s (known_now s c (facts_before_saying s events c earlier)) c m (facts_before_saying s events c earlier) ≡ Forwards number
     → IsQueued s c m (facts_before_saying s events c earlier) (history s (Piece c piece ∷ events))
 
 -- ---- answers ----

@@ -32,7 +32,7 @@ use Rattle.mbim_proxy.specs.ModemStates.{is_own_open, state, is_shut}
 use Rattle.mbim_services.specs.SubscribeLists.{is_same_list}
 use Rattle.mbim_proxy.specs.Lists.{open_ones, list_of, receivers, waiting, merged, last_list}
 use Rattle.mbim_proxy.specs.Forwarding.{own_open, own_subscribe, number_for, request_of, forward}
-use Rattle.mbim_proxy.specs.Clients.{command_message, forward_for, judge, decision_on}
+use Rattle.mbim_proxy.specs.Clients.{command_message, forward_for, judge, decision_for}
 use Rattle.mbim_proxy.specs.FromModem.{Heard, IsDone, IsOpenDone, IsError, IsIndication, IsNeither, heard_as, opening_status, end_opening_by, is_answered_by, first_answered_by, answer_or_late, respond, indicate, hear_as}
 use Rattle.mbim_proxy.specs.OwnList.{is_free, is_wanted, number_of_list, send_under}
 use Rattle.mbim_proxy.specs.Asked.{IsAsked}
@@ -140,9 +140,9 @@ module _ (s : Setup) (Asks : Request → List Fact → Type 0) (asked : (r : Req
         (judged s.limits wording By c (message_count c past + 1) m Forward past (λ entries. refl) (there, (refl, refl), tt))
         (sent_on n past there what)
 
-    judges : (decision : Decision) (past : List Fact) → IsPresent c past → decision_on s (known_now s c past) m past ≡ decision → Adding past (judge s (known_now s c past) c m decision past)
+    judges : (decision : Decision) (past : List Fact) → IsPresent c past → decision_for s (known_now s c past) c m past ≡ decision → Adding past (judge s (known_now s c past) c m decision past)
     judges (Replies verdict) past there is = replied verdict past there
-    judges (Forwards n) past there is = goes n (is_kind Open m) past there (what_goes s (known_now s c past) m n past is)
+    judges (Forwards n) past there is = goes n (is_kind Open m) past there (what_goes s (known_now s c past) m n past c is)
 
   -- ---- the modem ----
 

@@ -3,16 +3,17 @@
 --   what the client's own view decides (OwnReplies)
 --   a request to open   modem away OPEN_DONE 2, open OPEN_DONE 0, opening: it waits;
 --                       not open: it waits for the proxy's own request to open, and where no number or no room is there OPEN_DONE 1
---   a command           where no number or no room is there COMMAND_DONE 1, else forwarded
-use Rattle.std.specs.Prelude.{ℕ, ◌+◌, Bool, true, false, List, ◌∷◌, Option, if◌then◌else◌}
+--   a command           where as many of the client's wait as may COMMAND_DONE 13, where no number or no room is there COMMAND_DONE 1, else forwarded
+use Rattle.std.specs.Prelude.{ℕ, ◌+◌, Bool, true, false, not, ◌&&◌, List, ◌∷◌, Option, if◌then◌else◌}
 use Rattle.mbim_frame.specs.declared.kind.MessageKind.TheVariants as kind
 use Rattle.mbim_frame.specs.Kinds.{kind_number}
 use Rattle.mbim_frame.specs.Head.{is_kind, number_of}
 use Rattle.mbim_frame.specs.Writing.{unsplit}
-use Rattle.proxy_history.specs.Facts.{Own, Away, Forward, Ready, Waits, Fact, Judged}
+use Rattle.proxy_history.specs.Facts.{Own, Share, Away, Forward, Ready, Waits, Fact, Judged}
 use Rattle.proxy_history.specs.Decision.{Decision, Replies, Forwards, forwards_under}
 use Rattle.proxy_history.specs.Connections.{message_count}
-use Rattle.mbim_proxy.specs.Setup.{Setup}
+use Rattle.proxy_history.specs.Requests.{has_share}
+use Rattle.mbim_proxy.specs.Setup.{Setup, the_space}
 use Rattle.mbim_proxy.specs.Known.{Known}
 use Rattle.mbim_proxy.specs.OwnReplies.{view_decides}
 use Rattle.mbim_proxy.specs.Step.{command_with}
@@ -42,6 +43,14 @@ shared_decision s known m past =
 abbrev pub decision_on : Setup → Known → (message : List ℕ) → List Fact → Decision
 decision_on s known m past = if view_decides s known m then Replies Own else shared_decision s known m past
 
+-- a command that would go to the modem, of a client of which as many wait as may
+abbrev pub passes_share : Setup → Known → (conn : ℕ) → (message : List ℕ) → List Fact → Bool
+passes_share s known c m past = not (view_decides s known m) && not (is_kind kind.Open m) && has_share s.limits.share c the_space past
+
+-- a client's share comes before what all share
+abbrev pub decision_for : Setup → Known → (conn : ℕ) → (message : List ℕ) → List Fact → Decision
+decision_for s known c m past = if passes_share s known c m past then Replies Share else decision_on s known m past
+
 -- ---- what follows from it ----
 
 -- a request to open waits for the proxy's own, and a command goes to the modem itself
@@ -55,4 +64,4 @@ judge s known c m (Replies verdict) past = note s (Judged c (message_count c pas
 judge s known c m (Forwards number) past = forward_for (is_kind kind.Open m) s known c m number past
 
 abbrev pub hear_client : Setup → Known → (conn : ℕ) → (message : List ℕ) → List Fact → List Fact
-hear_client s known c m past = judge s known c m (decision_on s known m past) past
+hear_client s known c m past = judge s known c m (decision_for s known c m past) past

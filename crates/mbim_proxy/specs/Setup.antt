@@ -24,6 +24,7 @@ the_space = 0
 abbrev pub mbim_limits : Limits
 mbim_limits = record {
   connections = 64;
+  share = 16;
   outbox = 262144;
   modem_outbox = 1048576;
   in_use = λ space. 256;

@@ -9,7 +9,7 @@ use Rattle.mbim_frame.specs.Fragment.{body_of}
 use Rattle.mbim_frame.specs.Bodies.{uuid_of, cid_of, done_text}
 use Rattle.mbim_frame.specs.Writing.{open_done, close_done, function_error}
 use Rattle.mbim_fragments.specs.Splitting.{split}
-use Rattle.proxy_history.specs.Facts.{Fact, Own, Foreign, Away, Full, Forward, Ready, Waits}
+use Rattle.proxy_history.specs.Facts.{Fact, Own, Share, Foreign, Away, Full, Forward, Ready, Waits}
 use Rattle.proxy_history.specs.View.{Entry, Sent, Response, Refused, Indication, OpenedWith, Shut, Collected, End}
 use Rattle.proxy_history.specs.Wording.{Wording}
 use Rattle.proxy_history.specs.Noting as noting
@@ -44,6 +44,13 @@ reply_text known number (Subscribes command list) = done_to known number command
 abbrev pub full_text : Setup → Known → (message : List ℕ) → List ℕ
 full_text s known m = if is_kind kind.Open m then open_done (number_of m) BUSY else done_to known (number_of m) (command_with s known m) BUSY []
 
+-- as many commands of the client wait as may
+abbrev pub SHARE_PASSED : ℕ
+SHARE_PASSED = 13
+
+abbrev pub share_text : Setup → Known → (message : List ℕ) → List ℕ
+share_text s known m = done_to known (number_of m) (command_with s known m) SHARE_PASSED []
+
 -- the modem's answer, with the client's own number
 abbrev pub response_text : Known → Ask → (message : List ℕ) → List ℕ
 response_text known ask m =
@@ -57,6 +64,7 @@ refusal_text known ask = done known ask.number ask.uuid ask.cid FAILURE []
 -- the bytes of an entry, from what the entries before it tell; no message uses a client id
 abbrev pub text_as : Setup → Known → Entry → List ℕ
 text_as s known (Sent m Own) = reply_text known (number_of m) (own_reply s known m)
+text_as s known (Sent m Share) = share_text s known m
 text_as s known (Sent m Foreign) = []
 text_as s known (Sent m Away) = open_done (number_of m) FAILURE
 text_as s known (Sent m Full) = full_text s known m

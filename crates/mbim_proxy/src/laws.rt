@@ -4,7 +4,7 @@ ghost use Rattle.mbim_proxy.specs.Delivered.{FragmentsAreHeardWhole, HearingGoes
 ghost use Rattle.mbim_proxy.specs.Laws.{AskersArePresent, AwayAgrees, BytesOnlyGrow, EndsAreLast, EqualViewsGetEqualBytes, EventsHangUpTheirOwn, FewAreInUse, FewArePresent, HistoriesAreSound, JoiningStartsWithNone, LossLeavesNone, MbimIsOrderly, ModemBytesOnlyGrow, ModemTakesTheFirst, NoMoreWaitForTheModemThanMay, NoMoreWaitThanMay, NobodyThereIsOver, NothingFollowsAnEnd, NumbersInUseDiffer, OthersChangeNothing, TakingTakesTheFirst, TakingsBringOneRequest, TimeIsTheGreatest, WaitingArePresent};
 ghost use Rattle.mbim_proxy.specs.Merging.{LastListIsMerged};
 ghost use Rattle.mbim_proxy.specs.Proxy.{ProxiesAreLawful};
-ghost use Rattle.mbim_proxy.specs.Verdicts.{ForwardedHaveTheNextNumber, NoReplyIsForwarded, OwnRepliesAreOfTheView};
+ghost use Rattle.mbim_proxy.specs.Verdicts.{ForwardedHaveTheNextNumber, NoReplyIsForwarded, OwnRepliesAreOfTheView, SharesArePassed};
 ghost use Rattle.mbim_frame.specs.declared.kind.MessageKind.TheVariants.{CommandDone, IndicateStatus};
 
 /// The law that each part of the protocol adds no more to a history than it may.
@@ -116,10 +116,12 @@ pub fn the_last_list_is_merged()
     ensures { LastListIsMerged }
 {}
 
-/// The law that a reply is that of the client's own view exactly where this view decides, that what is
-/// forwarded goes under the number with which it can be queued, and that nothing goes without a number.
+/// The law that a reply is that of the client's own view exactly where this view decides, that a command is
+/// refused for the client's share exactly where as many wait as may, that what is forwarded goes under the
+/// number with which it can be queued, and that nothing goes without a number.
 pub fn verdicts_have_what_they_need()
     ensures own { OwnRepliesAreOfTheView }
+    ensures share { SharesArePassed }
     ensures forwarded { ForwardedHaveTheNextNumber }
     ensures numbered { NoReplyIsForwarded }
 {}

@@ -5,7 +5,7 @@ use Rattle.mbim_frame.specs.declared.kind.MessageKind.TheVariants.{Open, Command
 use Rattle.mbim_frame.specs.Kinds.{kind_number}
 use Rattle.mbim_frame.specs.Head.{kind_of, is_kind}
 use Rattle.proxy_history.specs.Items.{Item, Joins, Says, Garbles, Leaves, ModemSays, ModemFails, ModemReturns, ClockShows, Takes, ModemTakes}
-use Rattle.proxy_history.specs.Facts.{Fact, Verdict, Own, Foreign, Away, Full, Forward, Ready, Waits, Judged, Forwarded, ListSent}
+use Rattle.proxy_history.specs.Facts.{Fact, Verdict, Own, Share, Foreign, Away, Full, Forward, Ready, Waits, Judged, Forwarded, ListSent}
 use Rattle.proxy_history.specs.Decision.{Decision, Replies, Forwards, forwards_under}
 use Rattle.proxy_history.specs.Connections.{is_present, message_count}
 use Rattle.proxy_history.specs.Sound.{IsSound}
@@ -21,7 +21,7 @@ use Rattle.mbim_proxy.specs.Step.{known_now}
 use Rattle.mbim_proxy.specs.Text.{mbim_wording}
 use Rattle.mbim_proxy.specs.ModemStates.{state}
 use Rattle.mbim_proxy.specs.Forwarding.{own_open, number_for}
-use Rattle.mbim_proxy.specs.Clients.{command_message, opening_decision, decision_on, forward_for, judge, hear_client}
+use Rattle.mbim_proxy.specs.Clients.{command_message, opening_decision, decision_on, forward_for, judge, hear_client, decision_for, passes_share}
 use Rattle.mbim_proxy.specs.OwnList.{finish}
 use Rattle.mbim_proxy.specs.History.{mbim_protocol}
 use Rattle.mbim_proxy.proofs.Walk.{Asks, orderly}
@@ -84,6 +84,7 @@ module _ (s : Setup) (c : ℕ) where
 
   pub once_verdict : (place : ℕ) (m : List ℕ) (past : List Fact) (verdict : Verdict) → (verdict ≡ Ready → (known_now s c past).waits ≡ None) → OpensOnce s c (Judged c place m verdict) past
   once_verdict place m past Own none = tt
+  once_verdict place m past Share none = tt
   once_verdict place m past Foreign none = tt
   once_verdict place m past Away none = tt
   once_verdict place m past Full none = tt
@@ -98,8 +99,14 @@ module _ (s : Setup) (c : ℕ) where
   judged_once m past (Forwards number) none once =
       elim (is_kind Open m) as (λ b. Once (forward_for b s (known_now s c past) c m number past)) [ true ↦ (tt, (tt, once)) | false ↦ (tt, (tt, once)) ]
 
+  ready_behind : (b : Bool) (decision : Decision) → (if b then Replies Share else decision) ≡ Replies Ready → decision ≡ Replies Ready
+  ready_behind true decision is = absurd (cc)
+  ready_behind false decision is = is
+
   said_once : (m : List ℕ) (past : List Fact) → Once past → Once (hear_client s (known_now s c past) c m past)
-  said_once m past once = judged_once m past (decision_on s (known_now s c past) m past) (ready_waits_not s (known_now s c past) m past) once
+  said_once m past once =
+      judged_once m past (decision_for s (known_now s c past) c m past)
+      (λ is. ready_waits_not s (known_now s c past) m past (ready_behind (passes_share s (known_now s c past) c m past) (decision_on s (known_now s c past) m past) is)) once
 
   quiet_once : (item : Item) (past : List Fact) → speaks item ≡ false → IsSound s.limits past → Once past → Once (add (mbim_protocol s) item past)
   unfolding add_all

@@ -5,7 +5,7 @@ use Rattle.std.proofs.lemmas.Bool.{eqb-true}
 use Rattle.mbim_frame.specs.declared.status.TheConstants.{SUCCESS}
 use Rattle.mbim_frame.specs.Fragment.{body_of}
 use Rattle.mbim_frame.specs.Bodies.{uuid_of, cid_of}
-use Rattle.proxy_history.specs.Facts.{Fact, Request, Why, Verdict, Own, Foreign, Away, Full, Forward, Ready, Waits, NotAdmitted, BadStream, NoRoom, Closed, Ended, Judged, Forwarded, Answered, Late, Indicated, Stray, OpeningEnded}
+use Rattle.proxy_history.specs.Facts.{Fact, Request, Why, Verdict, Own, Share, Foreign, Away, Full, Forward, Ready, Waits, NotAdmitted, BadStream, NoRoom, Closed, Ended, Judged, Forwarded, Answered, Late, Indicated, Stray, OpeningEnded}
 use Rattle.proxy_history.specs.Connections.{contains, present, is_present}
 use Rattle.proxy_history.specs.Requests.{in_use, pending, has_request, is_pending, without_request}
 use Rattle.proxy_history.specs.Modem.{is_away}
@@ -202,6 +202,7 @@ module _ (s : Setup) where
 
   pub sent_may : (modem : ModemState) (known : Known) (m : List ℕ) (verdict : Verdict) → Suits modem verdict → MayBeOpen modem known → MayBeOpen modem (step.step s known (Sent m verdict))
   sent_may modem known m Own suits may = own_may modem known m (own_reply s known m) may
+  sent_may modem known m Share suits may = as_open modem known (with_message s m known) (refl, refl) may
   sent_may modem known m Foreign suits may = as_open modem known (with_message s m known) (refl, refl) may
   sent_may modem known m Away suits may = as_open modem known (with_message s m known) (refl, refl) may
   sent_may modem known m Full suits may = as_open modem known (with_message s m known) (refl, refl) may

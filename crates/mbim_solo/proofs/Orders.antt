@@ -13,10 +13,10 @@ use Rattle.mbim_fragments.specs.Assembling.{joining_behind}
 use Rattle.proxy_history.specs.Events.{Event, Joined, Piece, Left, ModemPiece, ModemGone, ModemBack, Now, Took, ModemTook}
 use Rattle.proxy_history.specs.Streams.{messages_of_piece, is_bad, stream, modem_stream}
 use Rattle.proxy_history.specs.Items.{Item, Joins, Says, Garbles, Leaves, ModemSays, ModemFails, ModemReturns, ClockShows, Takes, ModemTakes, item_if, delivered_by_piece, modem_items, fails_once, returns_once, items_of}
-use Rattle.proxy_history.specs.Facts.{Fact, Request, Verdict, Own, Ready, Waits, Forward, Full, NotAdmitted, BadStream, Closed, EventBegan, Admitted, Ended, Judged, Drained, Forwarded, OpeningEnded, SessionsClosed, ListSent, ModemLost, ModemReturned, ModemDrained, TimeIs}
+use Rattle.proxy_history.specs.Facts.{Fact, Request, Verdict, Own, Share, Ready, Waits, Forward, Full, NotAdmitted, BadStream, Closed, EventBegan, Admitted, Ended, Judged, Drained, Forwarded, OpeningEnded, SessionsClosed, ListSent, ModemLost, ModemReturned, ModemDrained, TimeIs}
 use Rattle.proxy_history.specs.Decision.{Decision, Replies, Forwards, forwards_under}
 use Rattle.proxy_history.specs.Connections.{contains, present, is_present, message_count}
-use Rattle.proxy_history.specs.Requests.{pending, has_request, is_pending}
+use Rattle.proxy_history.specs.Requests.{pending, has_share, has_request, is_pending}
 use Rattle.proxy_history.specs.Modem.{now, is_away}
 use Rattle.proxy_history.specs.View.{Entry, Shut, Collected, view}
 use Rattle.proxy_history.specs.Wording.{told_by}
@@ -31,16 +31,16 @@ use Rattle.proxy_history.proofs.Folds.{away_agrees}
 use Rattle.proxy_history.proofs.Walk.{behind_messages, one_if, sound_items, begun_is_sound}
 use Rattle.proxy_solo.proofs.Lists.{self, contains-push}
 use Rattle.proxy_solo.proofs.Refusing.{refused}
-use Rattle.mbim_proxy.specs.Setup.{Setup}
+use Rattle.mbim_proxy.specs.Setup.{Setup, the_space}
 use Rattle.mbim_proxy.specs.Known.{Known, fresh}
 use Rattle.mbim_proxy.specs.OwnReplies.{is_open_request, is_command_fragment, may_open, is_for_modem, view_decides}
-use Rattle.mbim_proxy.specs.Step.{blank, view_of, known_from, known_now}
+use Rattle.mbim_proxy.specs.Step.{view_of, known_from, known_now}
 use Rattle.mbim_proxy.specs.Step as step
 use Rattle.mbim_proxy.specs.Text.{mbim_wording, note}
 use Rattle.mbim_proxy.specs.ModemStates.{ModemState, IsAway, IsShut, IsOpening, IsReady, is_own_open, state, is_shut, is_ready}
 use Rattle.mbim_proxy.specs.Lists.{waiting, merged}
 use Rattle.mbim_proxy.specs.Forwarding.{own_open, own_subscribe, number_for, request_of}
-use Rattle.mbim_proxy.specs.Clients.{command_message, opening_decision, decision_on, forward_for, judge, hear_client}
+use Rattle.mbim_proxy.specs.Clients.{command_message, opening_decision, decision_on, forward_for, judge, hear_client, decision_for, passes_share}
 use Rattle.mbim_proxy.specs.FromModem.{heard_as, end_opening, refuse}
 use Rattle.mbim_proxy.specs.OwnList.{is_free, is_wanted, number_of_list, send_under, finish}
 use Rattle.mbim_proxy.specs.History.{mbim_protocol, history}
@@ -125,9 +125,10 @@ module _ (s : Setup) where
       let both : (is_command_fragment m && is_for_modem known (joining_behind s.longest_body known.begun m)) ≡ true = second_of_both (is_open_request m && may_open known) (is_command_fragment m && is_for_modem known (joining_behind s.longest_body known.begun m)) none shared in
       open_for_modem known (joining_behind s.longest_body known.begun m) (and_parts (is_command_fragment m) (is_for_modem known (joining_behind s.longest_body known.begun m)) both).1
 
-  never_forwards : (own opens : Bool) (modem : ModemState) (one other : Option ℕ) (n : ℕ) → (let decision : Decision = if own then Replies Own else if opens then opening_decision modem one else forwards_under other in decision) ≡ Forwards n → own ≡ false
-  never_forwards true opens modem one other n e = absurd (cc)
-  never_forwards false opens modem one other n e = refl
+  never_forwards : (own opens share : Bool) (modem : ModemState) (one other : Option ℕ) (n : ℕ)
+      → (let decision : Decision = if not own && not opens && share then Replies Share else if own then Replies Own else if opens then opening_decision modem one else forwards_under other in decision) ≡ Forwards n → own ≡ false
+  never_forwards true opens share modem one other n e = absurd (cc)
+  never_forwards false opens share modem one other n e = refl
 
   pub open_is_ready : (modem : ModemState) (known : Known) → MayBeOpen modem known → known.opened ≡ true → modem ≡ IsReady
   open_is_ready IsAway known may opened = absurd (let clash : true ≡ false = sym opened ∙ may.0 in cc)
@@ -147,22 +148,28 @@ module _ (s : Setup) where
     judged_so : (verdict : Verdict) → Suits s (now_in past) verdict → IsInOrder s (before verdict)
     judged_so verdict suits = judged s d (message_count d past + 1) m verdict past (λ is. sent_may s (now_in past) known m verdict suits (I.clients d is)) I
 
-    forwarded_so : (n : ℕ) → decision_on s known m past ≡ Forwards n → (opens : Bool) → is_kind Open m ≡ opens → IsInOrder s (forward_for opens s known d m n past)
+    forwarded_so : (n : ℕ) → decision_for s known d m past ≡ Forwards n → (opens : Bool) → is_kind Open m ≡ opens → IsInOrder s (forward_for opens s known d m n past)
     unfolding state
     forwarded_so n e true opens =
-        let goes : WhatGoes s known m n past true = subst (WhatGoes s known m n past) opens (what_goes s known m n past e) in
+        let goes : WhatGoes s known m n past true = subst (WhatGoes s known m n past) opens (what_goes s known m n past d e) in
         opens_for s (request_of s 0 (own_open s) n (before Waits)) d (message_count d past + 1) m past refl refl (shut_is (now_in past) goes.0) I
     forwarded_so n e false command =
-        let shared : view_decides s known m ≡ false = never_forwards (view_decides s known m) (is_kind Open m) (now_in past) (number_for s (own_open s) past) (number_for s (command_message s known m) past) n e in
+        let shared : view_decides s known m ≡ false = never_forwards (view_decides s known m) (is_kind Open m) (has_share s.limits.share d the_space past) (now_in past) (number_for s (own_open s) past) (number_for s (command_message s known m) past) n e in
         let ready : now_in past ≡ IsReady = open_is_ready (now_in past) known (I.clients d there) (shared_command known m shared command) in
         forwarded_command s (request_of s d (command_message s known m) n (before Forward)) (before Forward) refl ready (judged_so Forward tt)
 
-    judged_in_order : (decision : Decision) → decision_on s known m past ≡ decision → IsInOrder s (judge s known d m decision past)
-    judged_in_order (Replies verdict) e = noted_in_order s (Judged d (message_count d past + 1) m verdict) past (judged_so verdict (reply_suits known m past verdict e))
+    suits_for : (b : Bool) (decision : Decision) (verdict : Verdict) → (decision ≡ Replies verdict → Suits s (now_in past) verdict) → (if b then Replies Share else decision) ≡ Replies verdict → Suits s (now_in past) verdict
+    suits_for true decision verdict suits e = let same : Share ≡ verdict = cc in subst (Suits s (now_in past)) same tt
+    suits_for false decision verdict suits e = suits e
+
+    judged_in_order : (decision : Decision) → decision_for s known d m past ≡ decision → IsInOrder s (judge s known d m decision past)
+    judged_in_order (Replies verdict) e =
+        noted_in_order s (Judged d (message_count d past + 1) m verdict) past
+        (judged_so verdict (suits_for (passes_share s known d m past) (decision_on s known m past) verdict (λ is. reply_suits known m past verdict is) e))
     judged_in_order (Forwards n) e = forwarded_so n e (is_kind Open m) refl
 
     pub said_in_order : IsInOrder s (hear_client s known d m past)
-    said_in_order = judged_in_order (decision_on s known m past) refl
+    said_in_order = judged_in_order (decision_for s known d m past) refl
 
   -- ---- refusals ----
 

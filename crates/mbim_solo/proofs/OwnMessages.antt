@@ -1,5 +1,5 @@
 -- What a client says: the same is done for all and alone, but where it asks to open a modem that is open for the others already.
-use Rattle.std.proofs.Common.{◌≡◌, ◌≢◌, ◌⊎◌, inl, inr, ℕ, ◌+◌, Bool, true, false, not, ◌&&◌, ◌||◌, ◌==◌, is_some, is_none, if◌then◌else◌, List, [], ◌∷◌, ◌++◌, refl, ap, sym, ◌∙◌, subst, Option, Some, None}
+use Rattle.std.proofs.Common.{◌≡◌, ◌≢◌, ◌⊎◌, inl, inr, ℕ, ◌+◌, Bool, true, false, not, ◌&&◌, ◌||◌, ◌==◌, is_some, is_none, nat_le, length, if◌then◌else◌, List, [], ◌∷◌, ◌++◌, refl, ap, sym, ◌∙◌, subst, Option, Some, None}
 use Rattle.std.specs.List.{AllByRecursion, list_any}
 use Rattle.std.proofs.lemmas.Bool.{and_parts}
 use Rattle.kit_bytes.proofs.Lists.{all_push}
@@ -8,10 +8,14 @@ use Rattle.mbim_frame.specs.declared.status.TheConstants.{SUCCESS}
 use Rattle.mbim_frame.specs.Head.{is_kind, with_number}
 use Rattle.mbim_frame.specs.Writing.{open_done}
 use Rattle.proxy_history.specs.Items.{Says}
-use Rattle.proxy_history.specs.Facts.{Fact, Request, Verdict, Own, Foreign, Away, Full, Forward, Ready, Waits, NoRoom, EventBegan, Ended, Judged}
+use Rattle.proxy_history.specs.Facts.{Fact, Request, Verdict, Own, Share, Foreign, Away, Full, Forward, Ready, Waits, NoRoom, EventBegan, Ended, Judged}
 use Rattle.proxy_history.specs.Decision.{Decision, Replies, Forwards, forwards_under}
 use Rattle.proxy_history.specs.Connections.{contains, present, is_present, message_count}
-use Rattle.proxy_history.specs.Requests.{first_where, in_use, pending, deadline_of}
+use Rattle.proxy_history.specs.Requests.{first_where, in_use, pending, of_client, has_share, deadline_of}
+use Rattle.proxy_solo.proofs.Queries.{pending-part}
+use Rattle.proxy_solo.proofs.Shares.{share_count}
+use Rattle.proxy_solo.specs.Part.{sent_by}
+use Rattle.mbim_solo.proofs.Reading.{reads}
 use Rattle.proxy_history.specs.Modem.{now, to_modem, modem_drained, modem_queue}
 use Rattle.proxy_history.specs.View.{Sent, view, entry_if}
 use Rattle.proxy_history.specs.Noting.{rendering, end_overfull}
@@ -22,7 +26,7 @@ use Rattle.proxy_history.proofs.Fitting.{silent_fits}
 use Rattle.proxy_solo.proofs.Lists.{self}
 use Rattle.proxy_solo.proofs.Noting.{known_rendering}
 use Rattle.proxy_solo.proofs.Undisturbed.{AreUndisturbed}
-use Rattle.mbim_proxy.specs.Setup.{Setup}
+use Rattle.mbim_proxy.specs.Setup.{Setup, the_space}
 use Rattle.mbim_proxy.specs.Known.{Known}
 use Rattle.mbim_proxy.specs.OwnReplies.{OwnReply, Silent, Wrong, NotOpened, Closes, Refuses, Configures, Subscribes, own_reply, view_decides}
 use Rattle.mbim_proxy.specs.Step.{with_message, with_reply, blank, view_of, known_from, known_now}
@@ -31,8 +35,8 @@ use Rattle.mbim_proxy.specs.Text.{mbim_wording, note}
 use Rattle.mbim_proxy.specs.ModemStates.{ModemState, IsAway, IsShut, IsOpening, IsReady, is_own_open, state}
 use Rattle.mbim_proxy.specs.Lists.{waiting}
 use Rattle.mbim_proxy.specs.Forwarding.{own_open, wire, number_for, request_of, forward}
-use Rattle.mbim_proxy.specs.Clients.{command_message, opening_decision, decision_on, forward_for, judge, hear_client}
-use Rattle.mbim_solo.specs.Solo.{is_ready, finds_it_open, answer_to, hears, hears_if}
+use Rattle.mbim_proxy.specs.Clients.{command_message, opening_decision, decision_on, forward_for, judge, hear_client, decision_for, passes_share}
+use Rattle.mbim_solo.specs.Solo.{restated, is_ready, finds_it_open, answer_to, hears, hears_if}
 use Rattle.mbim_solo.specs.Openings.{WaitFor}
 use Rattle.mbim_solo.specs.Part.{part}
 use Rattle.mbim_solo.proofs.Views.{known_view, OpenOnce, known-part}
@@ -74,6 +78,7 @@ module _ (s : Setup) (c : ℕ) (client : c ≢ 0) (m : List ℕ) where
 
   verdict_waits : (verdict : Verdict) (known : Known) → (verdict ≡ Waits → ⊥) → (step.step s known (Sent m verdict)).waits ≡ known.waits
   verdict_waits Own known other = reply_waits (own_reply s known m) (with_message s m known)
+  verdict_waits Share known other = refl
   verdict_waits Foreign known other = refl
   verdict_waits Away known other = refl
   verdict_waits Full known other = refl
@@ -242,7 +247,7 @@ module _ (s : Setup) (c : ℕ) (client : c ≢ 0) (m : List ℕ) where
 
     -- ---- the proxy opens the modem for the client alone ----
 
-    after_orderly : (decision : Decision) → decision_on s k m past ≡ decision → IsOrderly s c (judge s k c m decision past)
+    after_orderly : (decision : Decision) → decision_for s k c m past ≡ decision → IsOrderly s c (judge s k c m decision past)
     after_orderly decision is =
         subst (λ (d : Decision). IsOrderly s c (judge s k c m d past)) is
         (subst (λ (b : Bool). IsOrderly s c (let after : List Fact = if b then hear_client s k c m past else past in after)) there (item_orderly s c client (Says c m) past tt B.orderly))
@@ -286,7 +291,7 @@ module _ (s : Setup) (c : ℕ) (client : c ≢ 0) (m : List ℕ) where
     }
 
     -- it does so for all as well
-    both_open_done : (n j : ℕ) → decision_on s k m past ≡ Forwards n → is_kind Open m ≡ true → state s.starts_away own ≡ IsShut → Done s c client (judge s k c m (Forwards n) past) (judge s own_k c m (Forwards j) own)
+    both_open_done : (n j : ℕ) → decision_for s k c m past ≡ Forwards n → is_kind Open m ≡ true → state s.starts_away own ≡ IsShut → Done s c client (judge s k c m (Forwards n) past) (judge s own_k c m (Forwards j) own)
     both_open_done n j is of shut =
         let time : now (judge s k c m (Forwards n) past) ≡ now own = forwarded_time (is_kind Open m) k n past ∙ B.time in
         record {
@@ -313,7 +318,7 @@ module _ (s : Setup) (c : ℕ) (client : c ≢ 0) (m : List ℕ) where
     pub opens_part : (j : ℕ) → is_kind Open m ≡ true → part c (judge s own_k c m (Forwards j) own) ≡ saying.judged s c client own_k m Waits (part c own)
     opens_part j of = judge-part s c client own_k m (Forwards j) own B.alone.fit.once (λ e. absurd (cc)) ∙ ap (λ (b : Bool). known_forward s c client own_k m b (now own) (part c own)) of
 
-    waits_done : (j : ℕ) → decision_on s k m past ≡ Replies Waits → is_kind Open m ≡ true → state s.starts_away past ≡ IsOpening → state s.starts_away own ≡ IsShut → Done s c client (judge s k c m (Replies Waits) past) (judge s own_k c m (Forwards j) own)
+    waits_done : (j : ℕ) → decision_for s k c m past ≡ Replies Waits → is_kind Open m ≡ true → state s.starts_away past ≡ IsOpening → state s.starts_away own ≡ IsShut → Done s c client (judge s k c m (Replies Waits) past) (judge s own_k c m (Forwards j) own)
     unfolding now state
     waits_done j is of opens_already shut =
         let after : List Fact = judge s k c m (Replies Waits) past in
@@ -386,6 +391,7 @@ module _ (s : Setup) (c : ℕ) (client : c ≢ 0) (m : List ℕ) where
     -- or the modem is open for the others alone, and the proxy opens it for the client
     pub record OpensLate (facts : List Fact) : Type 0 where
       pub decided : decision_on s k m past ≡ Replies Ready
+      pub decided_for : decision_for s k c m past ≡ Replies Ready
       pub none : k.waits ≡ None
       pub ready : state s.starts_away past ≡ IsReady
       pub shut : state s.starts_away own ≡ IsShut
@@ -397,103 +403,153 @@ module _ (s : Setup) (c : ℕ) (client : c ≢ 0) (m : List ℕ) where
     abbrev pub Outcome : (after facts : List Fact) → Type 0
     Outcome after facts = SaidAlike after facts ⊎ OpensLate facts
 
-    as_decided : (one other : Decision) → decision_on s k m past ≡ one → decision_on s own_k m own ≡ other → Done s c client (judge s k c m one past) (judge s own_k c m other own) → MayQueue s c history_alone (judge s own_k c m other own)
-        → ((o : List Fact) → pending o ≡ pending (judge s own_k c m other own) → hears s c (Says c m) past o ≡ None) → Outcome (hear_client s k c m past) (hear_client s own_k c m own)
-    as_decided one other is own_is done queue unheard =
-        inl (subst (λ (d : Decision). SaidAlike (judge s k c m d past) (hear_client s own_k c m own)) (sym is)
-        (subst (λ (d : Decision). SaidAlike (judge s k c m one past) (judge s own_k c m d own)) (sym own_is) (record { done = done; queue = queue; unheard = unheard })))
+    -- where the client's share isn't used up
+    module _ (few : passes_share s k c m past ≡ false) (own_few : passes_share s own_k c m own ≡ false) where
+      of_all : {decision : Decision} → decision_on s k m past ≡ decision → decision_for s k c m past ≡ decision
+      of_all is = ap (λ (b : Bool). if b then Replies Share else decision_on s k m past) few ∙ is
 
-    not_full : decision_on s k m past ≡ Replies Full → AreUndisturbed (view_of c (hear_client s k c m past)) → ⊥
-    unfolding view
-    not_full is fair =
-        let noted : AreUndisturbed (view_of c (note s (Judged c (message_count c past + 1) m Full) past)) = subst (λ (d : Decision). AreUndisturbed (view_of c (judge s k c m d past))) is fair in
-        let told : AreUndisturbed (entry_if (c == c) (Sent m Full) (view_of c past)) = subst AreUndisturbed (noted_view s.limits (mbim_wording s) c (Judged c (message_count c past + 1) m Full) past) noted in
-        let first : AreUndisturbed (Sent m Full ∷ view_of c past) = subst (λ (b : Bool). AreUndisturbed (entry_if b (Sent m Full) (view_of c past))) (self c) told in
-        let clash : true ≡ false = first.0 in cc
+      of_own : {decision : Decision} → decision_on s own_k m own ≡ decision → decision_for s own_k c m own ≡ decision
+      of_own is = ap (λ (b : Bool). if b then Replies Share else decision_on s own_k m own) own_few ∙ is
 
+      as_decided : (one other : Decision) → decision_on s k m past ≡ one → decision_on s own_k m own ≡ other → Done s c client (judge s k c m one past) (judge s own_k c m other own) → MayQueue s c history_alone (judge s own_k c m other own)
+          → ((o : List Fact) → pending o ≡ pending (judge s own_k c m other own) → hears s c (Says c m) past o ≡ None) → Outcome (hear_client s k c m past) (hear_client s own_k c m own)
+      as_decided one other is own_is done queue unheard =
+          inl (subst (λ (d : Decision). SaidAlike (judge s k c m d past) (hear_client s own_k c m own)) (sym (of_all is))
+          (subst (λ (d : Decision). SaidAlike (judge s k c m one past) (judge s own_k c m d own)) (sym (of_own own_is)) (record { done = done; queue = queue; unheard = unheard })))
+
+      not_full : decision_on s k m past ≡ Replies Full → AreUndisturbed (view_of c (hear_client s k c m past)) → ⊥
+      unfolding view
+      not_full is fair =
+          let noted : AreUndisturbed (view_of c (note s (Judged c (message_count c past + 1) m Full) past)) = subst (λ (d : Decision). AreUndisturbed (view_of c (judge s k c m d past))) (of_all is) fair in
+          let told : AreUndisturbed (entry_if (c == c) (Sent m Full) (view_of c past)) = subst AreUndisturbed (noted_view s.limits (mbim_wording s) c (Judged c (message_count c past + 1) m Full) past) noted in
+          let first : AreUndisturbed (Sent m Full ∷ view_of c past) = subst (λ (b : Bool). AreUndisturbed (entry_if b (Sent m Full) (view_of c past))) (self c) told in
+          let clash : true ≡ false = first.0 in cc
+
+      module _ (roomy : IsRoomy s) (fair : AreUndisturbed (view_of c (hear_client s k c m past))) where
+        own_decides : (b : Bool) → view_decides s k m ≡ b → view_decides s own_k m ≡ b
+        own_decides b is = ap (λ (x : Known). view_decides s x m) (sym known_same) ∙ is
+
+        -- ---- a request to open ----
+
+        module _ (shared : view_decides s k m ≡ false) (of : is_kind Open m ≡ true) where
+          none_waits : k.waits ≡ None
+          none_waits = none_is k.waits (and_parts k.configured (is_none k.waits) (may_open_then s k m past of shared)).1
+
+          states_alike : OpenAlike (state s.starts_away past) (state s.starts_away own)
+          states_alike =
+              let none : is_waiting s c (part c past) ≡ false = waits-part s c client past B.orderly.fit.once ∙ ap (λ (o : Option ℕ). is_present c past && is_some o) none_waits ∙ elim (is_present c past) as (λ b. (b && false) ≡ false) [ true ↦ refl | false ↦ refl ] in
+              subst (λ (b : Bool). Stand s c b (state s.starts_away past) (state s.starts_away own)) none S.states
+
+          for_all : (modem : ModemState) → state s.starts_away past ≡ modem → decision_on s k m past ≡ opening_decision modem (number_for s (own_open s) past)
+          for_all modem is = decided_opening k past shared of ∙ ap (λ (x : ModemState). opening_decision x (number_for s (own_open s) past)) is
+
+          alone : (modem : ModemState) → state s.starts_away own ≡ modem → decision_on s own_k m own ≡ opening_decision modem (number_for s (own_open s) own)
+          alone modem is = decided_opening own_k own (own_decides false shared) of ∙ ap (λ (x : ModemState). opening_decision x (number_for s (own_open s) own)) is
+
+          number_alone : state s.starts_away own ≡ IsShut → (n : ℕ) × (number_for s (own_open s) own ≡ Some n)
+          number_alone shut = opens_under s roomy own B.empty (subst (λ (x : ModemState). AsksAlone s c x past own) shut S.asks)
+
+          asks_alone : (n : ℕ) → state s.starts_away own ≡ IsShut → number_for s (own_open s) own ≡ Some n → decision_on s own_k m own ≡ Forwards n
+          asks_alone n shut is = alone IsShut shut ∙ ap forwards_under is
+
+          queue_opening : (n : ℕ) → MayQueue s c history_alone (judge s own_k c m (Forwards n) own)
+          queue_opening n = inr (inl (ap (λ (l : List Fact). state s.starts_away l) (own_opens n of) ∙ opening n own))
+
+          opens_both : (o : Option ℕ) → number_for s (own_open s) past ≡ o → state s.starts_away past ≡ IsShut → state s.starts_away own ≡ IsShut → Outcome (hear_client s k c m past) (hear_client s own_k c m own)
+          opens_both None none shut own_shut = absurd (not_full (for_all IsShut shut ∙ ap forwards_under none) fair)
+          opens_both (Some n) given shut own_shut =
+              let found = number_alone own_shut in
+              let is : decision_on s k m past ≡ Forwards n = for_all IsShut shut ∙ ap forwards_under given in
+              as_decided (Forwards n) (Forwards found.0) is (asks_alone found.0 own_shut found.1) (both_open_done n found.0 (of_all is) of own_shut) (queue_opening found.0) (λ o e. unready o (ap is_ready is))
+
+          opening_by : (all modem : ModemState) → state s.starts_away past ≡ all → state s.starts_away own ≡ modem → OpenAlike all modem → Outcome (hear_client s k c m past) (hear_client s own_k c m own)
+          opening_by IsAway IsAway is own_is alike =
+              as_decided (Replies Away) (Replies Away) (for_all IsAway is) (alone IsAway own_is) (replied_done Away (λ e. cc) (λ e. absurd (cc))) (inl (replied_queue Away)) (λ o e. unready o (ap is_ready (for_all IsAway is)))
+          opening_by IsShut IsShut is own_is alike = opens_both (number_for s (own_open s) past) refl is own_is
+          opening_by IsOpening IsShut is own_is alike =
+              let found = number_alone own_is in
+              as_decided (Replies Waits) (Forwards found.0) (for_all IsOpening is) (asks_alone found.0 own_is found.1) (waits_done found.0 (of_all (for_all IsOpening is)) of is own_is) (queue_opening found.0) (λ o e. unready o (ap is_ready (for_all IsOpening is)))
+          opening_by IsReady IsShut is own_is alike =
+              let found = number_alone own_is in
+              inr (record {
+                decided = for_all IsReady is;
+                decided_for = of_all (for_all IsReady is);
+                none = none_waits;
+                ready = is;
+                shut = own_is;
+                number = found.0;
+                given = found.1;
+                is = ap (λ (d : Decision). judge s own_k c m d own) (of_own (asks_alone found.0 own_is found.1)) ∙ own_opens found.0 of;
+                opens_it = of;
+              })
+          opening_by IsReady IsReady is own_is alike =
+              as_decided (Replies Ready) (Replies Ready) (for_all IsReady is) (alone IsReady own_is) (replied_done Ready (λ e. cc) (λ e. none_waits)) (inl (replied_queue Ready))
+              (λ o e. none_opens o (ap (list_any is_own_open) e ∙ ready_pending own_is Ready) (ap is_ready (for_all IsReady is)))
+          opening_by _ _ is own_is alike = absurd alike
+
+        -- ---- a command ----
+
+        command_by : (o : Option ℕ) → number_for s (command_message s k m) past ≡ o → view_decides s k m ≡ false → is_kind Open m ≡ false → Outcome (hear_client s k c m past) (hear_client s own_k c m own)
+        command_by None none shared of = absurd (not_full (decided_command k past shared of ∙ ap forwards_under none) fair)
+        command_by (Some n) given shared of =
+            let own_shared : view_decides s own_k m ≡ false = own_decides false shared in
+            let ready : state s.starts_away own ≡ IsReady = open_is_ready s (state s.starts_away own) own_k (B.alone.order.clients c there_own) (shared_command s own_k m own_shared of) in
+            let mine : AllByRecursion (λ r. (r.conn == c) ≡ true) (in_use own) = subst (λ (x : ModemState). AsksAlone s c x past own) ready S.asks in
+            let found = goes_under s roomy c (command_message s k m) past own n B.orderly.fit.asked (sent_alike s roomy.enough c client past own B.orderly.fit B.alone.fit B.same) mine B.empty given in
+            let is : decision_on s k m past ≡ Forwards n = decided_command k past shared of ∙ ap forwards_under given in
+            let own_is : decision_on s own_k m own ≡ Forwards found.0 =
+            decided_command own_k own own_shared of ∙ ap (λ (x : Known). forwards_under (number_for s (command_message s x m) own)) (sym known_same) ∙ ap forwards_under found.1
+            in
+            as_decided (Forwards n) (Forwards found.0) is own_is (command_done n found.0 of ready) (inr (inr (command_queue found.0 of))) (λ o e. unready o (ap is_ready is))
+
+        -- ---- each message ----
+
+        by_tests : (decides opening_it : Bool) → view_decides s k m ≡ decides → is_kind Open m ≡ opening_it → Outcome (hear_client s k c m past) (hear_client s own_k c m own)
+        by_tests true opening_it is of =
+            as_decided (Replies Own) (Replies Own) (decided_own k past is) (decided_own own_k own (own_decides true is)) (replied_done Own (λ e. cc) (λ e. absurd (cc))) (inl (replied_queue Own)) (λ o e. unready o (ap is_ready (decided_own k past is)))
+        by_tests false true is of = opening_by is of (state s.starts_away past) (state s.starts_away own) refl refl (states_alike is of)
+        by_tests false false is of = command_by (number_for s (command_message s k m) past) refl is of
+
+    -- it is in both or in neither
     module _ (roomy : IsRoomy s) (fair : AreUndisturbed (view_of c (hear_client s k c m past))) where
-      own_decides : (b : Bool) → view_decides s k m ≡ b → view_decides s own_k m ≡ b
-      own_decides b is = ap (λ (x : Known). view_decides s x m) (sym known_same) ∙ is
-
-      -- ---- a request to open ----
-
-      module _ (shared : view_decides s k m ≡ false) (of : is_kind Open m ≡ true) where
-        none_waits : k.waits ≡ None
-        none_waits = none_is k.waits (and_parts k.configured (is_none k.waits) (may_open_then s k m past of shared)).1
-
-        states_alike : OpenAlike (state s.starts_away past) (state s.starts_away own)
-        states_alike =
-            let none : is_waiting s c (part c past) ≡ false = waits-part s c client past B.orderly.fit.once ∙ ap (λ (o : Option ℕ). is_present c past && is_some o) none_waits ∙ elim (is_present c past) as (λ b. (b && false) ≡ false) [ true ↦ refl | false ↦ refl ] in
-            subst (λ (b : Bool). Stand s c b (state s.starts_away past) (state s.starts_away own)) none S.states
-
-        for_all : (modem : ModemState) → state s.starts_away past ≡ modem → decision_on s k m past ≡ opening_decision modem (number_for s (own_open s) past)
-        for_all modem is = decided_opening k past shared of ∙ ap (λ (x : ModemState). opening_decision x (number_for s (own_open s) past)) is
-
-        alone : (modem : ModemState) → state s.starts_away own ≡ modem → decision_on s own_k m own ≡ opening_decision modem (number_for s (own_open s) own)
-        alone modem is = decided_opening own_k own (own_decides false shared) of ∙ ap (λ (x : ModemState). opening_decision x (number_for s (own_open s) own)) is
-
-        number_alone : state s.starts_away own ≡ IsShut → (n : ℕ) × (number_for s (own_open s) own ≡ Some n)
-        number_alone shut = opens_under s roomy own B.empty (subst (λ (x : ModemState). AsksAlone s c x past own) shut S.asks)
-
-        asks_alone : (n : ℕ) → state s.starts_away own ≡ IsShut → number_for s (own_open s) own ≡ Some n → decision_on s own_k m own ≡ Forwards n
-        asks_alone n shut is = alone IsShut shut ∙ ap forwards_under is
-
-        queue_opening : (n : ℕ) → MayQueue s c history_alone (judge s own_k c m (Forwards n) own)
-        queue_opening n = inr (inl (ap (λ (l : List Fact). state s.starts_away l) (own_opens n of) ∙ opening n own))
-
-        opens_both : (o : Option ℕ) → number_for s (own_open s) past ≡ o → state s.starts_away past ≡ IsShut → state s.starts_away own ≡ IsShut → Outcome (hear_client s k c m past) (hear_client s own_k c m own)
-        opens_both None none shut own_shut = absurd (not_full (for_all IsShut shut ∙ ap forwards_under none) fair)
-        opens_both (Some n) given shut own_shut =
-            let found = number_alone own_shut in
-            let is : decision_on s k m past ≡ Forwards n = for_all IsShut shut ∙ ap forwards_under given in
-            as_decided (Forwards n) (Forwards found.0) is (asks_alone found.0 own_shut found.1) (both_open_done n found.0 is of own_shut) (queue_opening found.0) (λ o e. unready o (ap is_ready is))
-
-        opening_by : (all modem : ModemState) → state s.starts_away past ≡ all → state s.starts_away own ≡ modem → OpenAlike all modem → Outcome (hear_client s k c m past) (hear_client s own_k c m own)
-        opening_by IsAway IsAway is own_is alike =
-            as_decided (Replies Away) (Replies Away) (for_all IsAway is) (alone IsAway own_is) (replied_done Away (λ e. cc) (λ e. absurd (cc))) (inl (replied_queue Away)) (λ o e. unready o (ap is_ready (for_all IsAway is)))
-        opening_by IsShut IsShut is own_is alike = opens_both (number_for s (own_open s) past) refl is own_is
-        opening_by IsOpening IsShut is own_is alike =
-            let found = number_alone own_is in
-            as_decided (Replies Waits) (Forwards found.0) (for_all IsOpening is) (asks_alone found.0 own_is found.1) (waits_done found.0 (for_all IsOpening is) of is own_is) (queue_opening found.0) (λ o e. unready o (ap is_ready (for_all IsOpening is)))
-        opening_by IsReady IsShut is own_is alike =
-            let found = number_alone own_is in
-            inr (record {
-              decided = for_all IsReady is;
-              none = none_waits;
-              ready = is;
-              shut = own_is;
-              number = found.0;
-              given = found.1;
-              is = ap (λ (d : Decision). judge s own_k c m d own) (asks_alone found.0 own_is found.1) ∙ own_opens found.0 of;
-              opens_it = of;
-            })
-        opening_by IsReady IsReady is own_is alike =
-            as_decided (Replies Ready) (Replies Ready) (for_all IsReady is) (alone IsReady own_is) (replied_done Ready (λ e. cc) (λ e. none_waits)) (inl (replied_queue Ready))
-            (λ o e. none_opens o (ap (list_any is_own_open) e ∙ ready_pending own_is Ready) (ap is_ready (for_all IsReady is)))
-        opening_by _ _ is own_is alike = absurd alike
-
-      -- ---- a command ----
-
-      command_by : (o : Option ℕ) → number_for s (command_message s k m) past ≡ o → view_decides s k m ≡ false → is_kind Open m ≡ false → Outcome (hear_client s k c m past) (hear_client s own_k c m own)
-      command_by None none shared of = absurd (not_full (decided_command k past shared of ∙ ap forwards_under none) fair)
-      command_by (Some n) given shared of =
-          let own_shared : view_decides s own_k m ≡ false = own_decides false shared in
-          let ready : state s.starts_away own ≡ IsReady = open_is_ready s (state s.starts_away own) own_k (B.alone.order.clients c there_own) (shared_command s own_k m own_shared of) in
-          let mine : AllByRecursion (λ r. (r.conn == c) ≡ true) (in_use own) = subst (λ (x : ModemState). AsksAlone s c x past own) ready S.asks in
-          let found = goes_under s roomy c (command_message s k m) past own n B.orderly.fit.asked (sent_alike s roomy.enough c client past own B.orderly.fit B.alone.fit B.same) mine B.empty given in
-          let is : decision_on s k m past ≡ Forwards n = decided_command k past shared of ∙ ap forwards_under given in
-          let own_is : decision_on s own_k m own ≡ Forwards found.0 =
-          decided_command own_k own own_shared of ∙ ap (λ (x : Known). forwards_under (number_for s (command_message s x m) own)) (sym known_same) ∙ ap forwards_under found.1
+      share_same : passes_share s k c m past ≡ passes_share s own_k c m own
+      share_same =
+          let sent : sent_by c (pending past) ≡ sent_by c (pending own) =
+          sym (pending-part s.limits blank restated reads c past B.orderly.fit.placed) ∙ ap pending B.same ∙ pending-part s.limits blank restated reads c own B.alone.fit.placed
           in
-          as_decided (Forwards n) (Forwards found.0) is own_is (command_done n found.0 of ready) (inr (inr (command_queue found.0 of))) (λ o e. unready o (ap is_ready is))
+          let few : has_share s.limits.share c the_space past ≡ has_share s.limits.share c the_space own =
+          ap (nat_le s.limits.share) (sym (share_count c the_space (pending past)) ∙ ap (λ (l : List Request). length (of_client c the_space l)) sent ∙ share_count c the_space (pending own))
+          in
+          ap (λ (x : Known). not (view_decides s x m) && not (is_kind Open m) && has_share s.limits.share c the_space past) known_same
+          ∙ ap (λ (b : Bool). not (view_decides s own_k m) && not (is_kind Open m) && b) few
 
-      -- ---- each message ----
+      forwards_unready : (o : Option ℕ) → is_ready (forwards_under o) ≡ false
+      forwards_unready None = refl
+      forwards_unready (Some n) = refl
 
-      by_tests : (decides opening_it : Bool) → view_decides s k m ≡ decides → is_kind Open m ≡ opening_it → Outcome (hear_client s k c m past) (hear_client s own_k c m own)
-      by_tests true opening_it is of =
-          as_decided (Replies Own) (Replies Own) (decided_own k past is) (decided_own own_k own (own_decides true is)) (replied_done Own (λ e. cc) (λ e. absurd (cc))) (inl (replied_queue Own)) (λ o e. unready o (ap is_ready (decided_own k past is)))
-      by_tests false true is of = opening_by is of (state s.starts_away past) (state s.starts_away own) refl refl (states_alike is of)
-      by_tests false false is of = command_by (number_for s (command_message s k m) past) refl is of
+      passed_command : passes_share s k c m past ≡ true → (view_decides s k m ≡ false) × (is_kind Open m ≡ false)
+      passed_command is =
+          let parts = and_parts (not (view_decides s k m) && not (is_kind Open m)) (has_share s.limits.share c the_space past) is in
+          let firsts = and_parts (not (view_decides s k m)) (not (is_kind Open m)) parts.0 in
+          (was_false (view_decides s k m) firsts.0, was_false (is_kind Open m) firsts.1)
+        where
+          was_false : (b : Bool) → not b ≡ true → b ≡ false
+          was_false true e = absurd (cc)
+          was_false false e = refl
+
+      shared_out : passes_share s k c m past ≡ true → SaidAlike (hear_client s k c m past) (hear_client s own_k c m own)
+      shared_out is =
+          let command = passed_command is in
+          let for_all : decision_for s k c m past ≡ Replies Share = ap (λ (b : Bool). if b then Replies Share else decision_on s k m past) is in
+          let alone : decision_for s own_k c m own ≡ Replies Share = ap (λ (b : Bool). if b then Replies Share else decision_on s own_k m own) (sym share_same ∙ is) in
+          let ready : is_ready (decision_on s k m past) ≡ false = ap is_ready (decided_command k past command.0 command.1) ∙ forwards_unready _ in
+          subst (λ (d : Decision). SaidAlike (judge s k c m d past) (hear_client s own_k c m own)) (sym for_all)
+          (subst (λ (d : Decision). SaidAlike (judge s k c m (Replies Share) past) (judge s own_k c m d own)) (sym alone)
+          (record { done = replied_done Share (λ e. cc) (λ e. absurd (cc)); queue = inl (replied_queue Share); unheard = λ o e. unready o ready }))
 
       pub said : Outcome (hear_client s k c m past) (hear_client s own_k c m own)
-      said = by_tests (view_decides s k m) (is_kind Open m) refl refl
+      said = by (passes_share s k c m past) refl
+        where
+          by : (b : Bool) → passes_share s k c m past ≡ b → Outcome (hear_client s k c m past) (hear_client s own_k c m own)
+          by true is = inl (shared_out is)
+          by false is = by_tests is (sym share_same ∙ is) roomy fair (view_decides s k m) (is_kind Open m) refl refl

@@ -200,7 +200,7 @@ module _ (s : Setup) (roomy : IsRoomy s) (c : ℕ) (client : c ≢ 0) where
               answer answers.same.heard answers.same.number_is
 
           after_is : after ≡ judge s (known_now s c past) c m (Replies Ready) past
-          after_is = ap (λ (d : Decision). judge s (known_now s c past) c m d past) L.decided
+          after_is = ap (λ (d : Decision). judge s (known_now s c past) c m d past) L.decided_for
 
           -- the part of the client, once it waits
           waiting_part : part c P.before ≡ part c opened

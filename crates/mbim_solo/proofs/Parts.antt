@@ -11,7 +11,7 @@ use Rattle.proxy_history.specs.Streams.{messages_of_piece, is_bad}
 use Rattle.proxy_history.specs.Items.{Item, Says, Garbles, item_if, client_items}
 use Rattle.proxy_history.proofs.Streams.{goes_on_from_rest}
 use Rattle.proxy_solo.proofs.Fronts.{first_is, goes_on, rest_holds_none}
-use Rattle.proxy_solo.proofs.Pieces.{EndsMessage, ends_message}
+use Rattle.proxy_history.proofs.Pieces.{EndsMessage, ends_message}
 use Rattle.mbim_solo.specs.Solo.{part_if_some, cut_at_ends, parts}
 use Rattle.mbim_solo.specs.Law.{brought, AreThePiece, PartsAreThePiece}
 

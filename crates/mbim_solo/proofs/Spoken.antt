@@ -14,7 +14,7 @@ use Rattle.mbim_fragments.proofs.Cutting.{pieces_are_cut}
 use Rattle.mbim_frame.specs.Frame.{size_of, mbim_cut}
 use Rattle.proxy_history.specs.Streams.{is_bad}
 use Rattle.proxy_history.specs.Items.{ModemSays, ModemFails, item_if, modem_items, delivered, delivered_by_piece}
-use Rattle.proxy_solo.proofs.Pieces.{EndsMessage, ends_message, goes_on}
+use Rattle.proxy_history.proofs.Pieces.{EndsMessage, ends_message, goes_on}
 use Rattle.mbim_proxy.specs.Setup.{Setup}
 use Rattle.mbim_proxy.specs.Delivering.{Begun, none_begun, is_fragment, heard_whole, heard_from, begun_from, begun_after, deliver}
 use Rattle.mbim_proxy.specs.Delivered.{AreHeardAs, AreUnheard}

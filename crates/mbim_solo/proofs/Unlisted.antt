@@ -19,7 +19,7 @@ use Rattle.mbim_proxy.specs.Known.{Known}
 use Rattle.mbim_proxy.specs.Step.{known_now}
 use Rattle.mbim_proxy.specs.Text.{mbim_wording}
 use Rattle.mbim_proxy.specs.Forwarding.{own_open, request_of}
-use Rattle.mbim_proxy.specs.Clients.{command_message, decision_on, forward_for, judge, hear_client}
+use Rattle.mbim_proxy.specs.Clients.{command_message, forward_for, judge, hear_client, decision_for}
 use Rattle.mbim_proxy.specs.History.{mbim_protocol, history}
 use Rattle.mbim_proxy.proofs.Walk.{Asks, orderly}
 use Rattle.mbim_solo.proofs.Openings.{any_filter, any_push, not_the_proxy}
@@ -86,7 +86,7 @@ module _ (s : Setup) (c : ℕ) (client : c ≢ 0) where
   said_unlisted d m past O none =
       let step : (b : Bool) → is_present d past ≡ b → IsUnlisted (let after : List Fact = if b then hear_client s (known_now s d past) d m past else past in after) =
       λ b. elim b as (λ b. is_present d past ≡ b → IsUnlisted (let after : List Fact = if b then hear_client s (known_now s d past) d m past else past in after)) [
-        | true ↦ λ there. judged_unlisted s d (not_the_proxy s d past O.order.nobody there) (known_now s d past) m (decision_on s (known_now s d past) m past) past none
+        | true ↦ λ there. judged_unlisted s d (not_the_proxy s d past O.order.nobody there) (known_now s d past) m (decision_for s (known_now s d past) d m past) past none
         | false ↦ λ away. none
       ]
       in step (is_present d past) refl

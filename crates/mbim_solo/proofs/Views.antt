@@ -4,7 +4,7 @@ use Rattle.std.proofs.lemmas.Bool.Decides.{nat_tests}
 use Rattle.mbim_frame.specs.declared.status.TheConstants.{SUCCESS}
 use Rattle.mbim_frame.specs.Head.{number_of}
 use Rattle.mbim_frame.specs.Writing.{open_done}
-use Rattle.proxy_history.specs.Facts.{Fact, Verdict, Own, Foreign, Away, Full, Forward, Ready, Waits, NotAdmitted, BadStream, Closed, Admitted, Ended, Judged, Drained, Answered, IdHeld, Expired, Aborted, Indicated, OpeningEnded, SessionsClosed}
+use Rattle.proxy_history.specs.Facts.{Fact, Verdict, Own, Share, Foreign, Away, Full, Forward, Ready, Waits, NotAdmitted, BadStream, Closed, Admitted, Ended, Judged, Drained, Answered, IdHeld, Expired, Aborted, Indicated, OpeningEnded, SessionsClosed}
 use Rattle.proxy_history.specs.Connections.{contains}
 use Rattle.proxy_history.specs.View.{Entry, Sent, Response, Refused, Indication, OpenedWith, Shut, Collected, End, HeldId, NoAnswer, view, entry_if}
 use Rattle.proxy_history.specs.Rendering.{Rendering, put, put_unless, collect, render}
@@ -143,6 +143,7 @@ module _ (s : Setup) where
 
       judged_tells : (verdict : Verdict) → OpensOnce (Judged d place m verdict) past → told (known_view (facts_if (d == c) (restated (Judged d place m verdict)) (mbim.part c past))) ≡ told (entry_if (d == c) (Sent m verdict) (view_of c past))
       judged_tells Own once = as_it_stands Own
+      judged_tells Share once = as_it_stands Share
       judged_tells Foreign once = as_it_stands Foreign
       judged_tells Away once = as_it_stands Away
       judged_tells Full once = as_it_stands Full

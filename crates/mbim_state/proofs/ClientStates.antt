@@ -2,7 +2,7 @@
 use Rattle.std.proofs.Common.{◌≡◌, ℕ, Bool, true, false, ◌||◌, ◌==◌, List, [], ◌∷◌, refl, ap, sym, ◌∙◌, subst, arith, if◌then◌else◌}
 use Rattle.std.proofs.lemmas.Bool.{eq-eqb, eqb-true}
 use Rattle.std.proofs.lemmas.Bool.Decides.{nat_tests}
-use Rattle.proxy_history.specs.Facts.{Fact, Judged, Verdict, Own, Foreign, Away, Full, Forward, Ready, Waits}
+use Rattle.proxy_history.specs.Facts.{Fact, Judged, Verdict, Own, Share, Foreign, Away, Full, Forward, Ready, Waits}
 use Rattle.proxy_history.specs.Connections.{contains}
 use Rattle.proxy_history.specs.View.{Entry, Sent, view, entry_if}
 use Rattle.proxy_history.specs.Rendering.{render}
@@ -43,6 +43,7 @@ module _ (s : Setup) where
 
     same_text : (verdict : Verdict) → text_as s known (Sent m verdict) ≡ text_as s kept (Sent m verdict)
     same_text Own = refl
+    same_text Share = refl
     same_text Foreign = refl
     same_text Away = refl
     same_text Full = refl
@@ -61,6 +62,7 @@ module _ (s : Setup) where
 
     same_client : (verdict : Verdict) → client_of (step s known (Sent m verdict)) ≡ client_of (step s kept (Sent m verdict))
     same_client Own = same_reply (own_reply s known m)
+    same_client Share = refl
     same_client Foreign = refl
     same_client Away = refl
     same_client Full = refl

@@ -15,7 +15,7 @@ use Rattle.mbim_frame.specs.Fragment.{body_of}
 use Rattle.mbim_frame.specs.Bodies.{uuid_of, cid_of}
 use Rattle.mbim_frame.specs.Writing.{unsplit}
 use Rattle.mbim_frame.proofs.Numbers.{u32_at-bytes, u32_at-behind}
-use Rattle.proxy_history.specs.Facts.{NotAdmitted, BadStream, NoRoom, Closed, Fact, Request, Verdict, Own, Foreign, Away, Full, Forward, Ready, Waits, Admitted, Ended, Judged, Drained, Forwarded, Answered, IdHeld, Late, Expired, Aborted, Indicated, OpeningEnded, SessionsClosed, Reset, ModemLost}
+use Rattle.proxy_history.specs.Facts.{NotAdmitted, BadStream, NoRoom, Closed, Fact, Request, Verdict, Own, Share, Foreign, Away, Full, Forward, Ready, Waits, Admitted, Ended, Judged, Drained, Forwarded, Answered, IdHeld, Late, Expired, Aborted, Indicated, OpeningEnded, SessionsClosed, Reset, ModemLost}
 use Rattle.proxy_history.specs.Connections.{present, contains}
 use Rattle.proxy_history.specs.Requests.{pending}
 use Rattle.proxy_history.specs.View.{Entry, Sent, Response, Refused, Indication, OpenedWith, Shut, Collected, End, HeldId, NoAnswer, view, entry_if, sent_count}
@@ -111,6 +111,7 @@ module _ (s : Setup) where
 
   sent_more : (known : Known) (m : List ℕ) (verdict : Verdict) → (step s known (Sent m verdict)).sent ≡ known.sent + 1
   sent_more known m Own = (same_behind_reply (own_reply s known m) (with_message s m known)).0
+  sent_more known m Share = refl
   sent_more known m Foreign = refl
   sent_more known m Away = refl
   sent_more known m Full = refl
@@ -124,6 +125,7 @@ module _ (s : Setup) where
     where
       same : (verdict : Verdict) → ask_at r.place (step s known (Sent m verdict)).asks ≡ ask_at r.place known.asks
       same Own = ap (ask_at r.place) (same_behind_reply (own_reply s known m) (with_message s m known)).1
+      same Share = refl
       same Foreign = refl
       same Away = refl
       same Full = refl

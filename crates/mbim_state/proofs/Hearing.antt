@@ -1,12 +1,12 @@
 -- What a message of a client makes of a core.
-use Rattle.std.proofs.Common.{◌≡◌, ℕ, ◌+◌, ◌≤◌, nat_lt, Bool, true, false, ◌||◌, ◌==◌, List, [], ◌∷◌, ◌++◌, length, refl, ap, sym, ◌∙◌, subst, arith, append-nil, Option, None, if◌then◌else◌}
+use Rattle.std.proofs.Common.{◌≡◌, ℕ, ◌+◌, ◌≤◌, nat_lt, nat_le, not, ◌&&◌, Bool, true, false, ◌||◌, ◌==◌, List, [], ◌∷◌, ◌++◌, length, refl, ap, sym, ◌∙◌, subst, arith, append-nil, Option, None, if◌then◌else◌}
 use Rattle.std.proofs.lemmas.Bool.Decides.{nat_tests}
 use Rattle.std.proofs.lemmas.List.{drop-append-le}
 use Rattle.connections.specs.Table.{Connection, Table}
 use Rattle.mbim_frame.specs.declared.kind.MessageKind.TheVariants as kind
 use Rattle.mbim_frame.specs.Head.{is_kind}
 use Rattle.proxy_history.specs.Items.{Says}
-use Rattle.proxy_history.specs.Facts.{Fact, Judged, Forwarded, Verdict, Own, Forward, Waits}
+use Rattle.proxy_history.specs.Facts.{Fact, Judged, Forwarded, Verdict, Own, Share, Forward, Waits}
 use Rattle.proxy_history.specs.Decision.{Decision, Replies, Forwards, forwards_under}
 use Rattle.proxy_history.specs.Connections.{present, dropped, contains, message_count}
 use Rattle.proxy_history.specs.Requests.{last_number}
@@ -18,11 +18,13 @@ use Rattle.proxy_history.specs.Adding.{MayAdd, Soundly}
 use Rattle.proxy_history.proofs.Rendering.{waiting_within}
 use Rattle.proxy_history.proofs.Adding.{extends_keeps}
 use Rattle.proxy_state.specs.Requests.{requests_in_use}
+use Rattle.proxy_state.proofs.Shares.{share_counted}
+use Rattle.mbim_state.specs.Asked.{asked_of}
 use Rattle.proxy_state.specs.Stands.{Streams, connection_as, connection_of}
 use Rattle.proxy_state.specs.Faithful.{settled_if, settled}
 use Rattle.proxy_state.proofs.Keeping.{keeps_changed}
 use Rattle.proxy_state.proofs.Replying as replying
-use Rattle.mbim_proxy.specs.Setup.{Setup}
+use Rattle.mbim_proxy.specs.Setup.{Setup, the_space}
 use Rattle.mbim_proxy.specs.Known.{Known}
 use Rattle.mbim_proxy.specs.OwnReplies.{view_decides}
 use Rattle.mbim_proxy.specs.Step.{view_of, known_now}
@@ -35,7 +37,7 @@ use Rattle.mbim_proxy.specs.Clients as clients
 use Rattle.mbim_proxy.specs.History.{mbim_protocol}
 use Rattle.mbim_proxy.proofs.Walk.{Asks, orderly}
 use Rattle.mbim_state.specs.Core.{Client, client_of, Numbers, ModemSide, MbimState, side_of, kept_of}
-use Rattle.mbim_state.specs.Transitions.{number_at, forwards, opens, decision_of, after, text, replies, asks_modem, act_on, hear_client, mbim_handlers}
+use Rattle.mbim_state.specs.Transitions.{number_at, forwards, opens, decision_of, decision_for, after, text, replies, asks_modem, act_on, hear_client, mbim_handlers}
 use Rattle.mbim_state.proofs.Regular.{Regular, regular_more, new_by, taken_within}
 use Rattle.mbim_state.proofs.ClientStates.{ClientState, client_state_of, put_to, judged_own, judged_other}
 use Rattle.mbim_state.proofs.Numbers.{numbers_forwarded, next_is}
@@ -55,6 +57,12 @@ module _ (s : Setup) (messages : List (List ℕ)) where
   decision_is known m past =
       ap (λ (o : Option ℕ). if view_decides s known m then Replies Own else if is_kind kind.Open m then opening_decision (state s.starts_away past) o else forwards_under (number_at s (command_message s known m) (side past))) (number_is (own_open s) past)
       ∙ ap (λ (o : Option ℕ). if view_decides s known m then Replies Own else if is_kind kind.Open m then opening_decision (state s.starts_away past) (number_for s (own_open s) past) else forwards_under o) (number_is (command_message s known m) past)
+
+  decision_for_is : (known : Known) (c : ℕ) (m : List ℕ) (past : List Fact) → decision_for s c (client_of known) m (side past) ≡ clients.decision_for s known c m past
+  decision_for_is known c m past =
+      let passes : ℕ → Bool = λ count. not (view_decides s known m) && not (is_kind kind.Open m) && nat_le s.limits.share count in
+      ap (λ (n : ℕ). if passes n then Replies Share else decision_of s (client_of known) m (side past)) (share_counted asked_of c the_space past)
+      ∙ ap (λ (d : Decision). if clients.passes_share s known c m past then Replies Share else d) (decision_is known m past)
 
   -- ---- what is kept beside the connections ----
 
@@ -167,7 +175,7 @@ module _ (s : Setup) (streams : Streams) where
     heard_here : Kept (clients.hear_client s known c m past) (settled (mbim_handlers s) c (hear_client s c m one.client one.outbox (side_now past)) x)
     unfolding connection_of
     heard_here =
-        subst (λ (decision : Decision). Kept (clients.hear_client s known c m past) (settled (mbim_handlers s) c (act_on s c m decision one.client one.outbox (side_now past)) x)) (sym (decision_is s streams.messages known m past)) (decided (decision_on s known m past) regular_heard)
+        subst (λ (decision : Decision). Kept (clients.hear_client s known c m past) (settled (mbim_handlers s) c (act_on s c m decision one.client one.outbox (side_now past)) x)) (sym (decision_for_is s streams.messages known c m past)) (decided (clients.decision_for s known c m past) regular_heard)
 
   -- whatever a client says
   pub keeps_heard : (c : ℕ) (m : List ℕ) (past : List Fact) (x : MbimState) → contains c (present past) ≡ true → Kept past x

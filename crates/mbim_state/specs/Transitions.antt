@@ -1,5 +1,5 @@
 -- What a core of the MBIM proxy makes of what it meets.
-use Rattle.std.specs.Prelude.{ℕ, suc, zero, ◌-◌, ◌^◌, max, Bool, true, false, not, ◌&&◌, ◌==◌, if◌then◌else◌, List, [], ◌∷◌, ◌++◌, length, map, filter, is_some, Option, Some, None}
+use Rattle.std.specs.Prelude.{ℕ, suc, zero, ◌-◌, ◌^◌, max, Bool, true, false, not, ◌&&◌, ◌==◌, nat_le, if◌then◌else◌, List, [], ◌∷◌, ◌++◌, length, map, filter, is_some, Option, Some, None}
 use Rattle.std.specs.List.{list_any}
 use Rattle.kit_bytes.specs.Subscriptions.{Pair, merge}
 use Rattle.kit_bytes.specs.Services.{starting_list}
@@ -15,9 +15,9 @@ use Rattle.connections.specs.Table.{Connection}
 use Rattle.connections.specs.Table as connections
 use Rattle.connections.specs.Hearing.{Hearing}
 use Rattle.number_space.specs.declared.space.Row.{Row}
-use Rattle.number_space.specs.Table.{row_of, next_number, gives_number, answers, first_due, orphans, resets}
+use Rattle.number_space.specs.Table.{pending_of, row_of, next_number, gives_number, answers, first_due, orphans, resets}
 use Rattle.proxy_history.specs.Events.{Event}
-use Rattle.proxy_history.specs.Facts.{Verdict, Own, Forward, Waits}
+use Rattle.proxy_history.specs.Facts.{Verdict, Own, Share, Forward, Waits}
 use Rattle.proxy_history.specs.Decision.{Decision, Replies, Forwards, forwards_under}
 use Rattle.proxy_history.specs.Requests.{deadline_of}
 use Rattle.proxy_history.specs.View.{Entry, Sent, Indication, OpenedWith, Shut}
@@ -75,6 +75,13 @@ decision_of s client m side =
     else if is_kind kind.Open m then opening_decision side.modem (number_at s (own_open s) side)
     else forwards_under (number_at s (command_message s (known_by client) m) side)
 
+-- a command for the modem, of a client of which as many wait as may
+abbrev pub passes_share : Setup → (conn : ℕ) → Client → (message : List ℕ) → ModemSide → Bool
+passes_share s c client m side = not (view_decides s (known_by client) m) && not (is_kind kind.Open m) && nat_le s.limits.share (pending_of c side.numbers)
+
+abbrev pub decision_for : Setup → (conn : ℕ) → Client → (message : List ℕ) → ModemSide → Decision
+decision_for s c client m side = if passes_share s c client m side then Replies Share else decision_of s client m side
+
 -- what an entry of its view makes of a client, and the bytes that it gets with it
 abbrev pub after : Setup → Entry → Client → Client
 after s entry client = client_of (view.step s (known_by client) entry)
@@ -110,7 +117,7 @@ act_on s c m (Replies verdict) client outbox side = replies s c m verdict client
 act_on s c m (Forwards number) client outbox side = asks_modem (is_kind kind.Open m) s c m number client outbox side
 
 abbrev pub hear_client : Setup → (conn : ℕ) → (message : List ℕ) → Client → Queue → ModemSide → Hearing Client ModemSide
-hear_client s c m client outbox side = act_on s c m (decision_of s client m side) client outbox side
+hear_client s c m client outbox side = act_on s c m (decision_for s c client m side) client outbox side
 
 -- ---- bytes for clients ----
 

@@ -1,10 +1,6 @@
 -- How the texts of fields come about, field by field.
-use Rattle.std.proofs.Common.{◌≡◌, ℕ, zero, suc, ◌+◌, ◌<◌, min, Bool, true, false, ◌||◌, List, [], ◌∷◌, ◌++◌, length, take, drop, slice_range, get_or, map, chars, refl, sym, ◌∙◌, ap, arith, rules, append_assoc, encode_utf8_all, None}
-use Rattle.std.specs.List.{list_any, flat_map}
-use Rattle.std.specs.Char.Iter.{escape_rest, escape_steps}
-use Rattle.std.specs.Iterator.{Yields}
-use Rattle.std.proofs.lemmas.Grind.{flat_map-append}
-use Rattle.std.proofs.lemmas.Str.{encodes-append}
+use Rattle.std.proofs.Common.{◌≡◌, ℕ, zero, suc, ◌+◌, ◌<◌, min, Bool, true, false, ◌||◌, List, [], ◌∷◌, ◌++◌, length, drop, slice_range, get_or, map, chars, refl, sym, ◌∙◌, ap, arith, rules, append_assoc, encode_utf8_all}
+use Rattle.std.specs.List.{list_any}
 use Rattle.std.proofs.lemmas.List.{append-nil}
 use Rattle.std.proofs.lemmas.Slice.{between_to_end}
 use Rattle.mbim_fields.specs.Layout.{Layout}
@@ -14,23 +10,10 @@ use Rattle.mbim_fields.specs.declared.layout.Item.{the_lemmas}
 use Rattle.mbim_fields.specs.declared.layout.Field.{Field, out-Field}
 use Rattle.mbim_fields.specs.declared.value.FieldValue.{FieldValue}
 use Rattle.mbim_fields.proofs.Writings.{fields_at, values_at}
-use Rattle.mbimcli_print.specs.Texts.{escaped, escaped_text}
 use Rattle.mbimcli_print.specs.Printed.{is_count, is_counted_by, form_text, fields_text}
 
 view-name : (f : Field) → (field_view f).name ≡ chars (out-Field f).0.now
 view-name f = search (rules, the_lemmas)
-
--- ---- texts ----
-
--- one character more
-pub escaped_text-push : (chars : List ℕ) (char : ℕ) → escaped_text (chars ++ char ∷ []) ≡ escaped_text chars ++ encode_utf8_all (escaped char)
-escaped_text-push chars char =
-    ap encode_utf8_all (flat_map-append escaped chars (char ∷ []) ∙ ap (λ (l : List ℕ). flat_map escaped chars ++ l) (append-nil (escaped char))) ∙ encodes-append (flat_map escaped chars) (escaped char)
-
--- what comes of an escape is what is left of it
-pub escape-drains : (xs : List ℕ) (s t u : _) → Yields escape_steps s xs t → escape_steps t None u → xs ≡ escape_rest s
-escape-drains [] s t u is none = sym (ap escape_rest is ∙ ap (λ (n : ℕ). take n (drop t.from t.chars)) none.1.0)
-escape-drains (x ∷ xs) s t u yields none = ap (λ (l : List ℕ). x ∷ l) (escape-drains xs yields.0 t u yields.2 none) ∙ sym yields.1.1.0
 
 -- ---- fields that count the elements of lists ----
 

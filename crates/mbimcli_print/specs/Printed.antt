@@ -2,13 +2,13 @@
 use Rattle.std.specs.Prelude.{ℕ, ◌+◌, ◌==◌, ◌||◌, Bool, false, List, [], ◌∷◌, ◌++◌, encode_utf8_all, codes, if◌then◌else◌}
 use Rattle.std.specs.List.{flat_map}
 use Rattle.print_text.specs.Lines.{line, heading, deeper, counted_text}
-use Rattle.print_text.specs.Texts.{worded, hex_pair}
+use Rattle.print_text.specs.Texts.{escaped_text, worded, hex_pair}
 use Rattle.mbim_fields.specs.Layout.{Fixed, u32, u64, uuid, ipv4, ipv6, prefixed_ipv4, prefixed_ipv6, Item, in_place, text, binary, structure, Form, one, each, run, perhaps, Layout, no_fields, field}
 use Rattle.mbim_fields.specs.Value.{Value, number, uuid_of, octets, text_of, elements, members, no_more, first, list_of}
 use Rattle.mbimcli_print.specs.declared.texts.Family.{Family}
 use Rattle.mbimcli_print.specs.declared.texts.Family.TheVariants.{Ipv4, Ipv6}
 use Rattle.mbimcli_print.specs.Words.{word_for}
-use Rattle.mbimcli_print.specs.Texts.{escaped_text, uuid_text, address_text}
+use Rattle.mbimcli_print.specs.Texts.{uuid_text, address_text}
 
 -- In what follows a value that isn't of its form has no text; so an address that isn't there prints no line.
 

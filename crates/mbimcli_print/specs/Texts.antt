@@ -1,19 +1,9 @@
--- The texts of texts and of addresses.
-use Rattle.std.specs.Prelude.{ℕ, List, [], ◌∷◌, ◌++◌, codes, encode_utf8_all, if◌then◌else◌}
-use Rattle.std.specs.List.{flat_map}
-use Rattle.std.specs.Char.Escape.{escape_unicode}
+-- The texts of UUIDs and of addresses.
+use Rattle.std.specs.Prelude.{ℕ, List, [], ◌∷◌, ◌++◌, codes}
 use Rattle.uuid.specs.Text.{hyphenated_text, lower}
-use Rattle.print_text.specs.Texts.{is_plain, lower_hex_pair, ipv4_text}
+use Rattle.print_text.specs.Texts.{lower_hex_pair, ipv4_text}
 use Rattle.mbimcli_print.specs.declared.texts.Family.{Family}
 use Rattle.mbimcli_print.specs.declared.texts.Family.TheVariants.{Ipv4, Ipv6}
-
--- a character of a text: printable ASCII but the backslash stands as it is, and all others as Rust's `char::escape_unicode` writes them, as `\u{e9}`
-abbrev pub escaped : ℕ → List ℕ
-escaped char = if is_plain char then char ∷ [] else escape_unicode char
-
--- the characters of a text, in UTF-8
-abbrev pub escaped_text : List ℕ → List ℕ
-escaped_text chars = encode_utf8_all (flat_map escaped chars)
 
 -- the bytes of a UUID with hyphens, in lower case
 unfoldable pub uuid_text : List ℕ → List ℕ

@@ -5,12 +5,12 @@ ghost use Rattle.mbim_fields.specs.Layout as layout;
 ghost use Rattle.print_text.specs.Lines.{counted_text, each_text, line};
 ghost use Rattle.mbimcli_print.specs.Printed.{address_line, fields_text, fixed_text, form_text, is_counted_by, item_text, number_text, prefixed_text};
 
-use crate::texts::{Family, address_text, escaped_text, hex_text, uuid_text};
+use crate::texts::{Family, address_text, uuid_text};
 use crate::words::word_for;
 use itoa::Buffer;
 use kit_bytes::Octets;
 use mbim_fields::{Field, FieldShape, FieldValue, Fixed, Form, Item};
-use print_text::{deeper, push_heading, push_line, worded};
+use print_text::{deeper, escaped_text, hex_text, push_heading, push_line, worded};
 use std::alloc::{AllocError, Global};
 
 fn print_number(

@@ -1,11 +1,8 @@
-ghost use Rattle.std.specs.Prelude.{◌≡◌, ◌++◌, string_bytes, encode_utf8_all, IfOk, OnOk};
-ghost use Rattle.std.specs.List.{flat_map};
-ghost use Rattle.std.specs.Char.Escape.{escape_unicode};
-ghost use Rattle.print_text.specs.Texts.{hex_pair};
-ghost use Rattle.mbimcli_print.specs.Texts.{address_text, escaped, escaped_text, group, groups, ipv6_text, uuid_text};
+ghost use Rattle.std.specs.Prelude.{◌≡◌, ◌++◌, IfOk, OnOk};
+ghost use Rattle.mbimcli_print.specs.Texts.{address_text, group, groups, ipv6_text, uuid_text};
 
-use kit_bytes::{Octets, Text};
-use print_text::{hex_pair, ipv4_text, lower_hex_pair};
+use kit_bytes::Octets;
+use print_text::{ipv4_text, lower_hex_pair};
 use std::alloc::{AllocError, Global};
 use uuid::Uuid;
 
@@ -16,35 +13,6 @@ pub enum Family {
     Ipv6,
 }
 
-/// The characters of a text: printable ASCII but the backslash stands as it is, and all others as
-/// `\u{H}`.
-pub fn escaped_text(alloc: Global, text: &Text) -> Result<String, AllocError>
-    ensures { IfOk result (λ shown. string_bytes shown ≡ escaped_text text.now) }
-{
-    let mut shown = String::new(alloc);
-    for char in text.as_str().chars() {
-        push_escaped(&mut shown, char)?;
-    }
-    Ok(shown)
-}
-
-fn push_escaped(shown: &mut String, char: char) -> Result<(), AllocError>
-    ensures { OnOk result (string_bytes shown.new ≡ string_bytes shown.old ++ encode_utf8_all (escaped char)) }
-{
-    match char {
-        ' '..='~' if char != '\\' => shown.push(char),
-        _ => push_unicode(shown, char),
-    }
-}
-
-// Adds a character as `\u{H}`.
-fn push_unicode(shown: &mut String, char: char) -> Result<(), AllocError>
-    ensures { OnOk result (string_bytes shown.new ≡ string_bytes shown.old ++ encode_utf8_all (escape_unicode char)) }
-{
-    shown.extend(char.escape_unicode())?;
-    Ok(())
-}
-
 /// The text of a UUID.
 #[tactic(auto, unfolding(crate::specs::Texts::uuid_text))]
 pub fn uuid_text(alloc: Global, uuid: Uuid) -> Result<Octets, AllocError>
@@ -53,17 +21,6 @@ pub fn uuid_text(alloc: Global, uuid: Uuid) -> Result<Octets, AllocError>
     let mut buffer = Uuid::encode_buffer();
     let text = uuid.hyphenated().encode_lower(&mut buffer);
     Octets::from_slice(alloc, text.as_bytes())
-}
-
-/// Bytes in hexadecimal.
-pub fn hex_text(alloc: Global, bytes: &[u8]) -> Result<Octets, AllocError>
-    ensures { IfOk result (λ text. text ≡ flat_map hex_pair bytes.now) }
-{
-    let mut text = Octets::new(alloc);
-    for byte in bytes {
-        text.extend_from_slice(&hex_pair(*byte))?;
-    }
-    Ok(text)
 }
 
 /// The text of an address.

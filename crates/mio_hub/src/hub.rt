@@ -140,6 +140,7 @@ impl<R: Net + Clock + Files<File = File>> Hub for MioHub<'_, R> {
         ensures names { self.new.sockets.names.greatest ≡ self.old.sockets.names.greatest }
         ensures clients { SameClients (is_there self.old.sockets.names) (is_there self.new.sockets.names) }
         ensures reached { OnOk result (IsSome self.new.sockets.modem) }
+        ensures closed { is_ok result ≡ false → self.new.sockets.modem ≡ None }
     {
         match self.sockets.open_device() {
             Ok(()) => Ok(()),

@@ -127,9 +127,10 @@ impl<'a, R: Net + Clock + Files<File = File>> Sockets<'a, R> {
     /// their line is closed, so that they end.
     pub(crate) fn open_device(&mut self) -> io::Result<()>
         ensures reached { OnOk result (IsSome self.new.modem) }
+        ensures closed { is_ok result ≡ false → self.new.modem ≡ None }
         ensures names { self.new.names ≡ self.old.names }
     {
-        self.modem = None;
+        drop(self.modem.take());
         let Some(path) = &self.device else {
             return Err(ErrorKind::NotFound.into());
         };

@@ -2,6 +2,7 @@ pub mod Links
 pub mod Keyed
 pub mod Beside
 pub mod Index
+pub mod Waiting
 pub mod Walks
 pub mod InUse
 pub mod Tables

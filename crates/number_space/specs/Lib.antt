@@ -3,3 +3,4 @@ pub mod Calls
 pub mod Laws
 pub mod Chain
 pub mod Index
+pub mod Counts

@@ -40,6 +40,15 @@ pub record StandsAt {T : Type 0} (number : ℕ) (rows : List (Row T)) (place : �
 abbrev pub without : {T : Type 0} → ℕ → List (Row T) → List (Row T)
 without number rows = filter (λ r. not (number == r.number)) rows
 
+-- ---- senders ----
+
+-- how many of these numbers have this sender, who waits
+abbrev pub waiting_of : {T : Type 0} → ℕ → List (Row T) → ℕ
+waiting_of conn rows = length (filter (λ r. r.pending && (r.conn == conn)) rows)
+
+abbrev pub pending_of : {T : Type 0} → ℕ → Table T → ℕ
+pending_of conn table = waiting_of conn table.rows
+
 -- ---- giving ----
 
 -- the first number after the last one given, cyclic from 1 to the top, that isn't in use; none where the limit is

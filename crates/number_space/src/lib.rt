@@ -3,6 +3,7 @@
 
 mod by_number;
 mod chain;
+mod counts;
 mod laws;
 mod numbers;
 mod rows;

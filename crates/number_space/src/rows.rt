@@ -1,9 +1,9 @@
 //! Walks over the rows of a space, in order of giving.
-ghost use Rattle.std.specs.Prelude.{Any, ◌≡◌, ◌&&◌, ◌<◌, ◌==◌, None, map, position, IfSome, IsNone};
+ghost use Rattle.std.specs.Prelude.{Any, ◌≡◌, ◌+◌, ◌&&◌, ◌<◌, ◌==◌, if◌then◌else◌, None, map, position, IfSome, IsNone};
 ghost use Rattle.std.specs.List.{list_any};
 ghost use Rattle.number_space.specs.Chain.{values};
 ghost use Rattle.number_space.specs.Index.{IsFirstDue, on_row};
-ghost use Rattle.number_space.specs.Table.{settled_where, is_due, IsPendingUntil, NoneIsDueBefore};
+ghost use Rattle.number_space.specs.Table.{waiting_of, settled_where, is_due, IsPendingUntil, NoneIsDueBefore};
 
 use crate::chain::Chain;
 use crate::space::Row;
@@ -75,6 +75,31 @@ pub fn some_await<T: Copy>(rows: &Chain<Row<T>>, conn: u64) -> bool
         at = after;
     }
     false
+}
+
+// One more, where a row is awaited.
+fn with_one(count: usize, awaited: bool) -> usize
+    requires { count < usize.MAX }
+    ensures { result ≡ count + (if awaited then 1 else 0) }
+{
+    if awaited { count + 1 } else { count }
+}
+
+/// How many rows this connection waits for.
+pub fn how_many_await<T: Copy>(rows: &Chain<Row<T>>, conn: u64) -> usize
+    ensures { result ≡ waiting_of conn (values rows.now.entries) }
+{
+    let mut count = 0;
+    let mut at = rows.first();
+    for _ in 0..rows.len() {
+        let Some(key) = at else {
+            return count;
+        };
+        let (row, after) = rows.at(key);
+        count = with_one(count, is_awaited(&row, conn));
+        at = after;
+    }
+    count
 }
 
 /// Nobody waits any more for the numbers of this connection.

@@ -2,12 +2,13 @@ ghost use Rattle.std.specs.Prelude.{◌≡◌, ◌↔◌, ◌≤◌, ◌&&◌, �
 ghost use Rattle.std.specs.List.{list_any};
 ghost use Rattle.proxy_history.specs.Requests.{following};
 ghost use Rattle.proxy_history.specs.Laws.{IsFirstFree};
-ghost use Rattle.number_space.specs.Table.{opened, numbers, row_of, next_number, gives, found, answers, first_due, expires, orphans, resets, IsSound, IsRisingListOf};
+ghost use Rattle.number_space.specs.Table.{pending_of, opened, numbers, row_of, next_number, gives, found, answers, first_due, expires, orphans, resets, IsSound, IsRisingListOf};
 ghost use Rattle.number_space.specs.Calls.{Call, Give, Answer, Expire, Orphan, Reset, StandsFor};
 ghost use Rattle.number_space.specs.Laws.{IsGivenAndNotFreed};
 
 use crate::by_number::Index;
 use crate::chain::Chain;
+use crate::counts::Counts;
 use crate::numbers::Numbers;
 use crate::rows;
 use std::alloc::{AllocError, Global};
@@ -53,6 +54,7 @@ pub struct Space<T> {
     top: u32,
     // no pending number is due before this time
     earliest: u64,
+    counts: Counts,
 }
 
 impl<T> Model for Space<T> {
@@ -60,6 +62,7 @@ impl<T> Model for Space<T> {
     ghost use Rattle.number_space.specs.Table.{Table, IsSound, NoneIsDueBefore};
     ghost use Rattle.number_space.specs.Chain.{values};
     ghost use Rattle.number_space.specs.Index.{IsIndexOf};
+    ghost use Rattle.number_space.specs.Counts.{AreCounted};
 
     ghost Value = { Table T };
 
@@ -71,6 +74,7 @@ impl<T> Model for Space<T> {
       index_room : s.limit ≤ s.index.capacity;
       indexed : IsIndexOf s.index.entries s.rows.entries;
       none_due : NoneIsDueBefore s.earliest (values s.rows.entries);
+      counted : AreCounted s.counts (values s.rows.entries);
     } };
 }
 
@@ -88,6 +92,7 @@ impl<T: Copy> Space<T> {
             limit,
             top,
             earliest: u64::MAX,
+            counts: Counts::none(alloc)?,
         })
     }
 
@@ -104,6 +109,7 @@ impl<T: Copy> Space<T> {
         if self.rows.len() >= self.limit as usize {
             return None;
         }
+        let waits = self.pending(conn);
         let (number, place) = self.index.next_free(self.top, self.last);
         let key = self.rows.push(Row {
             number,
@@ -115,6 +121,7 @@ impl<T: Copy> Space<T> {
         self.index.put(place, number, key);
         self.last = number;
         self.earliest = self.earliest.min(deadline);
+        self.counts.set(conn, waits + 1);
         Some(number)
     }
 
@@ -143,6 +150,26 @@ impl<T: Copy> Space<T> {
         rows::some_await(&self.rows, conn)
     }
 
+    /// How many numbers this connection waits for.
+    pub fn pending(&self, conn: u64) -> u32
+        ensures { result ≡ pending_of conn self.now }
+    {
+        match self.counts.get(conn) {
+            Some(waits) => waits,
+            None => self.count(conn),
+        }
+    }
+
+    // How many they are, by a walk: nothing is kept of this connection.
+    #[inline(never)]
+    fn count(&self, conn: u64) -> u32
+        ensures { result ≡ pending_of conn self.now }
+    {
+        // no more are in use than may be
+        let most = self.limit as usize;
+        rows::how_many_await(&self.rows, conn).min(most) as u32
+    }
+
     /// Meets an answer with this number, and frees the number.
     pub fn answer(&mut self, number: u32) -> Found<T>
         ensures found { result ≡ found (row_of number self.old.rows) }
@@ -153,6 +180,7 @@ impl<T: Copy> Space<T> {
             return Found::Stray;
         };
         let row = self.rows.remove(self.index.take(place));
+        self.counts.ended(row.conn, row.pending);
         if row.pending {
             Found::Pending(row.conn, row.note)
         } else {
@@ -175,6 +203,7 @@ impl<T: Copy> Space<T> {
             return None;
         };
         let (mut row, _) = self.rows.at(key);
+        self.counts.ended(row.conn, row.pending);
         row.pending = false;
         self.rows.set(key, row);
         Some((row.conn, row.note))
@@ -186,6 +215,7 @@ impl<T: Copy> Space<T> {
         ensures stands { (limit top : ℕ) (calls : List (Call T)) → StandsFor limit top calls self.old → StandsFor limit top (Orphan conn ∷ calls) self.new }
     {
         rows::orphan(&mut self.rows, conn);
+        self.counts.set(conn, 0);
     }
 
     /// Frees all numbers. The last one given is remembered.
@@ -196,5 +226,6 @@ impl<T: Copy> Space<T> {
         self.rows.clear();
         self.index.clear();
         self.earliest = u64::MAX;
+        self.counts.clear();
     }
 }

@@ -5,4 +5,4 @@ mod lines;
 mod texts;
 
 pub use lines::{deeper, or_ok, push_heading, push_line};
-pub use texts::{hex_pair, ipv4_text, lower_hex_pair, push_number, worded};
+pub use texts::{escaped_text, hex_pair, hex_text, ipv4_text, lower_hex_pair, push_number, worded};

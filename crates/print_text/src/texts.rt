@@ -1,10 +1,11 @@
-ghost use Rattle.std.specs.Prelude.{◌≡◌, ◌++◌, codes, decimal, IfOk, OnOk};
+ghost use Rattle.std.specs.Prelude.{◌≡◌, ◌++◌, codes, decimal, string_bytes, encode_utf8_all, IfOk, OnOk};
+ghost use Rattle.std.specs.Char.Escape.{escape_unicode};
 ghost use Rattle.std.specs.List.{flat_map};
 ghost use Rattle.std.specs.Option.{option_copied};
-ghost use Rattle.print_text.specs.Texts.{hex_pair, ipv4_text, lower_hex_pair, pair_of, worded};
+ghost use Rattle.print_text.specs.Texts.{escaped, escaped_text, hex_pair, ipv4_text, lower_hex_pair, pair_of, worded};
 
 use itoa::Buffer;
-use kit_bytes::Octets;
+use kit_bytes::{Octets, Text};
 use std::alloc::{AllocError, Global};
 
 /// A number with its word, where it has one.
@@ -25,6 +26,35 @@ pub fn push_number(text: &mut Octets, front: &str, number: u8) -> Result<(), All
     ensures { OnOk result (text.new ≡ text.old ++ front.now ++ decimal number) }
 {
     text.extend_from_slices(front.as_bytes(), Buffer::new().format(number).as_bytes())
+}
+
+/// The characters of a text: printable ASCII but the backslash stands as it is, and all others as
+/// `\u{H}`.
+pub fn escaped_text(alloc: Global, text: &Text) -> Result<String, AllocError>
+    ensures { IfOk result (λ shown. string_bytes shown ≡ escaped_text text.now) }
+{
+    let mut shown = String::new(alloc);
+    for char in text.as_str().chars() {
+        push_escaped(&mut shown, char)?;
+    }
+    Ok(shown)
+}
+
+fn push_escaped(shown: &mut String, char: char) -> Result<(), AllocError>
+    ensures { OnOk result (string_bytes shown.new ≡ string_bytes shown.old ++ encode_utf8_all (escaped char)) }
+{
+    match char {
+        ' '..='~' if char != '\\' => shown.push(char),
+        _ => push_unicode(shown, char),
+    }
+}
+
+// Adds a character as `\u{H}`.
+fn push_unicode(shown: &mut String, char: char) -> Result<(), AllocError>
+    ensures { OnOk result (string_bytes shown.new ≡ string_bytes shown.old ++ encode_utf8_all (escape_unicode char)) }
+{
+    shown.extend(char.escape_unicode())?;
+    Ok(())
 }
 
 /// The bytes of an IPv4 address in decimal, with dots between.
@@ -49,6 +79,17 @@ fn push_dotted(text: &mut Octets, bytes: &[u8]) -> Result<(), AllocError>
         push_number(text, ".", *byte)?;
     }
     Ok(())
+}
+
+/// Bytes in hexadecimal.
+pub fn hex_text(alloc: Global, bytes: &[u8]) -> Result<Octets, AllocError>
+    ensures { IfOk result (λ text. text ≡ flat_map hex_pair bytes.now) }
+{
+    let mut text = Octets::new(alloc);
+    for byte in bytes {
+        text.extend_from_slice(&hex_pair(*byte))?;
+    }
+    Ok(text)
 }
 
 /// A byte as two hexadecimal digits in upper case.

@@ -1,1 +1,2 @@
 mod NoRoom
+mod Numbers

@@ -9,11 +9,12 @@ use Rattle.qmi_proxy.specs.Setup.{Setup}
 use Rattle.qmi_proxy.specs.History as proxy
 use Rattle.proxy_examples.specs.Story.{setup, opened, get_version, version, version_internal, version_aborted, both_open, bytes_for, to_modem, history}
 
--- the stream of client 1 goes on with a byte that begins no message
+-- both are there, in order of joining, and the stream of client 1 goes on with a byte that begins no message
 abbrev pub garbles : List Event
 garbles = both_open (Piece 1 (2 ∷ []) ∷ [])
 
 pub record BadStreamIsDropped : Type 0 where
+  pub before : present (history (both_open [])) ≡ 1 ∷ 2 ∷ []
   pub dropped : dropped (history garbles) ≡ 1 ∷ []
   pub present : present (history garbles) ≡ 2 ∷ []
   pub second : bytes_for 2 garbles ≡ opened

@@ -52,3 +52,11 @@ pub record SuccessIsStatusZero : Type 0 where
   pub high_holders : held (history (answered high_status)) ≡ []
   pub short : bytes_for 1 (answered short_result) ≡ opened ++ short_result
   pub short_holders : held (history (answered short_result)) ≡ []
+
+-- an id with a byte more
+abbrev pub long_id : List ℕ
+long_id = hex (codes "01 18 00 80 00 00 01 01 22 00 0D 00 02 04 00 00 00 00 00 01 03 00 02 05 00")
+
+pub record LongIdIsNotGranted : Type 0 where
+  pub long : bytes_for 1 (answered long_id) ≡ opened ++ long_id
+  pub holders : held (history (answered long_id)) ≡ []

@@ -14,3 +14,4 @@ pub mod Pieces
 pub mod Releases
 pub mod Verdicts
 pub mod Kept
+pub mod Shares

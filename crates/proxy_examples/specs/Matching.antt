@@ -32,12 +32,27 @@ version_both = hex (codes "01 1B 00 80 00 00 03 01 21 00 10 00 02 04 00 00 00 00
 abbrev pub model_both : List ℕ
 model_both = hex (codes "01 1C 00 80 02 05 06 01 00 22 00 10 00 02 04 00 00 00 00 00 01 06 00 45 4D 37 34 35 35")
 
-abbrev pub asks_version : List Event
-asks_version = both_open (Piece 1 get_version ∷ ModemPiece version_both ∷ [])
+abbrev pub asks_version : List ℕ → List Event
+asks_version answer = both_open (Piece 1 get_version ∷ ModemPiece answer ∷ [])
 
 pub record BothBitsAreAResponse : Type 0 where
-  pub control : bytes_for 1 asks_version ≡ opened ++ version_both
-  pub control_other : bytes_for 2 asks_version ≡ opened
-  pub control_number : numbers_in_use 0 (history asks_version) ≡ []
+  pub control : bytes_for 1 (asks_version version_both) ≡ opened ++ version_both
+  pub control_other : bytes_for 2 (asks_version version_both) ≡ opened
+  pub control_number : numbers_in_use 0 (history (asks_version version_both)) ≡ []
   pub service : bytes_for 1 (asks_model model_both) ≡ opened ++ model_both
   pub service_number : numbers_in_use 1 (history (asks_model model_both)) ≡ []
+
+-- an answer whose TLVs are one byte longer than its head says, and the same message as a request
+abbrev pub version_unframed : List ℕ
+version_unframed = hex (codes "01 1B 00 80 00 00 01 01 21 00 0F 00 02 04 00 00 00 00 00 01 06 00 01 02 01 00 03 00")
+
+abbrev pub version_request : List ℕ
+version_request = hex (codes "01 1B 00 80 00 00 00 01 21 00 10 00 02 04 00 00 00 00 00 01 06 00 01 02 01 00 03 00")
+
+pub record OtherMessagesAreStray : Type 0 where
+  pub unframed : bytes_for 1 (asks_version version_unframed) ≡ opened
+  pub unframed_fact : take 1 (history (asks_version version_unframed)) ≡ Stray ∷ []
+  pub unframed_number : numbers_in_use 0 (history (asks_version version_unframed)) ≡ 1 ∷ []
+  pub request : bytes_for 1 (asks_version version_request) ≡ opened
+  pub request_fact : take 1 (history (asks_version version_request)) ≡ Stray ∷ []
+  pub request_number : numbers_in_use 0 (history (asks_version version_request)) ≡ 1 ∷ []

@@ -1,10 +1,10 @@
 -- Examples of a Release: what it frees, and what it leaves.
-use Rattle.std.specs.Prelude.{◌≡◌, ℕ, List, [], ◌∷◌, ◌++◌, codes, Some}
+use Rattle.std.specs.Prelude.{◌≡◌, ℕ, List, [], ◌∷◌, ◌++◌, codes, Some, None}
 use Rattle.kit_bytes.specs.Hex.{hex}
 use Rattle.proxy_history.specs.Events.{Event, Piece, ModemPiece, Now}
 use Rattle.proxy_history.specs.Requests.{numbers_in_use}
 use Rattle.proxy_history.specs.ClientIds.{holder}
-use Rattle.proxy_examples.specs.Story.{opened, get_model, both_open, bytes_for, history}
+use Rattle.proxy_examples.specs.Story.{opened, get_model, model_refused, both_open, bytes_for, to_modem, history}
 use Rattle.proxy_examples.specs.Answers.{model_aborted}
 use Rattle.proxy_examples.specs.ClientIds.{release_5, released}
 
@@ -48,3 +48,29 @@ pub record LateReleaseFreesNothing : Type 0 where
   pub holder : holder 2 5 (history release_is_late) ≡ Some 2
   pub in_use : numbers_in_use 0 (history release_is_late) ≡ []
   pub second : bytes_for 2 release_is_late ≡ opened ++ release_aborted ++ model_aborted
+
+-- client 1 uses id 6, and the answer to client 2's Release of id 5 names id 6: what was asked for is freed
+abbrev pub get_model_of_6 : List ℕ
+get_model_of_6 = hex (codes "01 0C 00 00 02 06 00 01 00 22 00 00 00")
+
+abbrev pub released_6 : List ℕ
+released_6 = hex (codes "01 17 00 80 00 00 01 01 23 00 0C 00 02 04 00 00 00 00 00 01 02 00 02 06")
+
+abbrev pub another_is_named : List Event
+another_is_named = both_open (Piece 1 get_model_of_6 ∷ Piece 2 get_model ∷ Piece 2 release_5 ∷ ModemPiece released_6 ∷ [])
+
+pub record WhatWasAskedIsFreed : Type 0 where
+  pub asked : holder 2 5 (history another_is_named) ≡ None
+  pub named : holder 2 6 (history another_is_named) ≡ Some 1
+
+-- client 1 releases an id that nobody holds: it is the id's holder until the answer comes
+abbrev pub releases_nobodys : List Event
+releases_nobodys = both_open (Piece 1 release_5 ∷ Piece 2 get_model ∷ [])
+
+abbrev pub release_5_as_1 : List ℕ
+release_5_as_1 = hex (codes "01 10 00 00 00 00 00 01 23 00 05 00 01 02 00 02 05")
+
+pub record ReleasersHoldTheirIds : Type 0 where
+  pub holder : holder 2 5 (history releases_nobodys) ≡ Some 1
+  pub second : bytes_for 2 releases_nobodys ≡ opened ++ model_refused
+  pub modem : to_modem releases_nobodys ≡ release_5_as_1

@@ -54,6 +54,11 @@ pub record OwnRepliesFollow : Type 0 where
   pub release : bytes_for 1 (after_opening release_0) ≡ opened ++ hex (codes "01 12 00 80 00 00 01 01 23 00 07 00 02 04 00 01 00 07 00")
   pub modem : to_modem (after_opening all_of_them) ≡ []
 
+-- a Proxy Open of another device changes nothing once this one is open
+pub record StaysOpen : Type 0 where
+  pub client : bytes_for 1 (after_opening (open_other ++ get_version)) ≡ opened ++ hex (codes "01 12 00 80 00 00 01 01 00 FF 07 00 02 04 00 01 00 03 00")
+  pub modem : to_modem (after_opening (open_other ++ get_version)) ≡ get_version
+
 -- before a Proxy Open every other message gets error 3, a malformed one error 1
 abbrev pub before_opening : List Event
 before_opening = reverse (Joined 1 ∷ Piece 1 get_version ∷ Piece 1 ask_sync ∷ Piece 1 get_model_of_0 ∷ Piece 1 flagged ∷ [])

@@ -1,4 +1,4 @@
-ghost use Rattle.proxy_examples.specs.Grants.{OwnIdIsGivenAgain, NobodysIdsAreNotGranted, SuccessIsStatusZero};
+ghost use Rattle.proxy_examples.specs.Grants.{OwnIdIsGivenAgain, NobodysIdsAreNotGranted, SuccessIsStatusZero, LongIdIsNotGranted};
 
 pub fn an_own_id_is_given_again()
     ensures { OwnIdIsGivenAgain }
@@ -10,4 +10,8 @@ pub fn ids_of_nobody_are_not_granted()
 
 pub fn success_is_status_zero()
     ensures { SuccessIsStatusZero }
+{}
+
+pub fn a_long_id_is_not_granted()
+    ensures { LongIdIsNotGranted }
 {}

@@ -15,4 +15,5 @@ pub mod malformed;
 pub mod matching;
 pub mod pieces;
 pub mod releases;
+pub mod shares;
 pub mod verdicts;

@@ -1,7 +1,11 @@
-ghost use Rattle.proxy_examples.specs.Verdicts.{OwnRepliesFollow, MustOpenFirst, FirstThatFits};
+ghost use Rattle.proxy_examples.specs.Verdicts.{OwnRepliesFollow, StaysOpen, MustOpenFirst, FirstThatFits};
 
 pub fn own_replies_follow_the_table()
     ensures { OwnRepliesFollow }
+{}
+
+pub fn a_client_stays_open()
+    ensures { StaysOpen }
 {}
 
 pub fn a_client_must_open_first()

@@ -17,13 +17,18 @@ unfolding forwarded
 forwarded_is (Forwarded q) r at = ⊎_elim (λ (is : q ≡ r). ap (λ (x : Request). Forwarded x) is) (λ (none : Contains [] r). absurd (Contains-nil r none)) (Contains-cons_cases r q [] at)
 forwarded_is _ r at = absurd (Contains-nil r at)
 
--- what is begun by facts, and kept until a fact ends it
-module _ {X : Type 0} (begins : X → Fact) (begun : Fact → List X) (ends : X → Fact → Bool) (keeps : List Fact → List X)
-    (begun_is : (fact : Fact) (x : X) → Contains (begun fact) x → fact ≡ begins x)
-    (begun_self : (x : X) → begun (begins x) ≡ x ∷ [])
-    (empty : keeps [] ≡ [])
-    (step : (fact : Fact) (past : List Fact) → keeps (fact ∷ past) ≡ filter (λ x. not (ends x fact)) (keeps past) ++ begun fact) where
-  kept_goes_on : (facts : List Fact) (x : X) → Contains (keeps facts) x → GoesOn begins ends x facts
+-- what a fact begins, behind those before it, and is kept until a fact ends it
+module _ {X : Type 0} (begun : Fact → List Fact → List X) (ends : X → Fact → Bool) (keeps : List Fact → List X) (empty : keeps [] ≡ [])
+    (step : (fact : Fact) (past : List Fact) → keeps (fact ∷ past) ≡ filter (λ x. not (ends x fact)) (keeps past) ++ begun fact past) where
+  pub record IsBegunAndGoesOn (x : X) (facts : List Fact) : Type 0 where
+    pub later : List Fact
+    pub fact : Fact
+    pub earlier : List Fact
+    pub whole : facts ≡ later ++ fact ∷ earlier
+    pub begins : Contains (begun fact earlier) x
+    pub none : All (λ f. ends x f ≡ false) later
+
+  kept_goes_on : (facts : List Fact) (x : X) → Contains (keeps facts) x → IsBegunAndGoesOn x facts
   kept_goes_on [] x at = absurd (Contains-nil x (subst (λ (l : List X). Contains l x) empty at))
   kept_goes_on (fact ∷ past) x at =
       ⊎_elim
@@ -31,32 +36,46 @@ module _ {X : Type 0} (begins : X → Fact) (begun : Fact → List X) (ends : X 
       let before = kept_goes_on past x (Contains-filter_from (λ y. not (ends y fact)) (keeps past) x old) in
       record {
         later = fact ∷ before.later;
+        fact = before.fact;
         earlier = before.earlier;
         whole = ap (λ (l : List Fact). fact ∷ l) before.whole;
+        begins = before.begins;
         none = All-cons (λ f. ends x f ≡ false) fact before.later (not-true (ends x fact) (Contains-filter_passes (λ y. not (ends y fact)) (keeps past) x old)) before.none;
       })
-      (λ (new : Contains (begun fact) x). record {
-        later = [];
-        earlier = past;
-        whole = ap (λ (f : Fact). f ∷ past) (begun_is fact x new);
-        none = All-nil (λ f. ends x f ≡ false);
-      })
-      (Contains-append_cases (filter (λ y. not (ends y fact)) (keeps past)) (begun fact) x (subst (λ (l : List X). Contains l x) (step fact past) at))
+      (λ (new : Contains (begun fact past) x). record { later = []; fact = fact; earlier = past; whole = refl; begins = new; none = All-nil (λ f. ends x f ≡ false) })
+      (Contains-append_cases (filter (λ y. not (ends y fact)) (keeps past)) (begun fact past) x (subst (λ (l : List X). Contains l x) (step fact past) at))
 
-  going_on_is_kept : (later earlier : List Fact) (x : X) → All (λ fact. ends x fact ≡ false) later → Contains (keeps (later ++ begins x ∷ earlier)) x
-  going_on_is_kept [] earlier x none =
-      subst (λ (l : List X). Contains l x) (sym (step (begins x) earlier))
-      (Contains-append_right (filter (λ y. not (ends y (begins x))) (keeps earlier)) (begun (begins x)) x (subst (λ (l : List X). Contains l x) (sym (begun_self x)) (Contains-push [] x)))
-  going_on_is_kept (fact ∷ later) earlier x none =
-      let past : List Fact = later ++ begins x ∷ earlier in
+  going_on_is_kept : (later : List Fact) (begins : Fact) (earlier : List Fact) (x : X) → Contains (begun begins earlier) x → All (λ fact. ends x fact ≡ false) later → Contains (keeps (later ++ begins ∷ earlier)) x
+  going_on_is_kept [] begins earlier x new none =
+      subst (λ (l : List X). Contains l x) (sym (step begins earlier)) (Contains-append_right (filter (λ y. not (ends y begins)) (keeps earlier)) (begun begins earlier) x new)
+  going_on_is_kept (fact ∷ later) begins earlier x new none =
+      let past : List Fact = later ++ begins ∷ earlier in
       subst (λ (l : List X). Contains l x) (sym (step fact past))
-      (Contains-append_left (filter (λ y. not (ends y fact)) (keeps past)) (begun fact) x
+      (Contains-append_left (filter (λ y. not (ends y fact)) (keeps past)) (begun fact past) x
       (Contains-filter (λ y. not (ends y fact)) (keeps past) x
-      (going_on_is_kept later earlier x (All-tail (λ f. ends x f ≡ false) fact later none))
+      (going_on_is_kept later begins earlier x new (All-tail (λ f. ends x f ≡ false) fact later none))
       (ap not (All-head (λ f. ends x f ≡ false) fact later none))))
 
-  pub kept_exactly : (facts : List Fact) (x : X) → Contains (keeps facts) x ↔ GoesOn begins ends x facts
-  kept_exactly facts x = (kept_goes_on facts x, λ g. subst (λ (l : List Fact). Contains (keeps l) x) (sym g.whole) (going_on_is_kept g.later g.earlier x g.none))
+  pub kept_until_ended : (facts : List Fact) (x : X) → Contains (keeps facts) x ↔ IsBegunAndGoesOn x facts
+  kept_until_ended facts x = (kept_goes_on facts x, λ g. subst (λ (l : List Fact). Contains (keeps l) x) (sym g.whole) (going_on_is_kept g.later g.fact g.earlier x g.begins g.none))
+
+-- what a fact alone begins
+pub kept_exactly : {X : Type 0} (begins : X → Fact) (begun : Fact → List X) (ends : X → Fact → Bool) (keeps : List Fact → List X)
+    → ((fact : Fact) (x : X) → Contains (begun fact) x → fact ≡ begins x) → ((x : X) → begun (begins x) ≡ x ∷ []) → keeps [] ≡ []
+    → ((fact : Fact) (past : List Fact) → keeps (fact ∷ past) ≡ filter (λ x. not (ends x fact)) (keeps past) ++ begun fact)
+    → (facts : List Fact) (x : X) → Contains (keeps facts) x ↔ GoesOn begins ends x facts
+kept_exactly {X} begins begun ends keeps is self empty step facts x =
+    let law = kept_until_ended (λ fact past. begun fact) ends keeps empty step facts x in (
+      λ at. let g = law.0 at in record { later = g.later; earlier = g.earlier; whole = g.whole ∙ ap (λ (f : Fact). g.later ++ f ∷ g.earlier) (is g.fact x g.begins); none = g.none },
+      λ g. law.1 (record {
+        later = g.later;
+        fact = begins x;
+        earlier = g.earlier;
+        whole = g.whole;
+        begins = subst (λ (l : List X). Contains l x) (sym (self x)) (Contains-push [] x);
+        none = g.none;
+      }),
+    )
 
 -- a fact that ends none and begins none
 pub same : {X : Type 0} (xs : List X) → xs ≡ filter (λ x. true) xs ++ []

@@ -1,6 +1,7 @@
 pub mod Lists
 pub mod Numbers
 pub mod Streams
+pub mod Pieces
 pub mod Found
 pub mod Rendering
 pub mod GoesOn
@@ -26,4 +27,5 @@ pub mod Waiting
 pub mod Given
 pub mod Noted
 pub mod Kept
+pub mod KeptUntil
 pub mod Nobody

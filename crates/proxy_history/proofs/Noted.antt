@@ -1,5 +1,5 @@
 -- What a fact that is noted leaves as it is, whoever ends with it for want of room, and what is kept while requests are refused.
-use Rattle.std.proofs.Common.{◌≡◌, ℕ, Bool, true, false, ◌==◌, List, [], ◌∷◌, refl, sym, ◌∙◌, if◌then◌else◌}
+use Rattle.std.proofs.Common.{◌≡◌, ℕ, true, false, ◌==◌, List, [], ◌∷◌, refl, ◌∙◌, if◌then◌else◌}
 use Rattle.std.specs.List.{AllByRecursion}
 use Rattle.proxy_history.specs.Limits.{Limits}
 use Rattle.proxy_history.specs.Facts.{Fact, Request, Answered}

@@ -1,5 +1,5 @@
 -- What is due to a client for a message of the modem stands in its queue at the end of the event.
-use Rattle.std.proofs.Common.{◌≡◌, ℕ, ◌+◌, ◌<◌, ◌≤◌, Bool, true, false, ◌||◌, nat_lt, List, [], ◌∷◌, ◌++◌, length, map, refl, ap, sym, ◌∙◌, subst, Option, Some}
+use Rattle.std.proofs.Common.{◌≡◌, ℕ, ◌+◌, ◌<◌, Bool, true, false, ◌||◌, nat_lt, List, [], ◌∷◌, ◌++◌, length, map, refl, ap, sym, ◌∙◌, subst, Option, Some}
 use Rattle.std.proofs.lemmas.Bool.{true≢false, le-ltb, lt-ltb, false_from_ne_true}
 use Rattle.proxy_history.specs.Events.{Event, ModemPiece}
 use Rattle.proxy_history.specs.Items.{Item, ModemSays, ModemFails, item_if, delivered_by_piece, modem_items}

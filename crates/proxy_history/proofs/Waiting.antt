@@ -10,7 +10,7 @@ use Rattle.proxy_history.specs.Items.{Item, Says, Garbles, item_if}
 use Rattle.proxy_history.specs.Streams.{messages_of_piece, is_bad, stream}
 use Rattle.proxy_history.specs.Facts.{Fact, Request, EventBegan, Ended, BadStream, NoRoom, Judged, Forwarded, Granted, ListSent}
 use Rattle.proxy_history.specs.Requests.{in_use, forward_count}
-use Rattle.proxy_history.specs.Modem.{to_modem, modem_drained, modem_queue}
+use Rattle.proxy_history.specs.Modem.{to_modem, modem_drained}
 use Rattle.proxy_history.specs.Sound.{IsSound, MayFollow}
 use Rattle.proxy_history.specs.Adding.{MayAdd, MayFinish, IsOrderly}
 use Rattle.proxy_history.specs.Protocol.{Protocol}

@@ -18,6 +18,8 @@ pub data Why : Type 0 where
 pub data Verdict : Type 0 where
   -- the client's own view decides it, and the reply too
   Own : Verdict
+  -- as many requests of the client wait as may
+  Share : Verdict
   -- the client id is another connection's
   Foreign : Verdict
   -- the modem is away

@@ -1,7 +1,7 @@
 -- The requests that wait for the modem, and their transaction numbers.
 -- A list of facts has the newest first; the lists that are read off it have the oldest first.
 -- A number space has numbers from 1 to its top, of which at most its limit are in use.
-use Rattle.std.specs.Prelude.{ℕ, zero, suc, ◌+◌, ◌-◌, ◌^◌, min, Bool, true, false, not, ◌||◌, ◌==◌, nat_lt, if◌then◌else◌, List, [], ◌∷◌, ◌++◌, length, map, filter, Option, Some, None}
+use Rattle.std.specs.Prelude.{ℕ, zero, suc, ◌+◌, ◌-◌, ◌^◌, min, Bool, true, false, not, ◌&&◌, ◌||◌, ◌==◌, nat_le, nat_lt, if◌then◌else◌, List, [], ◌∷◌, ◌++◌, length, map, filter, Option, Some, None}
 use Rattle.proxy_history.specs.Facts.{Fact, Request, Ended, Forwarded, Answered, IdHeld, Late, Expired, Aborted, Reset, ModemLost}
 use Rattle.proxy_history.specs.Connections.{contains}
 
@@ -50,6 +50,16 @@ unfoldable pub forward_count : List Fact → ℕ
 forward_count [] = 0
 forward_count (Forwarded r ∷ past) = forward_count past + 1
 forward_count (_ ∷ past) = forward_count past
+
+-- ---- a client's share ----
+
+-- those of a client in a space
+abbrev pub of_client : ℕ → ℕ → List Request → List Request
+of_client c space requests = filter (λ r. r.conn == c && (r.space == space)) requests
+
+-- as many of the client wait in the space as may
+abbrev pub has_share : (share : ℕ) → ℕ → ℕ → List Fact → Bool
+has_share share c space past = nat_le share (length (of_client c space (pending past)))
 
 -- ---- transaction numbers ----
 

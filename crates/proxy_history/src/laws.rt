@@ -1,7 +1,7 @@
 ghost use Rattle.proxy_history.specs.Sound.{RequestsInUseDiffer, WaitingArePresent, HoldersArePresent, FewArePresent, FewAreInUse, GoneViewsStay, EndsAreLast};
 ghost use Rattle.proxy_history.specs.Laws.{StreamsGoOnFromTheirRest, InUseUntilFreed, PendingUntilEnded, GivesFirstFree, GivesNoneWhereFull, CollectedAndWaitingAreAll, TakingsSplitTheBytes};
 ghost use Rattle.proxy_history.specs.Absent.{TheAbsentAddNothing, ALostModemIsAway, AModemThatReturnsIsThere};
-ghost use Rattle.proxy_history.specs.Holding.{HeldUntilEnded, HoldersWereGrantedLast, KeptAreNobodys};
+ghost use Rattle.proxy_history.specs.Holding.{HeldUntilEnded, HoldersWereGrantedLast, KeptAreNobodys, KeptUntilGranted};
 ghost use Rattle.proxy_history.specs.HungUp.{HungUpSinceTheEventBegan};
 ghost use Rattle.proxy_history.specs.Orderly.{OrderlyHistoriesAreSound, OthersChangeNothing, BytesOnlyGrow, JoiningStartsWithNone, TakingTakesTheFirst, NobodyThereIsOver, FewWaitForTheModem, AwayAgrees, TimeIsTheGreatest};
 ghost use Rattle.proxy_history.specs.Lawful.{OrderlyProxiesAreLawful};
@@ -67,6 +67,12 @@ pub fn client_ids_are_held_until_they_end()
 /// The law that nobody holds a client id that is kept because its holder went.
 pub fn kept_ids_are_nobodys()
     ensures { KeptAreNobodys }
+{}
+
+/// The law that a client id is kept exactly since its holder ended, until it is granted again, or the
+/// modem begins anew or is lost.
+pub fn client_ids_are_kept_until_they_are_granted()
+    ensures { KeptUntilGranted }
 {}
 
 /// The law that the names to hang up are those of the connections that ended since the event began,

@@ -1,4 +1,5 @@
 pub mod Lists
+pub mod Shares
 pub mod Grants
 pub mod Reading
 pub mod Placed
@@ -9,7 +10,6 @@ pub mod Histories
 pub mod Matching
 pub mod Refusing
 pub mod Fronts
-pub mod Pieces
 pub mod Undisturbed
 pub mod Telling
 pub mod Coming

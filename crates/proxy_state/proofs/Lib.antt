@@ -22,3 +22,4 @@ pub mod Expired
 pub mod Places
 pub mod Chosen
 pub mod Greatest
+pub mod Shares

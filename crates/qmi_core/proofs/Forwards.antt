@@ -1,7 +1,7 @@
 -- What is made of a client's message, by what is decided on it.
 use Rattle.std.proofs.Common.{◌≡◌, ℕ, Bool, true, false, not, List, length, refl, ap, sym, ◌∙◌, Option, Some, None, if◌then◌else◌}
 use Rattle.qmux_frame.specs.Reply.{result_reply}
-use Rattle.proxy_history.specs.Facts.{Own, Foreign, Away, Full, Forward, Ready, Waits}
+use Rattle.proxy_history.specs.Facts.{Own, Share, Foreign, Away, Full, Forward, Ready, Waits}
 use Rattle.proxy_history.specs.Decision.{Decision, Replies, Forwards, forwards_under}
 use Rattle.proxy_history.specs.View.{Sent}
 use Rattle.proxy_history.specs.ClientIds.{is_other}
@@ -10,7 +10,7 @@ use Rattle.outbox.specs.Queue.{Queue}
 use Rattle.connections.specs.Hearing.{Hearing}
 use Rattle.qmi_proxy.specs.Clients.{has_room, deadline_of}
 use Rattle.qmi_state.specs.Traffic.{number_at}
-use Rattle.qmi_state.specs.Transitions.{holder_at, shared_of, refusal_of, forwards_as, replied, act_on, hear_client}
+use Rattle.qmi_state.specs.Transitions.{share_of, holder_at, shared_of, refusal_of, forwards_as, replied, act_on, hear_client}
 use Rattle.qmi_state.specs.declared.client.Client.{Client}
 use Rattle.qmi_state.specs.Core.{ModemSide}
 
@@ -47,6 +47,7 @@ module _ (c : ℕ) (m : List ℕ) (client : Client) (outbox : Queue) (side : Mod
 
       each : (decision : Decision) → Some error ≡ refusal_of decision → act_on c m decision client outbox side ≡ refused_by error decision
       each (Replies Own) e = absurd (cc)
+      each (Replies Share) e = with_error 2 e
       each (Replies Foreign) e = with_error 7 e
       each (Replies Away) e = with_error 3 e
       each (Replies Full) e = with_error 23 e
@@ -60,18 +61,20 @@ module _ (c : ℕ) (m : List ℕ) (client : Client) (outbox : Queue) (side : Mod
 
   -- what all clients share decides on none of these
   abbrev is_never_shared : Decision → Bool
+  is_never_shared (Replies Share) = false
   is_never_shared (Replies Foreign) = false
   is_never_shared (Replies Away) = false
   is_never_shared (Replies Full) = false
   is_never_shared (Forwards number) = false
   is_never_shared _ = true
 
-  never_shared : (foreign gone room : Bool) (number : Option ℕ) → is_never_shared (if foreign then Replies Foreign else if gone then Replies Away else if not room then Replies Full else forwards_under number) ≡ true → ⊥
-  never_shared true gone room number e = cc
-  never_shared false true room number e = cc
-  never_shared false false false number e = cc
-  never_shared false false true None e = cc
-  never_shared false false true (Some n) e = cc
+  never_shared : (share foreign gone room : Bool) (number : Option ℕ) → is_never_shared (if share then Replies Share else if foreign then Replies Foreign else if gone then Replies Away else if not room then Replies Full else forwards_under number) ≡ true → ⊥
+  never_shared true foreign gone room number e = cc
+  never_shared false true gone room number e = cc
+  never_shared false false true room number e = cc
+  never_shared false false false false number e = cc
+  never_shared false false false true None e = cc
+  never_shared false false false true (Some n) e = cc
 
   abbrev forwarded : Decision → Hearing Client ModemSide
   forwarded decision = record { client = client; outbox = outbox; beside = with_traffic_of decision; has_room = true }
@@ -82,13 +85,14 @@ module _ (c : ℕ) (m : List ℕ) (client : Client) (outbox : Queue) (side : Mod
   heard_forwarded own refused = decided shared_decision refl
     where
       never : (decision : Decision) → shared_decision ≡ decision → is_never_shared decision ≡ true → ⊥
-      never decision is e = never_shared (is_other c (holder_at m side.traffic)) side.away (has_room (length side.traffic.waiting) m) (number_at m side.traffic) (ap is_never_shared is ∙ e)
+      never decision is e = never_shared (share_of c m side.traffic) (is_other c (holder_at m side.traffic)) side.away (has_room (length side.traffic.waiting) m) (number_at m side.traffic) (ap is_never_shared is ∙ e)
 
       each : (decision : Decision) → shared_decision ≡ decision → None ≡ refusal_of decision → act_on c m decision client outbox side ≡ forwarded decision
       each (Replies Own) is e = absurd (never (Replies Own) is refl)
       each (Replies Ready) is e = absurd (never (Replies Ready) is refl)
       each (Replies Waits) is e = absurd (never (Replies Waits) is refl)
       each (Replies Forward) is e = absurd (never (Replies Forward) is refl)
+      each (Replies Share) is e = absurd (cc)
       each (Replies Foreign) is e = absurd (cc)
       each (Replies Away) is e = absurd (cc)
       each (Replies Full) is e = absurd (cc)

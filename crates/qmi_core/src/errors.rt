@@ -4,6 +4,9 @@ pub const NO_ERROR: u16 = 0;
 
 pub const MALFORMED_MESSAGE: u16 = 1;
 
+/// As many requests of the client wait as may.
+pub const SHARE_PASSED: u16 = 2;
+
 pub const INTERNAL: u16 = 3;
 
 pub const ABORTED: u16 = 4;

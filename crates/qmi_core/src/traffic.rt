@@ -1,16 +1,16 @@
-ghost use Rattle.std.specs.Prelude.{◌≡◌, ◌≤◌, true, not, [], ◌++◌, length, drop, is_some, option_map, IfOk, IfSome};
+ghost use Rattle.std.specs.Prelude.{◌≡◌, ◌≤◌, true, false, not, [], ◌++◌, length, drop, is_some, option_map, IfOk, IfSome, IsSome};
 ghost use Rattle.qmux_frame.specs.Head.{is_control};
 ghost use Rattle.qmux_frame.specs.Reply.{with_number};
 ghost use Rattle.qmi_proxy.specs.Clients.{has_room};
 ghost use Rattle.proxy_history.specs.ClientIds.{holder_in, holds_some, is_other};
 ghost use Rattle.number_space.specs.Table.{first_due, expires};
-ghost use Rattle.holders.specs.Grants.{is_taken};
+ghost use Rattle.holders.specs.Grants.{AreInOrder, is_taken};
 ghost use Rattle.holders.specs.Kept.{FirstDue};
 ghost use Rattle.qmi_core.specs.State.{id_of, asks_under, grants_unless};
 ghost use Rattle.qmi_state.specs.Traffic.{Row, traffic_of, of_control, with_numbers, row_numbered, number_at, gives_next, adopts_unless, frees, frees_id, gives_up, forgets, number_for_own};
-ghost use Rattle.qmi_state.specs.Transitions.{shared_of, refusal_of, forwards_as, holder_at};
+ghost use Rattle.qmi_state.specs.Transitions.{share_of, shared_of, refusal_of, forwards_as, holder_at};
 
-use crate::errors::{DEVICE_IN_USE, INTERNAL, INVALID_CLIENT_ID};
+use crate::errors::{DEVICE_IN_USE, INTERNAL, INVALID_CLIENT_ID, SHARE_PASSED};
 use crate::message::{Message, release_message};
 use holders::Holders;
 use number_space::Space;
@@ -21,6 +21,9 @@ use std::marker::Model;
 
 /// The proxy itself, which asks the modem to release ids and holds them meanwhile.
 pub const PROXY: u64 = 0;
+
+/// How many requests of one client wait in one space at most.
+const SHARE_LIMIT: u32 = 16;
 
 /// How many bytes wait for the modem at most.
 const OUTBOX_LIMIT: usize = 1_048_576;
@@ -79,6 +82,9 @@ impl Traffic {
         ensures refusal { result ≡ refusal_of (shared_of away name message.now self.old) }
         ensures forwarded { self.new ≡ forwards_as (shared_of away name message.now self.old) deadline name message.now self.old }
     {
+        if self.has_share(name, message) {
+            return Some(SHARE_PASSED);
+        }
         let holder = self.holder_at(message);
         if is_other(name, holder) {
             return Some(INVALID_CLIENT_ID);
@@ -92,20 +98,34 @@ impl Traffic {
         let Some(number) = self.give(name, message, deadline) else {
             return Some(DEVICE_IN_USE);
         };
-        self.adopt(name, message);
+        self.adopt(holder, name, message);
         self.queue(message, number);
         None
     }
 
     // The connection that holds the client id that the message uses.
     fn holder_at(&self, message: &Message<'_>) -> Option<u64>
-        ensures { result ≡ holder_at message.now self.now }
+        ensures holder { result ≡ holder_at message.now self.now }
+        ensures ordered { IsSome result → AreInOrder self.now.held }
     {
         if message.uses_id() {
-            self.holder(message.used_service(), message.used_client())
+            self.holders
+                .holder(message.used_service(), message.used_client())
         } else {
             None
         }
+    }
+
+    // Whether as many requests of the sender wait in the message's space as may.
+    fn has_share(&self, name: u64, message: &Message<'_>) -> bool
+        ensures { result ≡ share_of name message.now self.now }
+    {
+        let waiting = if message.is_control() {
+            self.control.pending(name)
+        } else {
+            self.services.pending(name)
+        };
+        waiting >= SHARE_LIMIT
     }
 
     fn has_room(&self, message: &Message<'_>) -> bool
@@ -114,12 +134,22 @@ impl Traffic {
         message.bytes().len() <= self.outbox.room()
     }
 
-    // The sender holds the client id that the message uses, unless another connection does.
-    fn adopt(&mut self, name: u64, message: &Message<'_>)
+    // The sender holds the client id that the message uses: it does already, or nobody does.
+    fn adopt(&mut self, holder: Option<u64>, name: u64, message: &Message<'_>)
+        requires holder { holder ≡ holder_at message.now self.old }
+        requires free { is_other name holder ≡ false }
+        requires ordered { IsSome holder → AreInOrder self.old.held }
         ensures { self.new ≡ adopts_unless (is_other name (holder_at message.now self.old)) name message.now self.old }
     {
-        if message.uses_id() {
-            self.grant(name, message.used_service(), message.used_client());
+        if !message.uses_id() {
+            return;
+        }
+        let service = message.used_service();
+        let client = message.used_client();
+        if holder.is_some() {
+            self.holders.used(service, client);
+        } else {
+            self.grant(name, service, client);
         }
     }
 

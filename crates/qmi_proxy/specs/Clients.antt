@@ -1,21 +1,22 @@
 -- What a client's message adds to the history. A list of facts has the newest first.
 -- The decision is the first that fits, here with the error of its reply:
 --   from the client's own view (OwnReplies)   malformed 1, Proxy Open of the device 0, of another one 3,
---                                             before a Proxy Open 3, Sync 0, bad client id 7
+--                                             before a Proxy Open 3, Sync 0, bad client id 7,
+--                                             16 requests of the client wait in the space 2
 --   from what all clients share               client id of another connection 7, modem away 3,
 --                                             no number or no room 23, else forwarded
 use Rattle.std.specs.Prelude.{ℕ, ◌+◌, Bool, true, false, not, nat_le, if◌then◌else◌, List, ◌∷◌, length, Option, None}
 use Rattle.qmux_frame.specs.Reply.{with_number}
-use Rattle.proxy_history.specs.Facts.{Own, Foreign, Away, Full, Forward, Request, Fact, Judged, Forwarded, Granted}
+use Rattle.proxy_history.specs.Facts.{Own, Share, Foreign, Away, Full, Forward, Request, Fact, Judged, Forwarded, Granted}
 use Rattle.proxy_history.specs.Decision.{Decision, Replies, Forwards, forwards_under}
 use Rattle.proxy_history.specs.Connections.{message_count}
-use Rattle.proxy_history.specs.Requests.{forward_count, next_number}
+use Rattle.proxy_history.specs.Requests.{forward_count, next_number, has_share}
 pub use Rattle.proxy_history.specs.Requests.{deadline_of}
 use Rattle.proxy_history.specs.ClientIds.{holder, is_other}
 use Rattle.proxy_history.specs.Modem.{now, is_away, modem_queue}
 use Rattle.qmi_proxy.specs.Setup.{Setup}
 use Rattle.qmi_proxy.specs.Spaces.{space_of, limit_of, top_of}
-use Rattle.qmi_proxy.specs.Limits.{modem_outbox_limit}
+use Rattle.qmi_proxy.specs.Limits.{modem_outbox_limit, share_limit}
 use Rattle.qmi_proxy.specs.Messages.{uses_id, used_service, used_client}
 use Rattle.qmi_proxy.specs.OwnReplies.{is_open, view_decides}
 use Rattle.qmi_proxy.specs.Text.{view_of, note}
@@ -54,7 +55,10 @@ shared_decision s c m past =
 
 -- the client's own view comes first, which tells whether the client has opened the device
 abbrev pub decision_as : Setup → Bool → ℕ → List ℕ → List Fact → Decision
-decision_as s opened c m past = if view_decides opened m then Replies Own else shared_decision s c m past
+decision_as s opened c m past =
+    if view_decides opened m then Replies Own
+    else if has_share share_limit c (space_of m) past then Replies Share
+    else shared_decision s c m past
 
 abbrev pub decision_on : Setup → ℕ → List ℕ → List Fact → Decision
 decision_on s c m past = decision_as s (is_open s.device (view_of c past)) c m past

@@ -8,6 +8,9 @@ no_error = 0
 abbrev pub malformed_message : ℕ
 malformed_message = 1
 
+abbrev pub share_passed : ℕ
+share_passed = 2
+
 abbrev pub internal : ℕ
 internal = 3
 

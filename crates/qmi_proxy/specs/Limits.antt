@@ -6,6 +6,10 @@ use Rattle.qmi_proxy.specs.Spaces.{limit_of, top_of}
 abbrev pub connection_limit : ℕ
 connection_limit = 64
 
+-- requests of one client that wait in one space
+abbrev pub share_limit : ℕ
+share_limit = 16
+
 -- bytes that wait for one client
 abbrev pub outbox_limit : ℕ
 outbox_limit = 262144
@@ -17,6 +21,7 @@ modem_outbox_limit = 1048576
 abbrev pub qmi_limits : Limits
 qmi_limits = record {
   connections = connection_limit;
+  share = share_limit;
   outbox = outbox_limit;
   modem_outbox = modem_outbox_limit;
   in_use = limit_of;

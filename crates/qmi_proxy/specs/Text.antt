@@ -3,18 +3,19 @@
 use Rattle.std.specs.Prelude.{ℕ, Bool, false, List, []}
 use Rattle.qmux_frame.specs.Head.{number_of}
 use Rattle.qmux_frame.specs.Reply.{with_number, result_reply}
-use Rattle.proxy_history.specs.Facts.{Own, Foreign, Away, Full, Forward, Ready, Waits, Fact}
+use Rattle.proxy_history.specs.Facts.{Own, Share, Foreign, Away, Full, Forward, Ready, Waits, Fact}
 use Rattle.proxy_history.specs.View.{Entry, Sent, Response, Refused, Indication, OpenedWith, Shut, Collected, End, HeldId, NoAnswer, view, sent_at}
 use Rattle.proxy_history.specs.Noting as noting
 use Rattle.proxy_history.specs.Rendering.{Rendering, EntryText}
 use Rattle.proxy_history.specs.Wording.{Wording, text_behind}
 use Rattle.qmi_proxy.specs.Limits.{qmi_limits}
-use Rattle.qmi_proxy.specs.Errors.{internal, aborted, client_ids_exhausted, invalid_client_id, device_in_use}
+use Rattle.qmi_proxy.specs.Errors.{share_passed, internal, aborted, client_ids_exhausted, invalid_client_id, device_in_use}
 use Rattle.qmi_proxy.specs.OwnReplies.{own_error, step}
 
 -- the bytes of an entry that follows these entries, from whether they opened the device; no message asks to open the modem
 abbrev pub text_as : List ℕ → Bool → List Entry → Entry → List ℕ
 text_as device opened entries (Sent m Own) = result_reply m (own_error device opened m)
+text_as device opened entries (Sent m Share) = result_reply m share_passed
 text_as device opened entries (Sent m Foreign) = result_reply m invalid_client_id
 text_as device opened entries (Sent m Away) = result_reply m internal
 text_as device opened entries (Sent m Full) = result_reply m device_in_use

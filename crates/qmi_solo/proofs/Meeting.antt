@@ -14,7 +14,7 @@ use Rattle.proxy_history.specs.Modem.{to_modem, modem_drained, modem_queue}
 use Rattle.proxy_solo.specs.Part as alone_part
 use Rattle.proxy_solo.specs.Solo as alone
 use Rattle.qmux_frame.specs.Framing.{size_of-kept, size_of-positive}
-use Rattle.proxy_solo.proofs.Pieces as pieces
+use Rattle.proxy_history.proofs.Pieces as pieces
 use Rattle.qmi_proxy.specs.Setup.{Setup}
 use Rattle.qmi_proxy.specs.Clients.{wire}
 use Rattle.qmi_proxy.specs.FromModem.{hear_modem}

@@ -1,7 +1,7 @@
 -- A view that tells of nobody else is one of a fair history.
 use Rattle.std.proofs.Common.{◌≡◌, ℕ, Bool, true, false, ◌==◌, if◌then◌else◌, List, [], ◌∷◌, refl}
 use Rattle.std.specs.List.{AllByRecursion}
-use Rattle.proxy_history.specs.Facts.{Fact, Verdict, Own, Foreign, Away, Full, Forward, Ready, Waits, NotAdmitted, BadStream, Closed, Admitted, Ended, Judged, Drained, Answered, IdHeld, Expired, Aborted, Indicated, OpeningEnded, SessionsClosed, Freed, Reset, ModemLost, ModemReturned}
+use Rattle.proxy_history.specs.Facts.{Fact, Verdict, Own, Share, Foreign, Away, Full, Forward, Ready, Waits, NotAdmitted, BadStream, Closed, Admitted, Ended, Judged, Drained, Answered, IdHeld, Expired, Aborted, Indicated, OpeningEnded, SessionsClosed, Freed, Reset, ModemLost, ModemReturned}
 use Rattle.proxy_history.specs.Connections.{contains}
 use Rattle.proxy_history.specs.View.{Entry, Sent, Response, Refused, Indication, OpenedWith, Shut, Collected, End, HeldId, NoAnswer, view, entry_if}
 use Rattle.proxy_solo.specs.Part as alone_part
@@ -32,6 +32,7 @@ module _ (c : ℕ) where
 
   fair_verdict : (d place : ℕ) (m : List ℕ) (verdict : Verdict) → tells_of_others (Sent m verdict) ≡ false → refuses (Judged d place m verdict) ≡ false
   fair_verdict d place m Own is = refl
+  fair_verdict d place m Share is = refl
   fair_verdict d place m Foreign is = is
   fair_verdict d place m Away is = refl
   fair_verdict d place m Full is = is

@@ -34,9 +34,9 @@ comes_last = Piece 65 open_device ∷ joined 65
 abbrev pub NotLetInTells : Type 0
 NotLetInTells = GetsOthersAlone 65 comes_last [] opened
 
--- client 1 took up all numbers of service 0
+-- sixteen clients took up all numbers of service 0
 abbrev pub FullSpaceTells : Type 0
-FullSpaceTells = GetsOthersAlone 2 asks_too_much (opened ++ full) opened
+FullSpaceTells = GetsOthersAlone 17 asks_too_much (opened ++ full) opened
 
 -- a name joins again: the answer is for its second request, and its first has the same place
 abbrev pub joins_again : List Event

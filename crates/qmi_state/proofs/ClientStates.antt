@@ -5,7 +5,7 @@ use Rattle.std.proofs.lemmas.Bool.{eq-eqb}
 use Rattle.qmux_frame.specs.Head.{number_of}
 use Rattle.qmux_frame.specs.Reply.{result_reply, with_number}
 use Rattle.proxy_history.specs.Wording.{told_by}
-use Rattle.proxy_history.specs.Facts.{Fact, Request, Judged, Answered, IdHeld, Expired, Aborted, Indicated, Verdict, Own, Foreign, Away, Full, Forward, Ready, Waits}
+use Rattle.proxy_history.specs.Facts.{Fact, Request, Judged, Answered, IdHeld, Expired, Aborted, Indicated, Verdict, Own, Share, Foreign, Away, Full, Forward, Ready, Waits}
 use Rattle.proxy_history.specs.Connections.{contains}
 use Rattle.proxy_history.specs.View.{Entry, Sent, Response, Refused, Indication, HeldId, NoAnswer, view, entry_if, sent_at}
 use Rattle.proxy_history.specs.Rendering.{render}
@@ -54,6 +54,7 @@ module _ (device : List ℕ) where
 
   sent : (m : List ℕ) (verdict : Verdict) (entries : List Entry) → client_state_from (Sent m verdict ∷ entries) ≡ judged device m verdict (client_state_from entries)
   sent m Own entries = sent_as m Own entries
+  sent m Share entries = sent_as m Share entries
   sent m Foreign entries = sent_as m Foreign entries
   sent m Away entries = sent_as m Away entries
   sent m Full entries = sent_as m Full entries

@@ -1,13 +1,13 @@
 -- What a message of a client makes of a core.
-use Rattle.std.proofs.Common.{◌≡◌, ℕ, ◌+◌, Bool, true, false, ◌==◌, List, ◌∷◌, ◌++◌, length, inl, refl, ap, sym, ◌∙◌, subst, arith, Option, Some, None, if◌then◌else◌}
+use Rattle.std.proofs.Common.{◌≡◌, ℕ, ◌+◌, Bool, true, false, ◌==◌, nat_le, List, ◌∷◌, ◌++◌, length, inl, refl, ap, sym, ◌∙◌, subst, arith, Option, Some, None, if◌then◌else◌}
 use Rattle.std.proofs.lemmas.Bool.{eqb-true}
 use Rattle.connections.specs.Table.{Connection, Table}
 use Rattle.qmux_frame.specs.Head.{is_control}
 use Rattle.qmux_frame.specs.Reply.{with_number}
-use Rattle.proxy_history.specs.Facts.{Fact, Request, Verdict, Own, Forward, Judged, Forwarded, Granted}
+use Rattle.proxy_history.specs.Facts.{Fact, Request, Verdict, Own, Share, Forward, Judged, Forwarded, Granted}
 use Rattle.proxy_history.specs.Decision.{Decision, Replies, Forwards}
 use Rattle.proxy_history.specs.Connections.{present, dropped, contains, message_count}
-use Rattle.proxy_history.specs.Requests.{in_use, last_number, number_after, numbers_in_use}
+use Rattle.proxy_history.specs.Requests.{in_use, pending, of_client, has_share, last_number, number_after, numbers_in_use}
 use Rattle.proxy_history.specs.ClientIds.{held, holder, holder_in, is_other}
 use Rattle.proxy_history.specs.Sound.{IsFreeFor}
 use Rattle.qmi_proxy.proofs.Verdicts.{used_id_is_free, can_go}
@@ -21,7 +21,7 @@ use Rattle.proxy_state.proofs.Changed.{changed_found, changed_same}
 use Rattle.proxy_state.proofs.Keeping.{found_there}
 use Rattle.proxy_state.proofs.Replying as replying
 use Rattle.qmi_proxy.specs.Setup.{Setup}
-use Rattle.qmi_proxy.specs.Spaces.{control_space, service_space, limit_of, top_of}
+use Rattle.qmi_proxy.specs.Spaces.{space_of, control_space, service_space, limit_of, top_of}
 use Rattle.qmi_proxy.specs.Messages.{uses_id, used_service, used_client}
 use Rattle.qmi_proxy.specs.OwnReplies.{step, is_open, view_decides}
 use Rattle.qmi_proxy.specs.Text.{view_of}
@@ -35,8 +35,11 @@ use Rattle.proxy_state.specs.Requests.{requests_in_use}
 use Rattle.qmi_state.specs.Asked.{asked_of}
 use Rattle.qmi_state.specs.Traffic.{Traffic, row_of, traffic_of, of_control, with_numbers, gives, number_at, granted_if, kept_if, grants_id, row_for, forwards, ids, kept_ids}
 use Rattle.qmi_state.specs.Core.{ModemSide, QmiState, side_of, kept_of}
-use Rattle.qmi_state.specs.Transitions.{with_traffic, reply_as, holder_at, decision_of, replied, act_on, hear_client, qmi_handlers}
+use Rattle.qmi_state.specs.Transitions.{with_traffic, reply_as, holder_at, share_of, decision_of, replied, act_on, hear_client, qmi_handlers}
 use Rattle.proxy_state.proofs.InUse.{numbers_used}
+use Rattle.proxy_state.proofs.Shares.{share_counted}
+use Rattle.number_space.specs.Table.{pending_of}
+use Rattle.qmi_proxy.specs.Limits.{share_limit}
 use Rattle.qmi_state.proofs.Ids.{holder_is}
 use Rattle.qmi_state.proofs.ClientStates.{ClientState, client_state_of, judged_own, judged_other, forwarded_same}
 use Rattle.qmi_state.proofs.TrafficSteps.{traffic_forwarded}
@@ -59,13 +62,22 @@ number_is m past =
 holder_same : (m : List ℕ) (past : List Fact) → holder_for m past ≡ holder_at m (traffic_of past)
 holder_same m past = elim (uses_id m) as (λ b. (if b then holder (used_service m) (used_client m) past else None) ≡ (if b then holder_in (used_service m) (used_client m) (ids past) else None)) [ true ↦ sym (holder_is (used_service m) (used_client m) past) | false ↦ refl ]
 
+share_same : (c : ℕ) (m : List ℕ) (past : List Fact) → has_share share_limit c (space_of m) past ≡ share_of c m (traffic_of past)
+share_same c m past =
+    elim (is_control m) as (λ b. nat_le share_limit (length (of_client c (if b then control_space else service_space) (pending past))) ≡ nat_le share_limit (pending_of c (of_control b (traffic_of past)))) [
+      | true ↦ ap (nat_le share_limit) (sym (share_counted asked_of c control_space past))
+      | false ↦ ap (nat_le share_limit) (sym (share_counted asked_of c service_space past))
+    ]
+
 decision_is : (s : Setup) (c : ℕ) (m : List ℕ) (past : List Fact) → decision_on s c m past ≡ decision_of (is_away s.starts_away past) c m (is_open s.device (view_of c past)) (traffic_of past)
 decision_is s c m past =
     let opened : Bool = is_open s.device (view_of c past) in
     let away : Bool = is_away s.starts_away past in
     let room : Bool = has_room (length (modem_queue wire past)) m in
-    ap (λ (o : Option ℕ). if view_decides opened m then Replies Own else shared_decision_of c o away room (number_for m past)) (holder_same m past)
-    ∙ ap (λ (o : Option ℕ). if view_decides opened m then Replies Own else shared_decision_of c (holder_at m (traffic_of past)) away room o) (sym (number_is m past))
+    let decides : Bool → Option ℕ → Option ℕ → Decision = λ passed holder number. if view_decides opened m then Replies Own else if passed then Replies Share else shared_decision_of c holder away room number in
+    ap (λ (passed : Bool). decides passed (holder_for m past) (number_for m past)) (share_same c m past)
+    ∙ ap (λ (o : Option ℕ). decides (share_of c m (traffic_of past)) o (number_for m past)) (holder_same m past)
+    ∙ ap (λ (o : Option ℕ). decides (share_of c m (traffic_of past)) (holder_at m (traffic_of past)) o) (sym (number_is m past))
 
 module _ (s : Setup) (streams : Streams) where
   abbrev Kept : List Fact → QmiState → Type 0

@@ -1,5 +1,5 @@
 -- What a core of the QMI proxy makes of what it meets.
-use Rattle.std.specs.Prelude.{ℕ, suc, zero, ◌-◌, ◌^◌, max, Bool, true, false, not, ◌&&◌, ◌==◌, if◌then◌else◌, List, [], length, drop, filter, Option, Some, None}
+use Rattle.std.specs.Prelude.{ℕ, suc, zero, ◌-◌, ◌^◌, max, Bool, true, false, not, ◌&&◌, ◌==◌, nat_le, if◌then◌else◌, List, [], length, drop, filter, Option, Some, None}
 use Rattle.outbox.specs.Queue.{Queue, has_room as finds_room, queues}
 use Rattle.connections.specs.Table.{Connection}
 use Rattle.connections.specs.Hearing.{Hearing}
@@ -11,7 +11,7 @@ use Rattle.qmux_frame.specs.Kind.{framed_kind}
 use Rattle.qmux_frame.specs.Control.{is_release, is_sync}
 use Rattle.qmux_frame.specs.Reply.{result_reply, with_number}
 use Rattle.proxy_history.specs.Events.{Event}
-use Rattle.proxy_history.specs.Facts.{Verdict, Own, Foreign, Away, Full}
+use Rattle.proxy_history.specs.Facts.{Verdict, Own, Share, Foreign, Away, Full}
 use Rattle.proxy_history.specs.Decision.{Decision, Replies, Forwards}
 use Rattle.proxy_history.specs.View.{Sent}
 use Rattle.proxy_history.specs.ClientIds.{Grant, KeptId, holder_in, is_other, holds_some}
@@ -19,7 +19,8 @@ use Rattle.proxy_state.specs.State.{Handlers}
 use Rattle.proxy_state.specs.Step as proxy
 use Rattle.proxy_state.specs.Telling as telling
 pub use Rattle.proxy_state.specs.Chosen.{names_in}
-use Rattle.qmi_proxy.specs.Errors.{internal, aborted, client_ids_exhausted, invalid_client_id, device_in_use}
+use Rattle.qmi_proxy.specs.Errors.{share_passed, internal, aborted, client_ids_exhausted, invalid_client_id, device_in_use}
+use Rattle.qmi_proxy.specs.Limits.{share_limit}
 use Rattle.qmi_proxy.specs.Messages.{uses_id, used_service, used_client, value_of, byte_of, is_success}
 use Rattle.qmi_proxy.specs.OwnReplies.{view_decides}
 use Rattle.qmi_proxy.specs.OwnReplies as own
@@ -28,7 +29,7 @@ use Rattle.qmi_proxy.specs.Clients.{shared_decision_of, has_room, deadline_of}
 use Rattle.qmi_proxy.specs.Releases as release
 use Rattle.qmi_proxy.specs.FromModem.{IdChange, NoChange, Grants, Collides, Frees, brings_id, granted_unless}
 use Rattle.qmi_state.specs.Asked.{Asked}
-use Rattle.number_space.specs.Table.{first_due}
+use Rattle.number_space.specs.Table.{first_due, pending_of}
 use Rattle.qmi_state.specs.declared.client.Client.{Client}
 use Rattle.qmi_state.specs.Traffic.{Row, Traffic, of_control, with_numbers, row_numbered, frees, silences, number_at, forwards, grants_id, frees_id, gives_up, forgets, number_for_own, asks_release}
 use Rattle.qmi_state.specs.Core.{ModemSide, QmiState, QmiCore}
@@ -58,15 +59,22 @@ reply_as device opened m verdict = text_as device opened [] (Sent m verdict)
 abbrev pub holder_at : List ℕ → Traffic → Option ℕ
 holder_at m traffic = if uses_id m then holder_in (used_service m) (used_client m) traffic.held else None
 
--- the decision from what all clients share
+-- as many requests of c wait in the message's space as may
+abbrev pub share_of : ℕ → List ℕ → Traffic → Bool
+share_of c m traffic = nat_le share_limit (pending_of c (of_control (is_control m) traffic))
+
+-- the decision, where the client's own view doesn't make it
 abbrev pub shared_of : Bool → ℕ → List ℕ → Traffic → Decision
-shared_of away c m traffic = shared_decision_of c (holder_at m traffic) away (has_room (length traffic.waiting) m) (number_at m traffic)
+shared_of away c m traffic =
+    if share_of c m traffic then Replies Share
+    else shared_decision_of c (holder_at m traffic) away (has_room (length traffic.waiting) m) (number_at m traffic)
 
 abbrev pub decision_of : Bool → ℕ → List ℕ → Bool → Traffic → Decision
 decision_of away c m opened traffic = if view_decides opened m then Replies Own else shared_of away c m traffic
 
 -- the error of the refusal that such a decision comes with
 abbrev pub refusal_of : Decision → Option ℕ
+refusal_of (Replies Share) = Some share_passed
 refusal_of (Replies Foreign) = Some invalid_client_id
 refusal_of (Replies Away) = Some internal
 refusal_of (Replies Full) = Some device_in_use

@@ -5,7 +5,7 @@ use Rattle.kit_bytes.proofs.Lists.{all_filter, all_push}
 use Rattle.std.proofs.lemmas.Bool.{or_left, or_right}
 use Rattle.std.proofs.lemmas.Bool.Decides.{nat_tests}
 use Rattle.std.proofs.Math.Seq.{drop-append_seam}
-use Rattle.proxy_history.specs.Facts.{Fact, Request, EventBegan, Own, Forward, Admitted, Judged, Drained, Forwarded, Answered, Late, Expired, Granted, ModemDrained, TimeIs}
+use Rattle.proxy_history.specs.Facts.{Fact, Request, EventBegan, Verdict, Own, Admitted, Judged, Drained, Forwarded, Answered, Late, Expired, Granted, ModemDrained, TimeIs}
 use Rattle.proxy_history.specs.Connections.{present, message_count}
 use Rattle.proxy_history.specs.Requests.{in_use, without_request}
 use Rattle.proxy_history.specs.Modem.{to_modem, modem_drained, modem_queue}
@@ -17,7 +17,7 @@ use Rattle.qmi_proxy.specs.OwnReplies.{is_open, is_opening}
 use Rattle.qmi_proxy.specs.Text.{blank, view_of}
 use Rattle.qmi_proxy.specs.Clients.{wire}
 use Rattle.rig_laws.proofs.Lists.{range-more}
-use Rattle.rig_laws.proofs.Harmless.{AreHarmless}
+use Rattle.rig_laws.proofs.Harmless.{IsHarmless, AreHarmless}
 
 abbrev pub IsClients : Request → Type 0
 IsClients r = (r.conn == 0) ≡ false
@@ -95,12 +95,12 @@ module _ (s : Setup) where
     unfolding present in_use view message_count to_modem modem_drained
     granted c service client own = record { there = calm.there; harmless = (own, calm.harmless); open_ones = calm.open_ones; uses = calm.uses; clients = calm.clients; quiet = calm.quiet; taken = calm.taken; to_it = calm.to_it; count = calm.count }
 
-    pub judged : (c place : ℕ) (m : List ℕ) → 1 ≤ c → c ≤ opened → Calm joined opened requests queue (Judged c place m Forward ∷ past)
+    pub judged : (c place : ℕ) (m : List ℕ) (verdict : Verdict) → IsHarmless s (Judged c place m verdict) past → 1 ≤ c → c ≤ opened → Calm joined opened requests queue (Judged c place m verdict ∷ past)
     unfolding present in_use view message_count to_modem modem_drained
-    judged d place m low high = record {
+    judged d place m verdict harmless low high = record {
       there = calm.there;
-      harmless = (tt, calm.harmless);
-      open_ones = λ c low high. stays_open (d == c) (Sent m Forward) (view_of c past) (calm.open_ones c low high);
+      harmless = (harmless, calm.harmless);
+      open_ones = λ c low high. stays_open (d == c) (Sent m verdict) (view_of c past) (calm.open_ones c low high);
       uses = calm.uses;
       clients = calm.clients;
       quiet = λ none c. absurd (omega (arith, none, low, high));

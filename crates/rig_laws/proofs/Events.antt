@@ -13,7 +13,7 @@ use Rattle.proxy_history.specs.Streams.{stream, modem_stream, with_piece, messag
 use Rattle.proxy_history.specs.Items.{Says, Garbles, ModemSays, ModemFails, item_if, modem_items}
 use Rattle.proxy_history.specs.Facts.{Fact, Request, EventBegan, Own, NotAdmitted, Ended, Admitted, Judged, Drained, TimeIs}
 use Rattle.proxy_history.specs.Connections.{present, is_present, contains, message_count}
-use Rattle.proxy_history.specs.Requests.{in_use, pending}
+use Rattle.proxy_history.specs.Requests.{in_use, pending, has_share}
 use Rattle.proxy_history.specs.Modem.{now, modem_queue}
 use Rattle.proxy_history.specs.View.{view}
 use Rattle.proxy_history.specs.Unanswered.{due}
@@ -21,9 +21,9 @@ use Rattle.proxy_history.specs.History as proxy
 use Rattle.proxy_history.proofs.Walk.{was_asked}
 use Rattle.proxy_history.proofs.Sound.{forwarded_from_in_use, in_use_from_pending}
 use Rattle.proxy_history.proofs.Lists.{Contains-filter_from}
-use Rattle.proxy_solo.proofs.Pieces.{ends_message}
+use Rattle.proxy_history.proofs.Pieces.{ends_message}
 use Rattle.qmi_proxy.specs.Setup.{Setup}
-use Rattle.qmi_proxy.specs.Limits.{connection_limit, outbox_limit}
+use Rattle.qmi_proxy.specs.Limits.{connection_limit, share_limit, outbox_limit}
 use Rattle.qmi_proxy.specs.Spaces.{space_of, top_of}
 use Rattle.qmi_proxy.specs.Messages.{is_malformed, opens}
 use Rattle.qmi_proxy.specs.Clients.{wire, hear_client}
@@ -34,12 +34,12 @@ use Rattle.qmi_proxy.proofs.Sound.{begun_is_sound, requests_are_asked}
 use Rattle.qmi_proxy.proofs.Room.{nobody_there_is_over}
 use Rattle.qmi_solo.specs.Law.{AreSound}
 use Rattle.rig_laws.proofs.Lists.{in_range, length-range}
-use Rattle.rig_laws.proofs.Few.{few_expire}
+use Rattle.rig_laws.proofs.Few.{few_expire, few_wait}
 use Rattle.rig_laws.proofs.Plain.{ArePlain, AtEach, IsHarmlessNow}
 use Rattle.rig_laws.proofs.Harmless.{none_released}
 use Rattle.rig_laws.proofs.Calm.{IsClients, Calm, queue_is, taken_within, begun, timed, drained, modem_drained_all, admitted, judged_opening}
 use Rattle.rig_laws.proofs.Room.{AllHaveRoom, fewer, all_expire}
-use Rattle.rig_laws.proofs.Says.{IsRequestOf, IsForwarded, opening_is_answered, request_is_forwarded}
+use Rattle.rig_laws.proofs.Says.{IsRequestOf, IsForwarded, opening_is_answered, request_is_refused, request_is_forwarded}
 use Rattle.rig_laws.proofs.Hears.{Suits, answer_is_heard}
 
 module _ (s : Setup) where
@@ -196,12 +196,31 @@ module _ (s : Setup) where
     pub number : r.number ≤ top_of (space_of m)
     pub going : Going joined opened (requests ++ r ∷ []) (wire r) events
 
-  pub asks : {joined opened : ℕ} {requests : List Request} {events : List Event} (c : ℕ) (m : List ℕ) → s.starts_away ≡ false → Going joined opened requests [] events → 1 ≤ c → c ≤ opened → opened ≤ joined → length requests ≤ 200
-      → IsRequestOf c m → HasAsked joined opened requests c m (Piece c m ∷ events)
-  asks {joined} {opened} {requests} {events} c m there going low high order few is =
+  -- as many of the client's requests wait as may
+  abbrev pub fills_share : (c : ℕ) → (m : List ℕ) → List Event → Bool
+  fills_share c m events = has_share share_limit c (space_of m) (EventBegan ∷ history s events)
+
+  -- where fewer are in use at all it isn't so
+  pub few_fill_none : {joined opened : ℕ} {requests : List Request} {queue : List ℕ} {events : List Event} (c : ℕ) (m : List ℕ) → Going joined opened requests queue events → length requests < share_limit → fills_share c m events ≡ false
+  few_fill_none {events = events} c m going few =
+      let same = ap length (begun s going.calm).uses in few_wait share_limit c (space_of m) (EventBegan ∷ history s events) (omega (arith, same, few))
+
+  -- a message that is refused asks the modem nothing
+  pub is_refused : {joined opened : ℕ} {requests : List Request} {events : List Event} (c : ℕ) (m : List ℕ) → Going joined opened requests [] events → AllAreServed events → 1 ≤ c → c ≤ opened → opened ≤ joined
+      → IsRequestOf c m → fills_share c m events ≡ true → Going joined opened requests [] (Piece c m ∷ events)
+  is_refused {joined} {opened} {requests} {events} c m going served low high order is full =
       let began : List Fact = EventBegan ∷ history s events in
       let here : history s (Piece c m ∷ events) ≡ hear_client s c m began = piece_history events c m going.whole is.is_message (is_there c going.calm low (omega (arith, high, order))) in
-      let added : IsForwarded s c m joined opened requests (hear_client s c m began) = request_is_forwarded s c m joined opened requests began there (begun_is_sound s events) (begun s going.calm) low high few is in
+      let refused : Calm s joined opened requests [] (hear_client s c m began) =
+      request_is_refused s c m joined opened requests began (begun s going.calm) low high is full (fewer s 20 outbox_limit began (omega arith) (all_have_room events served)) in
+      said_piece c m going low (omega (arith, high, order)) is.is_message is.short (subst (Calm s joined opened requests []) (sym here) refused)
+
+  pub asks : {joined opened : ℕ} {requests : List Request} {events : List Event} (c : ℕ) (m : List ℕ) → s.starts_away ≡ false → Going joined opened requests [] events → 1 ≤ c → c ≤ opened → opened ≤ joined → length requests ≤ 200
+      → IsRequestOf c m → fills_share c m events ≡ false → HasAsked joined opened requests c m (Piece c m ∷ events)
+  asks {joined} {opened} {requests} {events} c m there going low high order few is free =
+      let began : List Fact = EventBegan ∷ history s events in
+      let here : history s (Piece c m ∷ events) ≡ hear_client s c m began = piece_history events c m going.whole is.is_message (is_there c going.calm low (omega (arith, high, order))) in
+      let added : IsForwarded s c m joined opened requests (hear_client s c m began) = request_is_forwarded s c m joined opened requests began (begun s going.calm) low high is there (begun_is_sound s events) few free in
       record {
         r = added.r;
         conn = added.conn;

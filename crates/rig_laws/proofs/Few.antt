@@ -1,7 +1,8 @@
 -- No more requests wait than are in use.
-use Rattle.std.proofs.Common.{ℕ, suc, ◌*◌, ◌≤◌, Bool, true, false, not, cond, ◌==◌, nat_le, List, [], ◌∷◌, ◌++◌, length, filter, arith, length-append}
+use Rattle.std.proofs.Common.{◌≡◌, ℕ, suc, ◌*◌, ◌<◌, ◌≤◌, Bool, true, false, not, cond, ◌&&◌, ◌==◌, nat_le, List, [], ◌∷◌, ◌++◌, length, filter, arith, length-append}
 use Rattle.proxy_history.specs.Facts.{Fact, Request, Ended, Forwarded, Answered, IdHeld, Late, Expired, Aborted, Reset, ModemLost}
-use Rattle.proxy_history.specs.Requests.{in_use, pending, of_space}
+use Rattle.std.proofs.lemmas.Bool.Decides.{nat_tests}
+use Rattle.proxy_history.specs.Requests.{in_use, pending, of_space, of_client, has_share}
 use Rattle.proxy_history.specs.Unanswered.{due}
 use Rattle.qmi_proxy.specs.Spaces.{control_space, service_space}
 use Rattle.qmi_proxy.specs.FromModem.{in_expiry_order}
@@ -77,3 +78,13 @@ few_expire time past =
     let some = filter_shortens (λ (r : Request). nat_le r.deadline time) (pending past) in
     let used = as_many (pending past) (in_use past) (waiting_are_in_use past) in
     omega (arith, both, control, service, some, used)
+
+above_all : (share n : ℕ) → n < share → nat_le share n ≡ false
+above_all share n few = grind (arith, nat_tests)
+
+-- where fewer are in use than a client may have waiting, nobody's share is used up
+pub few_wait : (share c space : ℕ) (past : List Fact) → length (in_use past) < share → has_share share c space past ≡ false
+few_wait share c space past few =
+    let of_it = filter_shortens (λ (r : Request). r.conn == c && (r.space == space)) (pending past) in
+    let used = as_many (pending past) (in_use past) (waiting_are_in_use past) in
+    above_all share (length (of_client c space (pending past))) (omega (arith, of_it, used, few))

@@ -1,9 +1,9 @@
--- Facts that tell nobody of others and refuse nothing, and what they leave as it is.
-use Rattle.std.proofs.Common.{◌≡◌, ℕ, Bool, true, false, not, ◌&&◌, ◌==◌, if◌then◌else◌, List, [], ◌∷◌, length, filter, Option, Some, None, refl, ap, sym, ◌∙◌, arith}
+-- Facts that tell nobody of others and refuse only what passes a share, and what they leave as it is. Lists of facts have the newest first.
+use Rattle.std.proofs.Common.{◌≡◌, ℕ, Bool, true, false, not, ◌&&◌, ◌||◌, ◌==◌, if◌then◌else◌, List, [], ◌∷◌, length, filter, Option, Some, None, refl, ap, sym, ◌∙◌, arith}
 use Rattle.std.specs.List.{AllByRecursion}
-use Rattle.std.proofs.lemmas.Bool.{eqb-true, eq-eqb, and_parts}
+use Rattle.std.proofs.lemmas.Bool.{eqb-true, eq-eqb, and_parts, false_from_ne_true}
 use Rattle.kit_bytes.proofs.Lists.{all_filter, all_push}
-use Rattle.proxy_history.specs.Facts.{Fact, Own, Foreign, Away, Full, Forward, Ready, Waits, Admitted, Ended, Judged, Drained, Answered, IdHeld, Expired, Aborted, Indicated, OpeningEnded, SessionsClosed, Granted, Freed, Reset, ModemLost, ModemReturned}
+use Rattle.proxy_history.specs.Facts.{Fact, Own, Share, Foreign, Away, Full, Forward, Ready, Waits, Admitted, Ended, Judged, Drained, Answered, IdHeld, Expired, Aborted, Indicated, OpeningEnded, SessionsClosed, Granted, Freed, Reset, ModemLost, ModemReturned}
 use Rattle.proxy_history.specs.Connections.{contains}
 use Rattle.proxy_history.specs.ClientIds.{Grant, KeptId, is_of, held, kept, holder_in, holder, is_other}
 use Rattle.proxy_history.specs.Modem.{is_away}
@@ -12,29 +12,34 @@ use Rattle.proxy_solo.specs.Law.{tells_of_others}
 use Rattle.qmux_frame.specs.Control.{is_sync, is_proxy_open}
 use Rattle.qmi_proxy.specs.Setup.{Setup}
 use Rattle.qmi_proxy.specs.Errors.{malformed_message, no_error, internal, invalid_client_id}
-use Rattle.qmi_proxy.specs.Messages.{is_malformed, opens}
-use Rattle.qmi_proxy.specs.OwnReplies.{is_open, own_error}
+use Rattle.qmi_proxy.specs.Messages.{is_malformed, opens, equals, value_of, has_bad_id}
+use Rattle.qmi_proxy.specs.OwnReplies.{is_open, own_error, view_decides}
 use Rattle.qmi_proxy.specs.Releases.{releases, release_due}
+use Rattle.proxy_history.specs.Requests.{has_share}
+use Rattle.qmi_proxy.specs.Limits.{share_limit}
+use Rattle.qmi_proxy.specs.Spaces.{space_of}
 use Rattle.qmi_proxy.specs.Text.{blank, view_of}
-use Rattle.rig_runs.specs.Counts as rig
-use Rattle.rig_runs.specs.Lines.{one_if, refused}
+use Rattle.rig_runs.specs.Lines.{refuses, passes_share, AreForShares}
 
 module _ (s : Setup) where
-  -- nobody ends, and the modem stays; a message opens the device or is forwarded; each client id is that of its client's own number
-  abbrev pub IsHarmless : Fact → Type 0
-  IsHarmless (Ended c why) = ⊥
-  IsHarmless (Judged c place m Own) = (is_malformed m ≡ false) × (opens s.device m ≡ true)
-  IsHarmless (Judged c place m Forward) = Unit {0}
-  IsHarmless (Judged c place m verdict) = ⊥
-  IsHarmless (IdHeld r) = ⊥
-  IsHarmless (Granted c service client) = client ≡ c
-  IsHarmless (Freed c service client) = ⊥
-  IsHarmless Reset = ⊥
-  IsHarmless ModemLost = ⊥
-  IsHarmless _ = Unit {0}
+  -- behind these facts: nobody ends, and the modem stays; a message opens the device, or is forwarded unless it passes its client's share;
+  -- each client id is that of its client's own number
+  abbrev pub IsHarmless : Fact → List Fact → Type 0
+  IsHarmless (Ended c why) past = ⊥
+  IsHarmless (Judged c place m Own) past = (is_malformed m ≡ false) × (opens s.device m ≡ true)
+  IsHarmless (Judged c place m Forward) past = passes_share s c m past ≡ false
+  IsHarmless (Judged c place m Share) past = passes_share s c m past ≡ true
+  IsHarmless (Judged c place m verdict) past = ⊥
+  IsHarmless (IdHeld r) past = ⊥
+  IsHarmless (Granted c service client) past = client ≡ c
+  IsHarmless (Freed c service client) past = ⊥
+  IsHarmless Reset past = ⊥
+  IsHarmless ModemLost past = ⊥
+  IsHarmless _ past = Unit {0}
 
   abbrev pub AreHarmless : List Fact → Type 0
-  AreHarmless past = AllByRecursion IsHarmless past
+  AreHarmless [] = Unit {0}
+  AreHarmless (fact ∷ past) = IsHarmless fact past × AreHarmless past
 
   -- ---- nobody is told of others ----
 
@@ -56,6 +61,7 @@ module _ (s : Setup) where
   undisturbed c (Ended d why ∷ past) all = absurd all.0
   undisturbed c (Judged d place m Own ∷ past) all = undisturbed_entry (d == c) (Sent m Own) (view_of c past) refl (undisturbed c past all.1)
   undisturbed c (Judged d place m Forward ∷ past) all = undisturbed_entry (d == c) (Sent m Forward) (view_of c past) refl (undisturbed c past all.1)
+  undisturbed c (Judged d place m Share ∷ past) all = undisturbed_entry (d == c) (Sent m Share) (view_of c past) refl (undisturbed c past all.1)
   undisturbed c (Judged d place m Foreign ∷ past) all = absurd all.0
   undisturbed c (Judged d place m Away ∷ past) all = absurd all.0
   undisturbed c (Judged d place m Full ∷ past) all = absurd all.0
@@ -71,7 +77,7 @@ module _ (s : Setup) where
   undisturbed c (Drained d count ∷ past) all = undisturbed_entry (d == c) (Collected count) (view_of c past) refl (undisturbed c past all.1)
   undisturbed c (_ ∷ past) all = undisturbed c past all.1
 
-  -- ---- nothing is refused ----
+  -- ---- what passes a share is refused ----
 
   error_by : (malformed opening : Bool) (other : ℕ) → malformed ≡ false → opening ≡ true → (if malformed then malformed_message else if opening then no_error else other) ≡ 0
   error_by true opening other fine opens = absurd (cc)
@@ -82,20 +88,39 @@ module _ (s : Setup) where
   opening_is_answered opened m fine opening =
       error_by (is_malformed m) (opens s.device m) (if is_proxy_open m then internal else if not opened then internal else if is_sync m then no_error else invalid_client_id) fine opening
 
-  pub none_refused : (past : List Fact) → AreHarmless past → refused s past ≡ 0
-  unfolding rig.refused
-  none_refused [] all = refl
-  none_refused (Judged c place m Own ∷ past) all =
-      let own : one_if (not (own_error s.device (is_open s.device (view_of c past)) m == 0)) ≡ 0 =
-      ap (λ (n : ℕ). one_if (not (n == 0))) (opening_is_answered (is_open s.device (view_of c past)) m all.0.0 all.0.1) in
-      omega (arith, own, none_refused past all.1)
-  none_refused (Judged c place m Forward ∷ past) all = omega (arith, none_refused past all.1)
-  none_refused (Judged c place m Foreign ∷ past) all = absurd all.0
-  none_refused (Judged c place m Away ∷ past) all = absurd all.0
-  none_refused (Judged c place m Full ∷ past) all = absurd all.0
-  none_refused (Judged c place m Ready ∷ past) all = absurd all.0
-  none_refused (Judged c place m Waits ∷ past) all = absurd all.0
-  none_refused (_ ∷ past) all = none_refused past all.1
+  -- so no reply that the client's own view decides refuses
+  own_refuses_none : (c : ℕ) (m : List ℕ) (past : List Fact) → is_malformed m ≡ false → opens s.device m ≡ true → refuses s c m Own past ≡ false
+  own_refuses_none c m past fine opening = ap (λ (n : ℕ). not (n == 0)) (opening_is_answered (is_open s.device (view_of c past)) m fine opening)
+
+  opening_decides : (malformed opening shut sync id : Bool) → opening ≡ true → (malformed || opening || shut || sync || id) ≡ true
+  opening_decides true opening shut sync id e = refl
+  opening_decides false true shut sync id e = refl
+  opening_decides false false shut sync id e = absurd (cc)
+
+  -- the client's own view decides on what opens a device
+  pub view_decides_opening : (opened : Bool) (m : List ℕ) → is_proxy_open m ≡ true → view_decides opened m ≡ true
+  view_decides_opening opened m opening = opening_decides (is_malformed m) (is_proxy_open m) (not opened) (is_sync m) (has_bad_id m) opening
+
+  opening_passes_none : (c : ℕ) (m : List ℕ) (past : List Fact) → is_proxy_open m ≡ true → passes_share s c m past ≡ false
+  opening_passes_none c m past opening = ap (λ (b : Bool). not b && has_share share_limit c (space_of m) past) (view_decides_opening (is_open s.device (view_of c past)) m opening)
+
+  -- what passes a share opens no device
+  pub passing_opens_none : (c : ℕ) (m : List ℕ) (past : List Fact) → passes_share s c m past ≡ true → is_proxy_open m ≡ false
+  passing_opens_none c m past passes = false_from_ne_true (is_proxy_open m) (λ e. let clash : false ≡ true = sym (opening_passes_none c m past e) ∙ passes in cc)
+
+  pub refused_for_shares : (past : List Fact) → AreHarmless past → AreForShares s past
+  refused_for_shares [] all = tt
+  refused_for_shares (Judged c place m Own ∷ past) all =
+      let none : refuses s c m Own past ≡ false = own_refuses_none c m past all.0.0 all.0.1 in
+      (record { just_then = none ∙ sym (opening_passes_none c m past (and_parts (is_proxy_open m) (equals s.device (value_of 0x01 m)) all.0.1).0); for_that = λ is. absurd (let clash : false ≡ true = sym none ∙ is in cc) }, refused_for_shares past all.1)
+  refused_for_shares (Judged c place m Forward ∷ past) all = (record { just_then = sym all.0; for_that = λ is. absurd (cc) }, refused_for_shares past all.1)
+  refused_for_shares (Judged c place m Share ∷ past) all = (record { just_then = sym all.0; for_that = λ is. refl }, refused_for_shares past all.1)
+  refused_for_shares (Judged c place m Foreign ∷ past) all = absurd all.0
+  refused_for_shares (Judged c place m Away ∷ past) all = absurd all.0
+  refused_for_shares (Judged c place m Full ∷ past) all = absurd all.0
+  refused_for_shares (Judged c place m Ready ∷ past) all = absurd all.0
+  refused_for_shares (Judged c place m Waits ∷ past) all = absurd all.0
+  refused_for_shares (_ ∷ past) all = refused_for_shares past all.1
 
   -- ---- the modem is there ----
 

@@ -20,10 +20,10 @@ use Rattle.qmi_solo.proofs.Law.{gets_the_same_alone}
 use Rattle.rig_runs.specs.Qmi.{setup, script, qmi_rig}
 use Rattle.rig_runs.specs.Qmi as rig
 use Rattle.rig_runs.specs.Rig.{played, ended}
-use Rattle.rig_runs.specs.Lines.{is_let_alone, gets_the_same, refused, counted, equal, Summary, summary, line, lines_of}
-use Rattle.rig_laws.specs.Laws.{OfEachRig, EventsMayCome, NobodyIsDisturbed, EachGetsTheSame, NothingIsRefused, LastLinesSayAll}
+use Rattle.rig_runs.specs.Lines.{is_let_alone, gets_the_same, AreForShares, counted, equal, Summary, summary, line, lines_of}
+use Rattle.rig_laws.specs.Laws.{OfEachRig, EventsMayCome, NobodyIsDisturbed, EachGetsTheSame, RefusalsAreForShares, LastLinesSayAll}
 use Rattle.rig_laws.proofs.Lists.{in_range, filter-all, length-range, each_of}
-use Rattle.rig_laws.proofs.Harmless.{AreHarmless, AreUndisturbed, undisturbed, none_refused}
+use Rattle.rig_laws.proofs.Harmless.{AreHarmless, AreUndisturbed, undisturbed, refused_for_shares}
 use Rattle.rig_laws.proofs.Plain.{ArePlain, AtEach, IsHarmlessNow}
 use Rattle.rig_laws.proofs.Events.{AllAreServed}
 use Rattle.rig_laws.proofs.Time.{rig_time}
@@ -75,8 +75,8 @@ module _ (clients turns number : ℕ) (some : 1 ≤ clients) (within : clients �
   is_there : (c : ℕ) → 1 ≤ c → c ≤ clients → is_present c (history setup events) ≡ true
   is_there c low high = ap (contains c) usual.stands.going.calm.there ∙ in_range clients 1 c low (omega (arith, high))
 
-  nothing_refused : refused setup (history setup events) ≡ 0
-  nothing_refused = none_refused setup (history setup events) usual.stands.going.calm.harmless
+  only_for_shares : AreForShares setup (history setup events)
+  only_for_shares = refused_for_shares setup (history setup events) usual.stands.going.calm.harmless
 
 pub events_may_come : EventsMayCome
 events_may_come clients turns number some within = sound clients turns number some within
@@ -87,8 +87,8 @@ nobody_is_disturbed clients turns number some within = all_are_counted clients t
 pub each_gets_the_same : EachGetsTheSame
 each_gets_the_same clients turns number some within = all_are_equal clients turns number some within
 
-pub nothing_is_refused : NothingIsRefused
-nothing_is_refused clients turns number some within = nothing_refused clients turns number some within
+pub refusals_are_for_shares : RefusalsAreForShares
+refusals_are_for_shares clients turns number some within = only_for_shares clients turns number some within
 
 -- ---- every moment ----
 

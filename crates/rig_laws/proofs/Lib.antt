@@ -18,3 +18,4 @@ pub mod Replies
 pub mod Ready
 pub mod Turns
 pub mod Law
+pub mod Shares

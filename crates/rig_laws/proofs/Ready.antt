@@ -17,7 +17,7 @@ use Rattle.rig_runs.specs.Qmi as rig
 use Rattle.rig_runs.specs.Stage.{Stage, empty, all_arrive}
 use Rattle.rig_runs.specs.Rig.{join, say, ask, open_device, ready}
 use Rattle.rig_laws.proofs.Events.{Going}
-use Rattle.rig_laws.proofs.Stage.{Stands, HasMet, HasSaid, joins_stage, opens_stage, asks_stage}
+use Rattle.rig_laws.proofs.Stage.{Stands, HasMet, HasSaid, joins_stage, opens_stage, few_held, asks_stage}
 use Rattle.rig_laws.proofs.Arriving.{all_are_heard}
 use Rattle.rig_laws.proofs.Messages as messages
 use Rattle.rig_laws.proofs.Messages.{OpensDevice, device_is_opened, allocate_message, allocate_is_request, said_allocate}
@@ -93,6 +93,7 @@ module _ (clients : ℕ) (within : clients ≤ 64) where
       let said : HasSaid setup refl clients modem clients (opened + 1) (allocate_message 2) stage (say (rig.cast clients) (opened + 1) stage (allocate_message 2)) =
       asks_stage setup refl clients modem clients (opened + 1) (opened + 1) (allocate_message 2) stage stands (omega arith) (omega arith) (omega (arith, more)) (omega arith)
       (let empty : length stage.held ≡ 0 = ap length none in omega (arith, empty)) (allocate_is_request (opened + 1))
+      (few_held setup refl clients modem clients (opened + 1) (opened + 1) (allocate_message 2) stage stands (let empty : length stage.held ≡ 0 = ap length none in omega (arith, empty)))
       (λ number low. id_is_given setup refl clients stage.asked opened number given (omega (arith, more, within)) (omega (arith, low, allocate_top))) in
       let met = settles clients (opened + 1) _ _ (say (rig.cast clients) (opened + 1) stage (allocate_message 2)) (omega arith) said.met in
       record { stands = met.stands; none = met.held_is; given = subst (AreGiven (opened + 1)) (sym met.asked_is) (one_more_is_given opened said.number stage.asked given (omega (arith, more, within))) }

@@ -12,10 +12,10 @@ use Rattle.proxy_history.specs.Coming.{piece_limit}
 use Rattle.proxy_history.specs.Facts.{Request}
 use Rattle.proxy_solo.specs.Solo as alone
 use Rattle.proxy_solo.specs.Solo.{pieces_of}
-use Rattle.proxy_solo.proofs.Pieces.{ends_message}
+use Rattle.proxy_history.proofs.Pieces.{ends_message}
 use Rattle.sim_modem.specs.Sim.{Answering}
 use Rattle.qmi_proxy.specs.Setup.{Setup}
-use Rattle.qmi_proxy.specs.Limits.{connection_limit}
+use Rattle.qmi_proxy.specs.Limits.{connection_limit, share_limit}
 use Rattle.qmi_proxy.specs.Spaces.{space_of, top_of}
 use Rattle.qmi_proxy.specs.Messages.{is_malformed, opens}
 use Rattle.qmi_proxy.specs.Clients.{wire}
@@ -26,7 +26,7 @@ use Rattle.rig_laws.proofs.Calm.{queue_is}
 use Rattle.rig_laws.proofs.Says.{IsRequestOf}
 use Rattle.rig_laws.proofs.Hears.{Suits}
 use Rattle.rig_laws.proofs.Pairs.{Pairs, Found, as_many, one_more, find}
-use Rattle.rig_laws.proofs.Events.{Going, AllAreServed, HasAsked, joins, opens_device, asks, answers, goes_on}
+use Rattle.rig_laws.proofs.Events.{Going, AllAreServed, HasAsked, joins, opens_device, fills_share, few_fill_none, is_refused, asks, answers, goes_on}
 use Rattle.rig_laws.proofs.Taking.{clients_are_served, modem_is_served}
 
 pub one_message : (x : List ℕ) → IsMessage size_of x → (cut size_of x).messages ≡ x ∷ []
@@ -114,11 +114,21 @@ module _ (s : Setup) (there : s.starts_away ≡ false) (clients : ℕ) (modem : 
     pub reply : List ℕ
     pub met : HasMet joined opened (before.held ++ reply ∷ []) (with_number number m ∷ before.asked) stage
 
-  pub asks_stage : (joined opened c : ℕ) (m : List ℕ) (stage : Stage) → Stands joined opened stage → 1 ≤ c → c ≤ opened → opened ≤ joined → joined ≤ clients → length stage.held ≤ 199 → IsRequestOf c m
+  -- where as many of the client's requests wait as may, the modem is asked nothing
+  pub refuses_stage : (joined opened c : ℕ) (m : List ℕ) (stage : Stage) → Stands joined opened stage → 1 ≤ c → c ≤ opened → opened ≤ joined → joined ≤ clients → IsRequestOf c m → fills_share s c m stage.events ≡ true
+      → HasMet joined opened stage.held stage.asked (say cast c stage m)
+  refuses_stage joined opened c m stage stands low high order within is full =
+      meets_quietly joined opened stands.requests (Piece c m) stage within (is_refused s c m stands.going stands.served low high order is full) stands.pairs
+
+  -- so few wait in all that none are as many
+  pub few_held : (joined opened c : ℕ) (m : List ℕ) (stage : Stage) → Stands joined opened stage → length stage.held < share_limit → fills_share s c m stage.events ≡ false
+  few_held joined opened c m stage stands few = few_fill_none s c m stands.going (let same = as_many stage.held stands.requests stands.pairs in omega (arith, same, few))
+
+  pub asks_stage : (joined opened c : ℕ) (m : List ℕ) (stage : Stage) → Stands joined opened stage → 1 ≤ c → c ≤ opened → opened ≤ joined → joined ≤ clients → length stage.held ≤ 199 → IsRequestOf c m → fills_share s c m stage.events ≡ false
       → ((number : ℕ) → number ≤ top_of (space_of m) → RepliesWell stage.asked c m number) → HasSaid joined opened m stage (say cast c stage m)
-  asks_stage joined opened c m stage stands low high order within few is replies =
+  asks_stage joined opened c m stage stands low high order within few is free replies =
       let asked : HasAsked s joined opened stands.requests c m (Piece c m ∷ stage.events) =
-      asks s c m there stands.going low high order (let same = as_many stage.held stands.requests stands.pairs in omega (arith, same, few)) is in
+      asks s c m there stands.going low high order (let same = as_many stage.held stands.requests stands.pairs in omega (arith, same, few)) is free in
       let well : RepliesWell stage.asked c m asked.r.number = replies asked.r.number asked.number in
       let sent : wire asked.r ≡ with_number asked.r.number m = ap (λ (l : List ℕ). with_number asked.r.number l) asked.message in
       let met : HasMet joined opened (stage.held ++ well.reply ∷ []) (wire asked.r ∷ stage.asked) (say cast c stage m) =

@@ -7,7 +7,9 @@ use Rattle.rig_runs.specs.Qmi as rig
 use Rattle.rig_runs.specs.Stage.{Stage, longest_arrives, shortest_arrives, all_arrive}
 use Rattle.rig_runs.specs.Rig.{say, pass, request_or_arrive, play, played, ready, ended, next_number, most_held, tick, last_tick}
 use Rattle.rig_laws.proofs.Lists.{length-range}
-use Rattle.rig_laws.proofs.Stage.{HasSaid, asks_stage, passes}
+use Rattle.rig_laws.proofs.Says.{IsRequestOf}
+use Rattle.rig_laws.proofs.Events.{fills_share}
+use Rattle.rig_laws.proofs.Stage.{HasSaid, refuses_stage, asks_stage, passes}
 use Rattle.rig_laws.proofs.Arriving.{others, longest_is_heard, shortest_is_heard, all_are_heard}
 use Rattle.rig_laws.proofs.Messages.{row_of, kind_for, nas_message, said_nas, nas_is_request}
 use Rattle.rig_laws.proofs.Replies.{nas_is_answered}
@@ -49,13 +51,20 @@ module _ (clients : ℕ) (some : 1 ≤ clients) (within : clients ≤ 64) where
 
   requests : (c choice number : ℕ) (stage : Stage) → 1 ≤ c → c ≤ clients → IsUsual stage → length stage.held < 200 → IsUsual (say (rig.cast clients) c stage (says (asks_for choice) c number))
   requests c choice number stage low high usual room =
-      let id : ℕ = (row_of (kind_for choice)).id in
-      let said : HasSaid setup refl clients (modem clients within) clients clients (nas_message id c number) stage (say (rig.cast clients) c stage (nas_message id c number)) =
-      asks_stage setup refl clients (modem clients within) clients clients c (nas_message id c number) stage usual.stands low high (omega arith) (omega arith) (omega (arith, room))
-      (nas_is_request id c number (not_zero c low) (not_everybody c (omega (arith, high, within))))
-      (λ n below. nas_is_answered setup refl clients stage.asked (kind_for choice) c number n) in
-      subst (λ (m : List ℕ). IsUsual (say (rig.cast clients) c stage m)) (sym (said_nas choice c number))
-      (record { stands = said.met.stands; few = let more = ap length said.met.held_is ∙ length-append stage.held (said.reply ∷ []) in omega (arith, more, room) })
+      let m : List ℕ = nas_message (row_of (kind_for choice)).id c number in
+      let is : IsRequestOf c m = nas_is_request (row_of (kind_for choice)).id c number (not_zero c low) (not_everybody c (omega (arith, high, within))) in
+      let step : (b : Bool) → fills_share setup c m stage.events ≡ b → IsUsual (say (rig.cast clients) c stage m) =
+      λ b. elim b as (λ b. fills_share setup c m stage.events ≡ b → IsUsual (say (rig.cast clients) c stage m)) [
+        | true ↦ λ full.
+            let met = refuses_stage setup refl clients (modem clients within) clients clients c m stage usual.stands low high (omega arith) (omega arith) is full in
+            record { stands = met.stands; few = let same = ap length met.held_is in omega (arith, same, usual.few) }
+        | false ↦ λ free.
+            let said : HasSaid setup refl clients (modem clients within) clients clients m stage (say (rig.cast clients) c stage m) =
+            asks_stage setup refl clients (modem clients within) clients clients c m stage usual.stands low high (omega arith) (omega arith) (omega (arith, room)) is free
+            (λ n below. nas_is_answered setup refl clients stage.asked (kind_for choice) c number n) in
+            record { stands = said.met.stands; few = let more = ap length said.met.held_is ∙ length-append stage.held (said.reply ∷ []) in omega (arith, more, room) }
+      ]
+      in subst (λ (m : List ℕ). IsUsual (say (rig.cast clients) c stage m)) (sym (said_nas choice c number)) (step (fills_share setup c m stage.events) refl)
 
   request_or : (turn : Turn) (stage : Stage) → 1 ≤ turn.client → turn.client ≤ clients → IsUsual stage → IsUsual (request_or_arrive (rig.cast clients) script turn stage)
   request_or turn stage low high usual =

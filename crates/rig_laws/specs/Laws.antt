@@ -1,4 +1,4 @@
--- What holds of every rig, whatever is drawn: nobody is disturbed or refused, and each client gets the bytes that it gets alone.
+-- What holds of every rig, whatever is drawn: nobody is disturbed, each client gets the bytes that it gets alone, and what is refused passes its client's share.
 use Rattle.std.specs.Prelude.{◌≡◌, ℕ, ◌≤◌, List, ◌++◌, codes, decimal}
 use Rattle.std.specs.List.{range_with_len}
 use Rattle.proxy_history.specs.Events.{Event}
@@ -6,7 +6,7 @@ use Rattle.qmi_proxy.specs.Limits.{connection_limit}
 use Rattle.qmi_proxy.specs.History.{history}
 use Rattle.qmi_solo.specs.Law.{AreSound}
 use Rattle.rig_runs.specs.Qmi.{setup, qmi_rig}
-use Rattle.rig_runs.specs.Lines.{refused, counted, equal, summary, lines_of}
+use Rattle.rig_runs.specs.Lines.{AreForShares, counted, equal, summary, lines_of}
 
 -- so it is of each rig with at least one client, and no more than may be there
 abbrev pub OfEachRig : (ℕ → (turns : ℕ) → List Event → Type 0) → Type 0
@@ -24,9 +24,9 @@ NobodyIsDisturbed = OfEachRig (λ clients turns events. counted setup clients ev
 abbrev pub EachGetsTheSame : Type 0
 EachGetsTheSame = OfEachRig (λ clients turns events. equal setup clients events ≡ range_with_len 1 clients)
 
--- no message is answered with an error
-abbrev pub NothingIsRefused : Type 0
-NothingIsRefused = OfEachRig (λ clients turns events. refused setup (history setup events) ≡ 0)
+-- a message is answered with an error just where it passes its client's share
+abbrev pub RefusalsAreForShares : Type 0
+RefusalsAreForShares = OfEachRig (λ clients turns events. AreForShares setup (history setup events))
 
 -- ---- the lines ----
 

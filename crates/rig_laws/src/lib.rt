@@ -1,5 +1,5 @@
-//! What holds of every run of the rig, whatever is drawn: nobody is disturbed or refused, and each
-//! client gets the bytes that it gets alone.
+//! What holds of every run of the rig, whatever is drawn: nobody is disturbed, each client gets the
+//! bytes that it gets alone, and what is refused passes its client's share.
 #![tactic(auto)]
 
 mod laws;

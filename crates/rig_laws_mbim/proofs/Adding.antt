@@ -1,7 +1,7 @@
 -- What each event of a rig adds to its facts. Lists of events and of facts have the newest first.
 use Rattle.std.proofs.Common.{◌≡◌, ℕ, ◌+◌, ◌^◌, ◌<◌, ◌≤◌, max, true, false, ◌==◌, if◌then◌else◌, List, [], ◌∷◌, ◌++◌, length, drop}
 use Rattle.proxy_history.specs.Events.{Event, Joined, Piece, ModemPiece, Now, Took, ModemTook}
-use Rattle.proxy_history.specs.Facts.{Fact, Request, EventBegan, Own, Forward, Ready, Waits, Admitted, Judged, Drained, Forwarded, Answered, Expired, OpeningEnded, ModemDrained, TimeIs}
+use Rattle.proxy_history.specs.Facts.{Fact, Request, EventBegan, Own, Share, Forward, Ready, Waits, Admitted, Judged, Drained, Forwarded, Answered, Expired, OpeningEnded, ModemDrained, TimeIs}
 use Rattle.proxy_history.specs.Connections.{is_present, message_count}
 use Rattle.proxy_history.specs.Requests.{in_use, pending, is_pending, forward_count, deadline_of}
 use Rattle.proxy_history.specs.Modem.{now, modem_queue}
@@ -90,11 +90,21 @@ pub record Queries (c : ℕ) (m : List ℕ) (past after : List Fact) : Type 0 wh
   pub facts : after ≡ Forwarded r ∷ Judged c (message_count c past + 1) m Forward ∷ began past
   pub new : new_bytes past after ≡ wire setup r
 
+-- or it would query, but as many of its commands wait as may
+pub record PassesShare (c : ℕ) (m : List ℕ) (past after : List Fact) : Type 0 where
+  pub choice : ℕ
+  pub number : ℕ
+  pub is : m ≡ query (cid_for choice) number
+  pub count : 2 ≤ message_count c past
+  pub facts : after ≡ Judged c (message_count c past + 1) m Share ∷ began past
+  pub new : new_bytes past after ≡ []
+
 pub data HasSaid (c : ℕ) (m : List ℕ) (past after : List Fact) : Type 0 where
   naming : Names c m past after → HasSaid c m past after
   finding : FindsOpen c m past after → HasSaid c m past after
   having_opened : Opens c m past after → HasSaid c m past after
   querying : Queries c m past after → HasSaid c m past after
+  passing : PassesShare c m past after → HasSaid c m past after
 
 -- ---- the modem answers ----
 

@@ -7,7 +7,7 @@ use Rattle.std.proofs.Math.Seq.{drop-append_seam}
 use Rattle.kit_bytes.specs.declared.services.TheConstants.{BASIC_CONNECT, SMS, USSD, PHONEBOOK, STK}
 use Rattle.kit_bytes.specs.Subscriptions.{Pair, merge, normal_form, ordered_pairs, pairs_with, is_beside_all}
 use Rattle.kit_bytes.specs.Services.{starting_list}
-use Rattle.proxy_history.specs.Facts.{Fact, Request, EventBegan, Own, Forward, Ready, Waits, Admitted, Judged, Drained, Forwarded, Answered, Late, Expired, OpeningEnded, ModemDrained, TimeIs}
+use Rattle.proxy_history.specs.Facts.{Fact, Request, Verdict, EventBegan, Own, Ready, Waits, Admitted, Judged, Drained, Forwarded, Answered, Late, Expired, OpeningEnded, ModemDrained, TimeIs}
 use Rattle.proxy_history.specs.Connections.{contains, present, message_count}
 use Rattle.proxy_history.specs.Requests.{in_use, pending, without_request}
 use Rattle.proxy_history.specs.Modem.{to_modem, modem_drained, modem_queue}
@@ -25,7 +25,7 @@ use Rattle.mbim_solo.proofs.Wanting.{busy_none, asked_none, finish_none}
 use Rattle.rig_runs.specs.Mbim.{setup}
 use Rattle.rig_runs.specs.MbimExamples.{configuration, open_2}
 use Rattle.rig_laws.proofs.Lists.{range-more, in_range}
-use Rattle.rig_laws_mbim.proofs.Harmless.{AreHarmless, IsWhole, IsSteady, steady, configuration_is_answered}
+use Rattle.rig_laws_mbim.proofs.Harmless.{IsHarmless, AreHarmless, IsSteady, steady, configuration_is_answered}
 
 -- so many clients joined, the first of them named the device, and the first of those are open
 pub record Progress : Type 0 where
@@ -177,17 +177,17 @@ module _ {w : Progress} {requests : List Request} {queue : List ℕ} {past : Lis
     count = calm.count;
   }
 
-  pub judged : (c place : ℕ) (m : List ℕ) → 1 ≤ c → c ≤ w.opened → IsWhole m → Calm w requests queue (Judged c place m Forward ∷ past)
+  pub judged : (c place : ℕ) (m : List ℕ) (verdict : Verdict) → c ≤ w.opened → IsHarmless (Judged c place m verdict) past → ((known : Known) → SameFlags known (step.step setup known (Sent m verdict))) → Calm w requests queue (Judged c place m verdict ∷ past)
   unfolding present message_count in_use pending view to_modem modem_drained state last_list
-  judged d place m low high whole = record {
+  judged d place m verdict high harmless same = record {
     there = calm.there;
     order = calm.order;
     named = calm.named;
     spoke = λ c. spoke_asking w d (d == c) c (message_count c past) refl high calm.named (calm.spoke c);
-    harmless = (whole, calm.harmless);
-    knows = λ c. still_if w c (d == c) (Sent m Forward) (view_of c past) (λ known. (refl, refl, refl)) (calm.knows c);
+    harmless = (harmless, calm.harmless);
+    knows = λ c. still_if w c (d == c) (Sent m verdict) (view_of c past) same (calm.knows c);
     state_is = calm.state_is;
-    tells = tells_still w.modem w.opened requests past (Judged d place m Forward ∷ past) refl refl calm.tells;
+    tells = tells_still w.modem w.opened requests past (Judged d place m verdict ∷ past) refl refl calm.tells;
     uses = calm.uses;
     taken = calm.taken;
     to_it = calm.to_it;

@@ -14,9 +14,9 @@ use Rattle.proxy_history.specs.Events.{Event, Joined, Piece, ModemPiece, Now, To
 use Rattle.proxy_history.specs.Coming.{piece_limit, greatest_name, queued_for, AreSound}
 use Rattle.proxy_history.specs.Streams.{stream, modem_stream, with_piece, messages_of_piece, is_bad}
 use Rattle.proxy_history.specs.Items.{Item, Says, Garbles, ModemSays, ModemFails, item_if, modem_items}
-use Rattle.proxy_history.specs.Facts.{Fact, Request, EventBegan, Own, Forward, Ready, Waits, NotAdmitted, Ended, Admitted, Judged, Drained, Forwarded, Answered, OpeningEnded, TimeIs}
+use Rattle.proxy_history.specs.Facts.{Fact, Request, EventBegan, Own, Share, Forward, Ready, Waits, NotAdmitted, Ended, Admitted, Judged, Drained, Forwarded, Answered, OpeningEnded, TimeIs}
 use Rattle.proxy_history.specs.Connections.{present, is_present, contains, message_count}
-use Rattle.proxy_history.specs.Requests.{in_use, pending, is_pending, forward_count}
+use Rattle.proxy_history.specs.Requests.{has_share, in_use, pending, is_pending, forward_count}
 use Rattle.proxy_history.specs.Modem.{now, to_modem, modem_drained, modem_queue}
 use Rattle.proxy_history.specs.View.{view}
 use Rattle.proxy_history.specs.Unanswered.{due}
@@ -24,7 +24,7 @@ use Rattle.proxy_history.specs.History as proxy
 use Rattle.proxy_history.specs.History.{add_all}
 use Rattle.proxy_history.proofs.Walk.{was_asked, all_fit}
 use Rattle.proxy_history.proofs.Sound.{forwarded_from_in_use}
-use Rattle.proxy_solo.proofs.Pieces.{ends_message}
+use Rattle.proxy_history.proofs.Pieces.{ends_message}
 use Rattle.mbim_proxy.specs.Setup.{the_space}
 use Rattle.mbim_proxy.specs.Known.{Known}
 use Rattle.mbim_proxy.specs.Step.{known_now}
@@ -45,10 +45,10 @@ use Rattle.rig_laws_mbim.proofs.Messages.{configuration_is, opening_is, query, c
 use Rattle.rig_laws_mbim.proofs.Harmless.{AreHarmless}
 use Rattle.rig_laws_mbim.proofs.Calm.{Calm, Progress, shut, opening, ready, queue_is, begun, timed, drained, modem_drained_all, admitted, judged_configuration, one_more_configured, judged_ready, asks_to_open, finishes, finished}
 use Rattle.rig_laws_mbim.proofs.Room.{HasRoom, AllHaveRoom, outbox, fewer, all_expire}
-use Rattle.rig_laws_mbim.proofs.Says.{HasNumber, has_number, configuration_is_heard, open_is_heard, first_is_heard, IsForwarded, query_is_forwarded}
+use Rattle.rig_laws_mbim.proofs.Says.{HasNumber, has_number, configuration_is_heard, open_is_heard, first_is_heard, IsForwarded, IsRefused, query_is_refused, query_is_forwarded}
 use Rattle.rig_laws_mbim.proofs.Hears.{Suits, answered_or_late, answer_is_heard, opening_is_heard}
 use Rattle.rig_laws_mbim.proofs.Trail.{AreWhole, standing, IsSaidAt, IsStep, Trail}
-use Rattle.rig_laws_mbim.proofs.Adding.{Adds, Moment, AreMoments, HasSaid, naming, finding, having_opened, querying, HasHeard, answering, ending, new_bytes, expired_by}
+use Rattle.rig_laws_mbim.proofs.Adding.{Adds, Moment, AreMoments, HasSaid, naming, finding, having_opened, querying, passing, HasHeard, answering, ending, new_bytes, expired_by}
 
 pub record Going (w : Progress) (requests : List Request) (queue : List ℕ) (events : List Event) : Type 0 where
   pub sound : AreSound (mbim_protocol setup) events
@@ -282,12 +282,32 @@ pub record HasAsked (joined configured opened choice : ℕ) (requests : List Req
   pub wire_is : wire setup r ≡ query (cid_for choice) r.number
   pub going : Going (ready joined configured opened) (requests ++ r ∷ []) (wire setup r) events
 
+-- as many of the client's commands wait as may
+abbrev pub fills_share : (c : ℕ) → List Event → Bool
+fills_share c events = has_share setup.limits.share c the_space (began events)
+
+-- a query that is refused asks the modem nothing
+pub is_refused : {joined configured opened : ℕ} {requests : List Request} {events : List Event} (c choice own : ℕ) → Going (ready joined configured opened) requests [] events → AllAreServed events → 1 ≤ c → c ≤ opened → opened ≤ joined → length requests ≤ 200
+    → fills_share c events ≡ true → Going (ready joined configured opened) requests [] (Piece c (query (cid_for choice) own) ∷ events)
+unfolding message_count
+is_refused {joined} {configured} {opened} {requests} {events} c choice own going served low high order few full =
+    let room : AllHaveRoom 200 (began events) = fewer 200 outbox (began events) (omega arith) (all_have_room events served) in
+    let refused : IsRefused c (began events) choice own joined configured opened requests (hear_client setup (known_now setup c (began events)) c (query (cid_for choice) own) (began events)) =
+    query_is_refused c (began events) choice own (begun going.calm) low high full room in
+    let q = query_is choice in
+    let m : List ℕ = query (cid_for choice) own in
+    let place : ℕ = message_count c (history setup events) + 1 in
+    let then_calm : Calm (ready joined configured opened) requests [] (Judged c place m Share ∷ began events) = subst (Calm (ready joined configured opened) requests []) refused.facts refused.calm in
+    said_piece c m (Judged c place m Share ∷ began events) going low (omega (arith, high, order)) refl (q.is_message own) (let short = q.short own in omega (arith, short))
+    (inr (inr (inr (record { joined = joined; configured = configured; opened = opened; choice = choice; number = own; message = refl; was = refl; low = low; high = high; there = order; queue = refl; few = few })))) (omega arith) refused.facts then_calm
+    (passing (record { choice = choice; number = own; is = refl; count = (going.calm.spoke c).often low high; facts = refl; new = nothing_new going.calm then_calm }))
+
 pub asks : {joined configured opened : ℕ} {requests : List Request} {events : List Event} (c choice own : ℕ) → Going (ready joined configured opened) requests [] events → 1 ≤ c → c ≤ opened → opened ≤ joined → length requests ≤ 200
-    → HasAsked joined configured opened choice requests (Piece c (query (cid_for choice) own) ∷ events)
+    → fills_share c events ≡ false → HasAsked joined configured opened choice requests (Piece c (query (cid_for choice) own) ∷ events)
 unfolding message_count forward_count now
-asks {joined} {configured} {opened} {requests} {events} c choice own going low high order few =
+asks {joined} {configured} {opened} {requests} {events} c choice own going low high order few free =
     let added : IsForwarded c (began events) choice own joined configured opened requests (hear_client setup (known_now setup c (began events)) c (query (cid_for choice) own) (began events)) =
-    query_is_forwarded c (began events) choice own (begun going.calm) low high few in
+    query_is_forwarded c (began events) choice own (begun going.calm) low high few free in
     let q = query_is choice in
     let r : Request = added.r in
     let m : List ℕ = query (cid_for choice) own in

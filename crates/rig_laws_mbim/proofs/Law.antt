@@ -17,10 +17,10 @@ use Rattle.mbim_solo.proofs.Law.{gets_the_same_alone, served_proxies_are_roomy}
 use Rattle.rig_runs.specs.Counts.{Summary, is_let_alone, gets_the_same, line, lines_of}
 use Rattle.rig_runs.specs.Rig.{device, time_limit}
 use Rattle.rig_runs.specs.Mbim.{setup, mbim_rig}
-use Rattle.rig_runs.specs.MbimLines.{counted, equal, refused, summary}
+use Rattle.rig_runs.specs.MbimLines.{counted, equal, summary}
 use Rattle.rig_laws_mbim.specs.Law.{all_equal, EndsWithLine, IsFair, EachRunIsFair}
 use Rattle.rig_laws.proofs.Lists.{filter-all, length-range, each_of}
-use Rattle.rig_laws_mbim.proofs.Harmless.{AreUndisturbed, undisturbed, none_refused}
+use Rattle.rig_laws_mbim.proofs.Harmless.{AreUndisturbed, undisturbed, refused_for_shares}
 use Rattle.rig_laws_mbim.proofs.Playing.{rig_stands}
 
 all_are : (entries : List Entry) → AreUndisturbed entries → list_all (λ entry. not (tells_of_others entry)) entries ≡ true
@@ -111,7 +111,7 @@ module _ (clients turns number : ℕ) (some : 1 ≤ clients) (within : clients �
     sound = (rig_stands clients some within turns number).going.sound;
     undisturbed = undisturbed_ones;
     same = same_ones;
-    none_refused = none_refused facts (rig_stands clients some within turns number).going.calm.harmless;
+    refused_for_shares = refused_for_shares facts (rig_stands clients some within turns number).going.calm.harmless;
     last_line = ends;
   }
     where

@@ -11,6 +11,7 @@ use Rattle.mbim_frame.specs.Kinds.{kind_number}
 use Rattle.mbim_frame.specs.Frame.{size_of}
 use Rattle.mbim_frame.specs.Head.{kind_of, is_kind, number_of, with_number}
 use Rattle.mbim_frame.specs.Fragment.{body_of}
+use Rattle.mbim_frame.specs.Bodies.{uuid_of, cid_of, done_text}
 use Rattle.mbim_frame.specs.Writing.{unsplit, open_done, open_request}
 use Rattle.mbim_fragments.specs.Runs.{Joining, Whole}
 use Rattle.mbim_fragments.specs.Assembling.{Assembled, fresh, joining_behind, assembled_after}
@@ -23,6 +24,7 @@ use Rattle.mbim_session.specs.Requests.{command_message}
 use Rattle.mbim_proxy.specs.Known.{Known}
 use Rattle.mbim_proxy.specs.OwnReplies.{OwnReply, Configures, is_open_request, is_command_fragment, is_for_modem, may_open, reply_to_joining, own_reply, view_decides}
 use Rattle.mbim_proxy.specs.Step.{command_with}
+use Rattle.mbim_proxy.specs.Text.{SHARE_PASSED}
 use Rattle.mbim_proxy.specs.FromModem.{IsDone, IsOpenDone, heard_as}
 use Rattle.mbim_proxy.specs.Delivering.{is_fragment}
 use Rattle.mbim_proxy.specs.Forwarding.{own_open, wire_of}
@@ -120,21 +122,23 @@ pub record IsQuery (cid : ℕ) : Type 0 where
   pub shared : (known : Known) → known.opened ≡ true → is_for_modem known (Whole (body cid)) ≡ true
   pub no_request_to_open : (number : ℕ) → is_kind Open (query cid number) ≡ false
   pub wire : (number other : ℕ) → wire_of setup number (query cid other) ≡ query cid number
+  -- the answer to one that passes its client's share
+  pub refused : (number : ℕ) → length (split (kind_number CommandDone) number 4096 (done_text (record { uuid = uuid_of (body cid); cid = cid_of (body cid); status = SHARE_PASSED }) [])) ≤ 200
 
 pub query_is : (choice : ℕ) → IsQuery (cid_for choice)
 query_is = by_cid IsQuery three six nine eleven
   where
     three : IsQuery 3
-    three = record { is_message = λ number. refl; short = λ number. lit≤ tt; fragment = λ number. refl; no_open = λ number. refl; whole = λ number. refl; closed = λ number. refl; shared = λ known opened. ap (λ (b : Bool). b && true) opened; no_request_to_open = λ number. refl; wire = λ number other. refl }
+    three = record { is_message = λ number. refl; short = λ number. lit≤ tt; fragment = λ number. refl; no_open = λ number. refl; whole = λ number. refl; closed = λ number. refl; shared = λ known opened. ap (λ (b : Bool). b && true) opened; no_request_to_open = λ number. refl; wire = λ number other. refl; refused = λ number. lit≤ tt }
 
     six : IsQuery 6
-    six = record { is_message = λ number. refl; short = λ number. lit≤ tt; fragment = λ number. refl; no_open = λ number. refl; whole = λ number. refl; closed = λ number. refl; shared = λ known opened. ap (λ (b : Bool). b && true) opened; no_request_to_open = λ number. refl; wire = λ number other. refl }
+    six = record { is_message = λ number. refl; short = λ number. lit≤ tt; fragment = λ number. refl; no_open = λ number. refl; whole = λ number. refl; closed = λ number. refl; shared = λ known opened. ap (λ (b : Bool). b && true) opened; no_request_to_open = λ number. refl; wire = λ number other. refl; refused = λ number. lit≤ tt }
 
     nine : IsQuery 9
-    nine = record { is_message = λ number. refl; short = λ number. lit≤ tt; fragment = λ number. refl; no_open = λ number. refl; whole = λ number. refl; closed = λ number. refl; shared = λ known opened. ap (λ (b : Bool). b && true) opened; no_request_to_open = λ number. refl; wire = λ number other. refl }
+    nine = record { is_message = λ number. refl; short = λ number. lit≤ tt; fragment = λ number. refl; no_open = λ number. refl; whole = λ number. refl; closed = λ number. refl; shared = λ known opened. ap (λ (b : Bool). b && true) opened; no_request_to_open = λ number. refl; wire = λ number other. refl; refused = λ number. lit≤ tt }
 
     eleven : IsQuery 11
-    eleven = record { is_message = λ number. refl; short = λ number. lit≤ tt; fragment = λ number. refl; no_open = λ number. refl; whole = λ number. refl; closed = λ number. refl; shared = λ known opened. ap (λ (b : Bool). b && true) opened; no_request_to_open = λ number. refl; wire = λ number other. refl }
+    eleven = record { is_message = λ number. refl; short = λ number. lit≤ tt; fragment = λ number. refl; no_open = λ number. refl; whole = λ number. refl; closed = λ number. refl; shared = λ known opened. ap (λ (b : Bool). b && true) opened; no_request_to_open = λ number. refl; wire = λ number other. refl; refused = λ number. lit≤ tt }
 
 -- the number of a message reads as it was written
 pub query_number_is : (cid number : ℕ) → number < 2 ^ 32 → number_of (query cid number) ≡ number

@@ -22,8 +22,8 @@ use Rattle.rig_laws_mbim.proofs.Messages.{query, cid_for, said_configuration, sa
 use Rattle.rig_laws_mbim.proofs.Harmless.{AreHarmless}
 use Rattle.rig_laws_mbim.proofs.Calm.{Progress, shut, nobody_yet}
 use Rattle.rig_laws_mbim.proofs.Calm as calm
-use Rattle.rig_laws_mbim.proofs.Events.{Going}
-use Rattle.rig_laws_mbim.proofs.Stage.{Stands, HasMet, joins_stage, configures_stage, finds_open_stage, opens_stage, opening_ends, asks_stage, passes}
+use Rattle.rig_laws_mbim.proofs.Events.{Going, fills_share}
+use Rattle.rig_laws_mbim.proofs.Stage.{Stands, HasMet, joins_stage, configures_stage, finds_open_stage, opens_stage, opening_ends, refuses_stage, asks_stage, passes}
 use Rattle.rig_laws_mbim.proofs.Arriving.{IsFewer, others, longest_is_heard, shortest_is_heard, all_are_heard}
 
 -- ---- who is drawn ----
@@ -182,11 +182,16 @@ module _ (clients : ℕ) (some : 1 ≤ clients) (within : clients ≤ 64) where
       own : ℕ
       own = next_number script turn.client stage.events
 
+      asked : (full : Bool) → fills_share turn.client stage.events ≡ full → length stage.held ≤ 199 → IsPlaying (say (cast clients) turn.client stage (query (cid_for turn.choice) own))
+      asked true full less =
+          as_many_less stage _ (length stage.held) (refuses_stage clients clients clients clients turn.client turn.choice own stage playing.stands one.0 one.1 (omega arith) (omega arith) less full) (omega (arith, less))
+      asked false free less =
+          as_many_less stage _ (length stage.held + 1) (asks_stage clients clients clients clients turn.client turn.choice own stage playing.stands one.0 one.1 (omega arith) (omega arith) less free) (omega (arith, less))
+
       by : (b : Bool) → nat_lt (length stage.held) most_held ≡ b → IsPlaying (if b then say (cast clients) turn.client stage (command_message (asks_for turn.choice) own) else longest_arrives (cast clients) stage)
       by true e =
           let less : length stage.held ≤ 199 = grind (arith, nat_tests, e) in
-          subst (λ (m : List ℕ). IsPlaying (say (cast clients) turn.client stage m)) (sym (said_query turn.choice own))
-          (as_many_less stage _ (length stage.held + 1) (asks_stage clients clients clients clients turn.client turn.choice own stage playing.stands one.0 one.1 (omega arith) (omega arith) less) (omega (arith, less)))
+          subst (λ (m : List ℕ). IsPlaying (say (cast clients) turn.client stage m)) (sym (said_query turn.choice own)) (asked (fills_share turn.client stage.events) refl less)
       by false e = longest stage playing
 
   pub plays : (stage : Stage) (turn : Turn) → IsOneOf clients turn → IsPlaying stage → IsPlaying (play (cast clients) script stage turn)

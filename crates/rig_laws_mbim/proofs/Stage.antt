@@ -13,7 +13,7 @@ use Rattle.proxy_history.specs.Facts.{Request}
 use Rattle.proxy_history.specs.Modem.{modem_queue}
 use Rattle.proxy_solo.specs.Solo as alone
 use Rattle.proxy_solo.specs.Solo.{pieces_of}
-use Rattle.proxy_solo.proofs.Pieces.{ends_message}
+use Rattle.proxy_history.proofs.Pieces.{ends_message}
 use Rattle.sim_modem.specs.Sim.{state_after}
 use Rattle.modem_profile.specs.Profile.{default_profile}
 use Rattle.sim_mbim.specs.Answers.{State, machine}
@@ -29,7 +29,7 @@ use Rattle.rig_laws_mbim.proofs.Messages.{query, cid_for, query_is, query_number
 use Rattle.rig_laws_mbim.proofs.Calm.{Progress, shut, opening, ready, one_more_configured, queue_is}
 use Rattle.rig_laws_mbim.proofs.Hears.{Suits}
 use Rattle.rig_laws_mbim.proofs.Pairs.{Pairs, Found, as_many, one_more, find, all_are_commands}
-use Rattle.rig_laws_mbim.proofs.Events.{Going, AllAreServed, HasOpened, HasAsked, joins, configures, finds_open, opens_modem, asks, answers, opens, goes_on}
+use Rattle.rig_laws_mbim.proofs.Events.{Going, AllAreServed, HasOpened, HasAsked, joins, configures, finds_open, opens_modem, fills_share, is_refused, asks, answers, opens, goes_on}
 use Rattle.rig_laws_mbim.proofs.Taking.{AreServed, clients_are_served, modem_is_served}
 
 pub one_message : (x : List ℕ) → IsMessage size_of x → (cut size_of x).messages ≡ x ∷ []
@@ -173,11 +173,18 @@ module _ (clients : ℕ) where
 
   -- ---- a client asks ----
 
-  pub asks_stage : (joined configured opened c choice own : ℕ) (stage : Stage) → Stands (ready joined configured opened) stage → 1 ≤ c → c ≤ opened → opened ≤ joined → joined ≤ clients → length stage.held ≤ 199
-      → HasMet (ready joined configured opened) (length stage.held + 1) (say (cast clients) c stage (query (cid_for choice) own))
-  asks_stage joined configured opened c choice own stage stands low high order within few =
+  -- where as many of the client's commands wait as may, the modem is asked nothing
+  pub refuses_stage : (joined configured opened c choice own : ℕ) (stage : Stage) → Stands (ready joined configured opened) stage → 1 ≤ c → c ≤ opened → opened ≤ joined → joined ≤ clients → length stage.held ≤ 199
+      → fills_share c stage.events ≡ true → HasMet (ready joined configured opened) (length stage.held) (say (cast clients) c stage (query (cid_for choice) own))
+  refuses_stage joined configured opened c choice own stage stands low high order within few full =
       let same = as_many stage.held stands.requests stands.pairs in
-      let asked : HasAsked joined configured opened choice stands.requests (Piece c (query (cid_for choice) own) ∷ stage.events) = asks c choice own stands.going low high order (omega (arith, same, few)) in
+      meets_quietly (ready joined configured opened) stands.requests (Piece c (query (cid_for choice) own)) stage within (is_refused c choice own stands.going stands.served low high order (omega (arith, same, few)) full) stands.pairs stands.asked
+
+  pub asks_stage : (joined configured opened c choice own : ℕ) (stage : Stage) → Stands (ready joined configured opened) stage → 1 ≤ c → c ≤ opened → opened ≤ joined → joined ≤ clients → length stage.held ≤ 199
+      → fills_share c stage.events ≡ false → HasMet (ready joined configured opened) (length stage.held + 1) (say (cast clients) c stage (query (cid_for choice) own))
+  asks_stage joined configured opened c choice own stage stands low high order within few free =
+      let same = as_many stage.held stands.requests stands.pairs in
+      let asked : HasAsked joined configured opened choice stands.requests (Piece c (query (cid_for choice) own) ∷ stage.events) = asks c choice own stands.going low high order (omega (arith, same, few)) free in
       let r : Request = asked.r in
       let q = query_is choice in
       let a = answer_is choice in

@@ -6,7 +6,7 @@ use Rattle.proxy_history.specs.Coming.{AreSound}
 use Rattle.mbim_proxy.specs.History.{mbim_protocol, history}
 use Rattle.rig_runs.specs.Counts.{lines_of}
 use Rattle.rig_runs.specs.Mbim.{setup, mbim_rig}
-use Rattle.rig_runs.specs.MbimLines.{counted, equal, refused, summary}
+use Rattle.rig_runs.specs.MbimLines.{counted, equal, AreForShares, summary}
 
 -- the line that tells that so many clients of as many get the same
 abbrev pub all_equal : (clients : ℕ) → List ℕ
@@ -24,8 +24,8 @@ pub record IsFair (clients turns : ℕ) (events : List Event) : Type 0 where
   pub undisturbed : counted setup clients events ≡ range_with_len 1 clients
   -- each client gets the bytes that it gets alone
   pub same : equal setup clients events ≡ range_with_len 1 clients
-  -- no message is refused
-  pub none_refused : refused setup (history setup events) ≡ 0
+  -- a message is refused just where it passes its client's share
+  pub refused_for_shares : AreForShares setup (history setup events)
   pub last_line : EndsWithLine (all_equal clients) (lines_of (summary setup clients turns events))
 
 -- so is each run with 1 to 64 clients

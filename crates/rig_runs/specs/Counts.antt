@@ -1,8 +1,8 @@
 -- The summary of a rig's run: counts over the facts of its history. Lists of facts and of events have the newest first.
-use Rattle.std.specs.Prelude.{ℕ, ◌+◌, Bool, true, false, not, ◌==◌, if◌then◌else◌, List, [], ◌∷◌, ◌++◌, length, filter, codes, decimal, bytes_eq}
+use Rattle.std.specs.Prelude.{◌≡◌, ℕ, ◌+◌, Bool, true, false, not, ◌==◌, if◌then◌else◌, List, [], ◌∷◌, ◌++◌, length, filter, codes, decimal, bytes_eq}
 use Rattle.std.specs.List.{list_all, range_with_len}
 use Rattle.proxy_history.specs.Events.{Event}
-use Rattle.proxy_history.specs.Facts.{Fact, Verdict, Judged, Forwarded, Answered, Expired, Late}
+use Rattle.proxy_history.specs.Facts.{Fact, Verdict, Share, Judged, Forwarded, Answered, Expired, Late}
 use Rattle.proxy_history.specs.View.{view}
 use Rattle.proxy_history.specs.Protocol.{Protocol}
 use Rattle.proxy_history.specs.History.{history, text_for}
@@ -44,6 +44,21 @@ unfoldable pub refused : Refusal → List Fact → ℕ
 refused is_refusal [] = 0
 refused is_refusal (Judged c place m verdict ∷ past) = one_if (is_refusal c m verdict past) + refused is_refusal past
 refused is_refusal (_ ∷ past) = refused is_refusal past
+
+-- whether a client's message would go to the modem while as many of its requests wait as may; the facts are those before
+abbrev pub Passing : Type 0
+Passing = (conn : ℕ) → (message : List ℕ) → List Fact → Bool
+
+-- a message with this verdict is refused just where it passes its client's share, and then for that
+pub record IsForShare (is_refusal : Refusal) (passes : Passing) (c : ℕ) (m : List ℕ) (verdict : Verdict) (past : List Fact) : Type 0 where
+  pub just_then : is_refusal c m verdict past ≡ passes c m past
+  pub for_that : is_refusal c m verdict past ≡ true → verdict ≡ Share
+
+-- so it is with each message
+abbrev pub AreForShares : Refusal → Passing → List Fact → Type 0
+AreForShares is_refusal passes [] = Unit {0}
+AreForShares is_refusal passes (Judged c place m verdict ∷ past) = IsForShare is_refusal passes c m verdict past × AreForShares is_refusal passes past
+AreForShares is_refusal passes (_ ∷ past) = AreForShares is_refusal passes past
 
 -- ---- the clients ----
 

@@ -1,10 +1,13 @@
 -- The summary of a rig's run for QMI. Lists of facts and of events have the newest first.
-use Rattle.std.specs.Prelude.{ℕ, Bool, true, false, not, ◌==◌, List}
+use Rattle.std.specs.Prelude.{ℕ, Bool, true, false, not, ◌&&◌, ◌==◌, List}
 use Rattle.proxy_history.specs.Events.{Event}
-use Rattle.proxy_history.specs.Facts.{Fact, Verdict, Own, Foreign, Away, Full, Forward, Ready, Waits}
+use Rattle.proxy_history.specs.Facts.{Fact, Verdict, Own, Share, Foreign, Away, Full, Forward, Ready, Waits}
 use Rattle.qmi_proxy.specs.Setup.{Setup}
 use Rattle.qmi_proxy.specs.History.{qmi_protocol}
-use Rattle.qmi_proxy.specs.OwnReplies.{is_open, own_error}
+use Rattle.proxy_history.specs.Requests.{has_share}
+use Rattle.qmi_proxy.specs.Limits.{share_limit}
+use Rattle.qmi_proxy.specs.Spaces.{space_of}
+use Rattle.qmi_proxy.specs.OwnReplies.{is_open, own_error, view_decides}
 use Rattle.qmi_proxy.specs.Text.{view_of}
 use Rattle.qmi_solo.specs.Solo.{qmi_alone}
 use Rattle.rig_runs.specs.Counts as rig
@@ -17,6 +20,7 @@ abbrev pub is_refusal : Setup → (opened : Bool) → List ℕ → Verdict → B
 is_refusal s opened m Own = not (own_error s.device opened m == 0)
 is_refusal s opened m Foreign = true
 is_refusal s opened m Away = true
+is_refusal s opened m Share = true
 is_refusal s opened m Full = true
 is_refusal s opened m Forward = false
 is_refusal s opened m Ready = false
@@ -27,6 +31,13 @@ refuses s c m verdict past = is_refusal s (is_open s.device (view_of c past)) m 
 
 abbrev pub refused : Setup → List Fact → ℕ
 refused s facts = rig.refused (refuses s) facts
+
+-- the client's own view doesn't decide, and as many requests of the client wait in the message's space as may
+abbrev pub passes_share : Setup → rig.Passing
+passes_share s c m past = not (view_decides (is_open s.device (view_of c past)) m) && has_share share_limit c (space_of m) past
+
+abbrev pub AreForShares : Setup → List Fact → Type 0
+AreForShares s facts = rig.AreForShares (refuses s) (passes_share s) facts
 
 -- ---- the summary ----
 

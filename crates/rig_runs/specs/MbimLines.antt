@@ -2,11 +2,12 @@
 use Rattle.std.specs.Prelude.{ℕ, Bool, true, false, not, ◌==◌, List}
 use Rattle.mbim_frame.specs.declared.status.TheConstants.{SUCCESS}
 use Rattle.proxy_history.specs.Events.{Event}
-use Rattle.proxy_history.specs.Facts.{Fact, Verdict, Own, Foreign, Away, Full, Forward, Ready, Waits}
+use Rattle.proxy_history.specs.Facts.{Fact, Verdict, Own, Share, Foreign, Away, Full, Forward, Ready, Waits}
 use Rattle.mbim_proxy.specs.Setup.{Setup}
 use Rattle.mbim_proxy.specs.Known.{Known}
 use Rattle.mbim_proxy.specs.Step.{known_now}
 use Rattle.mbim_proxy.specs.OwnReplies.{OwnReply, Silent, Wrong, NotOpened, Closes, Refuses, Configures, Subscribes, own_reply}
+use Rattle.mbim_proxy.specs.Clients as clients
 use Rattle.mbim_proxy.specs.History.{mbim_protocol}
 use Rattle.mbim_solo.specs.Solo.{mbim_alone}
 use Rattle.rig_runs.specs.Counts as rig
@@ -29,6 +30,7 @@ abbrev pub is_refusal : Setup → Known → List ℕ → Verdict → Bool
 is_refusal s known m Own = tells_refusal (own_reply s known m)
 is_refusal s known m Foreign = false
 is_refusal s known m Away = true
+is_refusal s known m Share = true
 is_refusal s known m Full = true
 is_refusal s known m Forward = false
 is_refusal s known m Ready = false
@@ -39,6 +41,13 @@ refuses s c m verdict past = is_refusal s (known_now s c past) m verdict
 
 abbrev pub refused : Setup → List Fact → ℕ
 refused s facts = rig.refused (refuses s) facts
+
+-- a command that would go to the modem, of a client of which as many wait as may
+abbrev pub passes_share : Setup → rig.Passing
+passes_share s c m past = clients.passes_share s (known_now s c past) c m past
+
+abbrev pub AreForShares : Setup → List Fact → Type 0
+AreForShares s facts = rig.AreForShares (refuses s) (passes_share s) facts
 
 -- ---- the summary ----
 

@@ -7,3 +7,4 @@ pub mod Writing
 pub mod Distinct
 pub mod Replies
 pub mod Lacking
+pub mod Short

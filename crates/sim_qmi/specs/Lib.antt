@@ -14,3 +14,4 @@ pub mod Requests
 pub mod Modem
 pub mod Examples
 pub mod Laws
+pub mod Short

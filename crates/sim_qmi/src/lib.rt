@@ -22,7 +22,10 @@ mod wms;
 use client_id::ClientId;
 use ctl::CtlRequest;
 use dms::DmsRequest;
-pub use laws::{each_request_is_answered, no_id_is_given_twice, only_the_input_is_missed};
+pub use laws::{
+    each_request_is_answered, no_id_is_given_twice, only_the_input_is_missed,
+    requests_have_short_answers,
+};
 use nas::NasRequest;
 use request::Request;
 pub use sim::QmiSim;

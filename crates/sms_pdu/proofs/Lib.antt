@@ -5,6 +5,7 @@ pub mod Whole
 pub mod Pieces
 pub mod Sending
 pub mod Joins
+pub mod Groups
 pub mod Laying
 pub mod Telling
 pub mod UserData

@@ -6,6 +6,7 @@ pub mod Header
 pub mod Reading
 pub mod Parts
 pub mod Joining
+pub mod Entries
 pub mod Examples
 pub mod Vectors
 pub mod Laws

@@ -34,6 +34,15 @@ from_address address = hex (codes "00 04") ++ address ++ hex (codes "00 00 42 10
 
 pub record AddressesAreRead : Type 0 where
   pub one_letter : address_of (pdu (from_address (hex (codes "02 D0 41")))) ≡ Some (codes "A")
+  pub two_letters : address_of (pdu (from_address (hex (codes "04 D0 C2 30")))) ≡ Some (codes "Ba")
+  pub three_letters : address_of (pdu (from_address (hex (codes "06 D0 C2 B0 1B")))) ≡ Some (codes "Ban")
+  pub four_letters : address_of (pdu (from_address (hex (codes "07 D0 C2 B0 7B 0D")))) ≡ Some (codes "Bank")
+  pub five_letters : address_of (pdu (from_address (hex (codes "09 D0 C2 B0 7B 0D 02")))) ≡ Some (codes "Bank ")
+  pub six_letters : address_of (pdu (from_address (hex (codes "0B D0 C2 B0 7B 0D 7A 02")))) ≡ Some (codes "Bank O")
+  pub seven_letters : address_of (pdu (from_address (hex (codes "0D D0 C2 B0 7B 0D 7A 9A 01")))) ≡ Some (codes "Bank Of")
+  pub eight_letters : address_of (pdu (from_address (hex (codes "0E D0 C2 B0 7B 0D 7A 9A CD")))) ≡ Some (codes "Bank Off")
+  pub nine_letters : address_of (pdu (from_address (hex (codes "10 D0 C2 B0 7B 0D 7A 9A CD 69")))) ≡ Some (codes "Bank Offi")
+  pub ten_letters : address_of (pdu (from_address (hex (codes "12 D0 C2 B0 7B 0D 7A 9A CD E9 31")))) ≡ Some (codes "Bank Offic")
   pub eleven_letters : address_of (pdu (from_address (hex (codes "14 D0 C2 B0 7B 0D 7A 9A CD E9 71 19")))) ≡ Some (codes "Bank Office")
   pub national : address_of (pdu (from_address (hex (codes "04 81 21 43")))) ≡ Some (codes "1234")
   pub other_digits : address_of (pdu (from_address (hex (codes "05 81 BA DC FE")))) ≡ Some (codes "*#abc")

@@ -1,6 +1,8 @@
 ghost use Rattle.std.specs.Prelude.{◌≡◌, IfOk, option_map};
+ghost use Rattle.sms_pdu.specs.Entries.{pdus_of};
 ghost use Rattle.sms_pdu.specs.Joining as joining;
 
+use crate::entries::{Entry, begins_before, entries_of, run_of, sort_by_group};
 use crate::texts::{copy_of, same_text};
 use crate::{Body, Joined, JoinedList, Part, Pdu, Pdus};
 use kit_bytes::Text;
@@ -18,12 +20,15 @@ pub fn join(alloc: Global, list: &Pdus) -> Result<JoinedList, AllocError>
 fn joined_in(alloc: Global, pdus: &[Pdu]) -> Result<Vec<Joined>, AllocError>
     ensures { IfOk result (λ joined. joined.items ≡ joining.joined pdus.now) }
 {
+    let mut entries = entries_of(alloc, pdus)?;
+    sort_by_group(&mut entries)?;
     let mut joined = Vec::new(alloc);
     for (index, pdu) in pdus.iter().enumerate() {
-        if has_group(&pdus[..index], pdu) {
+        let run = run_of(&entries, pdu);
+        if begins_before(run, index) {
             continue;
         }
-        if let Some(text) = whole_text(alloc, pdus, pdu)? {
+        if let Some(text) = whole_text(alloc, run, pdu)? {
             let address = copy_of(alloc, &pdu.address)?;
             joined.push(Joined { address, text })?;
         }
@@ -31,19 +36,12 @@ fn joined_in(alloc: Global, pdus: &[Pdu]) -> Result<Vec<Joined>, AllocError>
     Ok(joined)
 }
 
-// Whether one of these is of the group of a message.
-fn has_group(before: &[Pdu], pdu: &Pdu) -> bool
-    ensures { result ≡ joining.has_group before.now pdu.now }
-{
-    before.iter().any(|other| same_group(other, pdu))
-}
-
 // The text of a message's whole group, or of itself if it is no part.
-fn whole_text(alloc: Global, pdus: &[Pdu], pdu: &Pdu) -> Result<Option<Text>, AllocError>
-    ensures { IfOk result (λ text. text ≡ joining.whole_text pdus.now pdu.now) }
+fn whole_text(alloc: Global, run: &[Entry<'_>], pdu: &Pdu) -> Result<Option<Text>, AllocError>
+    ensures { IfOk result (λ text. text ≡ joining.whole_text (pdus_of run.now) pdu.now) }
 {
     match &pdu.part {
-        Some(part) => group_text(alloc, pdus, pdu, part.total),
+        Some(part) => group_text(alloc, run, pdu, part.total),
         None => match written(&pdu.body) {
             Some(text) => Ok(Some(copy_of(alloc, text)?)),
             None => Ok(None),
@@ -52,12 +50,17 @@ fn whole_text(alloc: Global, pdus: &[Pdu], pdu: &Pdu) -> Result<Option<Text>, Al
 }
 
 // What the places of a message's group say, from 1 up to this one, if all have a text.
-fn group_text(alloc: Global, pdus: &[Pdu], pdu: &Pdu, last: u8) -> Result<Option<Text>, AllocError>
-    ensures { IfOk result (λ text. text ≡ joining.text_up_to pdus.now pdu.now last) }
+fn group_text(
+    alloc: Global,
+    run: &[Entry<'_>],
+    pdu: &Pdu,
+    last: u8,
+) -> Result<Option<Text>, AllocError>
+    ensures { IfOk result (λ text. text ≡ joining.text_up_to (pdus_of run.now) pdu.now last) }
 {
     let mut text = String::new(alloc);
     for place in 0..last {
-        match text_at(pdus, pdu, place + 1) {
+        match text_at(run, pdu, place + 1) {
             Some(more) => text.push_str(more.as_str())?,
             None => return Ok(None),
         }
@@ -66,18 +69,18 @@ fn group_text(alloc: Global, pdus: &[Pdu], pdu: &Pdu, last: u8) -> Result<Option
 }
 
 // What the first of a message's group at a place says, if there is one and its body is a text.
-fn text_at<'a>(pdus: &'a [Pdu], pdu: &Pdu, place: u8) -> Option<&'a Text>
-    ensures { option_map (λ text. text.now) result ≡ joining.text_at pdus.now pdu.now place }
+fn text_at<'a>(run: &[Entry<'a>], pdu: &Pdu, place: u8) -> Option<&'a Text>
+    ensures { option_map (λ text. text.now) result ≡ joining.text_at (pdus_of run.now) pdu.now place }
 {
-    let found = pdus.iter().find(|other| is_at(pdu, place, other))?;
-    written(&found.body)
+    let found = run.iter().find(|entry| is_at(pdu, place, entry.pdu))?;
+    written(&found.pdu.body)
 }
 
 // Whether a message is of the group of this one, at this place.
 fn is_at(pdu: &Pdu, place: u8, other: &Pdu) -> bool
     ensures { result ≡ joining.is_at pdu.now place other.now }
 {
-    same_group(pdu, other) && part_is_at(place, &other.part)
+    part_is_at(place, &other.part) && same_group(pdu, other)
 }
 
 fn part_is_at(place: u8, part: &Option<Part>) -> bool

@@ -6,6 +6,7 @@ mod address;
 mod body;
 mod coding;
 mod data;
+mod entries;
 mod fields;
 mod header;
 mod joined;

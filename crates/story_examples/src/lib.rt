@@ -3,4 +3,5 @@
 
 pub mod ledgers;
 pub mod mbim_ledgers;
+pub mod shares;
 pub mod stories;

@@ -8,7 +8,7 @@ use Rattle.std.proofs.lemmas.List.Elements.{recursion_from_All, All-from_recursi
 use Rattle.std.proofs.lemmas.List.Filters.{length-filter_both}
 use Rattle.std.proofs.lemmas.List.Kept.{AllPairs-filter}
 use Rattle.kit_bytes.proofs.Lists.{all_filter, all_push}
-use Rattle.proxy_history.specs.Facts.{Fact, Request, Verdict, NotAdmitted, Own, Foreign, Away, Full, Forward, Ready, Waits, EventBegan, Admitted, Ended, Judged, Drained, Forwarded, Answered, IdHeld, Late, Stray, Granted, Freed, ModemDrained, TimeIs}
+use Rattle.proxy_history.specs.Facts.{Fact, Request, Verdict, NotAdmitted, Own, Share, Foreign, Away, Full, Forward, Ready, Waits, EventBegan, Admitted, Ended, Judged, Drained, Forwarded, Answered, IdHeld, Late, Stray, Granted, Freed, ModemDrained, TimeIs}
 use Rattle.proxy_history.specs.Decision.{Decision, Replies, Forwards}
 use Rattle.proxy_history.specs.Connections.{message_count}
 use Rattle.proxy_history.specs.Requests.{in_use, pending, is_pending, has_request, without_request, of_space, deadline_of}
@@ -29,7 +29,8 @@ use Rattle.qmi_proxy.specs.Text.{note}
 use Rattle.qmi_solo.proofs.Numbering.{renumbered}
 use Rattle.rig_runs.specs.Rig.{time_limit}
 use Rattle.rig_runs.specs.Counts.{count, is_forwarded, is_answered, is_expired, is_late}
-use Rattle.rig_laws.proofs.Harmless.{AreHarmless}
+use Rattle.rig_laws.proofs.Harmless.{AreHarmless, passing_opens_none}
+use Rattle.rig_laws.proofs.Shares.{is_over_share}
 use Rattle.rig_story.specs.declared.rows.Counts.{Counts}
 use Rattle.rig_story.specs.declared.rows.Row.{Row}
 use Rattle.rig_story.specs.Rows.{Ledger, one_forwarded, has_said, has_answered, expires, has_passed}
@@ -41,8 +42,12 @@ use Rattle.story_laws.proofs.Expiring.{IsOfClient, one_counts, noted_alone, expi
 
 -- ---- what facts tell ----
 
+abbrev with_counts : (forwarded answered expired late refused : ℕ) → Counts
+with_counts forwarded answered expired late refused = record { forwarded = forwarded; answered = answered; expired = expired; late = late; refused = refused }
+
+-- those that are refused pass their clients' shares
 abbrev pub tallied : List Fact → Counts
-tallied past = record { forwarded = count is_forwarded past; answered = count is_answered past; expired = count is_expired past; late = count is_late past; refused = 0 }
+tallied past = with_counts (count is_forwarded past) (count is_answered past) (count is_expired past) (count is_late past) (count is_over_share past)
 
 -- these counts are those of the facts; a request in use waits until its deadline, and a client made it
 pub record Tells (past : List Fact) (counts : Counts) : Type 0 where
@@ -90,28 +95,47 @@ module _ (s : Setup) where
 
   -- ---- a client says something ----
 
-  judged_same : (c place : ℕ) (m : List ℕ) (verdict : Verdict) (past : List Fact) → Same past (Judged c place m verdict ∷ past)
+  -- one that opens the device, or is forwarded
+  opening_same : (c place : ℕ) (m : List ℕ) (past : List Fact) → Same past (Judged c place m Own ∷ past)
   unfolding in_use pending now
-  judged_same c place m verdict past = record { counts = refl; used = refl; waiting = refl; time = refl }
+  opening_same c place m past = record { counts = refl; used = refl; waiting = refl; time = refl }
 
-  -- a reply is to one that opens the device
-  opening_is : (c place : ℕ) (m : List ℕ) (verdict : Verdict) (past : List Fact) → AreHarmless s (Judged c place m verdict ∷ past) → (verdict ≡ Forward → ⊥) → is_proxy_open m ≡ true
-  opening_is c place m Own past harmless other = (and_parts (is_proxy_open m) (equals s.device (value_of 0x01 m)) harmless.0.1).0
-  opening_is c place m Forward past harmless other = absurd (other refl)
-  opening_is c place m Foreign past harmless other = absurd harmless.0
-  opening_is c place m Away past harmless other = absurd harmless.0
-  opening_is c place m Full past harmless other = absurd harmless.0
-  opening_is c place m Ready past harmless other = absurd harmless.0
-  opening_is c place m Waits past harmless other = absurd harmless.0
+  judged_same : (c place : ℕ) (m : List ℕ) (past : List Fact) → Same past (Judged c place m Forward ∷ past)
+  unfolding in_use pending now
+  judged_same c place m past = record { counts = refl; used = refl; waiting = refl; time = refl }
+
+  -- and one that passes its client's share
+  passing_tells : (c place : ℕ) (m : List ℕ) (past : List Fact) (counts : Counts) → Tells past counts → Tells (Judged c place m Share ∷ past) (record counts { refused = counts.refused + 1 })
+  unfolding in_use pending now
+  passing_tells c place m past counts T = record {
+    counts_are =
+        let more : count is_over_share past + 1 ≡ count is_over_share (Judged c place m Share ∷ past) = omega arith in
+        ap (λ (k : Counts). record k { refused = k.refused + 1 }) T.counts_are ∙ ap (with_counts (count is_forwarded past) (count is_answered past) (count is_expired past) (count is_late past)) more;
+    waits = T.waits;
+    clients = T.clients;
+  }
+
+  abbrev told_if : (opens : Bool) → (verdict : Verdict) → (c place : ℕ) → (m : List ℕ) → List Fact → Counts → Type 0
+  told_if opens verdict c place m past counts = Tells (Judged c place m verdict ∷ past) (let k : Counts = if opens then counts else record counts { refused = counts.refused + 1 } in k)
+
+  -- a reply is to one that opens the device, or to one that passes its client's share
+  reply_tells : (c place : ℕ) (m : List ℕ) (verdict : Verdict) (past : List Fact) (counts : Counts) → AreHarmless s (Judged c place m verdict ∷ past) → (verdict ≡ Forward → ⊥) → Tells past counts → told_if (is_proxy_open m) verdict c place m past counts
+  reply_tells c place m Own past counts harmless other T =
+      subst (λ (b : Bool). told_if b Own c place m past counts) (sym (and_parts (is_proxy_open m) (equals s.device (value_of 0x01 m)) harmless.0.1).0)
+      (tells_same past (Judged c place m Own ∷ past) counts (opening_same c place m past) T)
+  reply_tells c place m Share past counts harmless other T = subst (λ (b : Bool). told_if b Share c place m past counts) (sym (passing_opens_none s c m past harmless.0)) (passing_tells c place m past counts T)
+  reply_tells c place m Forward past counts harmless other T = absurd (other refl)
+  reply_tells c place m Foreign past counts harmless other T = absurd harmless.0
+  reply_tells c place m Away past counts harmless other T = absurd harmless.0
+  reply_tells c place m Full past counts harmless other T = absurd harmless.0
+  reply_tells c place m Ready past counts harmless other T = absurd harmless.0
+  reply_tells c place m Waits past counts harmless other T = absurd harmless.0
 
   replied_tells : (c : ℕ) (m : List ℕ) (verdict : Verdict) (past : List Fact) (place : ℕ) (ledger : Ledger) → (verdict ≡ Forward → ⊥) → AreHarmless s (note s.device (Judged c place m verdict) past) → Tells past ledger.counts
       → Tells (note s.device (Judged c place m verdict) past) (has_said qmi_reading c m [] ledger).counts
   replied_tells c m verdict past place ledger other harmless T =
       let alone = noted_alone s (Judged c place m verdict) c past refl harmless in
-      let opening : is_proxy_open m ≡ true = opening_is c place m verdict past (subst (AreHarmless s) alone harmless) other in
-      subst (λ (after : List Fact). Tells after (has_said qmi_reading c m [] ledger).counts) (sym alone)
-      (subst (λ (b : Bool). Tells (Judged c place m verdict ∷ past) (let counts : Counts = if b then ledger.counts else record ledger.counts { refused = ledger.counts.refused + 1 } in counts)) (sym opening)
-      (tells_same past (Judged c place m verdict ∷ past) ledger.counts (judged_same c place m verdict past) T))
+      subst (λ (after : List Fact). Tells after (has_said qmi_reading c m [] ledger).counts) (sym alone) (reply_tells c place m verdict past ledger.counts (subst (AreHarmless s) alone harmless) other T)
 
   -- a request that is forwarded
   forwarded_tells : (r : Request) (past : List Fact) (counts : Counts) → IsOfClient r → still_waits (now past) r ≡ true → Tells past counts → Tells (Forwarded r ∷ past) (record counts { forwarded = counts.forwarded + 1 })
@@ -150,7 +174,7 @@ module _ (s : Setup) where
     asked_tells number ledger some T =
         let r : Request = request_on s c m number past in
         let judged : List Fact = Judged c (message_count c past + 1) m Forward ∷ past in
-        let J : Tells judged ledger.counts = tells_same past judged ledger.counts (judged_same c (message_count c past + 1) m Forward past) T in
+        let J : Tells judged ledger.counts = tells_same past judged ledger.counts (judged_same c (message_count c past + 1) m past) T in
         let F : Tells (Forwarded r ∷ judged) (one_forwarded false ledger.counts) = forwarded_tells r judged ledger.counts is_client (request_waits number) J in
         subst (λ (l : Ledger). Tells (judge s c m (Forwards number) past) l.counts) (sym (said_some c m (wire r) ledger some))
         (tells_same (Forwarded r ∷ judged) (judge s c m (Forwards number) past) (one_forwarded false ledger.counts) (granted_same (uses_id m) c m (Forwarded r ∷ judged)) F)
@@ -229,9 +253,6 @@ module _ (s : Setup) where
 
   -- ---- the time goes on ----
 
-  abbrev with_counts : (forwarded answered expired late : ℕ) → Counts
-  with_counts forwarded answered expired late = record { forwarded = forwarded; answered = answered; expired = expired; late = late; refused = 0 }
-
   in_order_too : (requests : List Request) → AllByRecursion IsOfClient requests → AllByRecursion IsOfClient (in_expiry_order requests)
   in_order_too requests all =
       let of : (space : ℕ) → All IsOfClient (of_space space requests) =
@@ -287,10 +308,11 @@ module _ (s : Setup) where
       passed_tells n is = record {
         counts_are =
             ap (λ (k : Counts). record k { expired = k.expired + n }) T.counts_are
-            ∙ ap (λ (k : ℕ). with_counts (count is_forwarded past) (count is_answered past) k (count is_late past)) (ap (λ (k : ℕ). count is_expired past + k) is ∙ sym expired_then)
-            ∙ ap (λ (k : ℕ). with_counts k (count is_answered past) (count is_expired after) (count is_late past)) (sym E.forwarded)
-            ∙ ap (λ (k : ℕ). with_counts (count is_forwarded after) k (count is_expired after) (count is_late past)) (sym E.answered)
-            ∙ ap (λ (k : ℕ). with_counts (count is_forwarded after) (count is_answered after) (count is_expired after) k) (sym E.late);
+            ∙ ap (λ (k : ℕ). with_counts (count is_forwarded past) (count is_answered past) k (count is_late past) (count is_over_share past)) (ap (λ (k : ℕ). count is_expired past + k) is ∙ sym expired_then)
+            ∙ ap (λ (k : ℕ). with_counts k (count is_answered past) (count is_expired after) (count is_late past) (count is_over_share past)) (sym E.forwarded)
+            ∙ ap (λ (k : ℕ). with_counts (count is_forwarded after) k (count is_expired after) (count is_late past) (count is_over_share past)) (sym E.answered)
+            ∙ ap (λ (k : ℕ). with_counts (count is_forwarded after) (count is_answered after) (count is_expired after) k (count is_over_share past)) (sym E.late)
+            ∙ ap (with_counts (count is_forwarded after) (count is_answered after) (count is_expired after) (count is_late after)) (sym E.shares);
         waits = waits_by_time;
         clients = clients_then;
       }

@@ -24,6 +24,7 @@ use Rattle.qmi_proxy.specs.FromModem.{refuse, in_expiry_order}
 use Rattle.qmux_frame.specs.Head.{is_control}
 use Rattle.rig_runs.specs.Counts.{count, is_forwarded, is_answered, is_expired, is_late}
 use Rattle.rig_laws.proofs.Harmless.{AreHarmless}
+use Rattle.rig_laws.proofs.Shares.{is_over_share}
 use Rattle.story_laws.proofs.Waiting.{has_if_passes, has_append, without_none, one_less}
 
 -- who sent it is a client
@@ -79,6 +80,7 @@ module _ (s : Setup) where
     pub forwarded : count is_forwarded after ≡ count is_forwarded past
     pub answered : count is_answered after ≡ count is_answered past
     pub late : count is_late after ≡ count is_late past
+    pub shares : count is_over_share after ≡ count is_over_share past
 
   neither : (r : Request) (requests : List Request) (q : Request) → (not (r.serial == q.serial) && not (has_request q requests)) ≡ not (has_request q (r ∷ requests))
   neither r requests q = ap (λ (b : Bool). not b && not (has_request q requests)) (turned r.serial q.serial) ∙ elim (q.serial == r.serial) as (λ b. (not b && not (has_request q requests)) ≡ not (b || has_request q requests)) [ true ↦ refl | false ↦ refl ]
@@ -103,6 +105,7 @@ module _ (s : Setup) where
     forwarded = refl;
     answered = refl;
     late = refl;
+    shares = refl;
   }
   each_expires (r ∷ requests) past harmless differ clients =
       let step : (b : Bool) → is_pending r past ≡ b → AreHarmless s (expire_each requests (if b then refuse s.device (Expired r) r past else past)) → Expires (r ∷ requests) past (expire_each requests (if b then refuse s.device (Expired r) r past else past)) =
@@ -129,6 +132,7 @@ module _ (s : Setup) where
         forwarded = E.forwarded;
         answered = E.answered;
         late = E.late;
+        shares = E.shares;
       }
 
       waited_not : is_pending r past ≡ false → Expires requests past (expire_each requests past) → Expires (r ∷ requests) past (expire_each requests past)
@@ -140,6 +144,7 @@ module _ (s : Setup) where
         forwarded = E.forwarded;
         answered = E.answered;
         late = E.late;
+        shares = E.shares;
       }
 
 -- ---- those whose time has come ----

@@ -5,7 +5,9 @@ use Rattle.proxy_history.specs.Modem.{now}
 use Rattle.qmi_proxy.specs.Proxy.{proxy_of}
 use Rattle.qmi_proxy.specs.History.{history}
 use Rattle.rig_runs.specs.Qmi.{setup, qmi_rig}
-use Rattle.rig_laws.proofs.Law.{rigs_are_plain, rigs_are_harmless, rigs_end_in_time, nothing_is_refused}
+use Rattle.rig_runs.specs.Lines.{refuses, passes_share}
+use Rattle.rig_laws.proofs.Law.{rigs_are_plain, rigs_are_harmless, rigs_end_in_time, refusals_are_for_shares}
+use Rattle.rig_laws.proofs.Shares.{refusals_are_counted}
 use Rattle.rig_story.specs.declared.rows.Counts.{Counts}
 use Rattle.rig_story.specs.Rows.{ledger_of}
 use Rattle.rig_story.specs.Qmi.{qmi_reading}
@@ -31,5 +33,5 @@ requests_are_counted clients turns number some within few =
       answered = ap (λ (k : Counts). k.answered) told.counts_are;
       expired = ap (λ (k : Counts). k.expired) told.counts_are;
       late = ap (λ (k : Counts). k.late) told.counts_are;
-      refused = ap (λ (k : Counts). k.refused) told.counts_are ∙ sym (nothing_is_refused clients turns number some within);
+      refused = ap (λ (k : Counts). k.refused) told.counts_are ∙ sym (refusals_are_counted (refuses setup) (passes_share setup) (λ c m past. refl) (history setup events) (refusals_are_for_shares clients turns number some within));
     }

@@ -9,7 +9,7 @@ use Rattle.proxy_history.specs.Items.{Item, Says, ModemSays, ModemFails, Garbles
 use Rattle.proxy_history.specs.Streams.{stream, modem_stream, with_piece, is_bad}
 use Rattle.proxy_history.specs.Facts.{EventBegan}
 use Rattle.proxy_history.specs.History as proxy
-use Rattle.proxy_solo.proofs.Pieces.{EndsMessage, ends_message}
+use Rattle.proxy_history.proofs.Pieces.{EndsMessage, ends_message}
 use Rattle.qmi_proxy.specs.Setup.{Setup}
 use Rattle.qmi_proxy.specs.History.{qmi_protocol, items_of, add, history}
 use Rattle.rig_laws.proofs.Plain.{ArePlain}

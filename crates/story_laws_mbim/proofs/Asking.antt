@@ -7,20 +7,21 @@ use Rattle.mbim_frame.specs.Head.{number_of}
 use Rattle.mbim_fragments.specs.Assembling as assembling
 use Rattle.proxy_history.specs.Events.{Event, Piece}
 use Rattle.proxy_history.specs.Streams.{stream}
-use Rattle.proxy_history.specs.Facts.{Fact, Request, Own, Forward, Waits, EventBegan, Judged, Forwarded}
+use Rattle.proxy_history.specs.Facts.{Fact, Request, Own, Share, Forward, Waits, EventBegan, Judged, Forwarded}
 use Rattle.proxy_history.specs.Decision.{Replies, Forwards, forwards_under}
 use Rattle.proxy_history.specs.Connections.{is_present, message_count}
-use Rattle.proxy_history.specs.Requests.{in_use, forward_count, deadline_of}
+use Rattle.proxy_history.specs.Requests.{has_share, in_use, forward_count, deadline_of}
 use Rattle.proxy_history.specs.Modem.{now, to_modem, modem_drained, modem_queue}
 use Rattle.proxy_history.specs.Items.{Says}
 use Rattle.proxy_history.specs.History.{add}
 use Rattle.proxy_solo.specs.Part.{sent_by}
 use Rattle.proxy_solo.proofs.Lists.{self}
+use Rattle.mbim_proxy.specs.Setup.{the_space}
 use Rattle.mbim_proxy.specs.Known.{Known}
 use Rattle.mbim_proxy.specs.Step.{known_now}
 use Rattle.mbim_proxy.specs.ModemStates.{IsShut, state}
 use Rattle.mbim_proxy.specs.Forwarding.{own_open, wire, number_for, request_of, forward}
-use Rattle.mbim_proxy.specs.Clients.{shared_decision, decision_on, forward_for}
+use Rattle.mbim_proxy.specs.Clients.{shared_decision, decision_on, decision_for, forward_for}
 use Rattle.mbim_proxy.specs.History.{mbim_protocol, history}
 use Rattle.mbim_proxy.proofs.Sound.{requests_are_asked}
 use Rattle.mbim_solo.proofs.Numbers.{number_within, opens_under, goes_under}
@@ -31,8 +32,9 @@ use Rattle.rig_runs.specs.Rig.{device, time_limit}
 use Rattle.rig_runs.specs.Mbim.{setup}
 use Rattle.rig_runs.specs.MbimExamples.{configuration, open_2}
 use Rattle.rig_laws_mbim.proofs.Messages.{configuration_is, opening_is, query, cid_for, query_is, own_open_under, modem_is_opened}
+use Rattle.rig_laws_mbim.proofs.Harmless.{own_decides, configuration_passes_none, opening_passes_none}
 use Rattle.rig_laws_mbim.proofs.Calm.{Calm, Progress, begun}
-use Rattle.rig_laws_mbim.proofs.Says.{HasNumber, has_number, own_decides, opening_goes, command_is, query_goes}
+use Rattle.rig_laws_mbim.proofs.Says.{HasNumber, has_number, by_others, opening_goes, passes_where, command_is, query_goes}
 use Rattle.rig_story.specs.declared.rows.Row.{Row}
 use Rattle.rig_story.specs.declared.rows.Key.{Key}
 use Rattle.rig_story.specs.Rows.{names, said_by, row_for}
@@ -72,7 +74,8 @@ module _ (c : ℕ) (named : c < names) (own : List Event) (lone : Lone c own) (e
 
   pub configures : told.begun ≡ assembling.fresh → Brings c own (Piece c configuration)
   configures fresh =
-      let so : decision_on setup told configuration facts_before ≡ Replies Own = ap (λ (b : Bool). if b then Replies Own else shared_decision setup told configuration facts_before) (own_decides c facts_before fresh) in
+      let so : decision_for setup told c configuration facts_before ≡ Replies Own =
+      by_others c facts_before configuration (configuration_passes_none c facts_before fresh) ∙ ap (λ (b : Bool). if b then Replies Own else shared_decision setup told configuration facts_before) (own_decides told fresh) in
       record {
         added = replies c named own lone empty configuration there whole configuration_is.is_message Own so;
         queues = replies_queue c named own lone empty configuration there whole configuration_is.is_message Own so;
@@ -105,8 +108,8 @@ module _ (c : ℕ) (named : c < names) (own : List Event) (lone : Lone c own) (e
     abbrev pub opening_request : Request
     opening_request = request_of setup 0 (own_open setup) number asks
 
-    open_decided : decision_on setup told open_2 facts_before ≡ Forwards number
-    open_decided = opening_goes c facts_before configured waits IsShut shut_then ∙ ap forwards_under given.1
+    open_decided : decision_for setup told c open_2 facts_before ≡ Forwards number
+    open_decided = by_others c facts_before open_2 (opening_passes_none c facts_before) ∙ opening_goes c facts_before configured waits IsShut shut_then ∙ ap forwards_under given.1
 
     pub opening_facts : facts_of (Piece c open_2) own ≡ Forwarded opening_request ∷ asks
     opening_facts = facts_are c named own lone empty open_2 there whole opening_is.is_message ∙ decided c named own lone empty open_2 there whole opening_is.is_message (Forwards number) open_decided
@@ -133,7 +136,18 @@ module _ (c : ℕ) (named : c < names) (own : List Event) (lone : Lone c own) (e
 
   -- ---- a query ----
 
-  module _ (client : (c == 0) ≡ false) (choice own_number number : ℕ) (fresh : told.begun ≡ assembling.fresh) (opened : told.opened ≡ true) (found : number_for setup (query (cid_for choice) (number_of (query (cid_for choice) own_number))) facts_before ≡ Some number) where
+  -- as many of the client's commands wait as may
+  abbrev pub fills_share : Bool
+  fills_share = has_share setup.limits.share c the_space facts_before
+
+  pub is_refused : (choice own_number : ℕ) → told.begun ≡ assembling.fresh → told.opened ≡ true → fills_share ≡ true → Brings c own (Piece c (query (cid_for choice) own_number))
+  is_refused choice own_number fresh opened full =
+      let m : List ℕ = query (cid_for choice) own_number in
+      let is = (query_is choice).is_message own_number in
+      let so : decision_for setup told c m facts_before ≡ Replies Share = ap (λ (b : Bool). if b then Replies Share else decision_on setup told m facts_before) (passes_where c facts_before choice own_number fresh opened ∙ full) in
+      record { added = replies c named own lone empty m there whole is Share so; queues = replies_queue c named own lone empty m there whole is Share so }
+
+  module _ (client : (c == 0) ≡ false) (choice own_number number : ℕ) (fresh : told.begun ≡ assembling.fresh) (opened : told.opened ≡ true) (free : fills_share ≡ false) (found : number_for setup (query (cid_for choice) (number_of (query (cid_for choice) own_number))) facts_before ≡ Some number) where
     abbrev m : List ℕ
     m = query (cid_for choice) own_number
 
@@ -145,7 +159,7 @@ module _ (c : ℕ) (named : c < names) (own : List Event) (lone : Lone c own) (e
 
     query_decided : add (mbim_protocol setup) (Says c m) facts_before ≡ Forwarded query_request ∷ judged_facts
     query_decided =
-        decided c named own lone empty m there whole ((query_is choice).is_message own_number) (Forwards number) (query_goes c facts_before choice own_number fresh opened number found)
+        decided c named own lone empty m there whole ((query_is choice).is_message own_number) (Forwards number) (query_goes c facts_before choice own_number fresh opened free number found)
         ∙ ap (λ (b : Bool). forward_for b setup told c m number facts_before) ((query_is choice).no_request_to_open own_number)
         ∙ ap (λ (command : List ℕ). forward setup c command number judged_facts) (command_is c facts_before choice own_number fresh)
 

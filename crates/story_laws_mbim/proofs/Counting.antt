@@ -8,7 +8,7 @@ use Rattle.std.proofs.lemmas.List.Elements.{filter-append, All-from_recursion, A
 use Rattle.std.proofs.lemmas.List.Kept.{AllPairs-filter}
 use Rattle.kit_bytes.proofs.Lists.{all_weaker}
 use Rattle.proxy_history.specs.Events.{Event, Joined, Piece, Left, ModemPiece, ModemGone, ModemBack, Now, Took, ModemTook}
-use Rattle.proxy_history.specs.Facts.{Fact, Request, Verdict, Own, Forward, Ready, Waits, Admitted, Judged, Drained, Forwarded, Answered, Late, Expired, OpeningEnded, ModemDrained, TimeIs}
+use Rattle.proxy_history.specs.Facts.{Fact, Request, Verdict, Own, Share, Forward, Ready, Waits, Admitted, Judged, Drained, Forwarded, Answered, Late, Expired, OpeningEnded, ModemDrained, TimeIs}
 use Rattle.proxy_history.specs.Connections.{is_present}
 use Rattle.proxy_history.specs.Requests.{in_use, pending, is_pending, has_request, without_request}
 use Rattle.proxy_history.specs.Modem.{now}
@@ -26,8 +26,10 @@ use Rattle.mbim_proxy.proofs.Sound.{histories_are_sound}
 use Rattle.rig_runs.specs.Mbim.{setup}
 use Rattle.rig_runs.specs.MbimExamples.{configuration, open_2}
 use Rattle.rig_runs.specs.Counts.{count, is_forwarded, is_answered, is_expired, is_late}
+use Rattle.rig_laws.proofs.Shares.{is_over_share}
+use Rattle.rig_laws_mbim.proofs.Messages.{query, cid_for}
 use Rattle.rig_laws_mbim.proofs.Hears.{no_more, answered_or_late}
-use Rattle.rig_laws_mbim.proofs.Adding.{began, new_bytes, IsNext, IsCommand, IsOwnOpen, HasSaid, naming, finding, having_opened, querying, HasHeard, answering, ending, expired_by, Adds, AreMoments}
+use Rattle.rig_laws_mbim.proofs.Adding.{began, new_bytes, IsNext, IsCommand, IsOwnOpen, HasSaid, naming, finding, having_opened, querying, passing, HasHeard, answering, ending, expired_by, Adds, AreMoments}
 use Rattle.rig_story.specs.declared.rows.Row.{Row}
 use Rattle.rig_story.specs.declared.rows.Counts.{Counts}
 use Rattle.rig_story.specs.Rows.{Ledger, empty, has_said, has_answered, has_passed, one_forwarded, one_refused, expires, follow, first_with, asked_by, ledger_of}
@@ -41,14 +43,14 @@ use Rattle.story_laws_mbim.proofs.Waiting.{filter_both, passes_among, expired_on
 abbrev pub waits_at : (time : ℕ) → Request → Bool
 waits_at time r = nat_lt time r.deadline
 
--- of the requests in use those wait whose deadlines haven't come, and these are the counts of the facts; nothing was refused
+-- of the requests in use those wait whose deadlines haven't come, and these are the counts of the facts; those that are refused pass their clients' shares
 pub record IsCounted (past : List Fact) (counts : Counts) : Type 0 where
   pub waits : pending past ≡ filter (waits_at (now past)) (in_use past)
   pub forwarded : counts.forwarded ≡ count is_forwarded past
   pub answered : counts.answered ≡ count is_answered past
   pub expired : counts.expired ≡ count is_expired past
   pub late : counts.late ≡ count is_late past
-  pub refused : counts.refused ≡ 0
+  pub refused : counts.refused ≡ count is_over_share past
 
 -- ---- facts that aren't counted ----
 
@@ -60,6 +62,7 @@ record IsUncounted (past after : List Fact) : Type 0 where
   answered : count is_answered after ≡ count is_answered past
   expired : count is_expired after ≡ count is_expired past
   late : count is_late after ≡ count is_late past
+  shares : count is_over_share after ≡ count is_over_share past
 
 uncounted : (past after : List Fact) (counts : Counts) → IsUncounted past after → IsCounted past counts → IsCounted after counts
 uncounted past after counts is all = record {
@@ -68,34 +71,55 @@ uncounted past after counts is all = record {
   answered = all.answered ∙ sym is.answered;
   expired = all.expired ∙ sym is.expired;
   late = all.late ∙ sym is.late;
-  refused = all.refused;
+  refused = all.refused ∙ sym is.shares;
 }
 
 joined : (c : ℕ) (past : List Fact) (counts : Counts) → IsCounted past counts → IsCounted (Admitted c ∷ began past) counts
 unfolding in_use pending now
-joined c past counts all = uncounted past (Admitted c ∷ began past) counts (record { uses = refl; waiting = refl; time = refl; forwarded = refl; answered = refl; expired = refl; late = refl }) all
+joined c past counts all = uncounted past (Admitted c ∷ began past) counts (record { uses = refl; waiting = refl; time = refl; forwarded = refl; answered = refl; expired = refl; late = refl; shares = refl }) all
 
 taken : (c size : ℕ) (past : List Fact) (counts : Counts) → IsCounted past counts → (b : Bool) → IsCounted (if b then Drained c size ∷ began past else began past) counts
 unfolding in_use pending now
-taken c size past counts all true = uncounted past (Drained c size ∷ began past) counts (record { uses = refl; waiting = refl; time = refl; forwarded = refl; answered = refl; expired = refl; late = refl }) all
-taken c size past counts all false = uncounted past (began past) counts (record { uses = refl; waiting = refl; time = refl; forwarded = refl; answered = refl; expired = refl; late = refl }) all
+taken c size past counts all true = uncounted past (Drained c size ∷ began past) counts (record { uses = refl; waiting = refl; time = refl; forwarded = refl; answered = refl; expired = refl; late = refl; shares = refl }) all
+taken c size past counts all false = uncounted past (began past) counts (record { uses = refl; waiting = refl; time = refl; forwarded = refl; answered = refl; expired = refl; late = refl; shares = refl }) all
 
 modem_taken : (size : ℕ) (past : List Fact) (counts : Counts) → IsCounted past counts → IsCounted (ModemDrained size ∷ began past) counts
 unfolding in_use pending now
-modem_taken size past counts all = uncounted past (ModemDrained size ∷ began past) counts (record { uses = refl; waiting = refl; time = refl; forwarded = refl; answered = refl; expired = refl; late = refl }) all
+modem_taken size past counts all = uncounted past (ModemDrained size ∷ began past) counts (record { uses = refl; waiting = refl; time = refl; forwarded = refl; answered = refl; expired = refl; late = refl; shares = refl }) all
 
 -- ---- a client says a message ----
 
-said_quietly : (c place : ℕ) (m x : List ℕ) (verdict : Verdict) (past after : List Fact) (asked : List ℕ) (ledger : Ledger) → after ≡ Judged c place x verdict ∷ began past → asked ≡ [] → opens m ≡ true → IsCounted past ledger.counts
-    → IsCounted after (has_said mbim_reading c m asked ledger).counts
+said_quietly : (c place : ℕ) (m x : List ℕ) (verdict : Verdict) (past after : List Fact) (asked : List ℕ) (ledger : Ledger) → is_over_share (Judged c place x verdict) ≡ false → after ≡ Judged c place x verdict ∷ began past → asked ≡ [] → opens m ≡ true
+    → IsCounted past ledger.counts → IsCounted after (has_said mbim_reading c m asked ledger).counts
 unfolding in_use pending now
-said_quietly c place m x verdict past after asked ledger facts none opening all =
+said_quietly c place m x verdict past after asked ledger within facts none opening all =
     let judged : List Fact = Judged c place x verdict ∷ began past in
     let counts : (has_said mbim_reading c m asked ledger).counts ≡ ledger.counts =
     ap (λ (l : List ℕ). (has_said mbim_reading c m l ledger).counts) none ∙ ap (λ (b : Bool). one_refused b ledger.counts) opening in
+    let shares : count is_over_share judged ≡ count is_over_share past = ap (λ (b : Bool). length (cond b (Judged c place x verdict ∷ filter is_over_share past) (filter is_over_share past))) within in
     subst (λ (l : List Fact). IsCounted l (has_said mbim_reading c m asked ledger).counts) (sym facts)
     (subst (IsCounted judged) (sym counts)
-    (uncounted past judged ledger.counts (record { uses = refl; waiting = refl; time = refl; forwarded = refl; answered = refl; expired = refl; late = refl }) all))
+    (uncounted past judged ledger.counts (record { uses = refl; waiting = refl; time = refl; forwarded = refl; answered = refl; expired = refl; late = refl; shares = shares }) all))
+
+query_opens_none : (cid number : ℕ) → opens (query cid number) ≡ false
+query_opens_none cid number = refl
+
+-- one that passes its client's share
+said_passing : (c place : ℕ) (m : List ℕ) (past after : List Fact) (asked : List ℕ) (ledger : Ledger) → after ≡ Judged c place m Share ∷ began past → asked ≡ [] → opens m ≡ false → IsCounted past ledger.counts → IsCounted after (has_said mbim_reading c m asked ledger).counts
+unfolding in_use pending now
+said_passing c place m past after asked ledger facts none other all =
+    let counts : (has_said mbim_reading c m asked ledger).counts ≡ one_refused false ledger.counts =
+    ap (λ (l : List ℕ). (has_said mbim_reading c m l ledger).counts) none ∙ ap (λ (b : Bool). one_refused b ledger.counts) other in
+    let was = all.refused in
+    subst (λ (l : List Fact). IsCounted l (has_said mbim_reading c m asked ledger).counts) (sym facts)
+    (subst (IsCounted (Judged c place m Share ∷ began past)) (sym counts) (record {
+      waits = all.waits;
+      forwarded = all.forwarded;
+      answered = all.answered;
+      expired = all.expired;
+      late = all.late;
+      refused = omega (arith, was);
+    }))
 
 -- the clock is far from its end
 abbrev pub IsEarly : List Fact → Type 0
@@ -114,10 +138,10 @@ one_more_waits r past counts waits all =
 abbrev asking : (c place : ℕ) → (x : List ℕ) → Verdict → Request → List Fact → List Fact
 asking c place x verdict r past = Forwarded r ∷ Judged c place x verdict ∷ began past
 
-command_counted : (c place : ℕ) (x : List ℕ) (verdict : Verdict) (r : Request) (past : List Fact) (counts : Counts) → (r.conn == 0) ≡ false → waits_at (now past) r ≡ true → IsCounted past counts
-    → IsCounted (asking c place x verdict r past) (one_forwarded false counts)
+command_counted : (c place : ℕ) (x : List ℕ) (r : Request) (past : List Fact) (counts : Counts) → (r.conn == 0) ≡ false → waits_at (now past) r ≡ true → IsCounted past counts
+    → IsCounted (asking c place x Forward r past) (one_forwarded false counts)
 unfolding in_use pending now
-command_counted c place x verdict r past counts client waits all = record {
+command_counted c place x r past counts client waits all = record {
   waits = one_more_waits r past counts waits all;
   forwarded =
       ap (λ (n : ℕ). n + 1) all.forwarded
@@ -129,9 +153,9 @@ command_counted c place x verdict r past counts client waits all = record {
   refused = all.refused;
 }
 
-own_counted : (c place : ℕ) (x : List ℕ) (verdict : Verdict) (r : Request) (past : List Fact) (counts : Counts) → (r.conn == 0) ≡ true → waits_at (now past) r ≡ true → IsCounted past counts → IsCounted (asking c place x verdict r past) (one_forwarded true counts)
+own_counted : (c place : ℕ) (x : List ℕ) (r : Request) (past : List Fact) (counts : Counts) → (r.conn == 0) ≡ true → waits_at (now past) r ≡ true → IsCounted past counts → IsCounted (asking c place x Waits r past) (one_forwarded true counts)
 unfolding in_use pending now
-own_counted c place x verdict r past counts own waits all = record {
+own_counted c place x r past counts own waits all = record {
   waits = one_more_waits r past counts waits all;
   forwarded = all.forwarded ∙ ap (λ (b : Bool). length (cond (not b) (Forwarded r ∷ filter is_forwarded past) (filter is_forwarded past))) (sym own);
   answered = all.answered;
@@ -146,23 +170,25 @@ asked_counts c m asked r ledger bytes starts =
 
 said : (c : ℕ) (m : List ℕ) (past after : List Fact) (asked : List ℕ) (ledger : Ledger) → HasSaid c m past after → asked ≡ new_bytes past after → IsEarly past → IsCounted past ledger.counts → IsCounted after (has_said mbim_reading c m asked ledger).counts
 said c m past after asked ledger (naming is) bytes early all =
-    said_quietly c _ m configuration Own past after asked ledger is.facts (bytes ∙ is.new) (ap opens is.is) all
+    said_quietly c _ m configuration Own past after asked ledger refl is.facts (bytes ∙ is.new) (ap opens is.is) all
 said c m past after asked ledger (finding is) bytes early all =
-    said_quietly c _ m open_2 Ready past after asked ledger is.facts (bytes ∙ is.new) (ap opens is.is) all
+    said_quietly c _ m open_2 Ready past after asked ledger refl is.facts (bytes ∙ is.new) (ap opens is.is) all
 said c m past after asked ledger (having_opened is) bytes early all =
     let r : Request = is.r in
     let own = is.own in
     let counts : (has_said mbim_reading c m asked ledger).counts ≡ one_forwarded true ledger.counts =
     asked_counts c m asked r ledger (bytes ∙ is.new) (own_starts r own) ∙ ap (λ (l : List ℕ). one_forwarded (is_open l) ledger.counts) own.wire_is in
     subst (λ (l : List Fact). IsCounted l (has_said mbim_reading c m asked ledger).counts) (sym is.facts)
-    (subst (IsCounted _) (sym counts) (own_counted c _ open_2 Waits r past ledger.counts (eq-eqb r.conn 0 own.own) (waits_yet r past is.next early) all))
+    (subst (IsCounted _) (sym counts) (own_counted c _ open_2 r past ledger.counts (eq-eqb r.conn 0 own.own) (waits_yet r past is.next early) all))
 said c m past after asked ledger (querying is) bytes early all =
     let r : Request = is.r in
     let command = is.command in
     let counts : (has_said mbim_reading c m asked ledger).counts ≡ one_forwarded false ledger.counts =
     asked_counts c m asked r ledger (bytes ∙ is.new) (command_starts r command) ∙ ap (λ (l : List ℕ). one_forwarded (is_open l) ledger.counts) command.wire_is in
     subst (λ (l : List Fact). IsCounted l (has_said mbim_reading c m asked ledger).counts) (sym is.facts)
-    (subst (IsCounted _) (sym counts) (command_counted c _ m Forward r past ledger.counts command.client (waits_yet r past is.next early) all))
+    (subst (IsCounted _) (sym counts) (command_counted c _ m r past ledger.counts command.client (waits_yet r past is.next early) all))
+said c m past after asked ledger (passing is) bytes early all =
+    said_passing c _ m past after asked ledger is.facts (bytes ∙ is.new) (ap opens is.is ∙ query_opens_none (cid_for is.choice) is.number) all
 
 -- ---- the modem answers ----
 
@@ -343,7 +369,7 @@ module _ (time : ℕ) (events : List Event) (ledger : Ledger) (reflect : Reflect
         answered = all.answered ∙ sym (left is_answered (λ r. refl));
         expired = omega (arith, more, was, rows);
         late = all.late ∙ sym (left is_late (λ r. refl));
-        refused = all.refused;
+        refused = all.refused ∙ sym (left is_over_share (λ r. refl));
       }
 
 -- ---- every event ----

@@ -8,9 +8,10 @@ use Rattle.mbim_proxy.specs.Proxy.{proxy_of}
 use Rattle.mbim_proxy.specs.History.{mbim_protocol, history}
 use Rattle.mbim_proxy.proofs.Walk.{Asks, orderly}
 use Rattle.rig_runs.specs.Mbim.{setup, cast, script, mbim_rig}
-use Rattle.rig_runs.specs.MbimLines.{summary}
+use Rattle.rig_runs.specs.MbimLines.{refuses, passes_share, summary}
 use Rattle.rig_laws.proofs.Time.{rig_time}
-use Rattle.rig_laws_mbim.proofs.Harmless.{none_refused}
+use Rattle.rig_laws.proofs.Shares.{refusals_are_counted}
+use Rattle.rig_laws_mbim.proofs.Harmless.{refused_for_shares}
 use Rattle.rig_laws_mbim.proofs.Adding.{AreMoments}
 use Rattle.rig_laws_mbim.proofs.Playing.{rig_stands}
 use Rattle.rig_story.specs.Rows.{ledger_of}
@@ -43,7 +44,7 @@ module _ (clients turns number : ℕ) (some : 1 ≤ clients) (within : clients �
         answered = all.answered;
         expired = all.expired;
         late = all.late;
-        refused = all.refused ∙ sym (none_refused (history setup events) (rig_stands clients some within turns number).going.calm.harmless);
+        refused = all.refused ∙ sym (refusals_are_counted (refuses setup) (passes_share setup) (λ c m past. refl) (history setup events) (refused_for_shares (history setup events) (rig_stands clients some within turns number).going.calm.harmless));
       }
 
 pub rows_are_in_use : RowsAreInUse

@@ -8,7 +8,7 @@ use Rattle.std.proofs.lemmas.List.Elements.{Contains-append_right}
 use Rattle.kit_bytes.proofs.Lists.{all_filter, all_push}
 use Rattle.mbim_frame.specs.Head.{number_of}
 use Rattle.proxy_history.specs.Events.{Event, Joined, Piece, Left, ModemPiece, ModemGone, ModemBack, Now, Took, ModemTook}
-use Rattle.proxy_history.specs.Facts.{Fact, Request, Verdict, Forward, Own, Ready, Waits, Admitted, Judged, Drained, Forwarded, Answered, Expired, OpeningEnded, ModemDrained, TimeIs}
+use Rattle.proxy_history.specs.Facts.{Fact, Request, Verdict, Forward, Own, Share, Ready, Waits, Admitted, Judged, Drained, Forwarded, Answered, Expired, OpeningEnded, ModemDrained, TimeIs}
 use Rattle.proxy_history.specs.Connections.{is_present, message_count}
 use Rattle.proxy_history.specs.Requests.{in_use, pending, is_pending, forward_count, without_request, deadline_of}
 use Rattle.proxy_history.specs.Modem.{now}
@@ -28,7 +28,7 @@ use Rattle.rig_runs.specs.Mbim.{setup}
 use Rattle.rig_runs.specs.MbimExamples.{configuration, open_2}
 use Rattle.rig_laws_mbim.proofs.Messages.{query, cid_for, answer_number_is, own_open_under, opened_number_is}
 use Rattle.rig_laws_mbim.proofs.Hears.{answered_or_late, found, is_its_answer, ends_it}
-use Rattle.rig_laws_mbim.proofs.Adding.{began, new_bytes, IsNext, IsCommand, IsOwnOpen, IsNamed, HasSaid, naming, finding, having_opened, querying, Answers, IsOpened, HasHeard, answering, ending, Joins, Passes, expired_by, Adds, AreMoments}
+use Rattle.rig_laws_mbim.proofs.Adding.{began, new_bytes, IsNext, IsCommand, IsOwnOpen, IsNamed, HasSaid, naming, finding, having_opened, querying, passing, Answers, IsOpened, HasHeard, answering, ending, Joins, Passes, expired_by, Adds, AreMoments}
 use Rattle.rig_laws_mbim.proofs.Events.{placed}
 use Rattle.rig_story.specs.declared.rows.Row.{Row}
 use Rattle.rig_story.specs.Rows.{Ledger, names, empty, said_by, more_said, row_for, one_forwarded, has_said, has_answered, has_passed, follow, first_with, without_row, asked_by, ledger_of}
@@ -210,6 +210,7 @@ said c m past after asked ledger one (querying is) bytes all =
     let row = row_is c past ledger one.few all is.r is.next (ap is_open command.wire_is ∙ sym command.command) (sym is.sender ∙ ap (λ (b : Bool). if b then 1 else is.r.conn) (sym command.command))
     (sym is.place ∙ ap (λ (b : Bool). if b then 2 else is.r.place) (sym command.command)) in
     said_asking c past ledger one.few all is.r is.next m m Forward after asked is.facts (bytes ∙ is.new) (command_starts is.r command) (record { below = is.next.below; kind = inl command }) row
+said c m past after asked ledger one (passing is) bytes all = said_quietly c m m Share past after asked ledger one.few is.facts (bytes ∙ is.new) all
 
 -- ---- the modem answers ----
 

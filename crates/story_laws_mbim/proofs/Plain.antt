@@ -7,7 +7,7 @@ use Rattle.mbim_proxy.specs.History.{history}
 use Rattle.rig_runs.specs.Mbim.{setup}
 use Rattle.rig_runs.specs.MbimExamples.{configuration, open_2}
 use Rattle.rig_laws_mbim.proofs.Messages.{query, cid_for}
-use Rattle.rig_laws_mbim.proofs.Adding.{IsNamed, HasSaid, naming, finding, having_opened, querying, Adds, AreMoments}
+use Rattle.rig_laws_mbim.proofs.Adding.{IsNamed, HasSaid, naming, finding, having_opened, querying, passing, Adds, AreMoments}
 use Rattle.rig_story.specs.Rows.{names}
 
 -- the query of this choice with this number
@@ -41,6 +41,7 @@ said c m past after one (naming is) = record { named = (let few = one.few in ome
 said c m past after one (finding is) = record { named = (let few = one.few in omega (arith, few)); there = one.there; message = inr (inl (is.is, is.count)) }
 said c m past after one (having_opened is) = record { named = (let few = one.few in omega (arith, few)); there = one.there; message = inr (inl (is.is, is.count)) }
 said c m past after one (querying is) = record { named = (let few = one.few in omega (arith, few)); there = one.there; message = inr (inr (record { choice = is.choice; number = is.number; is = is.is }, is.count)) }
+said c m past after one (passing is) = record { named = (let few = one.few in omega (arith, few)); there = one.there; message = inr (inr (record { choice = is.choice; number = is.number; is = is.is }, is.count)) }
 
 plain_event : (event : Event) (past after : List Fact) → Adds event past after → IsPlain event past
 plain_event (Joined c) past after adds = adds.count

@@ -19,14 +19,14 @@ use Rattle.proxy_history.specs.History.{add, add_all}
 use Rattle.proxy_history.proofs.Sound.{kept_by_note}
 use Rattle.proxy_history.proofs.Walk.{begun_is_sound}
 use Rattle.proxy_solo.proofs.Lists.{self}
-use Rattle.proxy_solo.proofs.Pieces.{ends_message}
+use Rattle.proxy_history.proofs.Pieces.{ends_message}
 use Rattle.mbim_proxy.specs.Known.{Known}
 use Rattle.mbim_proxy.specs.Step.{known_now}
 use Rattle.mbim_proxy.specs.Text.{mbim_wording, note}
 use Rattle.mbim_proxy.specs.ModemStates.{IsReady, state}
 use Rattle.mbim_proxy.specs.Lists.{last_list}
 use Rattle.mbim_proxy.specs.Forwarding.{wire}
-use Rattle.mbim_proxy.specs.Clients.{decision_on, judge, hear_client}
+use Rattle.mbim_proxy.specs.Clients.{decision_for, judge, hear_client}
 use Rattle.mbim_proxy.specs.History.{mbim_protocol, history}
 use Rattle.mbim_proxy.proofs.Walk.{Asks, orderly}
 use Rattle.mbim_solo.proofs.Settling.{MayQueue}
@@ -70,7 +70,7 @@ module _ (c : ℕ) (named : c < names) (own : List Event) (lone : Lone c own) (e
         ap (λ (l : List (List ℕ)). add_all p (map (λ m. Says c m) l ++ item_if (is_bad size_of (stream c own ++ m)) (Garbles c)) past) ends.messages
         ∙ ap (λ (b : Bool). add_all p (map (λ m. Says c m) (m ∷ []) ++ item_if b (Garbles c)) past) ends.good
 
-    pub decided : (decision : Decision) → decision_on setup known m past ≡ decision → after ≡ judge setup known c m decision past
+    pub decided : (decision : Decision) → decision_for setup known c m past ≡ decision → after ≡ judge setup known c m decision past
     unfolding present
     decided decision so = ap (λ (b : Bool). if b then hear_client setup known c m past else past) there ∙ ap (λ (d : Decision). judge setup known c m d past) so
 
@@ -92,7 +92,7 @@ module _ (c : ℕ) (named : c < names) (own : List Event) (lone : Lone c own) (e
 
     -- ---- the proxy replies ----
 
-    module _ (verdict : Verdict) (so : decision_on setup known m past ≡ Replies verdict) where
+    module _ (verdict : Verdict) (so : decision_for setup known c m past ≡ Replies verdict) where
       abbrev noted : List Fact
       noted = note setup (Judged c (message_count c past + 1) m verdict) past
 

@@ -16,9 +16,10 @@ use Rattle.proxy_history.specs.Coming.{AreSound, piece_limit}
 use Rattle.proxy_history.specs.Facts.{Fact, Request, EventBegan, Ready, Waits, Judged, Forwarded}
 use Rattle.proxy_history.specs.Decision.{Replies}
 use Rattle.proxy_history.specs.Connections.{present, is_present, message_count}
-use Rattle.proxy_history.specs.Requests.{in_use, pending}
+use Rattle.proxy_history.specs.Requests.{has_share, in_use, pending}
 use Rattle.proxy_history.specs.View.{view}
 use Rattle.proxy_solo.proofs.Lists.{self}
+use Rattle.mbim_proxy.specs.Setup.{the_space}
 use Rattle.mbim_proxy.specs.Known.{Known}
 use Rattle.mbim_proxy.specs.Step.{known_now}
 use Rattle.mbim_proxy.specs.ModemStates.{ModemState, IsShut, IsOpening, IsReady, state}
@@ -51,7 +52,7 @@ use Rattle.story_laws_mbim.proofs.Plain.{IsSaid, IsQuery}
 use Rattle.story_laws_mbim.proofs.Content.{shut_content}
 use Rattle.story_laws_mbim.proofs.Lone.{facts_of, ledger}
 use Rattle.story_laws_mbim.proofs.Said.{was_open}
-use Rattle.story_laws_mbim.proofs.Asking.{room, Brings, configures, opening_request, opening_facts, opens, query_number, asks_it}
+use Rattle.story_laws_mbim.proofs.Asking.{room, Brings, configures, opening_request, opening_facts, opens, query_number, is_refused, asks_it}
 use Rattle.story_laws_mbim.proofs.Meets.{Meets, meets_by, meets_beside}
 use Rattle.story_laws_mbim.proofs.Telling.{meet, meet_event, meet_bytes, meets_piece, no_opening, shut_not_ready, says_alone, says_open}
 use Rattle.story_laws_mbim.proofs.OpensAlone.{IsOpeningAlone, own_open_is, number_of_open, opens_alone}
@@ -143,9 +144,15 @@ module _ (c : ℕ) (client : c ≢ 0) (low : 1 ≤ c) (named : c < names) (befor
       (ready_or_shut c client low before events own L ready) in
       let calm : Calm before.progress before.requests [] (history setup events) = subst (λ (q : List ℕ). Calm before.progress before.requests q (history setup events)) asks.queue L.at.calm in
       let given = query_number c named own L.lone L.alike.rests.queue there_alone whole events calm asks.few (requests_alike c client low before events own L) mine asks.choice (number_of (query (cid_for asks.choice) asks.number)) in
+      let full : Bool = has_share setup.limits.share c the_space own_past in
+      let brings : (b : Bool) → full ≡ b → Brings c own (Piece c (query (cid_for asks.choice) asks.number)) =
+      λ b. elim b as (λ b. full ≡ b → Brings c own (Piece c (query (cid_for asks.choice) asks.number))) [
+        | true ↦ λ is. is_refused c named own L.lone L.alike.rests.queue there_alone whole asks.choice asks.number fresh opened is
+        | false ↦ λ free. asks_it c named own L.lone L.alike.rests.queue there_alone whole (grind (arith, nat_tests, low)) asks.choice asks.number given.0 fresh opened free given.1
+      ]
+      in
       subst (λ (x : List ℕ). StepOf (Piece c x)) (sym asks.message)
-      (other_kind (query (cid_for asks.choice) asks.number) ((query_is asks.choice).is_message asks.number) ((query_is asks.choice).no_request_to_open asks.number)
-      (asks_it c named own L.lone L.alike.rests.queue there_alone whole (grind (arith, nat_tests, low)) asks.choice asks.number given.0 fresh opened given.1))
+      (other_kind (query (cid_for asks.choice) asks.number) ((query_is asks.choice).is_message asks.number) ((query_is asks.choice).no_request_to_open asks.number) (brings full refl))
 
   -- ---- it asks to open the modem ----
 

@@ -16,7 +16,7 @@ use Rattle.proxy_history.specs.Decision.{Decision, Replies, forwards_under}
 use Rattle.proxy_history.specs.Connections.{contains, is_present}
 use Rattle.proxy_solo.specs.Solo as alone
 use Rattle.proxy_solo.proofs.Lists.{self}
-use Rattle.proxy_solo.proofs.Pieces.{EndsMessage, ends_message}
+use Rattle.proxy_history.proofs.Pieces.{EndsMessage, ends_message}
 use Rattle.mbim_proxy.specs.Known.{Known}
 use Rattle.mbim_proxy.specs.OwnReplies.{view_decides}
 use Rattle.mbim_proxy.specs.Step.{known_now}

@@ -1,12 +1,14 @@
 //! Where two pumps meet whoever wants to reach a device node.
 use crate::socket_file::Listening;
+use libc::net::{POLLIN, poll};
+use libc::types::pollfd;
 use std::alloc::Global;
 use std::fs::{File, Files};
 use std::io::{self, ErrorKind, Read};
 use std::net::Net;
+use std::os::fd::AsRawFd;
 use std::os::unix::net::UnixStream;
 use std::rt::Clock;
-use std::thread;
 use std::time::Duration;
 
 /// How many milliseconds a letter is waited for at one time.
@@ -33,7 +35,6 @@ pub struct Pumps {
 /// A socket of its owner alone, to which the pumps of a node connect. Its file goes with it.
 #[derive(Drop)]
 pub struct Bridge<'a, R: Files> {
-    rt: &'a R,
     listening: Listening<'a, R>,
 }
 
@@ -42,7 +43,6 @@ impl<'a, R: Net + Files<File = File> + Clock> Bridge<'a, R> {
     /// nobody listens.
     pub fn listen(rt: &'a R, alloc: Global, path: &str) -> io::Result<Self> {
         Ok(Bridge {
-            rt,
             listening: Listening::start(rt, alloc, path)?,
         })
     }
@@ -81,12 +81,22 @@ impl<'a, R: Net + Files<File = File> + Clock> Bridge<'a, R> {
                 Ok(letter.map(|letter| (letter, stream)))
             }
             Err(error) if error.kind() == ErrorKind::WouldBlock => {
-                thread::sleep(self.rt, Duration::from_millis(1));
+                self.wait();
                 *left = left.saturating_sub(1);
                 Ok(None)
             }
             Err(error) => Err(error),
         }
+    }
+
+    // Waits until somebody comes, at most a millisecond.
+    fn wait(&self) {
+        let listener = pollfd {
+            fd: self.listening.as_raw_fd(),
+            events: POLLIN,
+            revents: 0,
+        };
+        let _ = poll(&mut [listener], 1);
     }
 }
 

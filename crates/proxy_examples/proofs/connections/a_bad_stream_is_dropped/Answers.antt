@@ -15,6 +15,7 @@ use Rattle.proxy_examples.proofs.connections.a_bad_stream_is_dropped.Goals as go
 pub returns : goal.returns
 unfolding cut_from stream modem_stream present dropped message_count in_use pending forward_count last_number free_from held now is_away to_modem modem_drained view render end_overfull each_pending told_by add_all history
 returns c = record {
+  before = refl;
   dropped = refl;
   present = refl;
   second = refl;

@@ -17,5 +17,5 @@ unfolding cut_from stream modem_stream present dropped message_count in_use pend
 returns c = record {
   forwarded = refl;
   modem = refl;
-  second = refl;
+  refused = refl;
 }

@@ -1,11 +1,7 @@
-use Rattle.std.proofs.Common.{◌≡◌, ℕ, Bool, true, false, nat_lt, if◌then◌else◌, length, Some, None, is_some, refl, ap}
+use Rattle.std.proofs.Common.{ℕ, nat_lt, if◌then◌else◌, length, Some, None, refl, ap}
 use Rattle.proxy_history.specs.Requests.{free_from}
+use Rattle.proxy_examples.proofs.Numbers.{found}
 use Rattle.proxy_examples.proofs.limits.service_numbers_go_round.Goals as goal
-
--- some number, where it is given
-found : (few : Bool) (number : ℕ) → few ≡ true → is_some (if few then Some number else None) ≡ true
-found true number is = refl
-found false number is = absurd (cc)
 
 pub returns : goal.returns
 unfolding free_from

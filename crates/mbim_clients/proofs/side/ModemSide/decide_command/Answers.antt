@@ -13,7 +13,7 @@ use Rattle.mbim_state.specs.Core.{Client, ModemSide}
 use Rattle.mbim_clients.specs.declared.reply.Reply.TheVariants.{Done}
 use Rattle.mbim_clients.specs.Commands.{sends}
 use Rattle.mbim_clients.proofs.Heard.{heard_joined, heard_as}
-use Rattle.mbim_clients.proofs.Whole.{is_out_of_sequence, is_too_long, is_more, is_whole, heard_own_reply, heard_unsent, heard_sent, number_fits, beside}
+use Rattle.mbim_clients.proofs.Whole.{is_out_of_sequence, is_too_long, is_more, is_whole, heard_own_reply, heard_unshared, heard_unsent, heard_sent, number_fits, beside}
 use Rattle.mbim_clients.proofs.side.ModemSide.decide_command.Goals as goal
 
 pub returns-in-OutOfSequence : goal.returns-in-OutOfSequence
@@ -48,6 +48,17 @@ returns-then-is_some c =
     beside c.args.name c.args.message.now client _ c.args.self.now _ _ _ c.self.view_is
     (heard_own_reply c.args.name c.args.message.now client _ c.requires.carries c.take.new.whole same c.take.new.self c.take.ensures.left _ c.own_reply-reply.ensures.reply _ c.own_reply-reply.ensures.client (sym c.is_some.ensures ∙ c.if-is_some.true))
 
+pub returns-then-has_share : goal.returns-then-has_share
+returns-then-has_share c =
+    let client : Client = c.args.client.now in
+    let body : List ℕ = c.take.new.whole in
+    let same = is_whole (joining_behind 65536 client.begun c.args.message.now) c.self.inside.body (sym c.take.ensures.told ∙ c.in-Message.is) ∙ ap Whole (sym c.take.ensures.given) in
+    heard_as c.args.name c.args.message.now client c.args.self.now _ _ _ _ _ _
+    (beside c.args.name c.args.message.now client _ c.args.self.now _ _ _ c.self.view_is
+    (heard_unshared c.args.name c.args.message.now client _ c.requires.carries body same c.take.new.self c.take.ensures.left _ c.own_reply-reply.ensures.reply _ c.own_reply-reply.ensures.client (sym c.is_some.ensures ∙ c.if-is_some.false)
+    (sym c.has_share.ensures ∙ c.if-has_share.true)))
+    (ap (λ (head : DoneHead). Some (Done head)) c.refused.ensures) refl refl
+
 pub returns-then-is_some-2 : goal.returns-then-is_some-2
 returns-then-is_some-2 c =
     let client : Client = c.args.client.now in
@@ -57,7 +68,7 @@ returns-then-is_some-2 c =
     let sent = c.send_command-sent.ensures.traffic ∙ ap₂ (λ (name : CommandName) (deadline : ℕ). sends c.send_command-sent.result c.args.name (asked.Command name) deadline (λ number. split (kind_number kind.Command) number 4096 body) c.self.inside.traffic) kept c.saturating_add-deadline.ensures in
     beside c.args.name c.args.message.now client _ c.args.self.now _ _ _ c.self.view_is
     (heard_sent c.args.name c.args.message.now client _ c.requires.carries body same c.take.new.self c.take.ensures.left _ c.own_reply-reply.ensures.reply _ c.own_reply-reply.ensures.client (sym c.is_some.ensures ∙ c.if-is_some.false)
-    c.send_command-sent.result c.send_command-sent.ensures.number c.send_command-sent.new.traffic sent (sym c.is_some-2.ensures ∙ c.if-is_some-2.true) (number_fits c.args.message.now (λ i. omega (arith, c.type_inv.message i))))
+    (sym c.has_share.ensures ∙ c.if-has_share.false) c.send_command-sent.result c.send_command-sent.ensures.number c.send_command-sent.new.traffic sent (sym c.is_some-2.ensures ∙ c.if-is_some-2.true) (number_fits c.args.message.now (λ i. omega (arith, c.type_inv.message i))))
 
 pub returns : goal.returns
 returns c =
@@ -67,5 +78,5 @@ returns c =
     heard_as c.args.name c.args.message.now client c.args.self.now _ _ _ _ _ _
     (beside c.args.name c.args.message.now client _ c.args.self.now _ _ _ c.self.view_is
     (heard_unsent c.args.name c.args.message.now client _ c.requires.carries body same c.take.new.self c.take.ensures.left _ c.own_reply-reply.ensures.reply _ c.own_reply-reply.ensures.client (sym c.is_some.ensures ∙ c.if-is_some.false)
-    c.send_command-sent.result c.send_command-sent.ensures.number c.send_command-sent.new.traffic _ _ c.send_command-sent.ensures.traffic (sym c.is_some-2.ensures ∙ c.if-is_some-2.false)))
-    (ap (λ (head : DoneHead). Some (Done head)) c.busy.ensures) refl refl
+    (sym c.has_share.ensures ∙ c.if-has_share.false) c.send_command-sent.result c.send_command-sent.ensures.number c.send_command-sent.new.traffic _ _ c.send_command-sent.ensures.traffic (sym c.is_some-2.ensures ∙ c.if-is_some-2.false)))
+    (ap (λ (head : DoneHead). Some (Done head)) c.refused-2.ensures) refl refl

@@ -5,6 +5,8 @@ use Rattle.number_space.specs.Table.{Table, row_of, found, answers}
 use Rattle.number_space.proofs.InUse.{position_at}
 use Rattle.number_space.proofs.Tables.{answers_none, answers_at, sound_remove, none_due_remove}
 use Rattle.number_space.proofs.Index.{RowAt, row_at, row_is, row_none, index_remove, values_remove}
+use Rattle.number_space.proofs.Walks.{row_read}
+use Rattle.number_space.proofs.Waiting.{counted_remove}
 use Rattle.number_space.specs.Index.{NumberAt}
 use Rattle.number_space.proofs.space.Space.answer.Goals as goal
 use Rattle.number_space.proofs.space.Space.answer.Goals.{then-row, else-row}
@@ -38,6 +40,7 @@ invariant_of-self g c =
       index_room = omega (arith, c.self.invariant.index_room, c.take.ensures.capacity);
       indexed = rw (c.take.ensures.entries, c.remove-row.ensures.entries row.place row.there) (index_remove c.self.inside.index.entries c.self.inside.rows.entries c.args.number c.in-Some.place row.place c.self.invariant.indexed c.self.invariant.sound.distinct (rw c.in-Some.is at c.find.ensures.found) row.stands);
       none_due = none_due_remove c.args.number row.place _ c.remove-row.result (values c.remove-row.new.self.entries) c.self.inside.earliest c.self.invariant.sound at kept c.self.invariant.none_due;
+      counted = counted_remove c.self.inside.counts c.ended.new.self (values c.self.inside.rows.entries) (values c.remove-row.new.self.entries) row.place c.remove-row.result row.stands.within (row_read c.self.inside.rows.entries row.place c.take.result c.remove-row.result row.there (c.remove-row.ensures.value row.place (c.take.result, c.remove-row.result) row.there)) kept c.ended.ensures.here c.ended.ensures.others c.self.invariant.counted;
     }
 
 pub returns-clause-found : goal.returns-clause-found

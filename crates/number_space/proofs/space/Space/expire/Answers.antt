@@ -1,4 +1,5 @@
 use Rattle.std.proofs.Common.{◌≡◌, false, ap, sym, ◌∙◌, subst, refl, arith, option_map, get_or, set, List, [], is_some}
+use Rattle.std.proofs.lemmas.List.Quantifiers.{position-Some}
 use Rattle.kit_bytes.proofs.Lists.{find_none}
 use Rattle.number_space.specs.declared.space.Row.{Row}
 use Rattle.number_space.specs.Chain.{values}
@@ -8,6 +9,7 @@ use Rattle.number_space.proofs.InUse.{none_due}
 use Rattle.number_space.proofs.Tables.{with_rows, expires_none, expires_at, due_at, sound_expires, none_due_expires}
 use Rattle.number_space.proofs.Index.{index_set, values_set}
 use Rattle.number_space.proofs.Walks.{row_read}
+use Rattle.number_space.proofs.Waiting.{counted_settled}
 use Rattle.number_space.proofs.space.Space.expire.Goals as goal
 
 pub returns-then-now-self-clause-due : goal.returns-then-now-self-clause-due
@@ -57,6 +59,7 @@ invariant_of-self-2 g c =
           rw (c.set.ensures.entries due.place due.there)
           (index_set c.self.inside.index.entries c.self.inside.rows.entries c.in-Some.key due.place (record c.at.result.0 { pending = false }) c.at.result.0 due.there (c.at.ensures.value due.place (c.in-Some.key, c.at.result.0) due.there) refl c.self.invariant.indexed);
       none_due = subst (λ (l : List (Row g.row.T.Denot)). NoneIsDueBefore c.self.inside.earliest l) kept (none_due_expires c.args.now due.place c.self.inside.earliest _ c.at.result.0 c.self.invariant.sound due.due read c.self.invariant.none_due);
+      counted = counted_settled c.self.inside.counts c.ended.new.self (values c.self.inside.rows.entries) (values c.set.new.self.entries) due.place c.at.result.0 (position-Some (is_due c.args.now) (values c.self.inside.rows.entries) due.place c.at.result.0 due.due).0 read (sym kept) c.ended.ensures.here c.ended.ensures.others c.self.invariant.counted;
     }
 
 pub returns-clause-due : goal.returns-clause-due

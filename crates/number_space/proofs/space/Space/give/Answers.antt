@@ -1,12 +1,13 @@
-use Rattle.std.proofs.Common.{◌≡◌, ◌<◌, ◌∙◌, ℕ, true, ap, sym, arith, subst, length}
+use Rattle.std.proofs.Common.{◌≡◌, ◌<◌, ◌∙◌, ℕ, true, ap, sym, arith, subst, length, refl}
 use Rattle.std.proofs.lemmas.List.{length-map}
 use Rattle.proxy_history.specs.Requests.{following, free_from}
 use Rattle.proxy_history.specs.Laws.{IsFirstFree}
 use Rattle.number_space.specs.Chain.{values}
-use Rattle.number_space.specs.Table.{Table, numbers, next_number, gives}
+use Rattle.number_space.specs.Table.{Table, numbers, next_number, gives, pending_of}
 use Rattle.number_space.proofs.InUse.{none_due_push}
 use Rattle.number_space.proofs.Tables.{given_is_first_free, next_given, gives_is, sound_push}
 use Rattle.number_space.proofs.Index.{free_is, index_put, values_push}
+use Rattle.number_space.proofs.Waiting.{counted_push, waiting_few}
 use Rattle.number_space.proofs.space.Space.give.Goals as goal
 
 pub push-key-requires : goal.push-key-requires
@@ -17,6 +18,12 @@ put-requires-clause-place g c = c.next_free-number.ensures.place.within
 
 pub put-requires-clause-room : goal.put-requires-clause-room
 put-requires-clause-room g c = omega (arith, c.self.invariant.indexed.counted, c.self.invariant.index_room)
+
+pub overflow_add-waits : goal.overflow_add-waits
+overflow_add-waits g c =
+    let waits : c.pending-waits.result ≡ pending_of c.args.conn (record { rows = values c.self.inside.rows.entries; last = c.self.inside.last; limit = c.self.inside.limit; top = c.self.inside.top }) =
+    c.pending-waits.ensures ∙ ap (λ (t : Table g.row.T.Denot). pending_of c.args.conn t) (sym c.self.view_is)
+    in omega (arith, waits, waiting_few c.args.conn (values c.self.inside.rows.entries), length-map c.self.inside.rows.entries (λ e. e.1))
 
 pub returns-clause-number : goal.returns-clause-number
 returns-clause-number g c =
@@ -62,6 +69,10 @@ invariant_of-self g c =
       none_due =
           rw (c.min-self-inside.ensures, c.push-key.ensures.entries, values_push)
           (none_due_push c.self.inside.earliest (values c.self.inside.rows.entries) (record { number = c.next_free-number.result.0; conn = c.args.conn; note = c.args.note; deadline = c.args.deadline; pending = true }) c.self.invariant.none_due);
+      counted =
+          rw (c.push-key.ensures.entries, values_push)
+          (counted_push c.self.inside.counts c.set.new.self (values c.self.inside.rows.entries) (record { number = c.next_free-number.result.0; conn = c.args.conn; note = c.args.note; deadline = c.args.deadline; pending = true }) c.pending-waits.result refl
+          (c.pending-waits.ensures ∙ ap (λ (t : Table g.row.T.Denot). pending_of c.args.conn t) (sym c.self.view_is)) c.set.ensures.here c.set.ensures.others c.self.invariant.counted);
     }
 
 pub returns-clause-stands : goal.returns-clause-stands

@@ -5,6 +5,7 @@ use Rattle.number_space.specs.Table.{Table, NoneIsDueBefore, settled_where, orph
 use Rattle.number_space.proofs.InUse.{none_due_settled}
 use Rattle.number_space.proofs.Tables.{with_rows, sound_settled}
 use Rattle.number_space.proofs.Index.{index_map, values_map}
+use Rattle.number_space.proofs.Waiting.{counted_orphans}
 use Rattle.number_space.proofs.space.Space.orphan.Goals as goal
 
 pub invariant_of-self : goal.invariant_of-self
@@ -18,6 +19,7 @@ invariant_of-self g c =
       index_room = c.self.invariant.index_room;
       indexed = rw c.orphan.ensures.entries (index_map c.self.inside.index.entries c.self.inside.rows.entries (settled_where (λ r. c.args.conn == r.conn)) (λ r. refl) c.self.invariant.indexed);
       none_due = subst (λ (l : List (Row g.row.T.Denot)). NoneIsDueBefore c.self.inside.earliest l) (sym settled) (none_due_settled (λ r. c.args.conn == r.conn) c.self.inside.earliest (values c.self.inside.rows.entries) c.self.invariant.none_due);
+      counted = counted_orphans c.self.inside.counts c.set.new.self c.args.conn (values c.self.inside.rows.entries) (values c.orphan.new.rows.entries) settled c.set.ensures.here c.set.ensures.others c.self.invariant.counted;
     }
 
 pub returns-clause-table : goal.returns-clause-table

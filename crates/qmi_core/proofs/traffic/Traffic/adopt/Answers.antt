@@ -1,14 +1,12 @@
-use Rattle.std.proofs.Common.{ℕ, ap₂, sym, ◌∙◌}
-use Rattle.holders.specs.Grants.{is_taken}
-use Rattle.qmi_core.specs.State.{grants_unless}
-use Rattle.qmi_core.proofs.Granted.{adopts_used, adopts_none}
+use Rattle.std.proofs.Common.{ℕ, ap, ap₂, sym, ◌∙◌}
+use Rattle.holders.specs.Kept.{Ids, kept_without}
+use Rattle.qmi_state.specs.Traffic.{Traffic}
+use Rattle.qmi_core.proofs.Granted.{adopts_held}
 use Rattle.qmi_core.proofs.traffic.Traffic.adopt.Goals as goal
 
-pub returns-then-uses_id : goal.returns-then-uses_id
-returns-then-uses_id c =
-    c.grant.ensures.grants
-    ∙ ap₂ (λ (s i : ℕ). grants_unless (is_taken c.args.name s i c.args.self.now.held) c.args.name s i c.args.self.now) c.used_service.ensures c.used_client.ensures
-    ∙ adopts_used c.args.name c.args.message.now c.args.self.now (sym c.uses_id.ensures ∙ c.if-uses_id.true)
-
-pub returns-else-uses_id : goal.returns-else-uses_id
-returns-else-uses_id c = adopts_none c.args.name c.args.message.now c.args.self.now (sym c.uses_id.ensures ∙ c.if-uses_id.false)
+pub returns-then-is_some : goal.returns-then-is_some
+returns-then-is_some c =
+    ap (λ (ids : Ids). let t : Traffic = record { control = c.self.inside.control; services = c.self.inside.services; held = ids.held; kept = ids.kept; waiting = c.self.inside.outbox.bytes } in t) c.used.ensures.ids
+    ∙ ap (λ (t : Traffic). record t { kept = kept_without c.used_service-service.result c.used_client-client.result t.kept }) c.self.view_is
+    ∙ ap₂ (λ (s i : ℕ). record c.args.self.now { kept = kept_without s i c.args.self.now.kept }) c.used_service-service.ensures c.used_client-client.ensures
+    ∙ adopts_held c.args.name c.args.message.now c.args.self.now c.args.holder (sym c.is_some.ensures ∙ c.if-is_some.true) c.requires.holder c.requires.free c.requires.ordered (sym c.uses_id.ensures ∙ c.if-not-uses_id.false)

@@ -1,0 +1,3 @@
+pub mod Calm
+pub mod Rounds
+pub mod Served
