@@ -59,19 +59,21 @@ tell() {
     done
 }
 
-# One build at a time: who comes meanwhile waits, and finds the program.
+# One build at a time: who comes meanwhile waits, and finds the program. It is said where something is being built, and not where another
+# only looks whether it has to.
 exec 9<"$top/crates.txt"
 if command -v flock >/dev/null 2>&1 && ! flock -n 9; then
-    echo "the program is being built already, from $top; waiting for that .." >&2
+    [ ! -e "$build/building" ] || echo "the program is being built already, from $top; waiting for that .." >&2
     flock 9
 fi
+rm -f "$build/building"
 if [ -n "$(changed)" ]; then
     command -v rt >/dev/null 2>&1 || { echo "rt, the command of the Rattle kit, isn't on the PATH" >&2; exit 70; }
     echo "proving and building the program; on a new machine that takes some $(($(crates | minutes) / 100)) processor minutes, shared by its processors .." >&2
     log=$(mktemp) || exit 70
-    trap 'rm -f "$log"' EXIT
+    trap 'rm -f "$log" "$build/building"' EXIT
     trap 'exit 130' INT TERM
-    copy || exit 70
+    mkdir -p "$build" && : >"$build/building" && copy || exit 70
     # `rt ci` proves the copy's crates side by side, and keeps what it passed, also for the gate. As root it runs programs as nobody
     (cd "$build" && rt ci 9<&-) 2>&1 | tell >"$log"
     [ -x "$program" ] || { grep -a 'NOT PROVED' "$log" >&2; tail -n 20 "$log" >&2; exit 70; }
