@@ -5,3 +5,7 @@ pub mod Refusals
 pub mod ClientIds
 pub mod Forwarded
 pub mod Standing
+pub mod Places
+pub mod Waiting
+pub mod Emptied
+pub mod Shares

@@ -1,4 +1,5 @@
 ghost use Rattle.qmi_isolation.specs.Laws.{OthersChangeNothing, AnswersHaveOneReceiver, OwnAnswersAreForNobody, OtherAnswersHaveNone, HeldIdsAreNotGranted, IdsAreFreeWhenGranted, HeldIdsAreNotUsed, IndicationsReachTheirReceivers, HoldersAloneAreTold, TheIdleAreNotRefused, NumbersAreFreeWhenGiven};
+ghost use Rattle.qmi_isolation.specs.Shares.{SharesAreTheViewsOwn, ViewsDecideFirst};
 ghost use Rattle.qmi_isolation.specs.Queues.{ForwardedRequestsAreQueued, AnswersStand};
 
 /// The law that what other clients do, whatever it is, leaves a client's bytes as they are.
@@ -58,4 +59,12 @@ pub fn forwarded_requests_are_queued()
 /// queue has no room for it is ended, and gets nothing more.
 pub fn answers_stand()
     ensures { AnswersStand }
+{}
+
+/// The law that a client's share is its own view's: which of its requests wait in a space is read from
+/// its view alone, as those that were forwarded and that no answer and no refusal followed. So what the
+/// proxy refuses for the share, as what it replies to by itself, the client could tell beforehand.
+pub fn shares_are_the_views_own()
+    ensures shares { SharesAreTheViewsOwn }
+    ensures decisions { ViewsDecideFirst }
 {}

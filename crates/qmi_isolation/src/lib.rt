@@ -9,5 +9,5 @@ mod laws;
 pub use laws::{
     answers_have_one_receiver, answers_stand, forwarded_requests_are_queued,
     held_ids_are_not_granted, indications_reach_their_receivers, numbers_are_free_when_given,
-    others_change_nothing, the_idle_are_not_refused,
+    others_change_nothing, shares_are_the_views_own, the_idle_are_not_refused,
 };
