@@ -232,6 +232,7 @@ class Modem:
     def __init__(self, run):
         self.run, self.draw, self.listener, self.line = run, draws("modem"), None, None
         self.rest, self.pushed, self.plans, self.holds_back = b"", 0, [], False
+        self.hearing = collections.deque()
         # By space and number: what is in use, and how far the modem had spoken when it answered.
         self.in_use, self.answered, self.last, self.pieces = {}, {}, {}, []
         self.listen()
@@ -273,6 +274,15 @@ class Modem:
         for message in found:
             self.run.play.hear(message)
 
+    def heard(self):
+        """How much the proxy had surely heard when it gave the number of a request that comes now: what it had heard two seconds ago."""
+        now = time.monotonic()
+        if not self.hearing or self.hearing[-1][1] != self.run.consumed:
+            self.hearing.append((now, self.run.consumed))
+        while len(self.hearing) > 1 and self.hearing[1][0] <= now - 2:
+            self.hearing.popleft()
+        return self.hearing[0][1] if self.hearing[0][0] <= now - 2 else 0
+
     def given(self, space, number):
         """The number is the first free one after the last, as far as is known what is free."""
         last, top = self.last.get(space), K.tops[space]
@@ -281,7 +291,7 @@ class Modem:
         if last is not None:
             between, at = 0, last % top + 1
             while at != number:
-                if (space, at) not in self.in_use and self.answered.get((space, at), -1) <= self.run.consumed:
+                if (space, at) not in self.in_use and self.answered.get((space, at), -1) <= self.heard():
                     raise Difference(f"number {number} is given after {last}, and {at} is free")
                 at, between = at % top + 1, between + 1
                 if between > 2000:

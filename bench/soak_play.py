@@ -105,7 +105,15 @@ class Play:
             for line in lines:
                 line.write()
                 line.read()
-            return sum(space == 0 for space, _ in run.modem.in_use) == limit
+            full = sum(space == 0 for space, _ in run.modem.in_use) == limit
+            if not full and not any(line.out for line in lines):
+                self.draw.choice(lines).out += self.asks_much()[-1]
+            return full
+
+        # a number of the proxy's own request comes free again, and is taken then
+        for _ in range(3):
+            run.until(turn, "hostile programs can take all numbers")
+            run.turns(0.7)
         run.until(turn, "hostile programs can take all numbers")
         for client in run.good:
             self.asks_in_vain(client)
@@ -249,7 +257,12 @@ class QmiPlay(Play):
             modem.push(Qmi.answer(message, Qmi.tlv(1, bytes(self.draw.choice(others)))))
             return client.gets([Qmi.reply(asked.message, Qmi.HELD)], lambda: client.settle(asked))
         now = time.monotonic()
-        free = [it for it in range(1, 121) if (service, it) not in self.holds and self.left_until.get((service, it), 0) < now]
+        # 5 is what an answer out of form tells, and whoever reads it uses it
+        free = [it for it in range(6, 121) if (service, it) not in self.holds and self.left_until.get((service, it), 0) < now]
+        if not free:
+            answer = Qmi.answer(message, b"", Qmi.HELD)
+            modem.push(answer)
+            return client.gets([Qmi.with_number(answer, asked.number)], lambda: client.settle(asked))
         key = (service, self.draw.choice(free))
         answer = Qmi.answer(message, Qmi.tlv(1, bytes(key)) + Qmi.tlv(0xE0, tag(client.name, asked.serial)))
         modem.push(answer)
