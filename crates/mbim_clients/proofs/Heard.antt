@@ -1,7 +1,6 @@
 -- How a client's message is heard, by what it asks for.
 use Rattle.std.proofs.Common.{◌≡◌, ℕ, ◌+◌, Bool, true, false, not, ◌&&◌, List, [], refl, ap, ap₂, sym, subst, ◌∙◌, Option, Some, None, if◌then◌else◌}
 use Rattle.outbox.specs.Queue.{Queue}
-use Rattle.connections.specs.Hearing.{Hearing}
 use Rattle.mbim_frame.specs.declared.kind.MessageKind.TheVariants as kind
 use Rattle.mbim_frame.specs.declared.status.TheConstants.{SUCCESS, BUSY, FAILURE}
 use Rattle.mbim_frame.specs.Kinds.{kind_number}
@@ -15,7 +14,7 @@ use Rattle.proxy_history.specs.Decision.{Decision, Replies, forwards_under}
 use Rattle.mbim_proxy.specs.Setup.{Setup, fragment_for}
 use Rattle.mbim_proxy.specs.Known.{Known}
 use Rattle.mbim_proxy.specs.OwnReplies as own
-use Rattle.mbim_proxy.specs.OwnReplies.{OwnReply, reply_to_command, reply_to_joining, own_reply, is_open_request, is_command_fragment, may_open, is_for_modem, view_decides}
+use Rattle.mbim_proxy.specs.OwnReplies.{OwnReply, reply_to_joining, is_command_fragment, may_open, is_for_modem, view_decides}
 use Rattle.mbim_proxy.specs.Step.{whole_body, command_with, with_reply, with_message}
 use Rattle.mbim_proxy.specs.Text as text
 use Rattle.mbim_proxy.specs.Text.{SHARE_PASSED}

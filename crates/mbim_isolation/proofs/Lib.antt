@@ -3,3 +3,7 @@ pub mod Openings
 pub mod Indications
 pub mod Refusals
 pub mod Queues
+pub mod Places
+pub mod Waiting
+pub mod Emptied
+pub mod Shares

@@ -1,4 +1,5 @@
 ghost use Rattle.mbim_isolation.specs.Laws.{AnswersHaveOneReceiver, OtherAnswersHaveNone, OpeningsAnswerTheWaiting, IndicationsReachTheirReceivers, TheIdleAreNotRefused, NumbersAreFreeWhenGiven, TimeFreesNoNumber};
+ghost use Rattle.mbim_isolation.specs.Shares.{SharesAreTheViewsOwn, ViewsDecideFirst};
 ghost use Rattle.mbim_isolation.specs.Queues.{ForwardedCommandsAreQueued, AnswersStand, OpeningsStand};
 
 /// The law that an answer of the modem to a command whose sender waits comes to this sender alone,
@@ -46,4 +47,12 @@ pub fn forwarded_commands_are_queued()
 pub fn answers_stand()
     ensures commands { AnswersStand }
     ensures openings { OpeningsStand }
+{}
+
+/// The law that a client's share is its own view's: how many of its commands wait is read from its view
+/// alone, as those that were forwarded and that no answer and no refusal followed. So what the proxy
+/// refuses for the share, as what it replies to by itself, the client could tell beforehand.
+pub fn shares_are_the_views_own()
+    ensures shares { SharesAreTheViewsOwn }
+    ensures decisions { ViewsDecideFirst }
 {}

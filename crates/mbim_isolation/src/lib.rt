@@ -9,5 +9,5 @@ mod laws;
 pub use laws::{
     answers_have_one_receiver, answers_stand, forwarded_commands_are_queued,
     indications_reach_their_receivers, numbers_are_free_when_given, openings_answer_the_waiting,
-    the_idle_are_not_refused,
+    shares_are_the_views_own, the_idle_are_not_refused,
 };

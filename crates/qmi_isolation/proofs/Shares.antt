@@ -306,9 +306,9 @@ as_many : (c space : ℕ) (past : List Fact) → waiting_places space (view_of c
 as_many c space past same = ap (nat_le share_limit) (sym (ap length same ∙ length-map (of_client c space (pending past)) (λ (r : Request). r.place)))
 
 pub shares_are_the_views_own : (s : Setup) (events : List Event) (c space : ℕ) → AreSound (qmi_protocol s) events → is_present c (history s events) ≡ true
-    → has_share share_limit c space (history s events) ≡ view_has_share space (view_of c (history s events))
+    → places_of c space (pending (history s events)) ≡ waiting_places space (view_of c (history s events))
 shares_are_the_views_own s events c space sound there =
-    as_many c space (history s events) ((histories_fit s c (is_client c (history s events) (histories_are_regular s events sound) there) events sound).fits there space)
+    sym ((histories_fit s c (is_client c (history s events) (histories_are_regular s events sound) there) events sound).fits there space)
 
 pub views_decide_first : (s : Setup) (events : List Event) (c : ℕ) (earlier : List (List ℕ)) (m : List ℕ) → AreSound (qmi_protocol s) events → is_present c (facts_before_saying s events c earlier) ≡ true
     → decision_on s c m (facts_before_saying s events c earlier)

@@ -1,11 +1,11 @@
 -- A client's share is its view's own: which of its requests wait in a space is read from its view alone.
 -- Lists of events, of facts and of entries have the newest first; places have the oldest first.
-use Rattle.std.specs.Prelude.{◌≡◌, ℕ, ◌+◌, Bool, true, not, ◌==◌, nat_le, if◌then◌else◌, List, [], ◌∷◌, ◌++◌, length, filter}
+use Rattle.std.specs.Prelude.{◌≡◌, ℕ, ◌+◌, Bool, true, not, ◌==◌, nat_le, if◌then◌else◌, List, [], ◌∷◌, ◌++◌, length, map, filter}
 use Rattle.proxy_history.specs.Events.{Event}
 use Rattle.proxy_history.specs.Facts.{Own, Share, Forward}
 use Rattle.proxy_history.specs.Decision.{Decision, Replies}
 use Rattle.proxy_history.specs.Connections.{is_present}
-use Rattle.proxy_history.specs.Requests.{has_share}
+use Rattle.proxy_history.specs.Requests.{pending, of_client}
 use Rattle.proxy_history.specs.View.{Entry, Sent, Response, Refused, sent_count}
 use Rattle.proxy_history.specs.Coming.{AreSound}
 use Rattle.qmi_proxy.specs.Setup.{Setup}
@@ -33,11 +33,11 @@ waiting_places space (_ ∷ entries) = waiting_places space entries
 abbrev pub view_has_share : (space : ℕ) → List Entry → Bool
 view_has_share space entries = nat_le share_limit (length (waiting_places space entries))
 
--- for a client that is there, at the end of each event
+-- the requests of a client that is there which wait are those whose places its view shows, at the end of each event
 abbrev pub SharesAreTheViewsOwn : Type 0
 SharesAreTheViewsOwn = (s : Setup) (events : List Event) (c space : ℕ)
     → AreSound (qmi_protocol s) events → is_present c (history s events) ≡ true
-    → has_share share_limit c space (history s events) ≡ view_has_share space (view_of c (history s events))
+    → map (λ r. r.place) (of_client c space (pending (history s events))) ≡ waiting_places space (view_of c (history s events))
 
 -- the decision on a message, of which all that comes before what clients share is read from the client's view alone
 abbrev pub decision_by_view : Setup → List Entry → Decision → List ℕ → Decision

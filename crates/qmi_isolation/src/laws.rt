@@ -1,6 +1,6 @@
 ghost use Rattle.qmi_isolation.specs.Laws.{OthersChangeNothing, AnswersHaveOneReceiver, OwnAnswersAreForNobody, OtherAnswersHaveNone, HeldIdsAreNotGranted, IdsAreFreeWhenGranted, HeldIdsAreNotUsed, IndicationsReachTheirReceivers, HoldersAloneAreTold, TheIdleAreNotRefused, NumbersAreFreeWhenGiven};
-ghost use Rattle.qmi_isolation.specs.Shares.{SharesAreTheViewsOwn, ViewsDecideFirst};
 ghost use Rattle.qmi_isolation.specs.Queues.{ForwardedRequestsAreQueued, AnswersStand};
+ghost use Rattle.qmi_isolation.specs.Shares.{SharesAreTheViewsOwn, ViewsDecideFirst};
 
 /// The law that what other clients do, whatever it is, leaves a client's bytes as they are.
 pub fn others_change_nothing()
@@ -62,8 +62,9 @@ pub fn answers_stand()
 {}
 
 /// The law that a client's share is its own view's: which of its requests wait in a space is read from
-/// its view alone, as those that were forwarded and that no answer and no refusal followed. So what the
-/// proxy refuses for the share, as what it replies to by itself, the client could tell beforehand.
+/// its view alone, as those that were forwarded and that no answer and no refusal followed. So is what
+/// the proxy refuses for the share, which stands behind what it replies to by itself and before all that
+/// clients share.
 pub fn shares_are_the_views_own()
     ensures shares { SharesAreTheViewsOwn }
     ensures decisions { ViewsDecideFirst }
