@@ -7,4 +7,5 @@ mod print;
 mod texts;
 mod words;
 
-pub use answer::mbim_text;
+pub use answer::{fields_text, mbim_text};
+pub use texts::uuid_text;

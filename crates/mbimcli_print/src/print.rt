@@ -1,31 +1,31 @@
 ghost use Rattle.std.specs.Prelude.{◌≡◌, ◌++◌, chars, decimal, encode_utf8_all, length, map, OnOk};
 ghost use Rattle.std.specs.List.{list_any};
 ghost use Rattle.mbim_fields.specs.View.{field_view, fixed_view, form_view, item_view, shape_view, value_view};
-ghost use Rattle.mbim_fields.specs.Layout as layout;
 ghost use Rattle.print_text.specs.Lines.{counted_text, each_text, line};
-ghost use Rattle.mbimcli_print.specs.Printed.{address_line, fields_text, fixed_text, form_text, is_counted_by, item_text, number_text, prefixed_text};
+ghost use Rattle.mbimcli_print.specs.Printed.{address_line, fields_text, fixed_text, form_text, is_counted_by, item_text, number_text, prefixed_text, uuid_line};
 
 use crate::texts::{Family, address_text, uuid_text};
 use crate::words::word_for;
 use itoa::Buffer;
 use kit_bytes::Octets;
 use mbim_fields::{Field, FieldShape, FieldValue, Fixed, Form, Item};
-use print_text::{deeper, escaped_text, hex_text, push_heading, push_line, worded};
+use print_text::{Wording, deeper, escaped_text, hex_text, push_heading, push_line, worded};
 use std::alloc::{AllocError, Global};
 
 fn print_number(
     alloc: Global,
+    wording: Wording,
     out: &mut Octets,
     indent: &[u8],
     name: &str,
     value: &FieldValue,
 ) -> Result<(), AllocError>
-    ensures { OnOk result (out.new ≡ out.old ++ number_text indent.now name.now (value_view value.now)) }
+    ensures { OnOk result (out.new ≡ out.old ++ number_text wording indent.now name.now (value_view value.now)) }
 {
     let Some(number) = value.as_number() else {
         return Ok(());
     };
-    let text = worded(alloc, number, word_for(name, number))?;
+    let text = worded(alloc, number, wording.shown(word_for(name, number)))?;
     push_line(out, indent, name, text.as_slice())
 }
 
@@ -36,7 +36,7 @@ fn print_uuid(
     name: &str,
     value: &FieldValue,
 ) -> Result<(), AllocError>
-    ensures { OnOk result (out.new ≡ out.old ++ fixed_text layout.uuid indent.now name.now (value_view value.now)) }
+    ensures { OnOk result (out.new ≡ out.old ++ uuid_line indent.now name.now (value_view value.now)) }
 {
     let Some(uuid) = value.as_uuid() else {
         return Ok(());
@@ -81,7 +81,8 @@ fn print_prefixed(
     };
     push_heading(out, indent, name)?;
     let inner = deeper(alloc, indent)?;
-    print_number(alloc, out, inner.as_slice(), "Prefix", prefix)?;
+    let alone = Wording::NumbersAlone;
+    print_number(alloc, alone, out, inner.as_slice(), "Prefix", prefix)?;
     print_address(alloc, out, inner.as_slice(), "Address", family, address)?;
     Ok(())
 }
@@ -89,16 +90,17 @@ fn print_prefixed(
 // Adds the text of what has one size.
 fn print_fixed(
     alloc: Global,
+    wording: Wording,
     out: &mut Octets,
     indent: &[u8],
     name: &str,
     fixed: Fixed,
     value: &FieldValue,
 ) -> Result<(), AllocError>
-    ensures { OnOk result (out.new ≡ out.old ++ fixed_text (fixed_view fixed) indent.now name.now (value_view value.now)) }
+    ensures { OnOk result (out.new ≡ out.old ++ fixed_text wording (fixed_view fixed) indent.now name.now (value_view value.now)) }
 {
     match fixed {
-        Fixed::U32 | Fixed::U64 => print_number(alloc, out, indent, name, value),
+        Fixed::U32 | Fixed::U64 => print_number(alloc, wording, out, indent, name, value),
         Fixed::Uuid => print_uuid(alloc, out, indent, name, value),
         Fixed::Ipv4 => print_address(alloc, out, indent, name, Family::Ipv4, value),
         Fixed::Ipv6 => print_address(alloc, out, indent, name, Family::Ipv6, value),
@@ -127,31 +129,41 @@ fn print_count(
 // Adds the text of a list of what has one size.
 fn print_run(
     alloc: Global,
+    wording: Wording,
     out: &mut Octets,
     indent: &[u8],
     name: &str,
     fixed: Fixed,
     values: &[FieldValue],
 ) -> Result<(), AllocError>
-    ensures { OnOk result (out.new ≡ out.old ++ counted_text (fixed_text (fixed_view fixed)) indent.now name.now (map value_view values.now)) }
+    ensures { OnOk result (out.new ≡ out.old ++ counted_text (fixed_text wording (fixed_view fixed)) indent.now name.now (map value_view values.now)) }
 {
     print_count(out, indent, name, values)?;
     let inner = deeper(alloc, indent)?;
-    print_run_elements(alloc, out, inner.as_slice(), fixed, values)
+    print_run_elements(alloc, wording, out, inner.as_slice(), fixed, values)
 }
 
 fn print_run_elements(
     alloc: Global,
+    wording: Wording,
     out: &mut Octets,
     indent: &[u8],
     fixed: Fixed,
     values: &[FieldValue],
 ) -> Result<(), AllocError>
-    ensures { OnOk result (out.new ≡ out.old ++ each_text (fixed_text (fixed_view fixed) indent.now) 1 (map value_view values.now)) }
+    ensures { OnOk result (out.new ≡ out.old ++ each_text (fixed_text wording (fixed_view fixed) indent.now) 1 (map value_view values.now)) }
 {
     for (index, value) in values.iter().enumerate() {
         let mut place = Buffer::new();
-        print_fixed(alloc, out, indent, place.format(index + 1), fixed, value)?;
+        print_fixed(
+            alloc,
+            wording,
+            out,
+            indent,
+            place.format(index + 1),
+            fixed,
+            value,
+        )?;
     }
     Ok(())
 }
@@ -160,16 +172,17 @@ fn print_run_elements(
 #[cycle(print)]
 fn print_item(
     alloc: Global,
+    wording: Wording,
     out: &mut Octets,
     indent: &[u8],
     name: &str,
     item: &Item,
     value: &FieldValue,
 ) -> Result<(), AllocError>
-    ensures { OnOk result (out.new ≡ out.old ++ item_text (item_view item.now) indent.now name.now (value_view value.now)) }
+    ensures { OnOk result (out.new ≡ out.old ++ item_text wording (item_view item.now) indent.now name.now (value_view value.now)) }
 {
     match item {
-        Item::InPlace(fixed) => print_fixed(alloc, out, indent, name, *fixed, value),
+        Item::InPlace(fixed) => print_fixed(alloc, wording, out, indent, name, *fixed, value),
         Item::Text => {
             let Some(text) = value.as_text() else {
                 return Ok(());
@@ -190,7 +203,8 @@ fn print_item(
             };
             push_heading(out, indent, name)?;
             let inner = deeper(alloc, indent)?;
-            print_fields(alloc, out, inner.as_slice(), shape, members.as_slice())
+            let inner = inner.as_slice();
+            print_fields(alloc, wording, out, inner, shape, members.as_slice())
         }
     }
 }
@@ -199,32 +213,42 @@ fn print_item(
 #[cycle(print)]
 fn print_each(
     alloc: Global,
+    wording: Wording,
     out: &mut Octets,
     indent: &[u8],
     name: &str,
     item: &Item,
     values: &[FieldValue],
 ) -> Result<(), AllocError>
-    ensures { OnOk result (out.new ≡ out.old ++ counted_text (item_text (item_view item.now)) indent.now name.now (map value_view values.now)) }
+    ensures { OnOk result (out.new ≡ out.old ++ counted_text (item_text wording (item_view item.now)) indent.now name.now (map value_view values.now)) }
 {
     print_count(out, indent, name, values)?;
     let inner = deeper(alloc, indent)?;
-    print_elements(alloc, out, inner.as_slice(), item, values)
+    print_elements(alloc, wording, out, inner.as_slice(), item, values)
 }
 
 #[cycle(print)]
 fn print_elements(
     alloc: Global,
+    wording: Wording,
     out: &mut Octets,
     indent: &[u8],
     item: &Item,
     values: &[FieldValue],
 ) -> Result<(), AllocError>
-    ensures { OnOk result (out.new ≡ out.old ++ each_text (item_text (item_view item.now) indent.now) 1 (map value_view values.now)) }
+    ensures { OnOk result (out.new ≡ out.old ++ each_text (item_text wording (item_view item.now) indent.now) 1 (map value_view values.now)) }
 {
     for (index, value) in values.iter().enumerate() {
         let mut place = Buffer::new();
-        print_item(alloc, out, indent, place.format(index + 1), item, value)?;
+        print_item(
+            alloc,
+            wording,
+            out,
+            indent,
+            place.format(index + 1),
+            item,
+            value,
+        )?;
     }
     Ok(())
 }
@@ -233,29 +257,30 @@ fn print_elements(
 #[cycle(print)]
 fn print_form(
     alloc: Global,
+    wording: Wording,
     out: &mut Octets,
     indent: &[u8],
     name: &str,
     form: &Form,
     value: &FieldValue,
 ) -> Result<(), AllocError>
-    ensures { OnOk result (out.new ≡ out.old ++ form_text (form_view form.now) indent.now name.now (value_view value.now)) }
+    ensures { OnOk result (out.new ≡ out.old ++ form_text wording (form_view form.now) indent.now name.now (value_view value.now)) }
 {
     match form {
-        Form::One(item) => print_item(alloc, out, indent, name, item, value),
+        Form::One(item) => print_item(alloc, wording, out, indent, name, item, value),
         Form::Each(_, item) => {
             let Some(values) = value.as_list() else {
                 return Ok(());
             };
-            print_each(alloc, out, indent, name, item, values.as_slice())
+            print_each(alloc, wording, out, indent, name, item, values.as_slice())
         }
         Form::Run(_, fixed) => {
             let Some(values) = value.as_list() else {
                 return Ok(());
             };
-            print_run(alloc, out, indent, name, *fixed, values.as_slice())
+            print_run(alloc, wording, out, indent, name, *fixed, values.as_slice())
         }
-        Form::Perhaps(fixed) => print_fixed(alloc, out, indent, name, *fixed, value),
+        Form::Perhaps(fixed) => print_fixed(alloc, wording, out, indent, name, *fixed, value),
     }
 }
 
@@ -264,12 +289,13 @@ fn print_form(
 #[cycle(print)]
 pub fn print_fields(
     alloc: Global,
+    wording: Wording,
     out: &mut Octets,
     indent: &[u8],
     shape: &FieldShape,
     values: &[FieldValue],
 ) -> Result<(), AllocError>
-    ensures { OnOk result (out.new ≡ out.old ++ fields_text (shape_view shape.now) 0 indent.now (map value_view values.now)) }
+    ensures { OnOk result (out.new ≡ out.old ++ fields_text wording (shape_view shape.now) 0 indent.now (map value_view values.now)) }
 {
     let fields = shape.0;
     for index in 0..fields.len().min(values.len()) {
@@ -279,7 +305,7 @@ pub fn print_fields(
             continue;
         }
         let name = spelled(field.0);
-        print_form(alloc, out, indent, name, &field.1, value)?;
+        print_form(alloc, wording, out, indent, name, &field.1, value)?;
     }
     Ok(())
 }

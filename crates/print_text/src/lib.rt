@@ -3,6 +3,8 @@
 
 mod lines;
 mod texts;
+mod wording;
 
 pub use lines::{deeper, or_ok, push_heading, push_line};
 pub use texts::{escaped_text, hex_pair, hex_text, ipv4_text, lower_hex_pair, push_number, worded};
+pub use wording::Wording;

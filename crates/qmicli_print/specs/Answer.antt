@@ -6,10 +6,11 @@ use Rattle.qmi_services.specs.declared.answers.QmiEnd.{QmiEnd}
 use Rattle.qmi_services.specs.declared.answers.QmiAnswer.TheVariants.{Success, Failure}
 use Rattle.qmi_services.specs.Answers.{FieldValue, fields_view}
 use Rattle.print_text.specs.Lines.{spaces, or_ok}
+use Rattle.print_text.specs.declared.wording.Wording.TheVariants.{WithWords}
 use Rattle.qmicli_print.specs.Printed.{value_text}
 
 abbrev pub field_text : FieldValue → List ℕ
-field_text field = value_text field.form (spaces 0) (encode_utf8_all field.name) field.value
+field_text field = value_text WithWords field.form (spaces 0) (encode_utf8_all field.name) field.value
 
 unfoldable pub kept_line : ℕ → ℕ → List ℕ
 kept_line service id = codes "client id kept: service " ++ decimal service ++ codes ", id " ++ decimal id ++ codes "\n"

@@ -1,8 +1,9 @@
--- The text of a value, by its form and its name.
+-- The text of a value, by its form and its name, with the words for numbers or without them.
 use Rattle.std.specs.Prelude.{ℕ, List, [], ◌∷◌, ◌++◌, encode_utf8_all, if◌then◌else◌}
 use Rattle.std.specs.Fmt.{signed_decimal}
 use Rattle.std.specs.List.{flat_map}
 use Rattle.print_text.specs.Lines.{line, heading, deeper, counted_text}
+use Rattle.print_text.specs.declared.wording.Wording.{Wording}
 use Rattle.qmi_shapes.specs.Form.{Form, unsigned, signed, string, array, sequence, Fields, field}
 use Rattle.qmi_values.specs.Value.{Value, number, integer, text, elements, members, list_of}
 use Rattle.qmicli_print.specs.Words.{is_bytes, shown_as}
@@ -16,15 +17,15 @@ list_text shown indent name values =
 
 -- a value that isn't of its form has no text
 abbrev mutual
-  pub value_text : Form → List ℕ → List ℕ → Value → List ℕ
-  value_text (unsigned size) indent name (number n) = line indent name (number_text (shown_as name) n)
-  value_text (signed size) indent name (integer z) = line indent name (signed_decimal z)
-  value_text (string prefix) indent name (text octets) = line indent name (flat_map escaped octets)
-  value_text (array prefix element) indent name (elements values) = list_text (value_text element) indent name (list_of values)
-  value_text (sequence fields) indent name (members values) = heading indent name ++ fields_text fields (deeper indent) (list_of values)
-  value_text form indent name value = []
+  pub value_text : Wording → Form → List ℕ → List ℕ → Value → List ℕ
+  value_text wording (unsigned size) indent name (number n) = line indent name (number_text wording (shown_as name) n)
+  value_text wording (signed size) indent name (integer z) = line indent name (signed_decimal z)
+  value_text wording (string prefix) indent name (text octets) = line indent name (flat_map escaped octets)
+  value_text wording (array prefix element) indent name (elements values) = list_text (value_text wording element) indent name (list_of values)
+  value_text wording (sequence fields) indent name (members values) = heading indent name ++ fields_text wording fields (deeper indent) (list_of values)
+  value_text wording form indent name value = []
 
   -- the texts of fields, each with its name
-  pub fields_text : Fields → List ℕ → List Value → List ℕ
-  fields_text (field name form more) indent (value ∷ values) = value_text form indent (encode_utf8_all name) value ++ fields_text more indent values
-  fields_text _ indent values = []
+  pub fields_text : Wording → Fields → List ℕ → List Value → List ℕ
+  fields_text wording (field name form more) indent (value ∷ values) = value_text wording form indent (encode_utf8_all name) value ++ fields_text wording more indent values
+  fields_text wording _ indent values = []

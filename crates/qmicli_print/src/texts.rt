@@ -5,18 +5,23 @@ ghost use Rattle.qmicli_print.specs.Texts.{address_text, escaped, hex_of, number
 
 use crate::shown::{Shown, word};
 use kit_bytes::Octets;
-use print_text::{hex_pair, ipv4_text, worded};
+use print_text::{Wording, hex_pair, ipv4_text, worded};
 use qmi_values::Val;
 use std::alloc::{AllocError, Global};
 
 /// A number as it is shown.
-pub fn number_text(alloc: Global, shown: Shown, number: u64) -> Result<Octets, AllocError>
-    ensures { IfOk result (λ text. text ≡ number_text shown number) }
+pub fn number_text(
+    alloc: Global,
+    wording: Wording,
+    shown: Shown,
+    number: u64,
+) -> Result<Octets, AllocError>
+    ensures { IfOk result (λ text. text ≡ number_text wording shown number) }
 {
     if shown.is_address() {
         return address_text(alloc, number);
     }
-    worded(alloc, number, word(shown, number))
+    worded(alloc, number, wording.shown(word(shown, number)))
 }
 
 // A number as an IPv4 address, the top byte first.

@@ -7,10 +7,10 @@ use Rattle.qmicli_print.specs.Printed.{value_text, fields_text}
 use Rattle.qmicli_print.proofs.print.+print.Given as goal
 
 abbrev pub invariant-print_elements-loop-index : goal.invariant-print_elements-loop-index
-invariant-print_elements-loop-index l = l.out ≡ l.initial.out ++ each_text (value_text (shape_view l.element) l.indent) 1 (map val_view (take l.index l.vals))
+invariant-print_elements-loop-index l = l.out ≡ l.initial.out ++ each_text (value_text l.wording (shape_view l.element) l.indent) 1 (map val_view (take l.index l.vals))
 
 abbrev pub invariant-print_fields-loop-index : goal.invariant-print_fields-loop-index
-invariant-print_fields-loop-index l = l.out ≡ l.initial.out ++ fields_text (fields_of (map field_view (take l.index l.fields))) l.indent (map val_view (take l.index l.vals))
+invariant-print_fields-loop-index l = l.out ≡ l.initial.out ++ fields_text l.wording (fields_of (map field_view (take l.index l.fields))) l.indent (map val_view (take l.index l.vals))
 
 abbrev pub decreases-print_value : goal.decreases-print_value
 decreases-print_value l = 3 * depth (shape_view l.shape.now)
