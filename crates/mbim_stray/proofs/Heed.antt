@@ -5,6 +5,7 @@ use Rattle.std.proofs.lemmas.Bool.{false_from_ne_true}
 use Rattle.kit_bytes.specs.Subscriptions.{Pair}
 use Rattle.mbim_frame.specs.declared.kind.MessageKind.TheVariants as kind
 use Rattle.mbim_frame.specs.declared.status.TheConstants.{FAILURE}
+use Rattle.mbim_frame.specs.Framing.{size_of-kept}
 use Rattle.mbim_frame.specs.Head.{is_kind}
 use Rattle.mbim_frame.specs.Fragment.{body_of}
 use Rattle.mbim_frame.specs.Bodies.{uuid_of, cid_of}
@@ -153,6 +154,7 @@ module _ (s : Setup) where
     finish = λ a b alike. finishes a b alike;
     done_at_first = done_behind [] (none_where_busy [] not_free);
     done = λ past. done_behind (finish s past) (sent (number past) past refl);
+    kept = size_of-kept;
     goes_on = λ messages more. heard_goes_on s.longest_body none_begun messages more ∙ ap (λ (l : List (List ℕ)). deliver s.longest_body messages ++ l) (sym (heard_on messages more));
     not_bad = refl;
   }

@@ -7,7 +7,7 @@ use Rattle.kit_bytes.specs.Indications.{wants}
 use Rattle.mbim_frame.specs.declared.kind.MessageKind.TheVariants as kind
 use Rattle.mbim_frame.specs.declared.status.TheConstants.{SUCCESS}
 use Rattle.mbim_frame.specs.Head.{is_kind}
-use Rattle.proxy_history.specs.Facts.{Fact, Request, Own, Share, Forwarded, OpeningEnded, ListSent, ModemLost, ModemReturned}
+use Rattle.proxy_history.specs.Facts.{Fact, Request, Own, Share, Forwarded, Indicated, OpeningEnded, ListSent, ModemLost, ModemReturned}
 use Rattle.proxy_history.specs.Decision.{Decision, Replies, forwards_under}
 use Rattle.proxy_history.specs.Connections.{present, message_count}
 use Rattle.proxy_history.specs.Requests.{in_use, pending, forward_count, next_number, has_share, deadline_of}
@@ -38,6 +38,7 @@ state-told away (Forwarded r ∷ past) = ap (λ (was : ModemState). if is_own_op
 state-told away (OpeningEnded status receivers ∷ past) = refl
 state-told away (ModemLost ∷ past) = refl
 state-told away (ModemReturned ∷ past) = refl
+state-told away (Indicated m [] ∷ past) = state-told away past
 state-told away (_ ∷ past) = state-told away past
 
 list-told : IsTold last_list
@@ -45,6 +46,7 @@ unfolding last_list substance
 list-told [] = refl
 list-told (OpeningEnded status receivers ∷ past) = ap (λ (list : List Pair). if status == SUCCESS then starting_list else list) (list-told past)
 list-told (ListSent list ∷ past) = refl
+list-told (Indicated m [] ∷ past) = list-told past
 list-told (_ ∷ past) = list-told past
 
 module _ (s : Setup) (a b : List Fact) (same : TellTheSame a b) where

@@ -1,7 +1,7 @@
 -- What is added to histories that are alike leaves such that are alike.
-use Rattle.std.proofs.Common.{◌≡◌, ℕ, ◌&&◌, Bool, true, false, max, nat_lt, if◌then◌else◌, List, [], ◌∷◌, ◌++◌, length, refl, ap, ap₂, subst}
+use Rattle.std.proofs.Common.{◌≡◌, ℕ, ◌&&◌, Bool, true, false, max, nat_lt, if◌then◌else◌, List, [], ◌∷◌, ◌++◌, length, refl, ap, ap₂, subst, ◌∙◌}
 use Rattle.proxy_history.specs.Limits.{Limits}
-use Rattle.proxy_history.specs.Facts.{Fact, Request, NotAdmitted, BadStream, NoRoom, Closed, EventBegan, Admitted, Ended, Drained, Expired, Aborted, Stray, ModemLost, ModemReturned, ModemDrained, TimeIs}
+use Rattle.proxy_history.specs.Facts.{Fact, Request, NotAdmitted, BadStream, NoRoom, Closed, EventBegan, Admitted, Ended, Drained, Expired, Aborted, Indicated, Stray, ModemLost, ModemReturned, ModemDrained, TimeIs}
 use Rattle.proxy_history.specs.Connections.{contains, present, is_present, dropped}
 use Rattle.proxy_history.specs.Requests.{pending, is_pending, has_request}
 use Rattle.proxy_history.specs.Modem.{now}
@@ -23,6 +23,7 @@ same_behind : (fact : Fact) (a b : List Fact) → TellTheSame a b → TellTheSam
 unfolding substance
 same_behind EventBegan a b same = same
 same_behind Stray a b same = same
+same_behind (Indicated m []) a b same = same
 same_behind fact a b same = ap (λ (l : List Fact). fact ∷ l) same
 
 hung_up_behind : (fact : Fact) (a b : List Fact) → dropped a ≡ dropped b → dropped (fact ∷ a) ≡ dropped (fact ∷ b)
@@ -47,8 +48,15 @@ pub stray_behind : (a b : List Fact) → Alike a b → Alike (Stray ∷ a) b
 unfolding substance dropped
 stray_behind a b alike = record { same = alike.same; hung_up = alike.hung_up }
 
+pub unwanted_behind : (told : List ℕ) (a b : List Fact) → Alike a b → Alike (Indicated told [] ∷ a) b
+unfolding substance dropped
+unwanted_behind told a b alike = record { same = alike.same; hung_up = alike.hung_up }
+
 pub alike_self : (a : List Fact) → Alike a a
 alike_self a = record { same = refl; hung_up = refl }
+
+pub alike_then : (a b c : List Fact) → Alike a b → Alike b c → Alike a c
+alike_then a b c first second = record { same = first.same ∙ second.same; hung_up = first.hung_up ∙ second.hung_up }
 
 -- ---- choices ----
 

@@ -20,6 +20,7 @@ unfolding present substance
 present-told [] = refl
 present-told (Admitted c ∷ past) = ap (λ (l : List ℕ). l ++ c ∷ []) (present-told past)
 present-told (Ended c why ∷ past) = ap (without c) (present-told past)
+present-told (Indicated m [] ∷ past) = present-told past
 present-told (_ ∷ past) = present-told past
 
 pub count-told : (c : ℕ) → IsTold (message_count c)
@@ -27,6 +28,7 @@ unfolding message_count substance
 count-told c [] = refl
 count-told c (Admitted d ∷ past) = ap (λ (n : ℕ). if d == c then 0 else n) (count-told c past)
 count-told c (Judged d place m verdict ∷ past) = ap (λ (n : ℕ). if d == c then n + 1 else n) (count-told c past)
+count-told c (Indicated m [] ∷ past) = count-told c past
 count-told c (_ ∷ past) = count-told c past
 
 pub in_use-told : IsTold in_use
@@ -38,6 +40,7 @@ in_use-told (IdHeld r ∷ past) = ap (without_request r) (in_use-told past)
 in_use-told (Late r ∷ past) = ap (without_request r) (in_use-told past)
 in_use-told (Reset ∷ past) = refl
 in_use-told (ModemLost ∷ past) = refl
+in_use-told (Indicated m [] ∷ past) = in_use-told past
 in_use-told (_ ∷ past) = in_use-told past
 
 pub pending-told : IsTold pending
@@ -52,18 +55,21 @@ pending-told (Aborted r ∷ past) = ap (without_request r) (pending-told past)
 pending-told (Ended c why ∷ past) = ap (filter (λ (q : Request). not (c == q.conn))) (pending-told past)
 pending-told (Reset ∷ past) = refl
 pending-told (ModemLost ∷ past) = refl
+pending-told (Indicated m [] ∷ past) = pending-told past
 pending-told (_ ∷ past) = pending-told past
 
 pub forwards-told : IsTold forward_count
 unfolding forward_count substance
 forwards-told [] = refl
 forwards-told (Forwarded r ∷ past) = ap (λ (n : ℕ). n + 1) (forwards-told past)
+forwards-told (Indicated m [] ∷ past) = forwards-told past
 forwards-told (_ ∷ past) = forwards-told past
 
 pub last-told : (space : ℕ) → IsTold (last_number space)
 unfolding last_number substance
 last-told space [] = refl
 last-told space (Forwarded r ∷ past) = ap (λ (n : ℕ). if r.space == space then r.number else n) (last-told space past)
+last-told space (Indicated m [] ∷ past) = last-told space past
 last-told space (_ ∷ past) = last-told space past
 
 pub held-told : IsTold held
@@ -75,12 +81,14 @@ held-told (Freed c service client ∷ past) = ap (filter (λ (g : Grant). not (i
 held-told (Ended c why ∷ past) = ap (filter (λ (g : Grant). not (c == g.conn))) (held-told past)
 held-told (Reset ∷ past) = refl
 held-told (ModemLost ∷ past) = refl
+held-told (Indicated m [] ∷ past) = held-told past
 held-told (_ ∷ past) = held-told past
 
 pub now-told : IsTold now
 unfolding now substance
 now-told [] = refl
 now-told (TimeIs time ∷ past) = refl
+now-told (Indicated m [] ∷ past) = now-told past
 now-told (_ ∷ past) = now-told past
 
 pub kept-told : IsTold kept
@@ -92,6 +100,7 @@ kept-told (Ended c why ∷ past) =
 kept-told (Granted c service client ∷ past) = ap (filter (λ (k : KeptId). not (k.service == service && (k.client == client)))) (kept-told past)
 kept-told (Reset ∷ past) = refl
 kept-told (ModemLost ∷ past) = refl
+kept-told (Indicated m [] ∷ past) = kept-told past
 kept-told (_ ∷ past) = kept-told past
 
 pub away-told : (away : Bool) → IsTold (is_away away)
@@ -99,6 +108,7 @@ unfolding is_away substance
 away-told away [] = refl
 away-told away (ModemLost ∷ past) = refl
 away-told away (ModemReturned ∷ past) = refl
+away-told away (Indicated m [] ∷ past) = away-told away past
 away-told away (_ ∷ past) = away-told away past
 
 pub to_modem-told : (wire : Request → List ℕ) → IsTold (to_modem wire)
@@ -106,6 +116,7 @@ unfolding to_modem substance
 to_modem-told wire [] = refl
 to_modem-told wire (Forwarded r ∷ past) = ap (λ (l : List ℕ). l ++ wire r) (to_modem-told wire past)
 to_modem-told wire (ModemLost ∷ past) = refl
+to_modem-told wire (Indicated m [] ∷ past) = to_modem-told wire past
 to_modem-told wire (_ ∷ past) = to_modem-told wire past
 
 pub drained-told : IsTold modem_drained
@@ -113,6 +124,7 @@ unfolding modem_drained substance
 drained-told [] = refl
 drained-told (ModemDrained count ∷ past) = ap (λ (n : ℕ). n + count) (drained-told past)
 drained-told (ModemLost ∷ past) = refl
+drained-told (Indicated m [] ∷ past) = drained-told past
 drained-told (_ ∷ past) = drained-told past
 
 pub view-told : (blank : Blank) (c : ℕ) → IsTold (view blank c)
@@ -124,6 +136,7 @@ view-told blank c (Answered r m ∷ past) = ap (entry_if (r.conn == c) (Response
 view-told blank c (IdHeld r ∷ past) = ap (entry_if (r.conn == c) (Refused r.place HeldId)) (view-told blank c past)
 view-told blank c (Expired r ∷ past) = ap (entry_if (r.conn == c) (Refused r.place NoAnswer)) (view-told blank c past)
 view-told blank c (Aborted r ∷ past) = ap (entry_if (r.conn == c) (Refused r.place NoAnswer)) (view-told blank c past)
+view-told blank c (Indicated m [] ∷ past) = view-told blank c past
 view-told blank c (Indicated m receivers ∷ past) = ap (entry_if (contains c receivers) (Indication m)) (view-told blank c past)
 view-told blank c (OpeningEnded status receivers ∷ past) = ap (entry_if (contains c receivers) (OpenedWith status)) (view-told blank c past)
 view-told blank c (SessionsClosed receivers ∷ past) = ap (entry_if (contains c receivers) Shut) (view-told blank c past)

@@ -1,11 +1,12 @@
 -- A QMI proxy takes no heed of messages for nobody.
-use Rattle.std.proofs.Common.{◌≡◌, ℕ, zero, suc, ◌+◌, Bool, true, false, not, ◌&&◌, ◌==◌, if◌then◌else◌, List, [], ◌∷◌, ◌++◌, length, drop, filter, refl, ap, ap₂, sym, ◌∙◌, Option, Some, None}
+use Rattle.std.proofs.Common.{◌≡◌, ℕ, zero, suc, ◌+◌, Bool, true, false, not, ◌&&◌, ◌==◌, if◌then◌else◌, List, ◌∷◌, ◌++◌, length, drop, filter, refl, ap, ap₂, sym, ◌∙◌, Option, Some, None}
 use Rattle.std.proofs.Math.Seq.{drop-append_seam}
 use Rattle.qmux_frame.specs.declared.kind.MessageKind.{MessageKind}
 use Rattle.qmux_frame.specs.declared.kind.MessageKind.TheVariants as kind
 use Rattle.qmux_frame.specs.Head.{service_of, is_control, client_of}
 use Rattle.qmux_frame.specs.Kind.{framed_kind}
 use Rattle.qmux_frame.specs.Control.{is_sync}
+use Rattle.qmux_frame.specs.Framing.{size_of-kept}
 use Rattle.proxy_history.specs.Facts.{Fact, Request, Verdict, Own, Share, Forward, Judged, Forwarded, Answered, IdHeld, Late, Indicated, Stray, Granted, Freed, Reset}
 use Rattle.proxy_history.specs.Decision.{Decision, Replies, Forwards}
 use Rattle.proxy_history.specs.Connections.{present, message_count}
@@ -213,6 +214,7 @@ module _ (s : Setup) where
     finish = λ a b alike. alike;
     done_at_first = refl;
     done = λ past. refl;
+    kept = size_of-kept;
     goes_on = λ messages more. ap (λ (l : List (List ℕ)). messages ++ l) (sym (heard_on messages more));
     not_bad = refl;
   }
