@@ -1,0 +1,9 @@
+pub mod Calm
+pub mod Saying
+pub mod Forwarding
+pub mod Hearing
+pub mod Closing
+pub mod Events
+pub mod Fragments
+pub mod Turns
+pub mod Served
