@@ -11,3 +11,4 @@ pub mod Gathering
 pub mod Meets
 pub mod Brought
 pub mod Merged
+pub mod Bound

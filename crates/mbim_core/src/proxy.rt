@@ -12,6 +12,7 @@ ghost use Rattle.mbim_proxy.specs.History.{history, text_for};
 ghost use Rattle.mbim_proxy.specs.Setup.{Setup};
 ghost use Rattle.mbim_state.specs.Core.{setup_of};
 ghost use Rattle.mbim_state.specs.Transitions.{mbim_handlers};
+ghost use Rattle.mbim_core.specs.Bound.{IsBounded};
 ghost use Rattle.mbim_core.specs.Core.{MbimState, Stands, StandsAfter, CanStep, greatest_after, setup_in, step, meet, waiting_for, first_waiting, is_owed, names_of, opening_setup, opened_core, NextDropped};
 
 use crate::state::State;
@@ -64,10 +65,12 @@ impl MbimCore {
         })
     }
 
-    /// Meets an event.
+    /// Meets an event. Afterwards at most 262,144 bytes wait for a client, and at most 1,048,576 for the
+    /// modem.
     pub fn step(&mut self, event: Event<'_>)
         requires { CanStep (event_of event) self.old }
         ensures stands { (events : List history_events.Event) → Stands (setup_in self.old) events self.old → StandsAfter (setup_in self.old) (event_of event.entry ∷ events) self.new }
+        ensures bounded { (events : List history_events.Event) → Stands (setup_in self.old) events self.old → IsBounded self.new }
         ensures setup { setup_in self.new ≡ setup_in self.old }
         ensures step { self.new ≡ step (event_of event.entry) self.old }
         ensures greatest { self.new.state.table.greatest ≡ greatest_after (event_of event.entry) self.old.state.table.greatest }

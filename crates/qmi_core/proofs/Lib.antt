@@ -6,3 +6,4 @@ pub mod Turns
 pub mod Releases
 pub mod Responses
 pub mod Meets
+pub mod Bound

@@ -2,6 +2,7 @@ pub mod Message
 pub mod Hearing
 pub mod State
 pub mod Core
+pub mod Bound
 pub mod Lending
 pub mod Face
 pub mod Shows

@@ -11,6 +11,7 @@ ghost use Rattle.qmi_proxy.specs.Clients.{wire};
 ghost use Rattle.qmi_proxy.specs.History.{history, text_for};
 ghost use Rattle.qmi_proxy.specs.Setup.{Setup};
 ghost use Rattle.qmi_state.specs.Transitions.{qmi_handlers};
+ghost use Rattle.qmi_core.specs.Bound.{IsBounded};
 ghost use Rattle.qmi_core.specs.Core.{Stands, StandsAfter, CanStep, greatest_after, step, waiting_for, first_waiting, is_owed, names_of, setup_of, NextDropped};
 
 use crate::state::State;
@@ -57,10 +58,12 @@ impl QmiCore {
         })
     }
 
-    /// Meets an event.
+    /// Meets an event. Afterwards at most 262,144 bytes wait for a client, and at most 1,048,576 for the
+    /// modem.
     pub fn step(&mut self, event: Event<'_>)
         requires { CanStep (event_of event) self.old }
         ensures stands { (setup : Setup) (events : List history_events.Event) → Stands setup events self.old → StandsAfter setup (event_of event.entry ∷ events) self.new }
+        ensures bounded { (setup : Setup) (events : List history_events.Event) → Stands setup events self.old → IsBounded self.new }
         ensures step { self.new ≡ step (event_of event.entry) self.old }
         ensures greatest { self.new.state.table.greatest ≡ greatest_after (event_of event.entry) self.old.state.table.greatest }
     {

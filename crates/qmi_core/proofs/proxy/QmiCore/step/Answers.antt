@@ -5,6 +5,7 @@ use Rattle.qmi_state.specs.Core.{QmiState, QmiCore}
 use Rattle.qmi_state.proofs.Steps.{stands_as, regained}
 use Rattle.qmi_state.proofs.Greatest.{greatest_as}
 use Rattle.qmi_state.specs.Transitions.{step, regain}
+use Rattle.qmi_core.proofs.Bound.{bounded}
 use Rattle.qmi_core.proofs.proxy.QmiCore.step.Goals as goal
 
 pub returns-in-Joined-clause-stands : goal.returns-in-Joined-clause-stands
@@ -59,3 +60,30 @@ pub returns-in-ModemTook-clause-stands : goal.returns-in-ModemTook-clause-stands
 returns-in-ModemTook-clause-stands c =
     stands_as _ (ModemTook c.in-ModemTook.count) _ _ (ap event_of c.in-ModemTook.is)
     (ap (λ (x : QmiState). let v : QmiCore = record { state = x; rest = c.self-in-ModemTook.inside.cutter.rest } in v) c.take_modem.ensures ∙ ap (step (ModemTook c.in-ModemTook.count)) c.self-in-ModemTook.view_is) c.requires
+
+pub returns-in-Joined-clause-bounded : goal.returns-in-Joined-clause-bounded
+returns-in-Joined-clause-bounded c = λ setup events stands. bounded setup _ _ (returns-in-Joined-clause-stands c setup events stands)
+
+pub returns-in-Piece-clause-bounded : goal.returns-in-Piece-clause-bounded
+returns-in-Piece-clause-bounded c = λ setup events stands. bounded setup _ _ (returns-in-Piece-clause-stands c setup events stands)
+
+pub returns-in-Left-clause-bounded : goal.returns-in-Left-clause-bounded
+returns-in-Left-clause-bounded c = λ setup events stands. bounded setup _ _ (returns-in-Left-clause-stands c setup events stands)
+
+pub returns-in-Now-clause-bounded : goal.returns-in-Now-clause-bounded
+returns-in-Now-clause-bounded c = λ setup events stands. bounded setup _ _ (returns-in-Now-clause-stands c setup events stands)
+
+pub returns-in-Took-clause-bounded : goal.returns-in-Took-clause-bounded
+returns-in-Took-clause-bounded c = λ setup events stands. bounded setup _ _ (returns-in-Took-clause-stands c setup events stands)
+
+pub returns-in-ModemPiece-clause-bounded : goal.returns-in-ModemPiece-clause-bounded
+returns-in-ModemPiece-clause-bounded c = λ setup events stands. bounded setup _ _ (returns-in-ModemPiece-clause-stands c setup events stands)
+
+pub returns-in-ModemGone-clause-bounded : goal.returns-in-ModemGone-clause-bounded
+returns-in-ModemGone-clause-bounded c = λ setup events stands. bounded setup _ _ (returns-in-ModemGone-clause-stands c setup events stands)
+
+pub returns-in-ModemBack-clause-bounded : goal.returns-in-ModemBack-clause-bounded
+returns-in-ModemBack-clause-bounded c = λ setup events stands. bounded setup _ _ (returns-in-ModemBack-clause-stands c setup events stands)
+
+pub returns-in-ModemTook-clause-bounded : goal.returns-in-ModemTook-clause-bounded
+returns-in-ModemTook-clause-bounded c = λ setup events stands. bounded setup _ _ (returns-in-ModemTook-clause-stands c setup events stands)
