@@ -1,8 +1,8 @@
 """Short messages read and made outside of the program: written after 3GPP TS 23.040 and 23.038, with the alphabet of Perl's
 Encode::GSM0338 and Python's own UTF-16.
 
-`sms.py draw KIND COUNT SEED` writes drawn messages, one a line: of `read` their bytes in hexadecimal, and of `made` a number and
-a text in hexadecimal. `sms.py tell KIND` tells what it has for each such line of its input."""
+`sms.py draw KIND COUNT SEED` writes drawn messages, one a line: of `read` bytes of all kinds in hexadecimal, of `kept` such as networks
+deliver, and of `made` a number and a text in hexadecimal. `sms.py tell KIND` tells what it has for each such line of its input."""
 import random
 import subprocess
 import sys
@@ -274,11 +274,45 @@ def drawn_pdu(draw):
     return told[:draw.randint(0, len(told))] if draw.random() < 0.2 else told
 
 
+def drawn_kept(draw):
+    """A message as networks deliver it: from a number or a name, with a time that is one, whole or a part, and in a coding that phones use."""
+    half = lambda n: n % 10 << 4 | n // 10
+    time = bytes(half(draw.randint(low, high)) for low, high in ((0, 99), (1, 12), (1, 28), (0, 23), (0, 59), (0, 59), (0, 47)))
+    if draw.random() < 0.3:
+        codes = [OF_CHAR[char][0] for char in draw.choices("ABCDEFGHIJKLMNOPQRSTUVWXYZabcdefghijklmnopqrstuvwxyz0123456789 ", k=draw.randint(1, 11))]
+        address = bytes([(7 * len(codes) + 3) // 4, 0xD0]) + packed(codes, 0)
+    else:
+        address = address_octets(drawn_number(draw))
+    header = b""
+    total = draw.randint(2, 9)
+    if draw.random() < 0.4:
+        header = bytes([5, 0, 3, draw.randint(1, 255), total, draw.randint(1, total)])
+    elif draw.random() < 0.1:
+        header = bytes([6, 8, 4, draw.randint(1, 255), draw.randint(0, 255), total, draw.randint(1, total)])
+    how = draw.choice((0, 0, 0, 8, 8, 0xF0, 4))
+    if how == 4:
+        data = header + draw.randbytes(draw.randint(1, 100))
+        length = len(data)
+    elif how == 8:
+        data = header + units_of("".join(draw.choices("\u0436\u4e2d\u00e9a\U0001F600", k=draw.randint(1, 30))))
+        length = len(data)
+    else:
+        letters = "".join(CODES.values()) + "".join(EXTENSION.values()) * draw.randint(0, 1)
+        behind = (8 * len(header) + 6) // 7
+        codes = [code for char in draw.choices(letters, k=draw.randint(1, 70)) for code in OF_CHAR[char]]
+        data = header + packed(codes, 7 * behind - 8 * len(header))
+        length = behind + len(codes)
+    center = bytes.fromhex("07917283010010F5")
+    return center + bytes([0x44 if header else 4]) + address + bytes([0, how]) + time + bytes([length]) + data
+
+
 def draw_lines(kind, count, seed):
     draw = random.Random(seed)
     for _ in range(count):
         if kind == "read":
             yield drawn_pdu(draw).hex()
+        elif kind == "kept":
+            yield drawn_kept(draw).hex()
         else:
             yield f"{drawn_number(draw)} {drawn_text(draw).encode().hex()}"
 
@@ -287,7 +321,7 @@ def tell(kind, line):
     if kind == "read":
         return "|".join(printed(bytes.fromhex(line)))
     number, text = line.split(" ")
-    return " ".join(message.hex().upper() for message in made(number, bytes.fromhex(text).decode(), 0))
+    return "|".join(message.hex().upper() for message in made(number, bytes.fromhex(text).decode(), 0))
 
 
 def main(words):

@@ -35,7 +35,7 @@ pub fn pack(alloc: Global, codes: &[u8], fill: u8) -> Result<Octets, AllocError>
     requires fill { fill ≤ 6 }
     ensures { IfOk result (λ octets. octets ≡ pack codes.now fill) }
 {
-    let mut octets = Vec::new(alloc);
+    let mut octets = Vec::with_capacity(alloc, (usize::from(fill) + 7 * codes.len()).div_ceil(8))?;
     let mut begun: u16 = 0;
     let mut bits = fill;
     for code in codes {

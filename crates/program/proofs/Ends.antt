@@ -44,6 +44,22 @@ start_fault_is run.StartFault e = refl
 start_fault_is run.NoProxy e = absurd (cc)
 start_fault_is run.OutOfMemory e = absurd (cc)
 
+-- only a command that couldn't read its file ends so
+pub read_fault_is : (ends : RunEnd) → status_of ends ≡ status.ReadFault → ends ≡ run.ReadFault
+read_fault_is run.Done e = absurd (cc)
+read_fault_is (run.Denied function code) e = absurd (cc)
+read_fault_is run.LinkFault e = absurd (cc)
+read_fault_is run.LinkEnd e = absurd (cc)
+read_fault_is run.TimedOut e = absurd (cc)
+read_fault_is (run.Broken place) e = absurd (cc)
+read_fault_is run.Flooded e = absurd (cc)
+read_fault_is (run.TableFault fault) e = absurd (cc)
+read_fault_is run.ReadFault e = refl
+read_fault_is run.WriteFault e = absurd (cc)
+read_fault_is run.StartFault e = absurd (cc)
+read_fault_is run.NoProxy e = absurd (cc)
+read_fault_is run.OutOfMemory e = absurd (cc)
+
 -- a start fault comes of a start that failed, or of a stop
 pub start_fault_comes : {T E : Type 0} {old mid new : ℕ} (result : Result T E) (ends : Status) → old ≤ mid → (ends ≡ status.StartFault → Rose old mid) → HasCause mid new result
     → with_stops (is_ok result) ends ≡ status.StartFault → Rose old new

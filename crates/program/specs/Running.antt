@@ -18,10 +18,12 @@ use Rattle.mbim_requests.specs.declared.MbimRequest.{MbimRequest}
 use Rattle.device_core.specs.declared.plan.QmiPlan.{QmiPlan}
 use Rattle.mbim_session.specs.declared.plan.MbimPlan.{MbimPlan}
 use Rattle.tool_words.specs.declared.command.ToolCommand.{ToolCommand}
-use Rattle.tool_words.specs.declared.command.ToolCommand.TheVariants.{Qmicli, Mbimcli, Describe, Proxy, Simulator, Pump, Rig}
+use Rattle.tool_words.specs.declared.command.ToolCommand.TheVariants.{Qmicli, Mbimcli, PduSubmit, Describe, Proxy, Simulator, Pump, Rig}
 use Rattle.tool_words.specs.declared.fault.UsageKind.{UsageKind}
 use Rattle.tool_words.specs.declared.fault.UsageKind.TheVariants as usage
-use Rattle.tool_runs.specs.Asking.{AsksModem, Asked}
+use Rattle.sms_pdu.specs.Parts.{messages}
+use Rattle.sms_print.specs.Printed.{hex_lines}
+use Rattle.tool_runs.specs.Asking.{AsksModem, Asked, PrintsText}
 use Rattle.tool_runs.specs.Asking as asking
 use Rattle.tool_runs.specs.Qmi.{qmi_asked}
 use Rattle.tool_runs.specs.Mbim.{mbim_asked}
@@ -81,12 +83,13 @@ mbim_plan device proxied close request = record { device = device; proxied = pro
 
 -- ---- what the words ask for ----
 
--- a tool asks a modem or describes a file, a proxy or a simulated modem serves, one is kept running, a pump passes on, and a rig runs a core on the bench
+-- a tool asks a modem, makes short messages or describes a file, a proxy or a simulated modem serves, one is kept running, a pump passes on, and a rig runs a core on the bench
 abbrev pub RunsCommand : ToolCommand → Told → Told → Status → Type 0
-RunsCommand (Qmicli device proxied cid keep request socket bridge) before after result =
-    Asks (way_to kind.Qmi proxied device socket bridge) (qmi_asked (qmi_plan device proxied cid keep request)) (of_tool before) (of_tool after) result
-RunsCommand (Mbimcli device proxied close request socket bridge) before after result =
-    Asks (way_to kind.Mbim proxied device socket bridge) (mbim_asked (mbim_plan device proxied close request)) (of_tool before) (of_tool after) result
+RunsCommand (Qmicli device proxied cid keep request decode socket bridge) before after result =
+    Asks (way_to kind.Qmi proxied device socket bridge) (qmi_asked decode (qmi_plan device proxied cid keep request)) (of_tool before) (of_tool after) result
+RunsCommand (Mbimcli device proxied close request decode socket bridge) before after result =
+    Asks (way_to kind.Mbim proxied device socket bridge) (mbim_asked decode (mbim_plan device proxied close request)) (of_tool before) (of_tool after) result
+RunsCommand (PduSubmit number text reference) before after result = EndsAs status_of result (λ ends. PrintsText (hex_lines (messages number text reference)) before.out ends after.out)
 RunsCommand (Describe path) before after result = EndsAs status_of result (λ ends. Describes (encode_utf8_all path) before.files after.files before.out ends after.out)
 RunsCommand (Proxy kind device socket bridge empty exit_when_lost time release turns) before after result =
     ServesProxy kind (asked_in device socket (record { empty = empty; lost = exit_when_lost }) time release turns) (place_of (encode_utf8_all device) (encode_utf8_all bridge)) before.hub before.spawner result after.hub after.spawner
@@ -104,8 +107,9 @@ RunsWords (Err why) before after result = result ≡ status.Usage why
 
 -- the tools that ask a modem
 abbrev pub is_of_tool : ToolCommand → Bool
-is_of_tool (Qmicli device proxied cid keep request socket bridge) = true
-is_of_tool (Mbimcli device proxied close request socket bridge) = true
+is_of_tool (Qmicli device proxied cid keep request decode socket bridge) = true
+is_of_tool (Mbimcli device proxied close request decode socket bridge) = true
+is_of_tool (PduSubmit number text reference) = true
 is_of_tool (Describe path) = true
 is_of_tool _ = false
 
@@ -149,10 +153,11 @@ pub record Objects (L H P F O B : Type 0) : Type 0 where
 pub data NoObject : Type 0 where
   Absent : NoObject
 
--- what a command has no use for is left as it was: hub, files and bench by one that asks a modem, all but files and output by one that describes a file, all but hub and children by a proxy, all but hub and files by a simulated modem, the files too where no profile is named, all but children by one that is kept running, all but link and files by a pump, and all but bench and output by a rig
+-- what a command has no use for is left as it was: hub, files and bench by one that asks a modem, all but output by one that makes short messages, all but files and output by one that describes a file, all but hub and children by a proxy, all but hub and files by a simulated modem, the files too where no profile is named, all but children by one that is kept running, all but link and files by a pump, and all but bench and output by a rig
 abbrev pub CommandLeavesAlone : {L H P F O B : Type 0} → ToolCommand → Objects L H P F O B → Objects L H P F O B → Type 0
-CommandLeavesAlone (Qmicli device proxied cid keep request socket bridge) before after = (after.hub ≡ before.hub) × (after.files ≡ before.files) × (after.bench ≡ before.bench)
-CommandLeavesAlone (Mbimcli device proxied close request socket bridge) before after = (after.hub ≡ before.hub) × (after.files ≡ before.files) × (after.bench ≡ before.bench)
+CommandLeavesAlone (Qmicli device proxied cid keep request decode socket bridge) before after = (after.hub ≡ before.hub) × (after.files ≡ before.files) × (after.bench ≡ before.bench)
+CommandLeavesAlone (Mbimcli device proxied close request decode socket bridge) before after = (after.hub ≡ before.hub) × (after.files ≡ before.files) × (after.bench ≡ before.bench)
+CommandLeavesAlone (PduSubmit number text reference) before after = (after.link ≡ before.link) × (after.hub ≡ before.hub) × (after.spawner ≡ before.spawner) × (after.files ≡ before.files) × (after.bench ≡ before.bench)
 CommandLeavesAlone (Describe path) before after = (after.link ≡ before.link) × (after.hub ≡ before.hub) × (after.spawner ≡ before.spawner) × (after.bench ≡ before.bench)
 CommandLeavesAlone (Proxy kind device socket bridge empty exit_when_lost time release turns) before after = (after.link ≡ before.link) × (after.files ≡ before.files) × (after.out ≡ before.out) × (after.bench ≡ before.bench)
 CommandLeavesAlone (Simulator kind socket profile turns None) before after = (after.link ≡ before.link) × (after.spawner ≡ before.spawner) × (profile ≡ None → after.files ≡ before.files) × (after.out ≡ before.out) × (after.bench ≡ before.bench)
@@ -169,8 +174,8 @@ LeavesAlone (Err why) before after = after ≡ before
 
 -- on its way to a modem, or of a pump's
 abbrev pub CommandFailsOnLink : {L : Type 0} → ToolCommand → (L → ℕ) → (L → ℕ) → L → L → Type 0
-CommandFailsOnLink (Qmicli device proxied cid keep request socket bridge) = LinkFails (way_to kind.Qmi proxied device socket bridge)
-CommandFailsOnLink (Mbimcli device proxied close request socket bridge) = LinkFails (way_to kind.Mbim proxied device socket bridge)
+CommandFailsOnLink (Qmicli device proxied cid keep request decode socket bridge) = LinkFails (way_to kind.Qmi proxied device socket bridge)
+CommandFailsOnLink (Mbimcli device proxied close request decode socket bridge) = LinkFails (way_to kind.Mbim proxied device socket bridge)
 CommandFailsOnLink (Pump read node bridge) = λ faults open_faults before after. Rose (open_faults before) (open_faults after) ⊎ Rose (faults before) (faults after)
 CommandFailsOnLink _ = λ faults open_faults before after. ⊥
 

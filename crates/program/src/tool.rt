@@ -1,10 +1,12 @@
-ghost use Rattle.std.specs.Prelude.{◌≡◌, IfOk};
+ghost use Rattle.std.specs.Prelude.{◌≡◌, IfOk, IsTrue};
 ghost use Rattle.std.specs.Str.{encode_utf8_all};
 ghost use Rattle.kit_io.specs.Causes.{Rose};
 ghost use Rattle.kit_bytes.specs.declared.Kind.TheVariants as kinds;
 ghost use Rattle.modem_ways.specs.Reaching.{LinkFails};
 ghost use Rattle.modem_ways.specs.Ways.{path_in};
-ghost use Rattle.tool_runs.specs.Asking.{AsksModem, asked_of};
+ghost use Rattle.sms_pdu.specs.Parts.{can_be_sent, messages};
+ghost use Rattle.sms_print.specs.Printed.{hex_lines};
+ghost use Rattle.tool_runs.specs.Asking.{AsksModem, asked_of, PrintsText, shown};
 ghost use Rattle.tool_runs.specs.Describing.{Describes};
 ghost use Rattle.tool_runs.specs.Qmi.{qmi_asked};
 ghost use Rattle.tool_runs.specs.Mbim.{mbim_asked};
@@ -15,15 +17,16 @@ use crate::status::Status;
 use child_io::Spawner;
 use device_core::QmiPlan;
 use file_io::Files;
-use kit_bytes::{Kind, PathText};
+use kit_bytes::{Kind, PathText, Text};
 use kit_io::Sink;
 use link_io::Link;
 use mbim_requests::MbimRequest;
 use mbim_session::MbimPlan;
 use modem_ways::Way;
 use qmi_requests::QmiRequest;
+use sms_print::Decoding;
 use std::alloc::{AllocError, Global};
-use tool_runs::{Session, ask, describe};
+use tool_runs::{Session, ask, describe, mbim_decoding, qmi_decoding, submit};
 
 // The way of a tool to its modem.
 fn way_to(
@@ -53,13 +56,14 @@ pub fn ask_qmi<O: Sink, L: Link, P: Spawner>(
     cid: Option<u8>,
     keep: bool,
     request: QmiRequest,
+    decode: bool,
     socket: &PathText,
     bridge: &PathText,
     out: &mut O,
     link: &mut L,
     spawner: &mut P,
 ) -> Status
-    ensures asks { Asks (way_to kinds.Qmi proxied device socket.now bridge.now) (qmi_asked (qmi_plan device proxied cid keep request))
+    ensures asks { Asks (way_to kinds.Qmi proxied device socket.now bridge.now) (qmi_asked decode (qmi_plan device proxied cid keep request))
         (record { link = L.calls link.old; spawner = P.calls spawner.old; out = O.taken out.old })
         (record { link = L.calls link.new; spawner = P.calls spawner.new; out = O.taken out.new })
         result }
@@ -84,6 +88,7 @@ pub fn ask_qmi<O: Sink, L: Link, P: Spawner>(
         socket,
         bridge,
         &plan,
+        qmi_decoding(decode),
         out,
         link,
         spawner,
@@ -99,13 +104,14 @@ pub fn ask_mbim<O: Sink, L: Link, P: Spawner>(
     proxied: bool,
     close: bool,
     request: MbimRequest,
+    decode: bool,
     socket: &PathText,
     bridge: &PathText,
     out: &mut O,
     link: &mut L,
     spawner: &mut P,
 ) -> Status
-    ensures asks { Asks (way_to kinds.Mbim proxied device socket.now bridge.now) (mbim_asked (mbim_plan device proxied close request))
+    ensures asks { Asks (way_to kinds.Mbim proxied device socket.now bridge.now) (mbim_asked decode (mbim_plan device proxied close request))
         (record { link = L.calls link.old; spawner = P.calls spawner.old; out = O.taken out.old })
         (record { link = L.calls link.new; spawner = P.calls spawner.new; out = O.taken out.new })
         result }
@@ -129,6 +135,7 @@ pub fn ask_mbim<O: Sink, L: Link, P: Spawner>(
         socket,
         bridge,
         &plan,
+        mbim_decoding(decode, &plan.request),
         out,
         link,
         spawner,
@@ -146,11 +153,12 @@ fn ask_device<S: Session, O: Sink, L: Link, P: Spawner>(
     socket: &PathText,
     bridge: &PathText,
     plan: &S,
+    decoding: Decoding,
     out: &mut O,
     link: &mut L,
     spawner: &mut P,
 ) -> Status
-    ensures asks { Asks (way_to kind proxied device.now socket.now bridge.now) (asked_of S.session S.refused S.printed plan.now)
+    ensures asks { Asks (way_to kind proxied device.now socket.now bridge.now) (asked_of S.session S.refused (shown decoding S.printed S.bodies) plan.now)
         (record { link = L.calls link.old; spawner = P.calls spawner.old; out = O.taken out.old })
         (record { link = L.calls link.new; spawner = P.calls spawner.new; out = O.taken out.new })
         result }
@@ -162,7 +170,7 @@ fn ask_device<S: Session, O: Sink, L: Link, P: Spawner>(
     let Ok(way) = way_to(alloc, kind, proxied, device, socket, bridge) else {
         return Status::OutOfMemory;
     };
-    ask_modem(alloc, &way, plan, out, link, spawner)
+    ask_modem(alloc, &way, plan, decoding, out, link, spawner)
 }
 
 // Asks a modem on this way, and prints its answer.
@@ -170,11 +178,12 @@ fn ask_modem<S: Session, O: Sink, L: Link, P: Spawner>(
     alloc: Global,
     way: &Way,
     plan: &S,
+    decoding: Decoding,
     out: &mut O,
     link: &mut L,
     spawner: &mut P,
 ) -> Status
-    ensures asks { EndsAs status_of result (λ ends. AsksModem (path_in way.now) (asked_of S.session S.refused S.printed plan.now)
+    ensures asks { EndsAs status_of result (λ ends. AsksModem (path_in way.now) (asked_of S.session S.refused (shown decoding S.printed S.bodies) plan.now)
         (record { link = L.calls link.old; spawner = P.calls spawner.old; out = O.taken out.old })
         (record { link = L.calls link.new; spawner = P.calls spawner.new; out = O.taken out.new })
         ends) }
@@ -183,7 +192,26 @@ fn ask_modem<S: Session, O: Sink, L: Link, P: Spawner>(
     ensures start_fault { result ≡ Status.StartFault → Rose (P.faults spawner.old) (P.faults spawner.new) }
     ensures write_fault { result ≡ Status.WriteFault → Rose (O.faults out.old) (O.faults out.new) }
 {
-    Status::from(ask(alloc, way, plan, out, link, spawner))
+    Status::from(ask(alloc, way, plan, decoding, out, link, spawner))
+}
+
+// Prints the bodies of the messages that carry a text to a number.
+pub fn submit_text<O: Sink>(
+    alloc: Global,
+    number: &Text,
+    text: &Text,
+    reference: u8,
+    out: &mut O,
+) -> Status
+    requires { IsTrue (can_be_sent number.now text.now) }
+    ensures prints { EndsAs status_of result (λ ends. PrintsText (hex_lines (messages number.now text.now reference)) (O.taken out.old) ends (O.taken out.new)) }
+    ensures own { IsOfTool result }
+    ensures link_fault { ¬ (result ≡ Status.LinkFault) }
+    ensures start_fault { ¬ (result ≡ Status.StartFault) }
+    ensures read_fault { ¬ (result ≡ Status.ReadFault) }
+    ensures write_fault { result ≡ Status.WriteFault → Rose (O.faults out.old) (O.faults out.new) }
+{
+    Status::from(submit(alloc, number, text, reference, out))
 }
 
 // Prints what the descriptions in a file describe.

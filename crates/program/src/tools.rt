@@ -13,7 +13,7 @@ use crate::report::report;
 use crate::rigging::print_rig;
 use crate::simulator::{keep_modem, simulate_modem};
 use crate::status::Status;
-use crate::tool::{ask_mbim, ask_qmi, describe_file};
+use crate::tool::{ask_mbim, ask_qmi, describe_file, submit_text};
 use child_io::Spawner;
 use core_bench::Bench;
 use file_io::Files;
@@ -70,6 +70,7 @@ pub fn run_command_of_tool<O: Sink, L: Link, P: Spawner, F: Files>(
     spawner: &mut P,
     files: &mut F,
 ) -> Status
+    requires { IsWithinLimits command }
     ensures runs { RunsWords (words_for is_of_tool (Ok command))
         (record { link = L.calls link.old; hub = None; spawner = P.calls spawner.old; files = F.calls files.old; out = O.taken out.old; bench = None })
         (record { link = L.calls link.new; hub = None; spawner = P.calls spawner.new; files = F.calls files.new; out = O.taken out.new; bench = None })
@@ -90,21 +91,29 @@ pub fn run_command_of_tool<O: Sink, L: Link, P: Spawner, F: Files>(
             cid,
             keep,
             request,
+            decode,
             socket,
             bridge,
         } => ask_qmi(
-            alloc, device, proxied, cid, keep, request, &socket, &bridge, out, link, spawner,
+            alloc, device, proxied, cid, keep, request, decode, &socket, &bridge, out, link,
+            spawner,
         ),
         ToolCommand::Mbimcli {
             device,
             proxied,
             close,
             request,
+            decode,
             socket,
             bridge,
         } => ask_mbim(
-            alloc, device, proxied, close, request, &socket, &bridge, out, link, spawner,
+            alloc, device, proxied, close, request, decode, &socket, &bridge, out, link, spawner,
         ),
+        ToolCommand::PduSubmit {
+            number,
+            text,
+            reference,
+        } => submit_text(alloc, &number, &text, reference, out),
         ToolCommand::Describe { file } => describe_file(alloc, &file, out, files),
         other => {
             drop(other);

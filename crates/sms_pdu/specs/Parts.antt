@@ -125,6 +125,10 @@ abbrev pub messages : (number text : List ℕ) (reference : ℕ) → List (List 
 messages number text reference =
     messages_from (front number (is_coded text) (length (parts text))) (is_coded text) reference (length (parts text)) 1 (parts text)
 
+-- messages are made of it: it is a number, and the text takes at most 255 parts
+unfoldable pub can_be_sent : (number text : List ℕ) → Bool
+can_be_sent number text = is_number number && nat_le (length (parts text)) 255
+
 abbrev pub MakesMessages : (number text : List ℕ) (reference : ℕ) → Result (List (List ℕ)) SubmitFault → Type 0
 MakesMessages number text reference (Ok list) = IsTrue (is_number number) × (length (parts text) ≤ 255) × (list ≡ messages number text reference)
 MakesMessages number text reference (Err Number) = is_number number ≡ false

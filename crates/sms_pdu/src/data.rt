@@ -48,7 +48,7 @@ fn codes_of_chars(alloc: Global, chars: &[char]) -> Result<Vec<u8>, AllocError>
     ensures codes { IfOk result (λ codes. codes.items ≡ codes_of chars.now) }
     ensures small { IfOk result (λ codes. All (λ code. code < 128) codes.items) }
 {
-    let mut codes = Vec::new(alloc);
+    let mut codes = Vec::with_capacity(alloc, chars.len())?;
     for char in chars {
         push_char(&mut codes, *char)?;
     }
@@ -75,7 +75,7 @@ fn push_ucs2(
 fn ucs2(alloc: Global, chars: &[char]) -> Result<Vec<u8>, AllocError>
     ensures { IfOk result (λ units. units.items ≡ parts.ucs2 chars.now) }
 {
-    let mut octets = Vec::new(alloc);
+    let mut octets = Vec::with_capacity(alloc, 2 * chars.len())?;
     for char in chars {
         push_units(&mut octets, *char)?;
     }

@@ -29,7 +29,7 @@ pub use laws::{
     long_texts_are_split, messages_are_made, messages_are_read, parts_are_joined, texts_are_sent,
     validity_is_passed,
 };
-pub use messages::submit_pdus;
+pub use messages::{can_be_sent, submit_pdus};
 pub use parts::{PduList, SubmitFault};
 pub use pdu::{Body, Part, Pdu, PduFault};
 pub use reading::read_pdu;

@@ -43,12 +43,30 @@ pub fn submit_pdus(
     Ok(PduList::from(pdus))
 }
 
+/// Whether messages are made of these: the number is one, and the text takes at most 255 parts.
+#[tactic(auto, unfolding(crate::specs::Parts::can_be_sent))]
+pub fn can_be_sent(alloc: Global, number: &Text, text: &Text) -> Result<bool, AllocError>
+    ensures { IfOk result (λ can. can ≡ parts.can_be_sent number.now text.now) }
+{
+    let number = chars_of(alloc, number)?;
+    let text = chars_of(alloc, text)?;
+    Ok(is_number(&number) && part_count(&text) <= 255)
+}
+
+// How many parts a text takes.
+fn part_count(text: &[char]) -> usize
+    ensures { result ≡ length (parts.parts text.now) }
+{
+    let coded = is_coded(text);
+    piece_count(coded, most_of(coded, text), text)
+}
+
 // The characters of a text.
 fn chars_of(alloc: Global, text: &Text) -> Result<Vec<char>, AllocError>
     ensures chars { IfOk result (λ chars. chars.items ≡ text.now) }
     ensures scalars { IsTrue (all_scalars text.now) }
 {
-    let mut chars = Vec::new(alloc);
+    let mut chars = Vec::with_capacity(alloc, text.as_str().len())?;
     for char in text.as_str().chars() {
         chars.extend_from_slice(&[char])?;
     }
@@ -100,7 +118,7 @@ fn messages(alloc: Global, sending: &Sending, text: &[char]) -> Result<Vec<Octet
     ensures { IfOk result (λ list. list.items ≡ parts.messages_from sending.now.front.items sending.now.coded sending.now.reference sending.now.total 1 (parts.pieces sending.now.coded sending.now.most text.now)) }
 {
     let mut list = Vec::new(alloc);
-    let mut piece = Vec::new(alloc);
+    let mut piece = Vec::with_capacity(alloc, sending.most)?;
     let mut size = 0;
     let mut place: u8 = 1;
     for char in text {
@@ -118,6 +136,9 @@ fn messages(alloc: Global, sending: &Sending, text: &[char]) -> Result<Vec<Octet
     Ok(list)
 }
 
+// The most octets of user data, with its length.
+const LONGEST_DATA: usize = 141;
+
 // The message of a piece, at this place.
 fn message(
     alloc: Global,
@@ -130,7 +151,8 @@ fn message(
 {
     let header = [5, 0, 3, sending.reference, sending.total, place];
     let header_size = if 1 < sending.total { 6 } else { 0 };
-    let mut octets = Vec::from_slice(alloc, &sending.front)?;
+    let mut octets = Vec::with_capacity(alloc, sending.front.len() + LONGEST_DATA)?;
+    octets.extend_from_slice(&sending.front)?;
     push_data(
         &mut octets,
         alloc,

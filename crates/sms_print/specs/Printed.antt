@@ -11,6 +11,8 @@ use Rattle.sms_pdu.specs.declared.pdu.PduFault.{PduFault}
 use Rattle.sms_pdu.specs.declared.pdu.PduFault.TheVariants.{Kind, Short, OutOfMemory}
 use Rattle.sms_pdu.specs.declared.joined.Joined.{Joined}
 use Rattle.sms_pdu.specs.Reading.{pdu}
+use Rattle.sms_print.specs.declared.decoding.Decoding.{Decoding}
+use Rattle.sms_print.specs.declared.decoding.Decoding.TheVariants as decoding
 use Rattle.sms_pdu.specs.Joining.{joined}
 
 abbrev pub text_line : (indent name chars : List ℕ) → List ℕ
@@ -73,6 +75,12 @@ joined_text list = line [] (codes "Joined") (decimal (length list)) ++ flat_map 
 -- each message, and then the whole ones
 abbrev pub all_text : (bodies : List (List ℕ)) → List ℕ
 all_text bodies = flat_map message_text bodies ++ joined_text (joined (read_ones bodies))
+
+-- so far as messages are told
+unfoldable pub decoded_text : Decoding → (bodies : List (List ℕ)) → List ℕ
+decoded_text decoding.Nothing bodies = []
+decoded_text decoding.Each bodies = flat_map message_text bodies
+decoded_text decoding.Joined bodies = all_text bodies
 
 -- ---- bodies that are to be sent ----
 

@@ -15,10 +15,22 @@ pub fn all_text(alloc: Global, bodies: &[Octets]) -> Result<Octets, AllocError>
     ensures { IfOk result (λ text. text ≡ all_text bodies.now) }
 {
     let mut text = Octets::new(alloc);
-    let pdus = push_messages(alloc, &mut text, bodies)?;
-    let joined = join(alloc, &Pdus::from(pdus))?;
-    push_joined(alloc, &mut text, joined.as_slice())?;
+    push_all(alloc, &mut text, bodies)?;
     Ok(text)
+}
+
+/// Adds that to a text.
+pub(crate) fn push_all(
+    alloc: Global,
+    text: &mut Octets,
+    bodies: &[Octets],
+) -> Result<(), AllocError>
+    ensures { OnOk result (text.new ≡ text.old ++ all_text bodies.now) }
+{
+    let pdus = push_messages(alloc, text, bodies)?;
+    let joined = join(alloc, &Pdus::from(pdus))?;
+    push_joined(alloc, text, joined.as_slice())?;
+    Ok(())
 }
 
 // Adds how many whole messages there are, and each one.

@@ -9,6 +9,8 @@ use Rattle.modem_ways.specs.declared.reaching.ReachFault.{ReachFault}
 use Rattle.modem_ways.specs.declared.reaching.ReachFault.TheVariants as reach
 use Rattle.link_session.specs.declared.fault.SessionFault.{SessionFault}
 use Rattle.link_session.specs.declared.fault.SessionFault.TheVariants as fault
+use Rattle.sms_print.specs.Printed.{decoded_text}
+use Rattle.sms_print.specs.declared.decoding.Decoding.{Decoding}
 use Rattle.tool_runs.specs.declared.run_end.RunEnd.{RunEnd}
 use Rattle.tool_runs.specs.declared.run_end.RunEnd.TheVariants as run
 use Rattle.tool_runs.specs.declared.session.Refusal.{Refusal}
@@ -62,6 +64,10 @@ pub record Asked (End : Type 0) : Type 1 where
   pub Session : List Call → Result End SessionFault → Type 0
   pub refused : End → Option Refusal
   pub printed : End → List ℕ
+
+-- what is printed of an end: its text, and what the messages say that it holds, so far as they are told
+abbrev pub shown : {End : Type 0} → Decoding → (End → List ℕ) → (End → List (List ℕ)) → End → List ℕ
+shown decoding printed bodies end = printed end ++ decoded_text decoding (bodies end)
 
 -- by which session a plan has, and what its end says
 abbrev pub asked_of : {Plan End : Type 0} → (Plan → List Call → Result End SessionFault → Type 0) → (End → Option Refusal) → (End → List ℕ) → Plan → Asked End

@@ -8,9 +8,13 @@ mod mbim;
 mod qmi;
 mod run_end;
 mod session;
+mod submitting;
 
 pub use asking::ask;
 pub use describing::describe;
 pub use laws::links_are_closed_once;
+pub use mbim::mbim_decoding;
+pub use qmi::qmi_decoding;
 pub use run_end::RunEnd;
 pub use session::{Refusal, Session};
+pub use submitting::submit;

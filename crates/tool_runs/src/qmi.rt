@@ -1,6 +1,8 @@
 ghost use Rattle.device_core.specs.Session.{Session as QmiSession};
 ghost use Rattle.qmicli_print.specs.Answer.{end_text};
-ghost use Rattle.tool_runs.specs.Qmi.{refused};
+ghost use Rattle.sms_answers.specs.Qmi.{qmi_bodies};
+ghost use Rattle.std.specs.Prelude.{◌≡◌};
+ghost use Rattle.tool_runs.specs.Qmi.{qmi_decoding, refused};
 
 use crate::session::{Refusal, Session};
 use device_core::{QmiPlan, qmi_session};
@@ -9,6 +11,8 @@ use link_io::Link;
 use link_session::SessionFault;
 use qmi_services::{QmiAnswer, QmiEnd};
 use qmicli_print::qmi_text;
+use sms_answers::qmi_bodies;
+use sms_print::Decoding;
 use std::alloc::{AllocError, Global};
 
 impl Session for QmiPlan {
@@ -19,6 +23,8 @@ impl Session for QmiPlan {
     ghost refused = { refused };
 
     ghost printed = { end_text };
+
+    ghost bodies = { qmi_bodies };
 
     fn hold<L: Link>(&self, alloc: Global, link: &mut L) -> Result<QmiEnd, SessionFault> {
         qmi_session(alloc, link, self)
@@ -36,5 +42,20 @@ impl Session for QmiPlan {
 
     fn text(alloc: Global, end: &QmiEnd) -> Result<Octets, AllocError> {
         qmi_text(alloc, end)
+    }
+
+    fn bodies(alloc: Global, end: &QmiEnd) -> Result<Vec<Octets>, AllocError> {
+        qmi_bodies(alloc, end)
+    }
+}
+
+/// What is told of a message that was read, if that is wanted.
+pub fn qmi_decoding(decode: bool) -> Decoding
+    ensures { result ≡ qmi_decoding decode }
+{
+    if decode {
+        Decoding::Each
+    } else {
+        Decoding::Nothing
     }
 }

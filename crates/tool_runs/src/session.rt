@@ -31,6 +31,9 @@ pub trait Session {
 
     ghost printed: { Self.End → List ℕ };
 
+    // the bodies of the short messages that it holds
+    ghost bodies: { Self.End → List (List ℕ) };
+
     /// Has the session over a link that is open.
     fn hold<L: Link>(&self, alloc: Global, link: &mut L) -> Result<Self::End, SessionFault>
         ensures holds { Makes (λ calls. session self.now calls result) (L.calls link.old) (L.calls link.new) }
@@ -45,4 +48,8 @@ pub trait Session {
     /// The text of its end.
     fn text(alloc: Global, end: &Self::End) -> Result<Octets, AllocError>
         ensures { IfOk result (λ text. text ≡ printed end.now) };
+
+    /// The bodies of the short messages that it holds.
+    fn bodies(alloc: Global, end: &Self::End) -> Result<Vec<Octets>, AllocError>
+        ensures { IfOk result (λ list. list.items ≡ bodies end.now) };
 }

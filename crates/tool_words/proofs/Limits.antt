@@ -1,8 +1,9 @@
--- A rig that words ask for is within its limits; nothing else has any.
-use Rattle.std.proofs.Common.{◌≡◌, ◌≤◌, ◌-◌, ◌^◌, ℕ, Bool, List, [], ◌∷◌, Option, Some, None, option_map, Result, Ok, Err, refl, subst, arith}
+-- A rig that words ask for is within its limits, and messages are made of a text that they send; nothing else has any limits.
+use Rattle.std.proofs.Common.{◌≡◌, ◌≤◌, ◌-◌, ◌^◌, ℕ, Bool, true, false, cond, List, [], ◌∷◌, Option, Some, None, option_map, Result, Ok, Err, refl, subst, chars, arith}
 use Rattle.std.specs.Prelude.{IfOk, IfSome, codes, option_and_then}
 use Rattle.std.specs.Str.{bytes_eq}
 use Rattle.std.proofs.lemmas.Bool.{cond_both}
+use Rattle.sms_pdu.specs.Parts.{can_be_sent}
 use Rattle.clap.specs.Simple.{matches_of}
 use Rattle.clap.specs.Walk.{Row, Text}
 use Rattle.kit_bytes.specs.declared.Kind.{Kind}
@@ -11,25 +12,27 @@ use Rattle.tool_words.specs.Answers.{Answers, or_value}
 use Rattle.tool_words.specs.Command.{command_in, read_if_named, tool_app, tool_asked, tool_named}
 use Rattle.tool_words.specs.Given.{is_given, value_given}
 use Rattle.tool_words.specs.Link.{link_in}
-use Rattle.tool_words.specs.MbimCommands.{mbim_line, mbim_spelling}
-use Rattle.tool_words.specs.Mbimcli.{mbim_asks, mbimcli_asked, mbimcli_values}
+use Rattle.tool_words.specs.MbimCommands.{mbim_line, mbim_spelling, reads_messages as mbim_reads}
+use Rattle.tool_words.specs.Mbimcli.{mbim_asks, mbim_setting_spelling, mbimcli_asked, mbimcli_values}
 use Rattle.tool_words.specs.ModemTools.{asked_by, modem_tool_asked}
 use Rattle.tool_words.specs.Proxy.{proxy_asked, proxy_spelling, proxy_values}
 use Rattle.tool_words.specs.Pump.{pump_asked, pump_if_named, pump_values, reads_named}
-use Rattle.tool_words.specs.QmiCommands.{qmi_asks, qmi_line, qmi_spelling}
-use Rattle.tool_words.specs.Qmicli.{described, qmi_asked, qmi_setting_spelling, qmicli_asked, qmicli_values}
+use Rattle.tool_words.specs.QmiCommands.{makes_messages, qmi_asks, qmi_line, qmi_spelling, reads_messages}
+use Rattle.tool_words.specs.Qmicli.{asked_for, asked_with, described, qmi_asked, qmi_setting_spelling, qmicli_asked, qmicli_values, reference_in, sent_to, submitted}
 use Rattle.tool_words.specs.Reading.{is_refused}
 use Rattle.tool_words.specs.Rig.{IsWithinLimits, clients_in, messages_in, rig_asked, rig_spelling, rig_values}
 use Rattle.tool_words.specs.Simulator.{simulator_asked, simulator_values}
-use Rattle.tool_words.specs.Values.{kind_or, number_or, number_within, optional, path_in}
+use Rattle.tool_words.specs.Values.{flag_of, kind_or, number_or, number_within, optional, path_in, split_at}
 use Rattle.tool_words.specs.declared.command.Tool.{Tool}
 use Rattle.tool_words.specs.declared.command.Tool.TheVariants as tool
 use Rattle.tool_words.specs.declared.command.ToolCommand.{ToolCommand}
+use Rattle.tool_words.specs.declared.command.ToolCommand.TheVariants.{PduSubmit}
 use Rattle.tool_words.specs.declared.fault.UsageKind.{UsageKind}
 use Rattle.tool_words.specs.declared.fault.UsageKind.TheVariants as usage
 use Rattle.tool_words.specs.declared.fault.WordFault.{WordFault}
 use Rattle.tool_words.specs.declared.link.LinkSettings.{LinkSettings}
 use Rattle.tool_words.specs.declared.mbim_commands.MbimCommand.{MbimCommand}
+use Rattle.tool_words.specs.declared.mbimcli.MbimSetting.TheVariants as mbim_setting
 use Rattle.tool_words.specs.declared.proxy.ProxyOption.TheVariants as proxy
 use Rattle.tool_words.specs.declared.qmi_commands.QmiCommand.{QmiCommand}
 use Rattle.tool_words.specs.declared.qmicli.QmiSetting.TheVariants as setting
@@ -97,26 +100,56 @@ pump-fits : (read : Bool) (node bridge : List ℕ) → Fits (pump_values read no
 unfolding pump_values
 pump-fits read node bridge = grind arith
 
+-- ---- a text that is sent ----
+
+sent-fits : (reference : ℕ) (number text : List ℕ) → Fits (sent_to reference number text)
+sent-fits reference number text = by (can_be_sent number text) (λ is. is)
+  where
+    by : (b : Bool) → (b ≡ true → can_be_sent number text ≡ true) → Fits (cond b (Some (PduSubmit number text reference)) None)
+    by true is = is refl
+    by false is = tt
+
+submitted-fits : (reference : ℕ) (value : Option (List ℕ)) → Fits (submitted reference value)
+unfolding submitted
+submitted-fits reference value = Fits-each _ (option_and_then (split_at 44) value) (λ pair _. sent-fits reference (chars pair.0) (chars pair.1))
+
+-- ---- requests and descriptions ----
+
 described-fits : (file : Option (List ℕ)) → Fits (described file)
 described-fits file = Fits-map _ (option_and_then path_in file) (λ path. tt)
 
-qmi_asked-fits : (link : LinkSettings) (cid : Option ℕ) (command : QmiCommand) (rows : List Row) → Fits (qmi_asked link cid command rows)
+qmi_asked-fits : (link : LinkSettings) (cid : Option ℕ) (decode : Bool) (command : QmiCommand) (rows : List Row) → Fits (qmi_asked link cid decode command rows)
 unfolding qmi_asked
-qmi_asked-fits link cid command rows = Fits-each _ ((qmi_line command).request (value_given qmi_spelling rows command)) (λ request _. Fits-map _ link.device (λ device. tt))
+qmi_asked-fits link cid decode command rows = Fits-each _ ((qmi_line command).request (value_given qmi_spelling rows command)) (λ request _. Fits-map _ link.device (λ device. tt))
+
+asked_for-fits : (link : LinkSettings) (cid : Option ℕ) (decode : Bool) (reference : ℕ) (command : QmiCommand) (rows : List Row) → Fits (asked_for link cid decode reference command rows)
+unfolding asked_for
+asked_for-fits link cid decode reference command rows =
+    let value : Option (List ℕ) = value_given qmi_spelling rows command in
+    let otherwise : Fits (cond (makes_messages command) (submitted reference value) (described value)) =
+    cond_both (makes_messages command) (submitted reference value) (described value) Fits (λ _. submitted-fits reference value) (λ _. described-fits value)
+    in
+    cond_both (qmi_asks command) (qmi_asked link cid decode command rows) (cond (makes_messages command) (submitted reference value) (described value)) Fits
+    (λ _. qmi_asked-fits link cid decode command rows) (λ _. otherwise)
+
+asked_with-fits : (link : LinkSettings) (cid : Option ℕ) (command : QmiCommand) (rows : List Row) → Fits (asked_with link cid command rows)
+unfolding asked_with
+asked_with-fits link cid command rows =
+    Fits-each _ (flag_of (is_given qmi_setting_spelling rows setting.DecodeSms) (reads_messages command)) (λ decode _.
+    Fits-each _ (reference_in (makes_messages command) (value_given qmi_setting_spelling rows setting.Reference)) (λ reference _. asked_for-fits link cid decode reference command rows))
 
 qmicli-fits : (command : QmiCommand) (rows : List Row) → Fits (qmicli_values command rows)
 unfolding qmicli_values
 qmicli-fits command rows =
     Fits-each _ (link_in kind.Qmi rows) (λ link _.
-    Fits-each _ (optional (number_within 1 254) (value_given qmi_setting_spelling rows setting.ClientCid)) (λ cid _.
-    cond_both (qmi_asks command) (qmi_asked link cid command rows) (described (value_given qmi_spelling rows command)) Fits
-    (λ _. qmi_asked-fits link cid command rows) (λ _. described-fits (value_given qmi_spelling rows command))))
+    Fits-each _ (optional (number_within 1 254) (value_given qmi_setting_spelling rows setting.ClientCid)) (λ cid _. asked_with-fits link cid command rows))
 
 mbimcli-fits : (command : MbimCommand) (rows : List Row) → Fits (mbimcli_values command rows)
 unfolding mbimcli_values
 mbimcli-fits command rows =
     Fits-each _ (link_in kind.Mbim rows) (λ link _.
-    Fits-each _ ((mbim_line command).request (value_given mbim_spelling rows command)) (λ request _. Fits-map _ link.device (λ device. tt)))
+    Fits-each _ (flag_of (is_given mbim_setting_spelling rows mbim_setting.DecodeSms) (mbim_reads command)) (λ decode _.
+    Fits-each _ ((mbim_line command).request (value_given mbim_spelling rows command)) (λ request _. Fits-map _ link.device (λ device. tt))))
 
 -- ---- what the words ask for ----
 

@@ -113,3 +113,9 @@ mbim_commands =
     ∷ command.UssdInitiate ∷ command.UssdContinue ∷ command.UssdCancel
     ∷ command.PhonebookQueryConfiguration ∷ command.PhonebookReadAll ∷ command.PhonebookRead ∷ command.PhonebookDelete ∷ command.PhonebookWrite
     ∷ []
+
+-- short messages are read
+abbrev pub reads_messages : MbimCommand → Bool
+reads_messages command.SmsRead = true
+reads_messages command.SmsReadAll = true
+reads_messages _ = false

@@ -1,17 +1,18 @@
 -- The words of qmicli.
-use Rattle.std.specs.Prelude.{ℕ, List, [], ◌∷◌, Option, Bool, Result, codes, if◌then◌else◌, option_and_then, option_map}
+use Rattle.std.specs.Prelude.{ℕ, List, [], ◌∷◌, Option, Some, None, Bool, Result, chars, codes, if◌then◌else◌, option_and_then, option_map}
 use Rattle.clap.specs.Simple.{App}
 use Rattle.clap.specs.Walk.{Row}
 use Rattle.kit_bytes.specs.declared.Kind.TheVariants.{Qmi}
 use Rattle.qmi_requests.specs.declared.QmiRequest.{QmiRequest}
+use Rattle.sms_pdu.specs.Parts.{can_be_sent}
 use Rattle.tool_words.specs.Given.{is_given, value_given}
 use Rattle.tool_words.specs.Link.{link_in}
 use Rattle.tool_words.specs.ModemTools.{modem_tool, modem_tool_asked}
-use Rattle.tool_words.specs.QmiCommands.{qmi_asks, qmi_commands, qmi_line, qmi_spelling}
+use Rattle.tool_words.specs.QmiCommands.{makes_messages, qmi_asks, qmi_commands, qmi_line, qmi_spelling, reads_messages}
 use Rattle.tool_words.specs.Spelling.{Spelling, flag, valued}
-use Rattle.tool_words.specs.Values.{◌>>=◌, number_within, optional, path_in}
+use Rattle.tool_words.specs.Values.{◌>>=◌, flag_of, number_8_in, number_within, optional, path_in, split_at}
 use Rattle.tool_words.specs.declared.command.ToolCommand.{ToolCommand}
-use Rattle.tool_words.specs.declared.command.ToolCommand.TheVariants.{Describe, Qmicli}
+use Rattle.tool_words.specs.declared.command.ToolCommand.TheVariants.{Describe, PduSubmit, Qmicli}
 use Rattle.tool_words.specs.declared.fault.UsageKind.{UsageKind}
 use Rattle.tool_words.specs.declared.link.LinkSettings.{LinkSettings}
 use Rattle.tool_words.specs.declared.qmi_commands.QmiCommand.{QmiCommand}
@@ -20,13 +21,15 @@ use Rattle.tool_words.specs.declared.qmicli.QmiSetting.TheVariants as setting
 
 -- ---- its options ----
 
--- --client-cid N and --client-no-release-cid, beside those of the link
+-- --client-cid N, --client-no-release-cid, --decode-sms and --reference N, beside those of the link
 abbrev pub qmi_setting_spelling : QmiSetting → Spelling
 qmi_setting_spelling setting.ClientCid = valued (codes "client-cid")
 qmi_setting_spelling setting.ClientNoReleaseCid = flag (codes "client-no-release-cid")
+qmi_setting_spelling setting.DecodeSms = flag (codes "decode-sms")
+qmi_setting_spelling setting.Reference = valued (codes "reference")
 
 unfoldable pub qmi_settings : List QmiSetting
-qmi_settings = setting.ClientCid ∷ setting.ClientNoReleaseCid ∷ []
+qmi_settings = setting.ClientCid ∷ setting.ClientNoReleaseCid ∷ setting.DecodeSms ∷ setting.Reference ∷ []
 
 unfoldable pub qmicli_app : App
 qmicli_app = modem_tool (codes "qmicli") qmi_setting_spelling qmi_settings qmi_spelling qmi_commands
@@ -37,22 +40,49 @@ qmicli_app = modem_tool (codes "qmicli") qmi_setting_spelling qmi_settings qmi_s
 abbrev pub described : Option (List ℕ) → Option ToolCommand
 described file = option_map (λ path. Describe path) (option_and_then path_in file)
 
+-- the messages are made that carry a text to a number, if any are
+abbrev pub sent_to : (reference : ℕ) (number text : List ℕ) → Option ToolCommand
+sent_to reference number text = if can_be_sent number text then Some (PduSubmit number text reference) else None
+
+-- the number stands before the first comma, and the text behind it
+unfoldable pub submitted : (reference : ℕ) → Option (List ℕ) → Option ToolCommand
+submitted reference value = option_and_then (λ pair. sent_to reference (chars pair.0) (chars pair.1)) (option_and_then (split_at 44) value)
+
+-- the reference of the messages, which only they have
+unfoldable pub reference_in : (makes : Bool) → Option (List ℕ) → Option ℕ
+reference_in makes (Some text) = if makes then number_8_in text else None
+reference_in makes None = Some 0
+
 -- a request is sent to the device
-abbrev pub qmi_sent : LinkSettings → Option ℕ → Bool → QmiRequest → Option ToolCommand
-qmi_sent link cid keep request = option_map (λ device. Qmicli device link.proxied cid keep request link.socket link.bridge) link.device
+abbrev pub qmi_sent : LinkSettings → Option ℕ → Bool → Bool → QmiRequest → Option ToolCommand
+qmi_sent link cid keep decode request = option_map (λ device. Qmicli device link.proxied cid keep request decode link.socket link.bridge) link.device
 
 -- that of a command
-unfoldable pub qmi_asked : LinkSettings → Option ℕ → QmiCommand → List Row → Option ToolCommand
-qmi_asked link cid command rows = do
+unfoldable pub qmi_asked : LinkSettings → Option ℕ → Bool → QmiCommand → List Row → Option ToolCommand
+qmi_asked link cid decode command rows = do
   request ← (qmi_line command).request (value_given qmi_spelling rows command)
-  qmi_sent link cid (is_given qmi_setting_spelling rows setting.ClientNoReleaseCid) request
+  qmi_sent link cid (is_given qmi_setting_spelling rows setting.ClientNoReleaseCid) decode request
+
+-- what a command asks for: a request, the messages of a text, or the tables of a file
+unfoldable pub asked_for : LinkSettings → Option ℕ → Bool → ℕ → QmiCommand → List Row → Option ToolCommand
+asked_for link cid decode reference command rows =
+    if qmi_asks command then qmi_asked link cid decode command rows
+    else if makes_messages command then submitted reference (value_given qmi_spelling rows command)
+    else described (value_given qmi_spelling rows command)
+
+-- the same, with the settings that only some commands have
+unfoldable pub asked_with : LinkSettings → Option ℕ → QmiCommand → List Row → Option ToolCommand
+asked_with link cid command rows = do
+  decode ← flag_of (is_given qmi_setting_spelling rows setting.DecodeSms) (reads_messages command)
+  reference ← reference_in (makes_messages command) (value_given qmi_setting_spelling rows setting.Reference)
+  asked_for link cid decode reference command rows
 
 -- the command with its value and the settings, if each of them reads
 unfoldable pub qmicli_values : QmiCommand → List Row → Option ToolCommand
 qmicli_values command rows = do
   link ← link_in Qmi rows
   cid ← optional (number_within 1 254) (value_given qmi_setting_spelling rows setting.ClientCid)
-  if qmi_asks command then qmi_asked link cid command rows else described (value_given qmi_spelling rows command)
+  asked_with link cid command rows
 
 unfoldable pub qmicli_asked : List Row → Result ToolCommand UsageKind
 qmicli_asked rows = modem_tool_asked qmi_spelling qmi_commands qmi_asks qmicli_values rows

@@ -1,15 +1,16 @@
 -- The words of a rig: many clients before a proxy's core, and then each of them alone.
-use Rattle.std.specs.Prelude.{ℕ, ◌≤◌, ◌-◌, ◌^◌, List, [], ◌∷◌, Option, Some, Result, codes}
+use Rattle.std.specs.Prelude.{ℕ, ◌≤◌, ◌-◌, ◌^◌, IsTrue, List, [], ◌∷◌, Option, Some, Result, codes}
 use Rattle.clap.specs.Simple.{App}
 use Rattle.clap.specs.Walk.{Row}
 use Rattle.kit_bytes.specs.declared.Kind.TheVariants.{Qmi}
+use Rattle.sms_pdu.specs.Parts.{can_be_sent}
 use Rattle.tool_words.specs.Answers.{or_value}
 use Rattle.tool_words.specs.Given.{value_given}
 use Rattle.tool_words.specs.Reading.{with_options, without_options}
 use Rattle.tool_words.specs.Spelling.{Spelling, valued}
 use Rattle.tool_words.specs.Values.{◌>>=◌, kind_or, number_or}
 use Rattle.tool_words.specs.declared.command.ToolCommand.{ToolCommand}
-use Rattle.tool_words.specs.declared.command.ToolCommand.TheVariants.{Rig}
+use Rattle.tool_words.specs.declared.command.ToolCommand.TheVariants.{PduSubmit, Rig}
 use Rattle.tool_words.specs.declared.fault.UsageKind.{UsageKind}
 use Rattle.tool_words.specs.declared.rig.RigOption.{RigOption}
 use Rattle.tool_words.specs.declared.rig.RigOption.TheVariants as option
@@ -66,7 +67,8 @@ pub record AreWithinLimits (clients messages : ℕ) : Type 0 where
   pub clients_fit : clients ≤ 64
   pub messages_fit : messages ≤ 100000
 
--- a rig is within its limits
+-- a rig is within its limits, and messages are made of the text that is to be sent
 abbrev pub IsWithinLimits : ToolCommand → Type 0
+IsWithinLimits (PduSubmit number text reference) = IsTrue (can_be_sent number text)
 IsWithinLimits (Rig kind clients messages number) = AreWithinLimits clients messages
 IsWithinLimits _ = Unit {0}

@@ -87,6 +87,12 @@ abbrev pub split_at : ℕ → List ℕ → Option (List ℕ × List ℕ)
 split_at separator text = if nat_lt (position_or_len (λ byte. byte == separator) text) (length text)
     then Some (before_first (λ byte. byte == separator) text, after_first (λ byte. byte == separator) text) else None
 
+-- ---- options of some commands ----
+
+-- whether an option is given, which it may be only beside a command that has it
+abbrev pub flag_of : (given has : Bool) → Option Bool
+flag_of given has = if given && not has then None else Some given
+
 -- ---- bytes ----
 
 abbrev pub if_short : List ℕ → Option (List ℕ)

@@ -13,7 +13,7 @@ use crate::rig::{rig_asked, rig_reader};
 use crate::simulator::{simulator_asked, simulator_reader};
 use crate::{UsageKind, WordFault};
 use clap::{ArgMatches, Command};
-use kit_bytes::{Kind, PathText};
+use kit_bytes::{Kind, PathText, Text};
 use mbim_requests::MbimRequest;
 use qmi_requests::QmiRequest;
 use std::alloc::{AllocError, Global};
@@ -31,6 +31,8 @@ pub enum ToolCommand {
         /// Whether an allocated client id is kept.
         keep: bool,
         request: QmiRequest,
+        /// Whether the messages in the answer are told in words.
+        decode: bool,
         socket: PathText,
         bridge: PathText,
     },
@@ -42,8 +44,17 @@ pub enum ToolCommand {
         /// Whether the modem is closed afterwards.
         close: bool,
         request: MbimRequest,
+        /// Whether the messages in the answer are told in words.
+        decode: bool,
         socket: PathText,
         bridge: PathText,
+    },
+    /// Prints the bodies of the short messages that carry a text to a number.
+    PduSubmit {
+        number: Text,
+        text: Text,
+        /// The reference that several of them share.
+        reference: u8,
     },
     /// Prints the messages that a file describes.
     Describe {

@@ -1,6 +1,6 @@
 ghost use Rattle.std.specs.Prelude.{◌≡◌, map, option_and_then, option_map};
 ghost use Rattle.tool_words.specs.Keys.{keyed_or};
-ghost use Rattle.tool_words.specs.MbimCommands.{connect_in, context_of, entry_in, ip_type_in, mbim_commands, mbim_line, mbim_spelling, number_and_index, radio_in, ussd_in};
+ghost use Rattle.tool_words.specs.MbimCommands.{connect_in, context_of, entry_in, ip_type_in, mbim_commands, mbim_line, mbim_spelling, number_and_index, radio_in, reads_messages, ussd_in};
 ghost use Rattle.tool_words.specs.Values.{Gives, number_32_in, optional};
 
 use crate::keys::{parts_in, text_of_key, value_of};
@@ -127,6 +127,13 @@ pub fn mbim_commands() -> &'static [MbimCommand]
     ensures { result.now ≡ mbim_commands }
 {
     MBIM_COMMANDS.as_slice()
+}
+
+/// Whether a command reads short messages.
+pub fn reads_messages(command: MbimCommand) -> bool
+    ensures { result ≡ reads_messages command }
+{
+    matches!(command, MbimCommand::SmsRead | MbimCommand::SmsReadAll)
 }
 
 /// The request that a command gives with this value.

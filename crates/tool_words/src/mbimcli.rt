@@ -6,10 +6,10 @@ ghost use Rattle.tool_words.specs.Values.{Gives};
 
 use crate::given::{is_given, value_given};
 use crate::link::{LinkSettings, link_given};
-use crate::mbim_commands::{MbimCommand, mbim_commands, request};
+use crate::mbim_commands::{MbimCommand, mbim_commands, reads_messages, request};
 use crate::modem_tools::{ModemCommand, modem_tool, modem_tool_asked};
 use crate::options::{OptionSpelling, ToolOption, flag};
-use crate::values::or_fault;
+use crate::values::{flag_of, or_fault};
 use crate::{ToolCommand, WordFault};
 use clap::{ArgMatches, Command};
 use kit_bytes::Kind;
@@ -20,9 +20,10 @@ use std::alloc::{AllocError, Global};
 #[derive(Clone, Copy, Debug, PartialEq, Eq)]
 pub enum MbimSetting {
     NoClose,
+    DecodeSms,
 }
 
-static MBIM_SETTINGS: [MbimSetting; 1] = [MbimSetting::NoClose];
+static MBIM_SETTINGS: [MbimSetting; 2] = [MbimSetting::NoClose, MbimSetting::DecodeSms];
 
 impl ToolOption for MbimSetting {
     ghost spelling = { mbim_setting_spelling };
@@ -30,6 +31,7 @@ impl ToolOption for MbimSetting {
     fn spelling(self) -> OptionSpelling {
         match self {
             MbimSetting::NoClose => flag("no-close"),
+            MbimSetting::DecodeSms => flag("decode-sms"),
         }
     }
 }
@@ -48,8 +50,13 @@ pub fn mbimcli_reader<'a>(alloc: Global) -> Result<Command<'a>, AllocError>
     modem_tool(alloc, "mbimcli", settings(), mbim_commands())
 }
 
-fn sending(link: LinkSettings, stays: bool, request: MbimRequest) -> Result<ToolCommand, WordFault>
-    ensures { Gives (mbim_sent link stays request) result }
+fn sending(
+    link: LinkSettings,
+    stays: bool,
+    decode: bool,
+    request: MbimRequest,
+) -> Result<ToolCommand, WordFault>
+    ensures { Gives (mbim_sent link stays decode request) result }
 {
     let device = or_fault(link.device)?;
     Ok(ToolCommand::Mbimcli {
@@ -57,6 +64,7 @@ fn sending(link: LinkSettings, stays: bool, request: MbimRequest) -> Result<Tool
         proxied: link.proxied,
         close: !stays,
         request,
+        decode,
         socket: link.socket,
         bridge: link.bridge,
     })
@@ -74,8 +82,11 @@ impl ModemCommand for MbimCommand {
     #[tactic(auto, unfolding(crate::specs::Mbimcli::mbimcli_values))]
     fn values(self, alloc: Global, matches: &ArgMatches<'_>) -> Result<ToolCommand, WordFault> {
         let link = link_given(alloc, Kind::Mbim, matches)?;
+        let decode = is_given(matches, MbimSetting::DecodeSms);
+        let decode = flag_of(decode, reads_messages(self))?;
         let request = request(alloc, self, value_given(matches, self))?;
-        sending(link, is_given(matches, MbimSetting::NoClose), request)
+        let stays = is_given(matches, MbimSetting::NoClose);
+        sending(link, stays, decode, request)
     }
 }
 

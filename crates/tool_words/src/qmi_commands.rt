@@ -1,6 +1,6 @@
 ghost use Rattle.std.specs.Prelude.{◌≡◌, map, option_map};
 ghost use Rattle.tool_words.specs.Keys.{keyed};
-ghost use Rattle.tool_words.specs.QmiCommands.{ip_type_in, mode_in, network_of, qmi_asks, qmi_commands, qmi_line, qmi_spelling, start_network_in, stored_in};
+ghost use Rattle.tool_words.specs.QmiCommands.{ip_type_in, makes_messages, mode_in, network_of, qmi_asks, qmi_commands, qmi_line, qmi_spelling, reads_messages, start_network_in, stored_in};
 ghost use Rattle.tool_words.specs.Values.{Gives, optional};
 
 use crate::keys::{parts_in, text_of_key, value_of};
@@ -35,10 +35,11 @@ pub enum QmiCommand {
     WmsRawRead,
     WmsDelete,
     WmsListMessages,
+    PduSubmit,
     DescribeTables,
 }
 
-static QMI_COMMANDS: [QmiCommand; 23] = [
+static QMI_COMMANDS: [QmiCommand; 24] = [
     QmiCommand::GetServiceVersionInfo,
     QmiCommand::DmsGetCapabilities,
     QmiCommand::DmsGetManufacturer,
@@ -61,6 +62,7 @@ static QMI_COMMANDS: [QmiCommand; 23] = [
     QmiCommand::WmsRawRead,
     QmiCommand::WmsDelete,
     QmiCommand::WmsListMessages,
+    QmiCommand::PduSubmit,
     QmiCommand::DescribeTables,
 ];
 
@@ -91,6 +93,7 @@ impl ToolOption for QmiCommand {
             QmiCommand::WmsRawRead => valued("wms-raw-read"),
             QmiCommand::WmsDelete => valued("wms-delete"),
             QmiCommand::WmsListMessages => valued("wms-list-messages"),
+            QmiCommand::PduSubmit => valued("pdu-submit"),
             QmiCommand::DescribeTables => valued("describe-tables"),
         }
     }
@@ -104,11 +107,25 @@ pub fn qmi_commands() -> &'static [QmiCommand]
     QMI_COMMANDS.as_slice()
 }
 
-/// Whether a command sends a request to a modem. One doesn't: it prints descriptions of messages.
+/// Whether a command sends a request to a modem. Two don't: they make short messages, and print descriptions of messages.
 pub fn asks(command: QmiCommand) -> bool
     ensures { result ≡ qmi_asks command }
 {
-    !matches!(command, QmiCommand::DescribeTables)
+    !matches!(command, QmiCommand::PduSubmit | QmiCommand::DescribeTables)
+}
+
+/// Whether a command reads a short message.
+pub fn reads_messages(command: QmiCommand) -> bool
+    ensures { result ≡ reads_messages command }
+{
+    matches!(command, QmiCommand::WmsRawRead)
+}
+
+/// Whether a command makes short messages.
+pub fn makes_messages(command: QmiCommand) -> bool
+    ensures { result ≡ makes_messages command }
+{
+    matches!(command, QmiCommand::PduSubmit)
 }
 
 /// The request that a command gives with this value.
@@ -160,7 +177,9 @@ pub fn request(
             let storage = or_fault(number_8(or_fault(value)?))?;
             Ok(QmiRequest::WmsListMessages(storage))
         }
-        QmiCommand::DescribeTables => Err(WordFault::Usage(UsageKind::Value)),
+        QmiCommand::PduSubmit | QmiCommand::DescribeTables => {
+            Err(WordFault::Usage(UsageKind::Value))
+        }
     }
 }
 

@@ -2,19 +2,22 @@ ghost use Rattle.std.specs.Prelude.{◌≡◌, IfOk, option_map};
 ghost use Rattle.clap.specs.Words.{app_of, found_of, rows_of};
 ghost use Rattle.tool_words.specs.Answers.{Answers};
 ghost use Rattle.tool_words.specs.QmiCommands.{qmi_asks};
-ghost use Rattle.tool_words.specs.Qmicli.{described, qmi_asked, qmi_sent, qmi_setting_spelling, qmi_settings, qmicli_app, qmicli_asked, qmicli_values};
+ghost use Rattle.tool_words.specs.Qmicli.{asked_for, asked_with, described, qmi_asked, qmi_sent, qmi_setting_spelling, qmi_settings, qmicli_app, qmicli_asked, qmicli_values, reference_in, submitted};
 ghost use Rattle.tool_words.specs.Values.{Gives, number_within, optional};
 
 use crate::given::{is_given, value_given};
 use crate::link::{LinkSettings, link_given};
 use crate::modem_tools::{ModemCommand, modem_tool, modem_tool_asked};
 use crate::options::{OptionSpelling, ToolOption, flag, valued};
-use crate::qmi_commands::{QmiCommand, asks, qmi_commands, request};
-use crate::values::{number_within, or_fault, path};
+use crate::qmi_commands::{
+    QmiCommand, asks, makes_messages, qmi_commands, reads_messages, request,
+};
+use crate::values::{at_comma, flag_of, number_8, number_within, or_fault, path, text_of};
 use crate::{ToolCommand, UsageKind, WordFault};
 use clap::{ArgMatches, Command};
 use kit_bytes::Kind;
 use qmi_requests::QmiRequest;
+use sms_pdu::can_be_sent;
 use std::alloc::{AllocError, Global};
 
 /// An option of `qmicli` that says how its command is run, beside those of the link.
@@ -22,9 +25,16 @@ use std::alloc::{AllocError, Global};
 pub enum QmiSetting {
     ClientCid,
     ClientNoReleaseCid,
+    DecodeSms,
+    Reference,
 }
 
-static QMI_SETTINGS: [QmiSetting; 2] = [QmiSetting::ClientCid, QmiSetting::ClientNoReleaseCid];
+static QMI_SETTINGS: [QmiSetting; 4] = [
+    QmiSetting::ClientCid,
+    QmiSetting::ClientNoReleaseCid,
+    QmiSetting::DecodeSms,
+    QmiSetting::Reference,
+];
 
 impl ToolOption for QmiSetting {
     ghost spelling = { qmi_setting_spelling };
@@ -33,6 +43,8 @@ impl ToolOption for QmiSetting {
         match self {
             QmiSetting::ClientCid => valued("client-cid"),
             QmiSetting::ClientNoReleaseCid => flag("client-no-release-cid"),
+            QmiSetting::DecodeSms => flag("decode-sms"),
+            QmiSetting::Reference => valued("reference"),
         }
     }
 }
@@ -70,13 +82,44 @@ fn description(alloc: Global, file: Option<&str>) -> Result<ToolCommand, WordFau
     Ok(ToolCommand::Describe { file })
 }
 
+#[tactic(auto, unfolding(crate::specs::Qmicli::submitted))]
+fn submission(alloc: Global, reference: u8, value: Option<&str>) -> Result<ToolCommand, WordFault>
+    ensures { Gives (submitted reference (option_map (λ t. t.now) value.entry)) result }
+{
+    let Some((number, text)) = at_comma(or_fault(value)?) else {
+        return Err(WordFault::Usage(UsageKind::Value));
+    };
+    let number = text_of(alloc, number)?;
+    let text = text_of(alloc, text)?;
+    if !can_be_sent(alloc, &number, &text)? {
+        return Err(WordFault::Usage(UsageKind::Value));
+    }
+    Ok(ToolCommand::PduSubmit {
+        number,
+        text,
+        reference,
+    })
+}
+
+#[tactic(auto, unfolding(crate::specs::Qmicli::reference_in))]
+fn reference_in(makes: bool, text: Option<&str>) -> Result<u8, WordFault>
+    ensures { Gives (reference_in makes (option_map (λ t. t.now) text.entry)) result }
+{
+    match text {
+        Some(text) if makes => or_fault(number_8(text)),
+        Some(_) => Err(WordFault::Usage(UsageKind::Value)),
+        None => Ok(0),
+    }
+}
+
 fn sending(
     link: LinkSettings,
     cid: Option<u8>,
     keep: bool,
+    decode: bool,
     request: QmiRequest,
 ) -> Result<ToolCommand, WordFault>
-    ensures { Gives (qmi_sent link cid keep request) result }
+    ensures { Gives (qmi_sent link cid keep decode request) result }
 {
     let device = or_fault(link.device)?;
     Ok(ToolCommand::Qmicli {
@@ -85,6 +128,7 @@ fn sending(
         cid,
         keep,
         request,
+        decode,
         socket: link.socket,
         bridge: link.bridge,
     })
@@ -95,14 +139,55 @@ fn asking(
     alloc: Global,
     link: LinkSettings,
     cid: Option<u8>,
+    decode: bool,
     command: QmiCommand,
     matches: &ArgMatches<'_>,
 ) -> Result<ToolCommand, WordFault>
-    ensures { Gives (qmi_asked link cid command (rows_of (found_of matches.now))) result }
+    ensures { Gives (qmi_asked link cid decode command (rows_of (found_of matches.now))) result }
 {
     let request = request(alloc, command, value_given(matches, command))?;
     let keep = is_given(matches, QmiSetting::ClientNoReleaseCid);
-    sending(link, cid, keep, request)
+    sending(link, cid, keep, decode, request)
+}
+
+// What a command asks for: a request, the messages of a text, or the tables of a file.
+#[tactic(auto, unfolding(crate::specs::Qmicli::asked_for))]
+fn asked_for(
+    alloc: Global,
+    link: LinkSettings,
+    cid: Option<u8>,
+    decode: bool,
+    reference: u8,
+    command: QmiCommand,
+    matches: &ArgMatches<'_>,
+) -> Result<ToolCommand, WordFault>
+    ensures { Gives (asked_for link cid decode reference command (rows_of (found_of matches.now))) result }
+{
+    if asks(command) {
+        asking(alloc, link, cid, decode, command, matches)
+    } else if makes_messages(command) {
+        submission(alloc, reference, value_given(matches, command))
+    } else {
+        description(alloc, value_given(matches, command))
+    }
+}
+
+// The same, with the settings that only some commands have.
+#[tactic(auto, unfolding(crate::specs::Qmicli::asked_with))]
+fn asked_with(
+    alloc: Global,
+    link: LinkSettings,
+    cid: Option<u8>,
+    command: QmiCommand,
+    matches: &ArgMatches<'_>,
+) -> Result<ToolCommand, WordFault>
+    ensures { Gives (asked_with link cid command (rows_of (found_of matches.now))) result }
+{
+    let decode = is_given(matches, QmiSetting::DecodeSms);
+    let decode = flag_of(decode, reads_messages(command))?;
+    let reference = value_given(matches, QmiSetting::Reference);
+    let reference = reference_in(makes_messages(command), reference)?;
+    asked_for(alloc, link, cid, decode, reference, command, matches)
 }
 
 impl ModemCommand for QmiCommand {
@@ -118,11 +203,7 @@ impl ModemCommand for QmiCommand {
     fn values(self, alloc: Global, matches: &ArgMatches<'_>) -> Result<ToolCommand, WordFault> {
         let link = link_given(alloc, Kind::Qmi, matches)?;
         let cid = cid_if_given(value_given(matches, QmiSetting::ClientCid))?;
-        if asks(self) {
-            asking(alloc, link, cid, self, matches)
-        } else {
-            description(alloc, value_given(matches, self))
-        }
+        asked_with(alloc, link, cid, self, matches)
     }
 }
 

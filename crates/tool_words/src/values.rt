@@ -2,7 +2,7 @@ ghost use Rattle.std.specs.Prelude.{◌≡◌, ◌≤◌, IfOk, IfSome, MatchOpt
 ghost use Rattle.std.specs.Char.{is_ascii_digit};
 ghost use Rattle.std.specs.List.{list_all};
 ghost use Rattle.std.specs.Str.{chars, encode_utf8_all};
-ghost use Rattle.tool_words.specs.Values.{Gives, is_decimal, kind_named, kind_or, number_32_in, number_8_in, number_in, number_or, number_within, octets_in, path_in, path_or, short_in, split_at, optional, turns_in};
+ghost use Rattle.tool_words.specs.Values.{Gives, flag_of, is_decimal, kind_named, kind_or, number_32_in, number_8_in, number_in, number_or, number_within, octets_in, path_in, path_or, short_in, split_at, optional, turns_in};
 
 use crate::{UsageKind, WordFault};
 use hex::FromHexError;
@@ -17,6 +17,16 @@ pub fn or_fault<T: Drop>(value: Option<T>) -> Result<T, WordFault>
         Some(value) => Ok(value),
         None => Err(WordFault::Usage(UsageKind::Value)),
     }
+}
+
+/// Whether an option is given, or the fault that it is beside a command that hasn't it.
+pub fn flag_of(given: bool, has: bool) -> Result<bool, WordFault>
+    ensures { Gives (flag_of given has) result }
+{
+    if given && !has {
+        return Err(WordFault::Usage(UsageKind::Value));
+    }
+    Ok(given)
 }
 
 fn are_digits(bytes: &[u8]) -> bool
@@ -124,7 +134,8 @@ pub fn kind_or(default: Kind, text: Option<&str>) -> Result<Kind, WordFault>
     }
 }
 
-fn text_of(alloc: Global, text: &str) -> Result<Text, AllocError>
+/// A copy of the text.
+pub fn text_of(alloc: Global, text: &str) -> Result<Text, AllocError>
     ensures chars { IfOk result (λ copy. copy ≡ chars text.now) }
     ensures bytes { IfOk result (λ copy. encode_utf8_all copy ≡ text.now) }
 {

@@ -16,3 +16,6 @@ returns-clause-scalars c = spelled c.args.text.now _ c.as_str.utf8 c.as_str.ensu
 
 pub returns-in_err-extend_from_slice-clause-scalars : goal.returns-in_err-extend_from_slice-clause-scalars
 returns-in_err-extend_from_slice-clause-scalars c = spelled c.args.text.now _ c.as_str.utf8 c.as_str.ensures
+
+pub returns-in_err-chars-clause-scalars : goal.returns-in_err-chars-clause-scalars
+returns-in_err-chars-clause-scalars c = spelled c.args.text.now _ c.as_str.utf8 c.as_str.ensures

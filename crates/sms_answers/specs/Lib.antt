@@ -1,0 +1,2 @@
+pub mod Qmi
+pub mod Mbim
