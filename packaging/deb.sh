@@ -2,7 +2,7 @@
 # Makes a Debian package of the program: stripped, with its man pages, manuals, units and udev rule, and a group `modemkit` whose
 # members reach modems and proxies. It prints the package's path.
 #   packaging/deb.sh [FOLDER]       FOLDER: where the package is put, packaging/out where none is named
-# MODEMKIT names a program that is built already, VERSION another version than that of the last commit, MAINTAINER who makes the
+# MODEMKIT names a program that is built already, VERSION another version than the program's with the last commit's date, MAINTAINER who makes the
 # package, as `Name <address>`.
 top=$(CDPATH= cd -- "$(dirname -- "$0")/.." && pwd) || exit 70
 . "$top/bench/needs.sh"
@@ -13,7 +13,8 @@ mkdir -p "$to" || exit 1
 to=$(CDPATH= cd -- "$to" && pwd) || exit 1
 
 commit() { git -C "$top" log -1 --date=format-local:"$2" --format="$1"; }
-version=${VERSION:-0~git$(TZ=UTC commit %cd.%h %Y%m%d%H%M)}
+release=$(sed -n 's/^pub const VERSION: &str = "\(.*\)";$/\1/p' "$top/crates/version/src/line.rt")
+version=${VERSION:-$release~git$(TZ=UTC commit %cd.%h %Y%m%d%H%M)}
 case $version in
 *[!A-Za-z0-9.+~-]* | [!0-9]* | '') echo "$0: no version: $version" >&2; exit 2 ;;
 esac

@@ -16,9 +16,9 @@ use Rattle.device_core.specs.Session.{Reads}
 abbrev pub KeepsNothing : List Placed → Placed → Type 0
 KeepsNothing before message = Unit {0}
 
--- a request was made, and its answer was read
-abbrev pub RepliesTo : Request → Heard → Result (Reply QmiAnswer) SessionFault → Reading → Option (List Call) → Option (List Call) → Type 0
-RepliesTo request heard result cutter before after = hearing.RepliesTo (asked request) (λ passed. Reads request.body) heard result cutter before after
+-- a request was made, with so many seconds for its answer, and that was read
+abbrev pub RepliesTo : (seconds : ℕ) → Request → Heard → Result (Reply QmiAnswer) SessionFault → Reading → Option (List Call) → Option (List Call) → Type 0
+RepliesTo seconds request heard result cutter before after = hearing.RepliesTo (asked seconds request) (λ passed. Reads request.body) heard result cutter before after
 
 -- the error of a failure
 abbrev pub failure_in : QmiAnswer → Option ℕ

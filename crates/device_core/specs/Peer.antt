@@ -35,7 +35,7 @@ finish word talk = record { end = word; talk = talk }
 -- behind this answer to the command the client id is given back
 abbrev pub release_at : Peer → QmiPlan → (client number : ℕ) → Placed → Talk → Finish LastWord
 release_at peer plan client number message talk =
-    ask_then peer (asked (release plan client number)) talk unanswered (λ before last talk.
+    ask_then peer (asked plan.timeout (release plan client number)) talk unanswered (λ before last talk.
     if is_framed last.bytes
     then finish (OfAnswer plan.request None message) talk
     else finish (Unframed last) talk)
@@ -50,7 +50,7 @@ leave_at peer plan client number message talk =
 -- the command with this client id, from the number of the next request to service 0 on
 abbrev pub command_at : Peer → QmiPlan → (client number : ℕ) → Talk → Finish LastWord
 command_at peer plan client number talk =
-    ask_then peer (asked (command plan client number)) talk unanswered (λ before message talk.
+    ask_then peer (asked plan.timeout (command plan client number)) talk unanswered (λ before message talk.
     if reads plan.request message.bytes
     then leave_at peer plan client number message talk
     else finish (OfAnswer plan.request None message) talk)
@@ -58,7 +58,7 @@ command_at peer plan client number talk =
 -- a client id is allocated first
 abbrev pub allocate_at : Peer → QmiPlan → (number : ℕ) → Talk → Finish LastWord
 allocate_at peer plan number talk =
-    ask_then peer (asked (allocate plan number)) talk unanswered (λ before message talk.
+    ask_then peer (asked plan.timeout (allocate plan number)) talk unanswered (λ before message talk.
     if succeeds (Allocate (service plan)) message.bytes
     then command_at peer plan (unwrap_or (allocated_in (tlvs_in message.bytes)) 0) (number + 1) talk
     else finish (OfAnswer (Allocate (service plan)) None message) talk)
@@ -78,7 +78,7 @@ choose_at peer plan number talk =
 -- the proxy is asked for the device first
 abbrev pub proxy_at : Peer → QmiPlan → Finish LastWord
 proxy_at peer plan =
-    ask_then peer (asked (proxy_open plan)) nothing_said unanswered (λ before message talk.
+    ask_then peer (asked plan.timeout (proxy_open plan)) nothing_said unanswered (λ before message talk.
     if succeeds (ProxyOpen plan.device) message.bytes
     then choose_at peer plan 2 talk
     else finish (OfAnswer (ProxyOpen plan.device) None message) talk)

@@ -9,7 +9,7 @@ use Rattle.qmux_frame.specs.Kind.{flags_for, is_response, kind_of}
 use Rattle.qmux_frame.specs.Writing.{message_text}
 use Rattle.qmi_requests.specs.declared.QmiRequest.{QmiRequest}
 use Rattle.qmux_frame.specs.Frame.{size_of}
-use Rattle.link_session.specs.Waiting.{Judge}
+use Rattle.link_session.specs.Waiting.{Judge, waiting}
 use Rattle.link_session.specs.Asking.{Asked}
 use Rattle.link_session.specs.declared.waiting.Meaning.TheVariants.{NoAnswer, Answer}
 use Rattle.device_core.specs.declared.wanted.Wanted.{Wanted}
@@ -52,5 +52,6 @@ judge_by wanted = λ before message. if answers wanted message.bytes then Answer
 
 -- ---- what is asked ----
 
-abbrev pub asked : Request → Asked
-asked request = record { size = size_of; text = message_of request; judge = judge_by (wanted_by request) }
+-- with so many seconds for its answer
+abbrev pub asked : (seconds : ℕ) → Request → Asked
+asked seconds request = record { size = size_of; text = message_of request; wait = waiting (judge_by (wanted_by request)) seconds }

@@ -59,7 +59,7 @@ pub data Finishes (plan : QmiPlan) (client number : ℕ) (answer : QmiAnswer) (h
   without : service plan ≡ 0 → Stops (end_with answer None) calls result → Finishes plan client number answer heard calls result
   keeping : service plan ≢ 0 → plan.keep ≡ true → Stops (end_with answer (Some (service plan, client))) calls result → Finishes plan client number answer heard calls result
   releasing : service plan ≢ 0 → plan.keep ≡ false
-      → Step (asked (release plan client number)) heard calls result (λ before message later more. Stops (released message answer) more result)
+      → Step (asked plan.timeout (release plan client number)) heard calls result (λ before message later more. Stops (released message answer) more result)
       → Finishes plan client number answer heard calls result
 
 abbrev pub command : QmiPlan → ℕ → ℕ → Request
@@ -68,7 +68,7 @@ command plan client number = record { body = plan.request; client = client; numb
 -- the command, from the number of the next request to service 0 on
 abbrev pub Commands : QmiPlan → ℕ → ℕ → Heard → List Call → Result QmiEnd SessionFault → Type 0
 Commands plan client number heard calls result =
-    Step (asked (command plan client number)) heard calls result (λ before message later more.
+    Step (asked plan.timeout (command plan client number)) heard calls result (λ before message later more.
     ReadsThen (Reads plan.request message) more result (λ answer. Finishes plan client number answer later more result))
 
 -- the second number of the first Allocation, which is a service and a client id of one byte each
@@ -88,7 +88,7 @@ pub data Chooses (plan : QmiPlan) (number : ℕ) (heard : Heard) (calls : List C
   control : service plan ≡ 0 → Commands plan 0 number heard calls result → Chooses plan number heard calls result
   given : (client : ℕ) → service plan ≢ 0 → plan.cid ≡ Some client → Commands plan client number heard calls result → Chooses plan number heard calls result
   allocating : service plan ≢ 0 → plan.cid ≡ None
-      → Step (asked (allocate plan number)) heard calls result (λ before message later more.
+      → Step (asked plan.timeout (allocate plan number)) heard calls result (λ before message later more.
       ReadsThen (Reads (Allocate (service plan)) message) more result (λ answer. OnSuccess answer more result (CommandsAs plan message.bytes (number + 1) later more result)))
       → Chooses plan number heard calls result
 
@@ -100,6 +100,6 @@ pub data Session (plan : QmiPlan) (calls : List Call) (result : Result QmiEnd Se
   no_memory : Stops (Err fault.OutOfMemory) calls result → Session plan calls result
   direct : plan.proxied ≡ false → Chooses plan 1 nothing_heard calls result → Session plan calls result
   proxied : plan.proxied ≡ true
-      → Step (asked (proxy_open plan)) nothing_heard calls result (λ before message later more.
+      → Step (asked plan.timeout (proxy_open plan)) nothing_heard calls result (λ before message later more.
       ReadsThen (Reads (ProxyOpen plan.device) message) more result (λ answer. OnSuccess answer more result (Chooses plan 2 later more result)))
       → Session plan calls result

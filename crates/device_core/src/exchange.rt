@@ -17,7 +17,8 @@ use qmi_services::{QmiAnswer, service_of};
 use qmux_frame::Qmux;
 use std::alloc::Global;
 
-/// Sends a request with this client id and this number, and waits for its answer.
+/// Sends a request with this client id and this number, and waits for its answer, for so many
+/// seconds.
 pub(crate) fn exchange<L: Link>(
     alloc: Global,
     link: &mut L,
@@ -25,9 +26,10 @@ pub(crate) fn exchange<L: Link>(
     body: &QmiRequest,
     client: u8,
     number: u8,
+    timeout: u16,
 ) -> Result<Found, SessionFault>
     ensures asks { (heard : Heard) → Stands size_of incoming.old heard
-        → AsksFor (asked (record { body = body.now; client = client; number = number })) KeepsNothing heard result incoming.new (L.calls link.old) (L.calls link.new) }
+        → AsksFor (asked timeout (record { body = body.now; client = client; number = number })) KeepsNothing heard result incoming.new (L.calls link.old) (L.calls link.new) }
     ensures given { IfOk result (IsGiven size_of incoming.new) }
     ensures link_fault { result ≡ Err SessionFault.LinkFault → Rose (L.faults link.old) (L.faults link.new) }
     ensures later { L.faults link.old ≤ L.faults link.new }
@@ -39,10 +41,11 @@ pub(crate) fn exchange<L: Link>(
         client,
         number,
     };
-    link_session::exchange(link, incoming, message.as_slice(), &mut wanted)
+    link_session::exchange(link, incoming, message.as_slice(), &mut wanted, timeout)
 }
 
-/// Sends a request with this client id and this number, and reads its answer.
+/// Sends a request with this client id and this number, and reads its answer, which is waited for
+/// for so many seconds.
 pub(crate) fn ask<L: Link>(
     alloc: Global,
     link: &mut L,
@@ -50,15 +53,16 @@ pub(crate) fn ask<L: Link>(
     body: &QmiRequest,
     client: u8,
     number: u8,
+    timeout: u16,
 ) -> Result<Reply<QmiAnswer>, SessionFault>
     ensures asks { (heard : Heard) → Stands size_of incoming.old heard
-        → RepliesTo (record { body = body.now; client = client; number = number }) heard result incoming.new (L.calls link.old) (L.calls link.new) }
+        → RepliesTo timeout (record { body = body.now; client = client; number = number }) heard result incoming.new (L.calls link.old) (L.calls link.new) }
     ensures given { IfOk result (λ reply. IsGiven size_of incoming.new reply.found × Reads body.now (placed_in incoming.new reply.found) (Ok reply.answer)) }
     ensures link_fault { result ≡ Err SessionFault.LinkFault → Rose (L.faults link.old) (L.faults link.new) }
     ensures later { L.faults link.old ≤ L.faults link.new }
     ensures later_open { L.open_faults link.old ≤ L.open_faults link.new }
 {
-    let found = exchange(alloc, link, incoming, body, client, number)?;
+    let found = exchange(alloc, link, incoming, body, client, number, timeout)?;
     let answer = read(alloc, body, found.place, incoming.bytes(found))?;
     Ok(Reply { found, answer })
 }

@@ -12,6 +12,8 @@ pub struct QmiPlan {
     pub cid: Option<u8>,
     /// Whether the client id is kept, and not given back.
     pub keep: bool,
+    /// For how many seconds without a byte each answer is waited for.
+    pub timeout: u16,
     /// The command.
     pub request: QmiRequest,
 }

@@ -40,7 +40,7 @@ pub fn qmi_session<L: Link>(
     if !plan.proxied {
         return choose_client(alloc, link, &mut incoming, plan, 1);
     }
-    match open_proxy(alloc, link, &mut incoming, &plan.device)?.answer {
+    match open_proxy(alloc, link, &mut incoming, &plan.device, plan.timeout)?.answer {
         QmiAnswer::Failure(error) => Ok(failed(error)),
         QmiAnswer::Success(_) => choose_client(alloc, link, &mut incoming, plan, 2),
     }
@@ -88,7 +88,7 @@ fn choose_client<L: Link>(
     if let Some(client) = plan.cid {
         return run_command(alloc, link, incoming, plan, client, number);
     }
-    let reply = allocate(alloc, link, incoming, service, number)?;
+    let reply = allocate(alloc, link, incoming, service, number, plan.timeout)?;
     if let Some(error) = failure(&reply.answer) {
         return Ok(failed(error));
     }
@@ -138,6 +138,7 @@ fn run_command<L: Link>(
         body,
         client,
         command_number(body, number),
+        plan.timeout,
     )?;
     finish(alloc, link, incoming, plan, client, number, reply.answer)
 }
@@ -172,7 +173,7 @@ fn finish<L: Link>(
         let kept = Some((service, client));
         return Ok(QmiEnd { answer, kept });
     }
-    let found = release(alloc, link, incoming, service, client, number)?;
+    let found = release(alloc, link, incoming, service, client, number, plan.timeout)?;
     if !Head::read(incoming.bytes(found)).framed {
         return Err(SessionFault::Broken { place: found.place });
     }

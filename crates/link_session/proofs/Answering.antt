@@ -1,12 +1,12 @@
 -- A link that brings what a peer says, and then nothing, is enough for a request.
-use Rattle.std.proofs.Common.{◌≡◌, ◌⊎◌, inl, inr, ℕ, zero, suc, true, List, [], ◌∷◌, ◌++◌, map, replicate, All, Some, refl, sym, ◌∙◌, ap, subst, arith, count_by, append_assoc}
+use Rattle.std.proofs.Common.{◌≡◌, ◌⊎◌, inl, inr, ℕ, ◌+◌, ◌<◌, zero, suc, true, List, [], ◌∷◌, ◌++◌, map, replicate, All, Some, refl, sym, ◌∙◌, ap, subst, arith, count_by, append_assoc}
 use Rattle.std.proofs.lemmas.List.{append-nil}
 use Rattle.std.proofs.lemmas.List.Elements.{All-nil, All-cons, All-append, All-head, All-tail, All-weaker}
 use Rattle.std.specs.List.{concat}
 use Rattle.framing.specs.declared.framing.Size.{Size}
 use Rattle.link_io.specs.Calls.{Call, Sent, Took, WasQuiet}
 use Rattle.link_session.specs.Marks.{Mark, Quiet, IsTake, piece_marks, take_marks, bytes_in}
-use Rattle.link_session.specs.Waiting.{Heard, Judge, Outcome, AreUndecided, Waits, decision, is_quiet, marks_with, most_quiets}
+use Rattle.link_session.specs.Waiting.{Heard, Wait, Outcome, AreUndecided, Waits, decision, is_quiet, marks_with}
 use Rattle.link_session.specs.Asking.{Asked, Asks, sent}
 use Rattle.link_session.specs.Peer.{Peer, LeadsTo, said, texts_in, Ending, Talk, ask, reply_to, IsUpTo, EndsByPeer, Keeps, AsksWithin, PeersCanBeAsked}
 use Rattle.link_session.proofs.Takes.{bytes_in-append}
@@ -16,7 +16,7 @@ use Rattle.link_session.proofs.Peers.{All-front, takes_send_nothing, mark_is, ma
 
 -- ---- the takes that a wait needs ----
 
-module _ (size : List ℕ → Size) (judge : Judge) (heard : Heard) where
+module _ (size : List ℕ → Size) (wait : Wait) (heard : Heard) where
   -- a wait that goes on behind some takes, and ends with as many of these as it needs
   record WaitsWithin (earlier takes : List Call) : Type 0 where
     pub needed : List Call
@@ -24,19 +24,19 @@ module _ (size : List ℕ → Size) (judge : Judge) (heard : Heard) where
     pub outcome : Outcome
     pub later : Heard
     pub are : takes ≡ needed ++ unneeded
-    pub waits : Waits size judge heard (earlier ++ needed) outcome later
+    pub waits : Waits size wait heard (earlier ++ needed) outcome later
 
-  within : (earlier takes : List Call) → All IsTake earlier → All IsTake takes → AreUndecided judge (marks_with size heard earlier)
-      → AreUndecided judge (marks_with size heard (earlier ++ takes)) ⊎ WaitsWithin earlier takes
+  within : (earlier takes : List Call) → All IsTake earlier → All IsTake takes → AreUndecided wait (marks_with size heard earlier)
+      → AreUndecided wait (marks_with size heard (earlier ++ takes)) ⊎ WaitsWithin earlier takes
   within earlier [] each_earlier each undecided = inl (rw (append-nil earlier) undecided)
   within earlier (call ∷ takes) each_earlier each undecided =
       let front : List Call = earlier ++ call ∷ [] in
       let each_front : All IsTake front = All-append IsTake earlier (call ∷ []) each_earlier (All-cons IsTake call [] (All-head IsTake call takes each) (All-nil IsTake)) in
       let joined : front ++ takes ≡ earlier ++ call ∷ takes = append_assoc earlier (call ∷ []) takes in
-      elim (decide judge (marks_with size heard earlier) (take_marks size (heard.taken ++ bytes_in earlier) (call ∷ [])) undecided) [
+      elim (decide wait (marks_with size heard earlier) (take_marks size (heard.taken ++ bytes_in earlier) (call ∷ [])) undecided) [
         | inl more ↦
-            elim (within front takes each_front (All-tail IsTake call takes each) (subst (AreUndecided judge) (sym (marks_with-append size heard earlier (call ∷ []))) more)) [
-              | inl all ↦ inl (subst (λ (l : List Call). AreUndecided judge (marks_with size heard l)) joined all)
+            elim (within front takes each_front (All-tail IsTake call takes each) (subst (AreUndecided wait) (sym (marks_with-append size heard earlier (call ∷ []))) more)) [
+              | inl all ↦ inl (subst (λ (l : List Call). AreUndecided wait (marks_with size heard l)) joined all)
               | inr it ↦
                   inr (record {
                     needed = call ∷ it.needed;
@@ -44,7 +44,7 @@ module _ (size : List ℕ → Size) (judge : Judge) (heard : Heard) where
                     outcome = it.outcome;
                     later = it.later;
                     are = ap (λ (l : List Call). call ∷ l) it.are;
-                    waits = subst (λ (l : List Call). Waits size judge heard l it.outcome it.later) (append_assoc earlier (call ∷ []) it.needed) it.waits;
+                    waits = subst (λ (l : List Call). Waits size wait heard l it.outcome it.later) (append_assoc earlier (call ∷ []) it.needed) it.waits;
                   })
             ]
         | inr it ↦
@@ -74,10 +74,10 @@ module _ (size : List ℕ → Size) (judge : Judge) (heard : Heard) where
       ]
 
   -- from the start on
-  from_start : (takes : List Call) → All IsTake takes → AreUndecided judge (marks_with size heard takes) ⊎ WaitsWithin [] takes
+  from_start : (takes : List Call) → All IsTake takes → AreUndecided wait (marks_with size heard takes) ⊎ WaitsWithin [] takes
   unfolding take_marks bytes_in
-  from_start takes each = elim (decide judge [] heard.left (record { each = tt; quiets = omega arith; messages = omega arith })) [
-    | inl none ↦ within [] takes (All-nil IsTake) each (subst (AreUndecided judge) (sym (append-nil heard.left)) none)
+  from_start takes each = elim (decide wait [] heard.left (record { each = tt; quiets = omega arith; messages = omega arith })) [
+    | inl none ↦ within [] takes (All-nil IsTake) each (subst (AreUndecided wait) (sym (append-nil heard.left)) none)
     | inr it ↦
         inr (record {
           needed = [];
@@ -150,10 +150,10 @@ module _ (size : List ℕ → Size) where
   quiets-count stream (suc count) = grind (arith, quiets-count stream count, count_by-append is_quiet (Quiet ∷ []) (take_marks size stream (quiet_takes count)))
 
 -- what a mark decides where all that the peer says was taken
-decided_at_end : (judge : Judge) (before : List Mark) (mark : Mark) (reply : List ℕ) (outcome : Outcome) → IsOfTalk mark → decision judge before mark ≡ Some outcome → EndsByPeer reply reply outcome
-decided_at_end judge before mark reply outcome (inl is) decides = decided_by_peer judge before mark reply reply outcome is decides
-decided_at_end judge before mark reply outcome (inr quiet) decides =
-    subst (EndsByPeer reply reply) (decided_by_quiet judge before outcome (subst (λ (m : Mark). decision judge before m ≡ Some outcome) quiet decides)) refl
+decided_at_end : (wait : Wait) (before : List Mark) (mark : Mark) (reply : List ℕ) (outcome : Outcome) → IsOfTalk mark → decision wait before mark ≡ Some outcome → EndsByPeer reply reply outcome
+decided_at_end wait before mark reply outcome (inl is) decides = decided_by_peer wait before mark reply reply outcome is decides
+decided_at_end wait before mark reply outcome (inr quiet) decides =
+    subst (EndsByPeer reply reply) (decided_by_quiet wait before outcome (subst (λ (m : Mark). decision wait before m ≡ Some outcome) quiet decides)) refl
 
 module _ (peer : Peer) (asked : Asked) (talk : Talk) (late : List ℕ) (heard : Heard) (kept : Keeps asked.size) (upto : IsUpTo asked.size late heard talk.heard) where
   reply : List ℕ
@@ -161,7 +161,7 @@ module _ (peer : Peer) (asked : Asked) (talk : Talk) (late : List ℕ) (heard : 
 
   -- a wait that ends so makes the request end as at the peer
   asks_within : (takes : List Call) {own : List Call} {outcome : Outcome} {later : Heard} (unneeded : List Call) → takes ≡ own ++ unneeded → bytes_in takes ≡ late ++ reply
-      → Waits asked.size asked.judge heard own outcome later → EndsByPeer (late ++ reply) (bytes_in own) outcome → AsksWithin asked heard takes (ask peer asked talk).outcome
+      → Waits asked.size asked.wait heard own outcome later → EndsByPeer (late ++ reply) (bytes_in own) outcome → AsksWithin asked heard takes (ask peer asked talk).outcome
   unfolding ask reply
   asks_within takes {own = own} {outcome = outcome} {later = later} unneeded are all waits ends =
       let come : late ++ reply ≡ bytes_in own ++ bytes_in unneeded = sym all ∙ ap bytes_in are ∙ bytes_in-append own unneeded in
@@ -192,15 +192,15 @@ module _ (peer : Peer) (asked : Asked) (talk : Talk) (late : List ℕ) (heard : 
     of_pieces = All-append IsOfBytes heard.left (take_marks asked.size heard.taken (piece_takes pieces)) upto.each (pieces-marks asked.size heard.taken pieces)
 
     -- it ends within the pieces
-    asks_in_pieces : WaitsWithin asked.size asked.judge heard [] (piece_takes pieces) → AsksWithin asked heard all_takes (ask peer asked talk).outcome
+    asks_in_pieces : WaitsWithin asked.size asked.wait heard [] (piece_takes pieces) → AsksWithin asked heard all_takes (ask peer asked talk).outcome
     unfolding all_takes
     asks_in_pieces it =
         let of_bytes = mark_is asked.size upto.each it.waits IsOfBytes it.unneeded (subst (λ (l : List Call). All IsOfBytes (marks_with asked.size heard l)) it.are of_pieces) in
         asks_within all_takes (it.unneeded ++ quiet_takes count) (ap (λ (l : List Call). l ++ quiet_takes count) it.are ∙ append_assoc it.needed it.unneeded (quiet_takes count)) all_taken it.waits
-        (decided_by_peer asked.judge it.waits.before it.waits.mark (late ++ reply) (bytes_in it.needed) it.outcome of_bytes it.waits.decided_is)
+        (decided_by_peer asked.wait it.waits.before it.waits.mark (late ++ reply) (bytes_in it.needed) it.outcome of_bytes it.waits.decided_is)
 
     -- it ends behind them
-    asks_in_silence : WaitsWithin asked.size asked.judge heard (piece_takes pieces) (quiet_takes count) → AsksWithin asked heard all_takes (ask peer asked talk).outcome
+    asks_in_silence : WaitsWithin asked.size asked.wait heard (piece_takes pieces) (quiet_takes count) → AsksWithin asked heard all_takes (ask peer asked talk).outcome
     unfolding all_takes
     asks_in_silence it =
         let own : List Call = piece_takes pieces ++ it.needed in
@@ -220,14 +220,14 @@ module _ (peer : Peer) (asked : Asked) (talk : Talk) (late : List ℕ) (heard : 
         ∙ all) in
         asks_within all_takes it.unneeded are all_taken it.waits
         (subst (λ (l : List ℕ). EndsByPeer (late ++ reply) l it.outcome) taken
-        (decided_at_end asked.judge it.waits.before it.waits.mark (late ++ reply) it.outcome of_talk it.waits.decided_is))
+        (decided_at_end asked.wait it.waits.before it.waits.mark (late ++ reply) it.outcome of_talk it.waits.decided_is))
 
-    asks_at_peer : count ≡ most_quiets → AsksWithin asked heard all_takes (ask peer asked talk).outcome
+    asks_at_peer : asked.wait.patience < count → AsksWithin asked heard all_takes (ask peer asked talk).outcome
     unfolding all_takes
-    asks_at_peer enough = elim (from_start asked.size asked.judge heard (piece_takes pieces) (pieces_are_takes pieces)) [
+    asks_at_peer enough = elim (from_start asked.size asked.wait heard (piece_takes pieces) (pieces_are_takes pieces)) [
       | inr it ↦ asks_in_pieces it
       | inl none ↦
-          elim (within asked.size asked.judge heard (piece_takes pieces) (quiet_takes count) (pieces_are_takes pieces) (quiets_are_takes count) none) [
+          elim (within asked.size asked.wait heard (piece_takes pieces) (quiet_takes count) (pieces_are_takes pieces) (quiets_are_takes count) none) [
             | inr it ↦ asks_in_silence it
             | inl never ↦
                 let stream : List ℕ = heard.taken ++ bytes_in (piece_takes pieces) in
@@ -268,8 +268,9 @@ takes_lead peer before text late takes each all =
 pub peers_can_be_asked : PeersCanBeAsked
 unfolding reply all_takes piece_takes quiet_takes
 peers_can_be_asked peer asked talk late heard pieces kept upto all =
-    let takes : List Call = piece_takes pieces ++ quiet_takes most_quiets in (
-      takes_lead peer talk.texts asked.text late takes (All-append IsTake (piece_takes pieces) (quiet_takes most_quiets) (pieces_are_takes pieces) (quiets_are_takes most_quiets))
-          (all_taken peer asked talk late heard kept upto pieces most_quiets all),
-      asks_at_peer peer asked talk late heard kept upto pieces most_quiets all refl,
+    let count : ℕ = asked.wait.patience + 1 in
+    let takes : List Call = piece_takes pieces ++ quiet_takes count in (
+      takes_lead peer talk.texts asked.text late takes (All-append IsTake (piece_takes pieces) (quiet_takes count) (pieces_are_takes pieces) (quiets_are_takes count))
+          (all_taken peer asked talk late heard kept upto pieces count all),
+      asks_at_peer peer asked talk late heard kept upto pieces count all (omega arith),
     )

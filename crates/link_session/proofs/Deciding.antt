@@ -1,5 +1,5 @@
 -- The first mark that decides.
-use Rattle.std.proofs.Common.{◌≡◌, ◌⊎◌, inl, inr, ℕ, ◌+◌, ◌<◌, Bool, true, false, ◌==◌, cond, List, [], ◌∷◌, ◌++◌, Option, Some, None, refl, sym, ◌∙◌, ap, subst, arith, count_by, append_assoc}
+use Rattle.std.proofs.Common.{◌≡◌, ◌⊎◌, inl, inr, ℕ, ◌+◌, ◌<◌, ◌≤◌, Bool, true, false, ◌==◌, cond, List, [], ◌∷◌, ◌++◌, Option, Some, None, refl, sym, ◌∙◌, ap, subst, arith, count_by, append_assoc}
 use Rattle.std.proofs.lemmas.Bool.Decides.{nat_tests}
 use Rattle.std.proofs.lemmas.List.{append-nil}
 use Rattle.std.proofs.lemmas.List.Elements.{filter_map-append}
@@ -9,7 +9,7 @@ use Rattle.link_session.specs.declared.fault.SessionFault.TheVariants as fault
 use Rattle.link_session.specs.declared.waiting.Meaning.{Meaning}
 use Rattle.link_session.specs.declared.waiting.Meaning.TheVariants as meaning
 use Rattle.link_session.specs.Marks.{Placed, Mark, Message, Bad, Quiet, End, Failed, message_in, messages_in}
-use Rattle.link_session.specs.Waiting.{Judge, Outcome, Answered, Fails, ArePassed, AreUndecided, IsPassed, is_quiet, is_message, decided, decision}
+use Rattle.link_session.specs.Waiting.{Wait, Outcome, Answered, Fails, ArePassed, AreUndecided, IsPassed, is_quiet, is_message, decided, decision}
 use Rattle.link_session.specs.Peer.{Ending, EndsByPeer, ending, ending_at, earliest, silence, each_seen, is_of_bytes}
 use Rattle.link_session.proofs.Passing.{ArePassed-push, count_by-push, decision-is, decision-flooded, decision-timed_out}
 use Rattle.link_session.proofs.Streams.{of_bytes}
@@ -25,6 +25,9 @@ is_so n most is = grind (arith, nat_tests, is)
 
 is_less : (n most : ℕ) → n < most → (n + 1 == most) ≡ false → n + 1 < most
 is_less n most less isnt = grind (arith, nat_tests, less, isnt)
+
+is_fewer : (n most : ℕ) → n ≤ most → (n == most) ≡ false → n + 1 ≤ most
+is_fewer n most within isnt = grind (arith, nat_tests, within, isnt)
 
 -- ---- without the marks of no bytes ----
 
@@ -55,12 +58,12 @@ of_bytes-quiets (Quiet ∷ marks) = of_bytes-quiets marks
 of_bytes-quiets (End ∷ marks) = of_bytes-quiets marks
 of_bytes-quiets (Failed ∷ marks) = of_bytes-quiets marks
 
-module _ (judge : Judge) where
-  of_bytes-passed : (before fewer marks : List Mark) → messages_in before ≡ messages_in fewer → ArePassed judge before marks → ArePassed judge fewer (of_bytes marks)
+module _ (wait : Wait) where
+  of_bytes-passed : (before fewer marks : List Mark) → messages_in before ≡ messages_in fewer → ArePassed wait.judge before marks → ArePassed wait.judge fewer (of_bytes marks)
   unfolding of_bytes
   of_bytes-passed before fewer [] same each = tt
   of_bytes-passed before fewer (Message message ∷ marks) same each = (
-    subst (λ (l : List Placed). judge l message ≡ meaning.NoAnswer) same each.0,
+    subst (λ (l : List Placed). wait.judge l message ≡ meaning.NoAnswer) same each.0,
     of_bytes-passed (before ++ Message message ∷ []) (fewer ++ Message message ∷ []) marks
         (filter_map-append message_in before (Message message ∷ []) ∙ ap (λ (l : List Placed). l ++ message ∷ []) same ∙ sym (filter_map-append message_in fewer (Message message ∷ []))) each.1,
   )
@@ -70,7 +73,7 @@ module _ (judge : Judge) where
   of_bytes-passed before fewer (End ∷ marks) same each = absurd each.0
   of_bytes-passed before fewer (Failed ∷ marks) same each = absurd each.0
 
-  pub of_bytes-undecided : (marks : List Mark) → AreUndecided judge marks → AreUndecided judge (of_bytes marks)
+  pub of_bytes-undecided : (marks : List Mark) → AreUndecided wait marks → AreUndecided wait (of_bytes marks)
   of_bytes-undecided marks undecided = record {
     each = of_bytes-passed [] [] marks refl undecided.each;
     quiets = rw (of_bytes-quiets marks) (omega arith);
@@ -83,10 +86,10 @@ module _ (judge : Judge) where
   same_decided before fewer message meaning.Answer same count = ap (λ (l : List Placed). Some (Answered l message)) same
   same_decided before fewer message (meaning.Broken place) same count = refl
 
-  pub of_bytes-decision : (before : List Mark) (mark : Mark) → is_of_bytes mark ≡ true → decision judge (of_bytes before) mark ≡ decision judge before mark
+  pub of_bytes-decision : (before : List Mark) (mark : Mark) → is_of_bytes mark ≡ true → decision wait (of_bytes before) mark ≡ decision wait before mark
   of_bytes-decision before (Message message) is =
-      ap (λ (l : List Placed). decided (of_bytes before) message (judge l message)) (of_bytes-messages before)
-      ∙ same_decided before (of_bytes before) message (judge (messages_in before) message) (of_bytes-messages before) (of_bytes-count before)
+      ap (λ (l : List Placed). decided (of_bytes before) message (wait.judge l message)) (of_bytes-messages before)
+      ∙ same_decided before (of_bytes before) message (wait.judge (messages_in before) message) (of_bytes-messages before) (of_bytes-count before)
   of_bytes-decision before (Bad place) is = refl
   of_bytes-decision before Quiet is = absurd (cc)
   of_bytes-decision before End is = absurd (cc)
@@ -94,44 +97,44 @@ module _ (judge : Judge) where
 
   -- ---- the ending ----
 
-  passed_decides : (before : List Mark) (mark : Mark) → IsPassed judge before mark → count_by is_quiet before + cond (is_quiet mark) 1 0 < 300 → count_by is_message before + cond (is_message mark) 1 0 < 65536
-      → decision judge before mark ≡ None
+  passed_decides : (before : List Mark) (mark : Mark) → IsPassed wait.judge before mark → count_by is_quiet before + cond (is_quiet mark) 1 0 ≤ wait.patience → count_by is_message before + cond (is_message mark) 1 0 < 65536
+      → decision wait before mark ≡ None
   passed_decides before (Message message) is quiets messages =
-      decision-is judge before message is ∙ ap (λ (b : Bool). cond b (Some (Fails fault.Flooded)) None) (isnt (count_by is_message before + 1) 65536 messages)
+      decision-is wait before message is ∙ ap (λ (b : Bool). cond b (Some (Fails fault.Flooded)) None) (isnt (count_by is_message before + 1) 65536 messages)
   passed_decides before (Bad place) is quiets messages = absurd is
-  passed_decides before Quiet is quiets messages = ap (λ (b : Bool). cond b (Some (Fails fault.TimedOut)) None) (isnt (count_by is_quiet before + 1) 300 quiets)
+  passed_decides before Quiet is quiets messages = ap (λ (b : Bool). cond b (Some (Fails fault.TimedOut)) None) (isnt (count_by is_quiet before) wait.patience (omega (arith, quiets)))
   passed_decides before End is quiets messages = absurd is
   passed_decides before Failed is quiets messages = absurd is
 
   endings : List Mark → List Mark → List Ending
-  endings before marks = filter_map (ending_at judge) (each_seen before marks)
+  endings before marks = filter_map (ending_at wait) (each_seen before marks)
 
-  endings-passed : (before xs ys : List Mark) → ArePassed judge before xs → count_by is_quiet (before ++ xs) < 300 → count_by is_message (before ++ xs) < 65536
+  endings-passed : (before xs ys : List Mark) → ArePassed wait.judge before xs → count_by is_quiet (before ++ xs) ≤ wait.patience → count_by is_message (before ++ xs) < 65536
       → endings before (xs ++ ys) ≡ endings (before ++ xs) ys
   unfolding endings each_seen
   endings-passed before [] ys each quiets messages = ap (λ (l : List Mark). endings l ys) (sym (append-nil before))
   endings-passed before (mark ∷ xs) ys each quiets messages =
       let joined = append_assoc before (mark ∷ []) xs in
-      let none : decision judge before mark ≡ None =
+      let none : decision wait before mark ≡ None =
       passed_decides before mark each.0
       (omega (arith, count_by-push is_quiet before mark, count_by-append is_quiet (before ++ mark ∷ []) xs, ap (count_by is_quiet) joined))
       (omega (arith, count_by-push is_message before mark, count_by-append is_message (before ++ mark ∷ []) xs, ap (count_by is_message) joined)) in
       rw none
       (endings-passed (before ++ mark ∷ []) xs ys each.1 (rw joined quiets) (rw joined messages) ∙ ap (λ (l : List Mark). endings l ys) joined)
 
-  pub ending-silence : (marks : List Mark) → AreUndecided judge marks → ending judge marks ≡ silence
+  pub ending-silence : (marks : List Mark) → AreUndecided wait marks → ending wait marks ≡ silence
   unfolding ending endings each_seen
   ending-silence marks undecided =
       ap earliest (ap (endings []) (sym (append-nil marks)) ∙ endings-passed [] marks [] undecided.each undecided.quiets undecided.messages)
 
-  pub ending-decided : (before : List Mark) (mark : Mark) (left : List Mark) (outcome : Outcome) → AreUndecided judge before → decision judge before mark ≡ Some outcome
-      → ending judge (before ++ mark ∷ left) ≡ record { outcome = outcome; left = left }
+  pub ending-decided : (before : List Mark) (mark : Mark) (left : List Mark) (outcome : Outcome) → AreUndecided wait before → decision wait before mark ≡ Some outcome
+      → ending wait (before ++ mark ∷ left) ≡ record { outcome = outcome; left = left }
   unfolding ending endings each_seen
   ending-decided before mark left outcome undecided is =
       ap earliest (endings-passed [] before (mark ∷ left) undecided.each undecided.quiets undecided.messages) ∙ rw is refl
 
   -- what a mark of bytes decides is the peer's
-  pub decided_by_peer : (before : List Mark) (mark : Mark) (reply taken : List ℕ) (outcome : Outcome) → is_of_bytes mark ≡ true → decision judge before mark ≡ Some outcome → EndsByPeer reply taken outcome
+  pub decided_by_peer : (before : List Mark) (mark : Mark) (reply taken : List ℕ) (outcome : Outcome) → is_of_bytes mark ≡ true → decision wait before mark ≡ Some outcome → EndsByPeer reply taken outcome
   decided_by_peer before (Message message) reply taken outcome is decides =
       let P : Option Outcome → Type 0 = λ (o : Option Outcome). (outcome : Outcome) → o ≡ Some outcome → EndsByPeer reply taken outcome in
       let flooded : (b : Bool) → P (cond b (Some (Fails fault.Flooded)) None) = λ b. elim b as (λ b. P (cond b (Some (Fails fault.Flooded)) None)) [
@@ -143,20 +146,20 @@ module _ (judge : Judge) where
         | meaning.Answer ↦ λ outcome is. subst (EndsByPeer reply taken) (let same : Answered (messages_in before) message ≡ outcome = cc in same) tt
         | meaning.Broken place ↦ λ outcome is. subst (EndsByPeer reply taken) (let same : Fails (fault.Broken place) ≡ outcome = cc in same) tt
       ] in
-      step (judge (messages_in before) message) outcome decides
+      step (wait.judge (messages_in before) message) outcome decides
   decided_by_peer before (Bad place) reply taken outcome is decides = subst (EndsByPeer reply taken) (let same : Fails (fault.Broken place) ≡ outcome = cc in same) tt
   decided_by_peer before Quiet reply taken outcome is decides = absurd (cc)
   decided_by_peer before End reply taken outcome is decides = absurd (cc)
   decided_by_peer before Failed reply taken outcome is decides = absurd (cc)
 
   -- what a quiet take decides
-  pub decided_by_quiet : (before : List Mark) (outcome : Outcome) → decision judge before Quiet ≡ Some outcome → Fails fault.TimedOut ≡ outcome
+  pub decided_by_quiet : (before : List Mark) (outcome : Outcome) → decision wait before Quiet ≡ Some outcome → Fails fault.TimedOut ≡ outcome
   decided_by_quiet before outcome is =
       let step : (b : Bool) → cond b (Some (Fails fault.TimedOut)) None ≡ Some outcome → Fails fault.TimedOut ≡ outcome = λ b. elim b as (λ b. cond b (Some (Fails fault.TimedOut)) None ≡ Some outcome → Fails fault.TimedOut ≡ outcome) [
         | true ↦ λ is. let same : Fails fault.TimedOut ≡ outcome = cc in same
         | false ↦ λ is. absurd (cc)
       ] in
-      step (count_by is_quiet before + 1 == 300) is
+      step (count_by is_quiet before == wait.patience) is
 
   -- ---- the search for it ----
 
@@ -167,47 +170,47 @@ module _ (judge : Judge) where
     pub left : List Mark
     pub outcome : Outcome
     pub are : new ≡ more ++ mark ∷ left
-    pub undecided : AreUndecided judge (done ++ more)
-    pub is : decision judge (done ++ more) mark ≡ Some outcome
+    pub undecided : AreUndecided wait (done ++ more)
+    pub is : decision wait (done ++ more) mark ≡ Some outcome
 
   -- whether a mark decides
   abbrev OneMore : List Mark → Mark → Type 0
-  OneMore done mark = AreUndecided judge (done ++ mark ∷ []) ⊎ ((outcome : Outcome) × (decision judge done mark ≡ Some outcome))
+  OneMore done mark = AreUndecided wait (done ++ mark ∷ []) ⊎ ((outcome : Outcome) × (decision wait done mark ≡ Some outcome))
 
-  passes : (done : List Mark) (mark : Mark) → AreUndecided judge done → IsPassed judge done mark → count_by is_quiet done + cond (is_quiet mark) 1 0 < 300 → count_by is_message done + cond (is_message mark) 1 0 < 65536
+  passes : (done : List Mark) (mark : Mark) → AreUndecided wait done → IsPassed wait.judge done mark → count_by is_quiet done + cond (is_quiet mark) 1 0 ≤ wait.patience → count_by is_message done + cond (is_message mark) 1 0 < 65536
       → OneMore done mark
   passes done mark undecided is quiets messages = inl (record {
-    each = ArePassed-push judge [] done mark undecided.each is;
+    each = ArePassed-push wait.judge [] done mark undecided.each is;
     quiets = rw (count_by-push is_quiet done mark) quiets;
     messages = rw (count_by-push is_message done mark) messages;
   })
 
-  one_more : (done : List Mark) (mark : Mark) → AreUndecided judge done → OneMore done mark
+  one_more : (done : List Mark) (mark : Mark) → AreUndecided wait done → OneMore done mark
   one_more done (Message message) undecided =
-      let Step : Meaning → Type 0 = λ (m : Meaning). judge (messages_in done) message ≡ m → OneMore done (Message message) in
+      let Step : Meaning → Type 0 = λ (m : Meaning). wait.judge (messages_in done) message ≡ m → OneMore done (Message message) in
       let count : ℕ = count_by is_message done in
       let flooded : (b : Bool) → (count + 1 == 65536) ≡ b → Step meaning.NoAnswer = λ b. elim b as (λ b. (count + 1 == 65536) ≡ b → Step meaning.NoAnswer) [
-        | true ↦ λ many none. inr (Fails fault.Flooded, decision-flooded judge done message none (is_so (count + 1) 65536 many))
+        | true ↦ λ many none. inr (Fails fault.Flooded, decision-flooded wait done message none (is_so (count + 1) 65536 many))
         | false ↦ λ few none. passes done (Message message) undecided none (omega (arith, undecided.quiets)) (is_less count 65536 undecided.messages few)
       ] in
       let step : (m : Meaning) → Step m = λ m. elim m as (λ m. Step m) [
         | meaning.NoAnswer ↦ flooded (count + 1 == 65536) refl
-        | meaning.Answer ↦ λ is. inr (_, decision-is judge done message is)
-        | meaning.Broken place ↦ λ is. inr (_, decision-is judge done message is)
+        | meaning.Answer ↦ λ is. inr (_, decision-is wait done message is)
+        | meaning.Broken place ↦ λ is. inr (_, decision-is wait done message is)
       ] in
-      step (judge (messages_in done) message) refl
+      step (wait.judge (messages_in done) message) refl
   one_more done (Bad place) undecided = inr (_, refl)
   one_more done Quiet undecided =
       let count : ℕ = count_by is_quiet done in
-      let step : (b : Bool) → (count + 1 == 300) ≡ b → OneMore done Quiet = λ b. elim b as (λ b. (count + 1 == 300) ≡ b → OneMore done Quiet) [
-        | true ↦ λ many. inr (Fails fault.TimedOut, decision-timed_out judge done (is_so (count + 1) 300 many))
-        | false ↦ λ few. passes done Quiet undecided tt (is_less count 300 undecided.quiets few) (omega (arith, undecided.messages))
+      let step : (b : Bool) → (count == wait.patience) ≡ b → OneMore done Quiet = λ b. elim b as (λ b. (count == wait.patience) ≡ b → OneMore done Quiet) [
+        | true ↦ λ many. inr (Fails fault.TimedOut, decision-timed_out wait done (is_so count wait.patience many))
+        | false ↦ λ few. passes done Quiet undecided tt (is_fewer count wait.patience undecided.quiets few) (omega (arith, undecided.messages))
       ] in
-      step (count + 1 == 300) refl
+      step (count == wait.patience) refl
   one_more done End undecided = inr (_, refl)
   one_more done Failed undecided = inr (_, refl)
 
-  pub decide : (done new : List Mark) → AreUndecided judge done → AreUndecided judge (done ++ new) ⊎ Decides done new
+  pub decide : (done new : List Mark) → AreUndecided wait done → AreUndecided wait (done ++ new) ⊎ Decides done new
   decide done [] undecided = inl (rw (append-nil done) undecided)
   decide done (mark ∷ new) undecided = elim (one_more done mark undecided) [
     | inl more ↦

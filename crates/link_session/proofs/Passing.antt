@@ -1,5 +1,6 @@
 -- The wait for an answer goes on and ends.
-use Rattle.std.proofs.Common.{◌≡◌, inl, ℕ, ◌+◌, ◌<◌, Bool, List, [], ◌∷◌, ◌++◌, Option, Some, Result, Ok, Err, refl, sym, ◌∙◌, ap, subst, arith, count_by, cond, append_assoc}
+use Rattle.std.proofs.Common.{◌≡◌, inl, ℕ, ◌+◌, ◌<◌, ◌≤◌, Bool, true, ◌==◌, List, [], ◌∷◌, ◌++◌, Option, Some, None, Result, Ok, Err, refl, sym, ◌∙◌, ap, subst, arith, count_by, cond, append_assoc}
+use Rattle.std.proofs.lemmas.Bool.Decides.{nat_tests}
 use Rattle.std.proofs.lemmas.List.{append-nil}
 use Rattle.std.proofs.lemmas.List.Elements.{filter_map-append}
 use Rattle.std.proofs.lemmas.List.Sums.{sum_by_push}
@@ -9,7 +10,7 @@ use Rattle.framing.specs.declared.framing.Size.{Size}
 use Rattle.framing.specs.Reading.{Reading}
 use Rattle.link_io.specs.Calls.{Call}
 use Rattle.link_session.specs.Marks.{Placed, Mark, Message, Quiet, message_in, messages_in}
-use Rattle.link_session.specs.Waiting.{Heard, Judge, Brings, AreNeeded, ArePassed, IsPassed, is_quiet, is_message, decided, decision, Fails}
+use Rattle.link_session.specs.Waiting.{Heard, Judge, Wait, Brings, AreNeeded, ArePassed, IsPassed, is_quiet, is_message, decided, decision, Fails}
 use Rattle.link_session.specs.Hearing.{Stands, Looks, WaitsFor, HasAnswered, IfAnswered, placed_in, mark_in, outcome_in}
 use Rattle.link_session.specs.declared.fault.SessionFault.{SessionFault}
 use Rattle.link_session.specs.declared.fault.SessionFault.TheVariants as fault
@@ -41,6 +42,9 @@ pub record Passed
   pub stands : Stands size cutter now
   pub grows : Grows before takes calls
 
+is_the_same : (m n : ℕ) → m ≡ n → (m == n) ≡ true
+is_the_same m n same = grind (arith, nat_tests, same)
+
 pub count_by-push : (p : Mark → Bool) (marks : List Mark) (mark : Mark) → count_by p (marks ++ mark ∷ []) ≡ count_by p marks + cond (p mark) 1 0
 count_by-push p marks mark = sum_by_push (λ (m : Mark). cond (p m) 1 0) marks mark
 
@@ -52,16 +56,17 @@ module _ (judge : Judge) where
     ArePassed-push (before ++ first ∷ []) marks mark each.1 (subst (λ (l : List Mark). IsPassed judge l mark) (sym (append_assoc before (first ∷ []) marks)) is),
   )
 
+module _ (wait : Wait) where
   -- what the marks decide
-  pub decision-is : (marks : List Mark) (message : Placed) {is : Meaning} → judge (messages_in marks) message ≡ is → decision judge marks (Message message) ≡ decided marks message is
+  pub decision-is : (marks : List Mark) (message : Placed) {is : Meaning} → wait.judge (messages_in marks) message ≡ is → decision wait marks (Message message) ≡ decided marks message is
   decision-is marks message is = ap (decided marks message) is
 
-  pub decision-flooded : (marks : List Mark) (message : Placed) → judge (messages_in marks) message ≡ meaning.NoAnswer → count_by is_message marks + 1 ≡ 65536
-      → decision judge marks (Message message) ≡ Some (Fails fault.Flooded)
+  pub decision-flooded : (marks : List Mark) (message : Placed) → wait.judge (messages_in marks) message ≡ meaning.NoAnswer → count_by is_message marks + 1 ≡ 65536
+      → decision wait marks (Message message) ≡ Some (Fails fault.Flooded)
   decision-flooded marks message is many = rw (is, many) refl
 
-  pub decision-timed_out : (marks : List Mark) → count_by is_quiet marks + 1 ≡ 300 → decision judge marks Quiet ≡ Some (Fails fault.TimedOut)
-  decision-timed_out marks many = rw many refl
+  pub decision-timed_out : (marks : List Mark) → count_by is_quiet marks ≡ wait.patience → decision wait marks Quiet ≡ Some (Fails fault.TimedOut)
+  decision-timed_out marks enough = ap (λ (b : Bool). cond b (Some (Fails fault.TimedOut)) None) (is_the_same _ _ enough)
 
 module _ (size : List ℕ → Size) (judge : Judge) where
   pub Passed-none : (HasHeard : List Placed → Type 0) {heard : Heard} {cutter : Reading} (calls : Option (List Call)) → HasHeard [] → Stands size cutter heard
@@ -107,9 +112,9 @@ module _ (size : List ℕ → Size) (judge : Judge) where
       }
 
       -- the mark that decides
-      pub WaitsFor-ends : (HasAnswer : List Placed → Placed → Type 0) (result : Result Found SessionFault) → quiets < 300 → messages < 65536
-          → decision judge passed.marks (mark_in new mark) ≡ Some (outcome_in (messages_in passed.marks) new result)
-          → IfAnswered result (HasAnswered size HasAnswer (messages_in passed.marks) new looks.later) → WaitsFor size judge HasAnswer heard result new before after
+      pub WaitsFor-ends : {patience : ℕ} (HasAnswer : List Placed → Placed → Type 0) (result : Result Found SessionFault) → quiets ≤ patience → messages < 65536
+          → decision (record { judge = judge; patience = patience }) passed.marks (mark_in new mark) ≡ Some (outcome_in (messages_in passed.marks) new result)
+          → IfAnswered result (HasAnswered size HasAnswer (messages_in passed.marks) new looks.later) → WaitsFor size (record { judge = judge; patience = patience }) HasAnswer heard result new before after
       WaitsFor-ends HasAnswer result few_quiets few_messages is answered = record {
         takes = passed.takes ++ looks.takes;
         later = looks.later;
@@ -130,9 +135,9 @@ module _ (size : List ℕ → Size) (judge : Judge) where
       pub Passed-quiet : (more : ℕ) → quiets + 1 ≡ more → Passed size judge HasHeard heard new more messages before after
       Passed-quiet more is = Passed-more looks HasHeard more messages tt (subst HasHeard (sym (filter_map-append message_in passed.marks (Quiet ∷ []) ∙ append-nil (messages_in passed.marks))) passed.knows) looks.stands is (omega arith)
 
-      pub WaitsFor-timed_out : (HasAnswer : List Placed → Placed → Type 0) → quiets < 300 → messages < 65536 → quiets + 1 ≡ 300 → WaitsFor size judge HasAnswer heard (Err fault.TimedOut) new before after
-      WaitsFor-timed_out HasAnswer few_quiets few_messages many =
-          WaitsFor-ends looks HasAnswer (Err fault.TimedOut) few_quiets few_messages (decision-timed_out judge passed.marks (ap (λ (n : ℕ). n + 1) passed.quiet ∙ many)) tt
+      pub WaitsFor-timed_out : {patience : ℕ} (HasAnswer : List Placed → Placed → Type 0) → quiets ≤ patience → messages < 65536 → quiets ≡ patience → WaitsFor size (record { judge = judge; patience = patience }) HasAnswer heard (Err fault.TimedOut) new before after
+      WaitsFor-timed_out {patience = patience} HasAnswer few_quiets few_messages enough =
+          WaitsFor-ends looks HasAnswer (Err fault.TimedOut) few_quiets few_messages (decision-timed_out (record { judge = judge; patience = patience }) passed.marks (passed.quiet ∙ enough)) tt
 
     -- a message comes
     module _ {new : Reading} {after : Option (List Call)} {found : Found} (looks : Looks size passed.now (mark.Message found) new calls after) where
@@ -141,18 +146,18 @@ module _ (size : List ℕ → Size) (judge : Judge) where
       Passed-message {Knows = Knows} more is none knows =
           Passed-more looks Knows quiets more none (subst Knows (sym (filter_map-append message_in passed.marks (Message (placed_in new found) ∷ []))) knows) looks.stands (omega arith) is
 
-      module _ (few_quiets : quiets < 300) (few_messages : messages < 65536) where
+      module _ {patience : ℕ} (few_quiets : quiets ≤ patience) (few_messages : messages < 65536) where
         pub WaitsFor-flooded : (HasAnswer : List Placed → Placed → Type 0) → messages + 1 ≡ 65536 → judge (messages_in passed.marks) (placed_in new found) ≡ meaning.NoAnswer
-            → WaitsFor size judge HasAnswer heard (Err fault.Flooded) new before after
+            → WaitsFor size (record { judge = judge; patience = patience }) HasAnswer heard (Err fault.Flooded) new before after
         WaitsFor-flooded HasAnswer many none =
             WaitsFor-ends looks HasAnswer (Err fault.Flooded) few_quiets few_messages
-            (decision-flooded judge passed.marks (placed_in new found) none (ap (λ (n : ℕ). n + 1) passed.of_messages ∙ many)) tt
+            (decision-flooded (record { judge = judge; patience = patience }) passed.marks (placed_in new found) none (ap (λ (n : ℕ). n + 1) passed.of_messages ∙ many)) tt
 
         pub WaitsFor-answered : {HasAnswer : List Placed → Placed → Type 0} → judge (messages_in passed.marks) (placed_in new found) ≡ meaning.Answer
-            → HasAnswer (messages_in passed.marks) (placed_in new found) → WaitsFor size judge HasAnswer heard (Ok found) new before after
+            → HasAnswer (messages_in passed.marks) (placed_in new found) → WaitsFor size (record { judge = judge; patience = patience }) HasAnswer heard (Ok found) new before after
         WaitsFor-answered {HasAnswer = HasAnswer} is has =
-            WaitsFor-ends looks HasAnswer (Ok found) few_quiets few_messages (decision-is judge passed.marks (placed_in new found) is) (record { answer = has; stands = looks.stands })
+            WaitsFor-ends looks HasAnswer (Ok found) few_quiets few_messages (decision-is (record { judge = judge; patience = patience }) passed.marks (placed_in new found) is) (record { answer = has; stands = looks.stands })
 
         pub WaitsFor-broken : (HasAnswer : List Placed → Placed → Type 0) {place : ℕ} → judge (messages_in passed.marks) (placed_in new found) ≡ meaning.Broken place
-            → WaitsFor size judge HasAnswer heard (Err (fault.Broken place)) new before after
-        WaitsFor-broken HasAnswer {place = place} is = WaitsFor-ends looks HasAnswer (Err (fault.Broken place)) few_quiets few_messages (decision-is judge passed.marks (placed_in new found) is) tt
+            → WaitsFor size (record { judge = judge; patience = patience }) HasAnswer heard (Err (fault.Broken place)) new before after
+        WaitsFor-broken HasAnswer {place = place} is = WaitsFor-ends looks HasAnswer (Err (fault.Broken place)) few_quiets few_messages (decision-is (record { judge = judge; patience = patience }) passed.marks (placed_in new found) is) tt

@@ -8,7 +8,7 @@ use Rattle.link_io.specs.Calls.{Call, Opened, Paired, Sent, Took, WasQuiet, WasE
 use Rattle.link_session.specs.declared.fault.SessionFault.{SessionFault}
 use Rattle.link_session.specs.declared.fault.SessionFault.TheVariants as fault
 use Rattle.link_session.specs.Marks.{Placed, Mark, Message, Bad, Quiet, End, Failed, IsTake, piece_marks, take_marks, bytes_in}
-use Rattle.link_session.specs.Waiting.{Heard, nothing_heard, Judge, Outcome, Answered, Fails, AreUndecided, Waits, decision, marks_with}
+use Rattle.link_session.specs.Waiting.{Heard, nothing_heard, Wait, Outcome, Answered, Fails, AreUndecided, Waits, decision, marks_with}
 use Rattle.link_session.specs.Asking.{Asked, Asks, unmade, unsent, sent, AfterOutcome, Step, Stops}
 use Rattle.link_session.specs.Peer.{Peer, said, Finish, FinishesByPeer, ask_then, finish_behind, nothing_said, Ending, ending, Talk, ask, reply_to, texts_in, LeadsTo, is_of_bytes, IsUpTo, EndsByPeer, Keeps, EndsAs, LinksDecideNothing}
 use Rattle.link_session.proofs.Takes.{bytes_in-append, take_marks-append}
@@ -94,7 +94,7 @@ module _ (size : List ℕ → Size) where
       ap (λ (l : List Mark). heard.left ++ l) (take_marks-append size heard.taken xs ys)
       ∙ sym (append_assoc heard.left (take_marks size heard.taken xs) (take_marks size (heard.taken ++ bytes_in xs) ys))
 
-  module _ {judge : Judge} {heard later : Heard} {takes : List Call} {outcome : Outcome} (each : All IsOfBytes heard.left) (waits : Waits size judge heard takes outcome later) where
+  module _ {wait : Wait} {heard later : Heard} {takes : List Call} {outcome : Outcome} (each : All IsOfBytes heard.left) (waits : Waits size wait heard takes outcome later) where
     marks_are : marks_with size heard takes ≡ waits.before ++ waits.mark ∷ later.left
     marks_are = waits.brings.marks ∙ append_assoc waits.before (waits.mark ∷ []) later.left
 
@@ -141,21 +141,21 @@ module _ (size : List ℕ → Size) where
         ∙ ap (λ (l : List Mark). l ++ of_bytes (take_marks size t takes)) (of_bytes-all heard.left upto.each)
         ∙ ap (λ (l : List Mark). heard.left ++ l) (take_marks-of_bytes size kept t takes)))
 
-    module _ (judge : Judge) (before : List Mark) (undecided : AreUndecided judge before) (later : Heard) (outcome : Outcome) where
+    module _ (wait : Wait) (before : List Mark) (undecided : AreUndecided wait before) (later : Heard) (outcome : Outcome) where
       -- the ending, whatever is still to come
       abbrev EndsSo : Mark → List Mark → List Mark → Type 0
-      EndsSo mark left coming = (ending judge ((of_bytes before ++ of_bytes (mark ∷ left)) ++ coming) ≡ record { outcome = outcome; left = left ++ coming }) × All IsOfBytes left
+      EndsSo mark left coming = (ending wait ((of_bytes before ++ of_bytes (mark ∷ left)) ++ coming) ≡ record { outcome = outcome; left = left ++ coming }) × All IsOfBytes left
 
       left_of_bytes : (mark : Mark) (left : List Mark) → IsOfOneTake mark left → All IsOfBytes left
       left_of_bytes mark left (inl each) = All-tail IsOfBytes mark left each
       left_of_bytes mark left (inr none) = subst (All IsOfBytes) (sym none) (All-nil IsOfBytes)
 
-      ends_by_bytes : (mark : Mark) (left coming : List Mark) → is_of_bytes mark ≡ true → decision judge before mark ≡ Some outcome → IsOfOneTake mark left → EndsSo mark left coming
+      ends_by_bytes : (mark : Mark) (left coming : List Mark) → is_of_bytes mark ≡ true → decision wait before mark ≡ Some outcome → IsOfOneTake mark left → EndsSo mark left coming
       ends_by_bytes mark left coming is decides one =
           let each = left_of_bytes mark left one in (
-            ap (λ (l : List Mark). ending judge ((of_bytes before ++ l) ++ coming)) (of_bytes-all (mark ∷ left) (All-cons IsOfBytes mark left is each))
-                ∙ ap (ending judge) (append_assoc (of_bytes before) (mark ∷ left) coming)
-                ∙ ending-decided judge (of_bytes before) mark (left ++ coming) outcome (of_bytes-undecided judge before undecided) (of_bytes-decision judge before mark is ∙ decides),
+            ap (λ (l : List Mark). ending wait ((of_bytes before ++ l) ++ coming)) (of_bytes-all (mark ∷ left) (All-cons IsOfBytes mark left is each))
+                ∙ ap (ending wait) (append_assoc (of_bytes before) (mark ∷ left) coming)
+                ∙ ending-decided wait (of_bytes before) mark (left ++ coming) outcome (of_bytes-undecided wait before undecided) (of_bytes-decision wait before mark is ∙ decides),
             each,
           )
 
@@ -165,18 +165,18 @@ module _ (size : List ℕ → Size) where
       ends_in_silence left coming nothing timed (inr none) =
           let at : Outcome → List Mark → Ending = λ o l. record { outcome = o; left = l } in
           rw (none, nothing) (
-            ap (ending judge) (append-nil (of_bytes before ++ []) ∙ append-nil (of_bytes before))
-                ∙ ending-silence judge (of_bytes before) (of_bytes-undecided judge before undecided)
+            ap (ending wait) (append-nil (of_bytes before ++ []) ∙ append-nil (of_bytes before))
+                ∙ ending-silence wait (of_bytes before) (of_bytes-undecided wait before undecided)
                 ∙ ap (λ (o : Outcome). at o []) timed,
             All-nil IsOfBytes,
           )
 
-      ends_so : (mark : Mark) (left coming : List Mark) (reply taken : List ℕ) → (taken ≡ reply → coming ≡ []) → decision judge before mark ≡ Some outcome → EndsByPeer reply taken outcome → IsOfOneTake mark left
+      ends_so : (mark : Mark) (left coming : List Mark) (reply taken : List ℕ) → (taken ≡ reply → coming ≡ []) → decision wait before mark ≡ Some outcome → EndsByPeer reply taken outcome → IsOfOneTake mark left
           → EndsSo mark left coming
       ends_so (Message message) left coming reply taken nothing decides ends one = ends_by_bytes (Message message) left coming refl decides one
       ends_so (Bad place) left coming reply taken nothing decides ends one = ends_by_bytes (Bad place) left coming refl decides one
       ends_so Quiet left coming reply taken nothing decides ends one =
-          let timed : Fails fault.TimedOut ≡ outcome = decided_by_quiet judge before outcome decides in
+          let timed : Fails fault.TimedOut ≡ outcome = decided_by_quiet wait before outcome decides in
           ends_in_silence left coming (nothing (subst (EndsByPeer reply taken) (sym timed) ends)) timed one
       ends_so End left coming reply taken nothing decides ends one =
           let same : outcome ≡ Fails fault.LinkEnd = cc in let bad : EndsByPeer reply taken (Fails fault.LinkEnd) = subst (EndsByPeer reply taken) same ends in absurd bad
@@ -184,22 +184,22 @@ module _ (size : List ℕ → Size) where
           let same : outcome ≡ Fails fault.LinkFault = cc in let bad : EndsByPeer reply taken (Fails fault.LinkFault) = subst (EndsByPeer reply taken) same ends in absurd bad
 
     -- a wait ends as it does with all that the peer says
-    pub record WaitsAs (judge : Judge) (whole : Heard) (reply rest : List ℕ) (outcome : Outcome) (later : Heard) : Type 0 where
-      pub ends : ending judge (whole.left ++ piece_marks size whole.taken reply) ≡ record { outcome = outcome; left = later.left ++ piece_marks size later.taken rest }
+    pub record WaitsAs (wait : Wait) (whole : Heard) (reply rest : List ℕ) (outcome : Outcome) (later : Heard) : Type 0 where
+      pub ends : ending wait (whole.left ++ piece_marks size whole.taken reply) ≡ record { outcome = outcome; left = later.left ++ piece_marks size later.taken rest }
       pub each : All IsOfBytes later.left
       pub taken : whole.taken ++ reply ≡ later.taken ++ rest
 
-    pub waits_as : {judge : Judge} {late : List ℕ} {heard whole later : Heard} {takes : List Call} {outcome : Outcome} → IsUpTo size late heard whole → (reply rest : List ℕ) → late ++ reply ≡ bytes_in takes ++ rest
-        → Waits size judge heard takes outcome later → EndsByPeer (late ++ reply) (bytes_in takes) outcome → WaitsAs judge whole reply rest outcome later
-    waits_as {judge = judge} {late = late} {heard = heard} {whole = whole} {later = later} {takes = takes} {outcome = outcome} upto reply rest are waits ends =
+    pub waits_as : {wait : Wait} {late : List ℕ} {heard whole later : Heard} {takes : List Call} {outcome : Outcome} → IsUpTo size late heard whole → (reply rest : List ℕ) → late ++ reply ≡ bytes_in takes ++ rest
+        → Waits size wait heard takes outcome later → EndsByPeer (late ++ reply) (bytes_in takes) outcome → WaitsAs wait whole reply rest outcome later
+    waits_as {wait = wait} {late = late} {heard = heard} {whole = whole} {later = later} {takes = takes} {outcome = outcome} upto reply rest are waits ends =
         let coming : List Mark = piece_marks size later.taken rest in
         let nothing : bytes_in takes ≡ late ++ reply → coming ≡ [] = λ all.
         let none : rest ≡ [] = same_behind (bytes_in takes) (sym are ∙ sym all ∙ sym (append-nil (bytes_in takes))) in
         ap (piece_marks size later.taken) none ∙ piece_marks-nil size kept later.taken in
-        let so = ends_so judge waits.before waits.undecided later outcome waits.mark later.left coming (late ++ reply) (bytes_in takes) nothing waits.decided_is ends (left_is upto.each waits) in
+        let so = ends_so wait waits.before waits.undecided later outcome waits.mark later.left coming (late ++ reply) (bytes_in takes) nothing waits.decided_is ends (left_is upto.each waits) in
         record {
           ends =
-              ap (ending judge)
+              ap (ending wait)
               (whole_marks upto takes reply rest are
               ∙ ap (λ (l : List Mark). of_bytes l ++ piece_marks size (heard.taken ++ bytes_in takes) rest) (marks_are upto.each waits)
               ∙ ap (λ (l : List ℕ). of_bytes (waits.before ++ waits.mark ∷ later.left) ++ piece_marks size l rest) (sym waits.brings.taken)

@@ -33,7 +33,7 @@ module _ (asked : Asked) (HasAnswer : List Placed → Placed → Type 0) where
       record { calls = Sent sends.front false ∷ []; later = heard; passed = []; asks = unsent sends.front sends.rest sends.whole refl refl; answered = tt; grows = sends.grows }
 
   pub AsksFor-sent : {heard : Heard} {result : Result Found SessionFault} {cutter : Reading} {before mid after : Option (List Call)} → Grows before (Sent asked.text true ∷ []) mid
-      → WaitsFor asked.size asked.judge HasAnswer heard result cutter mid after → AsksFor asked HasAnswer heard result cutter before after
+      → WaitsFor asked.size asked.wait HasAnswer heard result cutter mid after → AsksFor asked HasAnswer heard result cutter before after
   AsksFor-sent sends waits = record {
     calls = Sent asked.text true ∷ waits.takes;
     later = waits.later;

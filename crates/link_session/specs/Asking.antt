@@ -6,20 +6,20 @@ use Rattle.link_io.specs.Calls.{Call, Sent}
 use Rattle.link_session.specs.declared.fault.SessionFault.{SessionFault}
 use Rattle.link_session.specs.declared.fault.SessionFault.TheVariants as fault
 use Rattle.link_session.specs.Marks.{Placed}
-use Rattle.link_session.specs.Waiting.{Heard, Judge, Outcome, Answered, Fails, Waits}
+use Rattle.link_session.specs.Waiting.{Heard, Wait, Outcome, Answered, Fails, Waits}
 
--- a request: the framing of the stream, the bytes that are sent, and what a message that comes is to it
+-- a request: the framing of the stream, the bytes that are sent, and who waits for its answer
 pub record Asked : Type 0 where
   pub size : List ℕ → Size
   pub text : List ℕ
-  pub judge : Judge
+  pub wait : Wait
 
 -- it is sent, and its answer is waited for
 pub data Asks (asked : Asked) (heard : Heard) (calls : List Call) (outcome : Outcome) (later : Heard) : Type 0 where
   -- there is no memory for its bytes
   unmade : calls ≡ [] → outcome ≡ Fails fault.OutOfMemory → Asks asked heard calls outcome later
   unsent : (front rest : List ℕ) → asked.text ≡ front ++ rest → calls ≡ Sent front false ∷ [] → outcome ≡ Fails fault.LinkFault → Asks asked heard calls outcome later
-  sent : (takes : List Call) → calls ≡ Sent asked.text true ∷ takes → Waits asked.size asked.judge heard takes outcome later → Asks asked heard calls outcome later
+  sent : (takes : List Call) → calls ≡ Sent asked.text true ∷ takes → Waits asked.size asked.wait heard takes outcome later → Asks asked heard calls outcome later
 
 -- ---- what follows ----
 

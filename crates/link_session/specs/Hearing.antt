@@ -7,7 +7,7 @@ use Rattle.framing.specs.Framing.{IsMessage, IsPartial}
 use Rattle.framing.specs.Reading.{Reading, StandsFor}
 use Rattle.link_io.specs.Calls.{Call}
 use Rattle.link_session.specs.Marks.{Placed, Mark, Message, Bad, Quiet, End, Failed, marks_from}
-use Rattle.link_session.specs.Waiting.{Outcome, Answered, Fails, Heard, Judge, Brings, AreNeeded, Waits}
+use Rattle.link_session.specs.Waiting.{Outcome, Answered, Fails, Heard, Judge, Wait, Brings, AreNeeded, Waits}
 use Rattle.link_session.specs.Asking.{Asked, Asks}
 use Rattle.link_session.specs.declared.fault.SessionFault.{SessionFault}
 use Rattle.link_session.specs.declared.asking.Reply.{Reply}
@@ -109,7 +109,7 @@ pub record HasAnswered (size : List ℕ → Size) (HasAnswer : List Placed → P
 -- takes were made up to the answer
 pub record WaitsFor
     (size : List ℕ → Size)
-    (judge : Judge)
+    (wait : Wait)
     (HasAnswer : List Placed → Placed → Type 0)
     (heard : Heard)
     (result : Result Found SessionFault)
@@ -118,7 +118,7 @@ pub record WaitsFor
   pub takes : List Call
   pub later : Heard
   pub passed : List Placed
-  pub waits : Waits size judge heard takes (outcome_in passed cutter result) later
+  pub waits : Waits size wait heard takes (outcome_in passed cutter result) later
   pub answered : IfAnswered result (HasAnswered size HasAnswer passed cutter later)
   pub grows : Grows before takes after
 

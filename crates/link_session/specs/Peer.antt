@@ -1,5 +1,5 @@
 -- A request at a peer that answers: how it ends and what is heard are a function of what the peer says.
-use Rattle.std.specs.Prelude.{◌≡◌, ℕ, Bool, true, false, List, [], ◌∷◌, ◌++◌, map, replicate, All, Option, option_map, Result, Ok, Err}
+use Rattle.std.specs.Prelude.{◌≡◌, ℕ, ◌+◌, Bool, true, false, List, [], ◌∷◌, ◌++◌, map, replicate, All, Option, option_map, Result, Ok, Err}
 use Rattle.std.specs.List.{concat, filter_map}
 use Rattle.framing.specs.declared.framing.Size.{Size}
 use Rattle.framing.specs.Framing.{IsKept}
@@ -7,7 +7,7 @@ use Rattle.link_io.specs.Calls.{Call, Sent, Took, WasQuiet}
 use Rattle.link_session.specs.declared.fault.SessionFault.{SessionFault}
 use Rattle.link_session.specs.declared.fault.SessionFault.TheVariants as fault
 use Rattle.link_session.specs.Marks.{Placed, Mark, Message, Bad, Quiet, End, Failed, bytes_in, piece_marks}
-use Rattle.link_session.specs.Waiting.{Heard, nothing_heard, Judge, Outcome, Answered, Fails, decision, most_quiets}
+use Rattle.link_session.specs.Waiting.{Heard, nothing_heard, Wait, Outcome, Answered, Fails, decision}
 use Rattle.link_session.specs.Asking.{Asked, Asks}
 
 -- what a peer says to the newest of the texts that have come to it, the oldest of them first
@@ -37,8 +37,8 @@ pub record Ending : Type 0 where
   pub outcome : Outcome
   pub left : List Mark
 
-abbrev pub ending_at : Judge → Seen → Option Ending
-ending_at judge seen = option_map (λ outcome. record { outcome = outcome; left = seen.left }) (decision judge seen.before seen.mark)
+abbrev pub ending_at : Wait → Seen → Option Ending
+ending_at wait seen = option_map (λ outcome. record { outcome = outcome; left = seen.left }) (decision wait seen.before seen.mark)
 
 -- where no mark decides, nothing more comes and the wait is quiet
 abbrev pub silence : Ending
@@ -49,8 +49,8 @@ earliest [] = silence
 earliest (ending ∷ endings) = ending
 
 -- what the first of the marks that decide comes to
-unfoldable pub ending : Judge → List Mark → Ending
-ending judge marks = earliest (filter_map (ending_at judge) (each_seen [] marks))
+unfoldable pub ending : Wait → List Mark → Ending
+ending wait marks = earliest (filter_map (ending_at wait) (each_seen [] marks))
 
 -- ---- a request at a peer ----
 
@@ -73,7 +73,7 @@ reply_to peer asked talk = peer (talk.texts ++ asked.text ∷ [])
 
 -- how the wait for its answer ends
 abbrev pub ending_of : Peer → Asked → Talk → Ending
-ending_of peer asked talk = ending asked.judge (talk.heard.left ++ piece_marks asked.size talk.heard.taken (reply_to peer asked talk))
+ending_of peer asked talk = ending asked.wait (talk.heard.left ++ piece_marks asked.size talk.heard.taken (reply_to peer asked talk))
 
 unfoldable pub ask : Peer → Asked → Talk → Turn
 ask peer asked talk = record {
@@ -169,12 +169,12 @@ pub record AsksWithin (asked : Asked) (heard : Heard) (takes : List Call) (outco
   pub asks : Asks asked heard (Sent asked.text true ∷ own) outcome later
 
 -- takes that bring these pieces, and then nothing until that is too long
-abbrev pub takes_of : List (List ℕ) → List Call
-takes_of pieces = map (λ piece. Took piece) pieces ++ replicate most_quiets WasQuiet
+abbrev pub takes_of : (patience : ℕ) → List (List ℕ) → List Call
+takes_of patience pieces = map (λ piece. Took piece) pieces ++ replicate (patience + 1) WasQuiet
 
 -- a link that brings what a peer says, in any pieces, is a link to it; a request can be made over it, and ends as at the peer
 abbrev pub PeersCanBeAsked : Type 0
 PeersCanBeAsked =
     (peer : Peer) (asked : Asked) (talk : Talk) (late : List ℕ) (heard : Heard) (pieces : List (List ℕ))
     → Keeps asked.size → IsUpTo asked.size late heard talk.heard → concat pieces ≡ late ++ reply_to peer asked talk
-    → LeadsTo peer talk.texts late (Sent asked.text true ∷ takes_of pieces) × AsksWithin asked heard (takes_of pieces) (ask peer asked talk).outcome
+    → LeadsTo peer talk.texts late (Sent asked.text true ∷ takes_of asked.wait.patience pieces) × AsksWithin asked heard (takes_of asked.wait.patience pieces) (ask peer asked talk).outcome

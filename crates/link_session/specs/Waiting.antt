@@ -1,6 +1,6 @@
 -- Which mark ends the wait for an answer.
 -- Source of the limits: this project's own.
-use Rattle.std.specs.Prelude.{◌≡◌, ◌⊎◌, ℕ, ◌+◌, ◌<◌, Bool, true, false, ◌==◌, if◌then◌else◌, List, [], ◌∷◌, ◌++◌, All, count_by, Option, Some, None}
+use Rattle.std.specs.Prelude.{◌≡◌, ◌⊎◌, ℕ, ◌+◌, ◌*◌, ◌-◌, ◌<◌, ◌≤◌, Bool, true, false, ◌==◌, if◌then◌else◌, List, [], ◌∷◌, ◌++◌, All, count_by, Option, Some, None}
 use Rattle.framing.specs.declared.framing.Size.{Size}
 use Rattle.link_io.specs.Calls.{Call}
 use Rattle.link_session.specs.Marks.{Placed, Mark, Message, Bad, Quiet, End, Failed, IsTake, messages_in, take_marks, bytes_in}
@@ -8,10 +8,6 @@ use Rattle.link_session.specs.declared.waiting.Meaning.{Meaning}
 use Rattle.link_session.specs.declared.waiting.Meaning.TheVariants as meaning
 use Rattle.link_session.specs.declared.fault.SessionFault.{SessionFault}
 use Rattle.link_session.specs.declared.fault.SessionFault.TheVariants as fault
-
--- so many quiet takes without an answer are too many
-abbrev pub most_quiets : ℕ
-most_quiets = 300
 
 -- so many messages that don't complete the answer are too many
 abbrev pub most_messages : ℕ
@@ -29,6 +25,18 @@ is_message _ = false
 abbrev pub Judge : Type 0
 Judge = List Placed → Placed → Meaning
 
+-- one who waits: what a message is to it, and how many quiet takes without an answer it lets pass; one more is too many
+pub record Wait : Type 0 where
+  pub judge : Judge
+  pub patience : ℕ
+
+-- a timeout of so many seconds is over with the last of its quiet takes, of 100 ms each
+abbrev pub patience_of : ℕ → ℕ
+patience_of seconds = 10 * seconds - 1
+
+abbrev pub waiting : Judge → (seconds : ℕ) → Wait
+waiting judge seconds = record { judge = judge; patience = patience_of seconds }
+
 pub data Outcome : Type 0 where
   -- this message, behind those before it, completes the answer
   Answered : (before : List Placed) (message : Placed) → Outcome
@@ -41,12 +49,12 @@ decided before message (meaning.Broken place) = Some (Fails (fault.Broken place)
 decided before message meaning.NoAnswer = if count_by is_message before + 1 == most_messages then Some (Fails fault.Flooded) else None
 
 -- what a mark decides behind those before it, if anything
-abbrev pub decision : Judge → List Mark → Mark → Option Outcome
-decision judge before (Message message) = decided before message (judge (messages_in before) message)
-decision judge before (Bad place) = Some (Fails (fault.Broken place))
-decision judge before Quiet = if count_by is_quiet before + 1 == most_quiets then Some (Fails fault.TimedOut) else None
-decision judge before End = Some (Fails fault.LinkEnd)
-decision judge before Failed = Some (Fails fault.LinkFault)
+abbrev pub decision : Wait → List Mark → Mark → Option Outcome
+decision wait before (Message message) = decided before message (wait.judge (messages_in before) message)
+decision wait before (Bad place) = Some (Fails (fault.Broken place))
+decision wait before Quiet = if count_by is_quiet before == wait.patience then Some (Fails fault.TimedOut) else None
+decision wait before End = Some (Fails fault.LinkEnd)
+decision wait before Failed = Some (Fails fault.LinkFault)
 
 abbrev pub IsPassed : Judge → List Mark → Mark → Type 0
 IsPassed judge before (Message message) = judge (messages_in before) message ≡ meaning.NoAnswer
@@ -59,9 +67,9 @@ ArePassed judge before [] = Unit {0}
 ArePassed judge before (mark ∷ marks) = IsPassed judge before mark × ArePassed judge (before ++ mark ∷ []) marks
 
 -- no mark among these decides
-pub record AreUndecided (judge : Judge) (marks : List Mark) : Type 0 where
-  pub each : ArePassed judge [] marks
-  pub quiets : count_by is_quiet marks < most_quiets
+pub record AreUndecided (wait : Wait) (marks : List Mark) : Type 0 where
+  pub each : ArePassed wait.judge [] marks
+  pub quiets : count_by is_quiet marks ≤ wait.patience
   pub messages : count_by is_message marks < most_messages
 
 -- ---- takes ----
@@ -90,10 +98,10 @@ pub record Brings (size : List ℕ → Size) (heard : Heard) (takes : List Call)
   pub taken : later.taken ≡ heard.taken ++ bytes_in takes
 
 -- the wait for the answer to a request: the first mark that decides, and as few takes as bring it
-pub record Waits (size : List ℕ → Size) (judge : Judge) (heard : Heard) (takes : List Call) (outcome : Outcome) (later : Heard) : Type 0 where
+pub record Waits (size : List ℕ → Size) (wait : Wait) (heard : Heard) (takes : List Call) (outcome : Outcome) (later : Heard) : Type 0 where
   pub before : List Mark
   pub mark : Mark
   pub brings : Brings size heard takes (before ++ mark ∷ []) later
-  pub undecided : AreUndecided judge before
-  pub decided_is : decision judge before mark ≡ Some outcome
+  pub undecided : AreUndecided wait before
+  pub decided_is : decision wait before mark ≡ Some outcome
   pub needed : AreNeeded size heard takes before

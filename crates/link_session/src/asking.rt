@@ -1,6 +1,6 @@
 ghost use Rattle.std.specs.Prelude.{◌≡◌, ◌≤◌, [], Err, IfOk};
 ghost use Rattle.kit_io.specs.Causes.{Rose};
-ghost use Rattle.link_session.specs.Waiting.{Heard};
+ghost use Rattle.link_session.specs.Waiting.{Heard, waiting};
 ghost use Rattle.link_session.specs.Hearing.{AsksFor, IsGiven, Stands};
 
 use crate::fault::SessionFault;
@@ -10,16 +10,17 @@ use framing::Framing;
 use kit_io::Failed;
 use link_io::Link;
 
-/// Sends the bytes of a request, and waits for its answer.
+/// Sends the bytes of a request, and waits for its answer, for so many seconds.
 pub fn exchange<L: Link, F: Framing, A: Awaits<F>>(
     link: &mut L,
     incoming: &mut Incoming<F>,
     request: &[u8],
     awaiting: &mut A,
+    timeout: u16,
 ) -> Result<Found, SessionFault>
     requires { A.has_heard awaiting.old [] }
     ensures asks { (heard : Heard) → Stands F.size incoming.old heard
-        → AsksFor (record { size = F.size; text = request.now; judge = A.judge awaiting.old }) (A.has_answer awaiting.new) heard result incoming.new (L.calls link.old) (L.calls link.new) }
+        → AsksFor (record { size = F.size; text = request.now; wait = waiting (A.judge awaiting.old) timeout }) (A.has_answer awaiting.new) heard result incoming.new (L.calls link.old) (L.calls link.new) }
     ensures given { IfOk result (IsGiven F.size incoming.new) }
     ensures number { A.number awaiting.new ≡ A.number awaiting.old }
     ensures link_fault { result ≡ Err SessionFault.LinkFault → Rose (L.faults link.old) (L.faults link.new) }
@@ -29,7 +30,7 @@ pub fn exchange<L: Link, F: Framing, A: Awaits<F>>(
     if let Err(Failed) = link.send(request) {
         return Err(SessionFault::LinkFault);
     }
-    wait_for(link, incoming, awaiting)
+    wait_for(link, incoming, awaiting, timeout)
 }
 
 /// An answer that came, and what it says.

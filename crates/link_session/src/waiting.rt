@@ -2,7 +2,7 @@ ghost use Rattle.std.specs.Prelude.{◌≡◌, ◌≤◌, ℕ, List, [], Err, If
 ghost use Rattle.kit_io.specs.Causes.{Rose};
 ghost use Rattle.framing.specs.Framing.{IsMessage};
 ghost use Rattle.link_session.specs.Marks.{Placed};
-ghost use Rattle.link_session.specs.Waiting.{Heard, Judge};
+ghost use Rattle.link_session.specs.Waiting.{Heard, Judge, patience_of, waiting};
 ghost use Rattle.link_session.specs.Hearing.{Hears, IsGiven, Stands, WaitsFor};
 
 use crate::fault::SessionFault;
@@ -10,9 +10,6 @@ use crate::incoming::{Found, Incoming};
 use crate::mark::{Mark, next_mark};
 use framing::Framing;
 use link_io::Link;
-
-/// So many quiet takes without an answer are too many.
-const MOST_QUIETS: u32 = 300;
 
 /// So many messages that don't complete the answer are too many.
 const MOST_MESSAGES: u32 = 65_536;
@@ -51,21 +48,30 @@ pub trait Awaits<F: Framing> {
         ensures number { number self.new ≡ number self.old };
 }
 
-/// Waits for an answer.
+/// How many quiet takes are let pass by who waits for so many seconds. Each is of 100 ms.
+fn patience_of(seconds: u16) -> u32
+    ensures { result ≡ patience_of seconds }
+{
+    (u32::from(seconds) * 10).saturating_sub(1)
+}
+
+/// Waits for an answer, for so many seconds without a byte.
 pub fn wait_for<L: Link, F: Framing, A: Awaits<F>>(
     link: &mut L,
     incoming: &mut Incoming<F>,
     awaiting: &mut A,
+    timeout: u16,
 ) -> Result<Found, SessionFault>
     requires { A.has_heard awaiting.old [] }
     ensures waits { (heard : Heard) → Stands F.size incoming.old heard
-        → WaitsFor F.size (A.judge awaiting.old) (A.has_answer awaiting.new) heard result incoming.new (L.calls link.old) (L.calls link.new) }
+        → WaitsFor F.size (waiting (A.judge awaiting.old) timeout) (A.has_answer awaiting.new) heard result incoming.new (L.calls link.old) (L.calls link.new) }
     ensures given { IfOk result (IsGiven F.size incoming.new) }
     ensures number { A.number awaiting.new ≡ A.number awaiting.old }
     ensures link_fault { result ≡ Err SessionFault.LinkFault → Rose (L.faults link.old) (L.faults link.new) }
     ensures later { L.faults link.old ≤ L.faults link.new }
     ensures later_open { L.open_faults link.old ≤ L.open_faults link.new }
 {
+    let patience = patience_of(timeout);
     let mut quiets = 0;
     let mut messages = 0;
     loop {
@@ -82,10 +88,10 @@ pub fn wait_for<L: Link, F: Framing, A: Awaits<F>>(
                 }
             }
             Mark::Quiet => {
-                quiets += 1;
-                if quiets == MOST_QUIETS {
+                if quiets == patience {
                     return Err(SessionFault::TimedOut);
                 }
+                quiets += 1;
             }
             Mark::Bad { place } => return Err(SessionFault::Broken { place }),
             Mark::End => return Err(SessionFault::LinkEnd),

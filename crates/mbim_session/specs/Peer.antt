@@ -83,26 +83,26 @@ finish word talk = record { end = word; talk = talk }
 abbrev pub close_at : Peer → MbimPlan → ℕ → LastWord → Talk → Finish LastWord
 close_at peer plan number word talk =
     if plan.close
-    then ask_then peer (closing number) talk unanswered (λ before message talk. finish word talk)
+    then ask_then peer (closing number plan.timeout) talk unanswered (λ before message talk. finish word talk)
     else finish word talk
 
 abbrev pub command_at : Peer → MbimPlan → ℕ → Talk → Finish LastWord
 command_at peer plan number talk =
-    ask_then peer (commanding plan.request number) talk unanswered (λ before message talk.
+    ask_then peer (commanding plan.request number plan.timeout) talk unanswered (λ before message talk.
     if is_read (verdict plan.request number before message)
     then close_at peer plan (number + 1) (OfCommand plan.request number before message) talk
     else finish (OfCommand plan.request number before message) talk)
 
 abbrev pub open_at : Peer → MbimPlan → ℕ → Talk → Finish LastWord
 open_at peer plan number talk =
-    ask_then peer (opening number) talk unanswered (λ before message talk.
+    ask_then peer (opening number plan.timeout) talk unanswered (λ before message talk.
     if opens number message.bytes
     then command_at peer plan (number + 1) talk
     else finish (OfOpen number message) talk)
 
 abbrev pub configure_at : Peer → MbimPlan → Finish LastWord
 configure_at peer plan =
-    ask_then peer (commanding (configuration plan) 1) nothing_said unanswered (λ before message talk.
+    ask_then peer (commanding (configuration plan) 1 plan.timeout) nothing_said unanswered (λ before message talk.
     if is_success (verdict (configuration plan) 1 before message)
     then open_at peer plan 2 talk
     else finish (OfCommand (configuration plan) 1 before message) talk)

@@ -19,7 +19,7 @@ use Rattle.mbim_services.specs.Requests.{sent_by, buffer_sent}
 use Rattle.link_session.specs.declared.waiting.Meaning.{Meaning}
 use Rattle.link_session.specs.declared.waiting.Meaning.TheVariants as meaning
 use Rattle.link_session.specs.Marks.{Placed}
-use Rattle.link_session.specs.Waiting.{Judge}
+use Rattle.link_session.specs.Waiting.{Judge, waiting}
 use Rattle.link_session.specs.Asking.{Asked}
 
 -- ---- what is sent ----
@@ -86,13 +86,13 @@ judge_command number = λ before message.
     else if is_of kind.CommandDone number message.bytes then judge_piece (pieces number before) message
     else meaning.NoAnswer
 
--- ---- what is asked ----
+-- ---- what is asked, with so many seconds for its answer ----
 
-abbrev pub opening : ℕ → Asked
-opening number = record { size = size_of; text = open_request number longest_sent; judge = judge_by kind.OpenDone number }
+abbrev pub opening : ℕ → (seconds : ℕ) → Asked
+opening number seconds = record { size = size_of; text = open_request number longest_sent; wait = waiting (judge_by kind.OpenDone number) seconds }
 
-abbrev pub commanding : MbimRequest → ℕ → Asked
-commanding request number = record { size = size_of; text = command_message request number; judge = judge_command number }
+abbrev pub commanding : MbimRequest → ℕ → (seconds : ℕ) → Asked
+commanding request number seconds = record { size = size_of; text = command_message request number; wait = waiting (judge_command number) seconds }
 
-abbrev pub closing : ℕ → Asked
-closing number = record { size = size_of; text = close_request number; judge = judge_by kind.CloseDone number }
+abbrev pub closing : ℕ → (seconds : ℕ) → Asked
+closing number seconds = record { size = size_of; text = close_request number; wait = waiting (judge_by kind.CloseDone number) seconds }

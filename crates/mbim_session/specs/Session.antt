@@ -31,17 +31,17 @@ refusal_in (FunctionError code) = Some (FunctionError code)
 -- what answers a CLOSE isn't looked at
 pub data Closes (plan : MbimPlan) (number : ℕ) (end : MbimEnd) (heard : Heard) (calls : List Call) (result : Result MbimEnd SessionFault) : Type 0 where
   leaving : plan.close ≡ false → Stops (Ok end) calls result → Closes plan number end heard calls result
-  closed : plan.close ≡ true → Step (closing number) heard calls result (λ before message later more. Stops (Ok end) more result) → Closes plan number end heard calls result
+  closed : plan.close ≡ true → Step (closing number plan.timeout) heard calls result (λ before message later more. Stops (Ok end) more result) → Closes plan number end heard calls result
 
 -- whatever it comes to
 abbrev pub Commands : MbimPlan → ℕ → Heard → List Call → Result MbimEnd SessionFault → Type 0
 Commands plan number heard calls result =
-    Step (commanding plan.request number) heard calls result (λ before message later more.
+    Step (commanding plan.request number plan.timeout) heard calls result (λ before message later more.
     ReadsThen (Reads plan.request number before message) more result (λ end. Closes plan (number + 1) end later more result))
 
 abbrev pub Opens : MbimPlan → ℕ → Heard → List Call → Result MbimEnd SessionFault → Type 0
 Opens plan number heard calls result =
-    Step (opening number) heard calls result (λ before message later more.
+    Step (opening number plan.timeout) heard calls result (λ before message later more.
     ReadsThen (ReadsOpening number message) more result (λ refused. UnlessRefused refused more result (Commands plan (number + 1) later more result)))
 
 abbrev pub configuration : MbimPlan → MbimRequest
@@ -52,6 +52,6 @@ pub data Session (plan : MbimPlan) (calls : List Call) (result : Result MbimEnd 
   no_memory : Stops (Err fault.OutOfMemory) calls result → Session plan calls result
   direct : plan.proxied ≡ false → Opens plan 1 nothing_heard calls result → Session plan calls result
   proxied : plan.proxied ≡ true
-      → Step (commanding (configuration plan) 1) nothing_heard calls result (λ before message later more.
+      → Step (commanding (configuration plan) 1 plan.timeout) nothing_heard calls result (λ before message later more.
       ReadsThen (Reads (configuration plan) 1 before message) more result (λ end. UnlessRefused (refusal_in end) more result (Opens plan 2 later more result)))
       → Session plan calls result

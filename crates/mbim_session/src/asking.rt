@@ -1,12 +1,11 @@
-ghost use Rattle.std.specs.Prelude.{◌≡◌, ◌≤◌, [], None, Err, IfOk};
+ghost use Rattle.std.specs.Prelude.{◌≡◌, ◌≤◌, [], Err, IfOk};
 ghost use Rattle.kit_io.specs.Causes.{Rose};
 ghost use Rattle.mbim_frame.specs.Frame.{size_of};
-ghost use Rattle.mbim_fragments.specs.Assembling.{fresh};
-ghost use Rattle.link_session.specs.Waiting.{Heard};
+ghost use Rattle.link_session.specs.Waiting.{Heard, waiting};
 ghost use Rattle.link_session.specs.Hearing.{AsksFor, RepliesTo, Stands};
 ghost use Rattle.mbim_session.specs.Requests.{closing, commanding, judge_command};
 ghost use Rattle.mbim_session.specs.Answers.{Reads};
-ghost use Rattle.mbim_session.specs.Hearing.{KeepsNothing};
+ghost use Rattle.mbim_session.specs.Hearing.{HasPieces, KeepsNothing};
 
 use crate::command_answer::CommandAnswer;
 use crate::message::command_message;
@@ -18,16 +17,18 @@ use mbim_frame::{Mbim, MessageKind, close_request};
 use mbim_requests::MbimRequest;
 use std::alloc::Global;
 
-/// Sends the command of a request under this number, and reads its answer.
+/// Sends the command of a request under this number, and reads its answer, which is waited for for
+/// so many seconds.
 pub(crate) fn ask<L: Link>(
     alloc: Global,
     link: &mut L,
     incoming: &mut Incoming<Mbim>,
     request: &MbimRequest,
     number: u32,
+    timeout: u16,
 ) -> Result<Reply<MbimEnd>, SessionFault>
     ensures asks { (heard : Heard) → Stands size_of incoming.old heard
-        → RepliesTo (commanding request.now number) (Reads request.now number) heard result incoming.new (L.calls link.old) (L.calls link.new) }
+        → RepliesTo (commanding request.now number timeout) (Reads request.now number) heard result incoming.new (L.calls link.old) (L.calls link.new) }
     ensures link_fault { result ≡ Err SessionFault.LinkFault → Rose (L.faults link.old) (L.faults link.new) }
     ensures later { L.faults link.old ≤ L.faults link.new }
     ensures later_open { L.open_faults link.old ≤ L.open_faults link.new }
@@ -41,29 +42,29 @@ pub(crate) fn ask<L: Link>(
         incoming,
         request,
         messages,
-        number,
         &mut coming,
+        timeout,
     )
 }
 
-// Sends the messages of a request under this number, and reads the answer as it comes in.
+// Sends the messages of a request, and reads the answer as it comes in, of which nothing has come.
 fn hear<L: Link>(
     alloc: Global,
     link: &mut L,
     incoming: &mut Incoming<Mbim>,
     request: &MbimRequest,
     messages: &[u8],
-    number: u32,
     coming: &mut CommandAnswer,
+    timeout: u16,
 ) -> Result<Reply<MbimEnd>, SessionFault>
-    requires { coming.old ≡ record { number = number; assembly = fresh; body = []; first = None } }
+    requires { HasPieces coming.old [] }
     ensures asks { (heard : Heard) → Stands size_of incoming.old heard
-        → RepliesTo (record { size = size_of; text = messages.now; judge = judge_command number }) (Reads request.now number) heard result incoming.new (L.calls link.old) (L.calls link.new) }
+        → RepliesTo (record { size = size_of; text = messages.now; wait = waiting (judge_command coming.old.number) timeout }) (Reads request.now coming.old.number) heard result incoming.new (L.calls link.old) (L.calls link.new) }
     ensures link_fault { result ≡ Err SessionFault.LinkFault → Rose (L.faults link.old) (L.faults link.new) }
     ensures later { L.faults link.old ≤ L.faults link.new }
     ensures later_open { L.open_faults link.old ≤ L.open_faults link.new }
 {
-    let found = exchange(link, incoming, messages, coming)?;
+    let found = exchange(link, incoming, messages, coming, timeout)?;
     let answer = coming.read(alloc, request, found.place, incoming.bytes(found))?;
     Ok(Reply { found, answer })
 }
@@ -73,9 +74,10 @@ pub(crate) fn close<L: Link>(
     link: &mut L,
     incoming: &mut Incoming<Mbim>,
     number: u32,
+    timeout: u16,
 ) -> Result<Found, SessionFault>
     ensures asks { (heard : Heard) → Stands size_of incoming.old heard
-        → AsksFor (closing number) KeepsNothing heard result incoming.new (L.calls link.old) (L.calls link.new) }
+        → AsksFor (closing number timeout) KeepsNothing heard result incoming.new (L.calls link.old) (L.calls link.new) }
     ensures link_fault { result ≡ Err SessionFault.LinkFault → Rose (L.faults link.old) (L.faults link.new) }
     ensures later { L.faults link.old ≤ L.faults link.new }
     ensures later_open { L.open_faults link.old ≤ L.open_faults link.new }
@@ -84,5 +86,5 @@ pub(crate) fn close<L: Link>(
         done: MessageKind::CloseDone,
         number,
     };
-    exchange(link, incoming, &close_request(number), &mut wanted)
+    exchange(link, incoming, &close_request(number), &mut wanted, timeout)
 }

@@ -15,14 +15,16 @@ use link_session::{Incoming, Reply, SessionFault, exchange};
 use mbim_frame::{Mbim, MessageKind, open_request};
 use mbim_services::MbimAnswer;
 
-/// Opens the modem, and tells how it refuses, if it does.
+/// Opens the modem, and tells how it refuses, if it does. The answer is waited for for so many
+/// seconds.
 pub(crate) fn open<L: Link>(
     link: &mut L,
     incoming: &mut Incoming<Mbim>,
     number: u32,
+    timeout: u16,
 ) -> Result<Reply<Option<MbimEnd>>, SessionFault>
     ensures asks { (heard : Heard) → Stands size_of incoming.old heard
-        → RepliesTo (opening number) (λ before. ReadsOpening number) heard result incoming.new (L.calls link.old) (L.calls link.new) }
+        → RepliesTo (opening number timeout) (λ before. ReadsOpening number) heard result incoming.new (L.calls link.old) (L.calls link.new) }
     ensures link_fault { result ≡ Err SessionFault.LinkFault → Rose (L.faults link.old) (L.faults link.new) }
     ensures later { L.faults link.old ≤ L.faults link.new }
     ensures later_open { L.open_faults link.old ≤ L.open_faults link.new }
@@ -32,7 +34,7 @@ pub(crate) fn open<L: Link>(
         number,
     };
     let request = open_request(number, LONGEST_SENT);
-    let found = exchange(link, incoming, &request, &mut wanted)?;
+    let found = exchange(link, incoming, &request, &mut wanted, timeout)?;
     let answer = read(number, found.place, incoming.bytes(found))?;
     Ok(Reply { found, answer })
 }

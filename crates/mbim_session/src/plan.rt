@@ -14,6 +14,8 @@ pub struct MbimPlan {
     pub proxied: bool,
     /// Whether the modem is closed behind the answer.
     pub close: bool,
+    /// For how many seconds without a byte each answer is waited for.
+    pub timeout: u16,
     /// The command.
     pub request: MbimRequest,
 }

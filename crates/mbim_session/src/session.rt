@@ -53,7 +53,7 @@ fn ask_all<L: Link>(
     if !plan.proxied {
         return open_modem(alloc, link, incoming, plan, 1);
     }
-    let reply = configure(alloc, link, incoming, &plan.device)?;
+    let reply = configure(alloc, link, incoming, &plan.device, plan.timeout)?;
     if let Some(refusal) = reply.answer.refusal() {
         return Ok(refusal);
     }
@@ -66,15 +66,16 @@ fn configure<L: Link>(
     link: &mut L,
     incoming: &mut Incoming<Mbim>,
     device: &PathText,
+    timeout: u16,
 ) -> Result<Reply<MbimEnd>, SessionFault>
     ensures asks { (heard : Heard) → Stands size_of incoming.old heard
-        → RepliesTo (commanding (ProxyConfiguration device.now) 1) (Reads (ProxyConfiguration device.now) 1) heard result incoming.new (L.calls link.old) (L.calls link.new) }
+        → RepliesTo (commanding (ProxyConfiguration device.now) 1 timeout) (Reads (ProxyConfiguration device.now) 1) heard result incoming.new (L.calls link.old) (L.calls link.new) }
     ensures link_fault { result ≡ Err SessionFault.LinkFault → Rose (L.faults link.old) (L.faults link.new) }
     ensures later { L.faults link.old ≤ L.faults link.new }
     ensures later_open { L.open_faults link.old ≤ L.open_faults link.new }
 {
     let configuration = MbimRequest::ProxyConfiguration(device.copy(alloc)?);
-    ask(alloc, link, incoming, &configuration, 1)
+    ask(alloc, link, incoming, &configuration, 1, timeout)
 }
 
 /// Goes on once the link leads to the modem: opens it. The next request has this number.
@@ -91,7 +92,7 @@ fn open_modem<L: Link>(
     ensures later { L.faults link.old ≤ L.faults link.new }
     ensures later_open { L.open_faults link.old ≤ L.open_faults link.new }
 {
-    let reply = open(link, incoming, number)?;
+    let reply = open(link, incoming, number, plan.timeout)?;
     if let Some(refusal) = reply.answer {
         return Ok(refusal);
     }
@@ -112,7 +113,7 @@ fn run_command<L: Link>(
     ensures later { L.faults link.old ≤ L.faults link.new }
     ensures later_open { L.open_faults link.old ≤ L.open_faults link.new }
 {
-    let reply = ask(alloc, link, incoming, &plan.request, number)?;
+    let reply = ask(alloc, link, incoming, &plan.request, number, plan.timeout)?;
     finish(link, incoming, plan, number + 1, reply.answer)
 }
 
@@ -132,6 +133,6 @@ fn finish<L: Link>(
     if !plan.close {
         return Ok(end);
     }
-    close(link, incoming, number)?;
+    close(link, incoming, number, plan.timeout)?;
     Ok(end)
 }

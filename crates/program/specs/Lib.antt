@@ -3,3 +3,4 @@ pub mod Running
 pub mod Serving
 pub mod Pumping
 pub mod Rigging
+pub mod Telling

@@ -18,7 +18,7 @@ use Rattle.mbim_requests.specs.declared.MbimRequest.{MbimRequest}
 use Rattle.device_core.specs.declared.plan.QmiPlan.{QmiPlan}
 use Rattle.mbim_session.specs.declared.plan.MbimPlan.{MbimPlan}
 use Rattle.tool_words.specs.declared.command.ToolCommand.{ToolCommand}
-use Rattle.tool_words.specs.declared.command.ToolCommand.TheVariants.{Qmicli, Mbimcli, PduSubmit, Describe, Proxy, Simulator, Pump, Rig}
+use Rattle.tool_words.specs.declared.command.ToolCommand.TheVariants.{Qmicli, Mbimcli, PduSubmit, Describe, Proxy, Simulator, Pump, Rig, Version}
 use Rattle.tool_words.specs.declared.fault.UsageKind.{UsageKind}
 use Rattle.tool_words.specs.declared.fault.UsageKind.TheVariants as usage
 use Rattle.sms_pdu.specs.Parts.{messages}
@@ -38,6 +38,7 @@ use Rattle.program.specs.Serving.{ServesProxy, asked_in}
 use Rattle.program.specs.Pumping.{PumpsTo}
 use Rattle.rig.specs.Playing.{AddsRuns}
 use Rattle.program.specs.Rigging.{RigsTo}
+use Rattle.program.specs.Telling.{TellsVersion}
 
 -- what is told of the outside, before and after
 pub record Told : Type 0 where
@@ -75,20 +76,20 @@ Asks path asked before after result =
     EndsAs status_of result (λ ends. AsksModem path asked before after ends)
     ⊎ ((result ≡ status.OutOfMemory) × Grows before.link [] after.link × Grows before.spawner [] after.spawner × Grows before.out [] after.out)
 
-abbrev pub qmi_plan : List ℕ → Bool → Option ℕ → Bool → QmiRequest → QmiPlan
-qmi_plan device proxied cid keep request = record { device = device; proxied = proxied; cid = cid; keep = keep; request = request }
+abbrev pub qmi_plan : List ℕ → Bool → Option ℕ → Bool → (seconds : ℕ) → QmiRequest → QmiPlan
+qmi_plan device proxied cid keep seconds request = record { device = device; proxied = proxied; cid = cid; keep = keep; timeout = seconds; request = request }
 
-abbrev pub mbim_plan : List ℕ → Bool → Bool → MbimRequest → MbimPlan
-mbim_plan device proxied close request = record { device = device; proxied = proxied; close = close; request = request }
+abbrev pub mbim_plan : List ℕ → Bool → Bool → (seconds : ℕ) → MbimRequest → MbimPlan
+mbim_plan device proxied close seconds request = record { device = device; proxied = proxied; close = close; timeout = seconds; request = request }
 
 -- ---- what the words ask for ----
 
--- a tool asks a modem, makes short messages or describes a file, a proxy or a simulated modem serves, one is kept running, a pump passes on, and a rig runs a core on the bench
+-- a tool asks a modem, makes short messages or describes a file, a proxy or a simulated modem serves, one is kept running, a pump passes on, a rig runs a core on the bench, and the version is printed
 abbrev pub RunsCommand : ToolCommand → Told → Told → Status → Type 0
-RunsCommand (Qmicli device proxied cid keep request decode socket bridge) before after result =
-    Asks (way_to kind.Qmi proxied device socket bridge) (qmi_asked decode (qmi_plan device proxied cid keep request)) (of_tool before) (of_tool after) result
-RunsCommand (Mbimcli device proxied close request decode socket bridge) before after result =
-    Asks (way_to kind.Mbim proxied device socket bridge) (mbim_asked decode (mbim_plan device proxied close request)) (of_tool before) (of_tool after) result
+RunsCommand (Qmicli device proxied cid keep timeout request decode socket bridge) before after result =
+    Asks (way_to kind.Qmi proxied device socket bridge) (qmi_asked decode (qmi_plan device proxied cid keep timeout request)) (of_tool before) (of_tool after) result
+RunsCommand (Mbimcli device proxied close timeout request decode socket bridge) before after result =
+    Asks (way_to kind.Mbim proxied device socket bridge) (mbim_asked decode (mbim_plan device proxied close timeout request)) (of_tool before) (of_tool after) result
 RunsCommand (PduSubmit number text reference) before after result = EndsAs status_of result (λ ends. PrintsText (hex_lines (messages number text reference)) before.out ends after.out)
 RunsCommand (Describe path) before after result = EndsAs status_of result (λ ends. Describes (encode_utf8_all path) before.files after.files before.out ends after.out)
 RunsCommand (Proxy kind device socket bridge empty exit_when_lost time release turns) before after result =
@@ -99,6 +100,7 @@ RunsCommand (Simulator kind socket profile turns (Some most)) before after resul
     EndsAs status_of_keeping result (λ ends. KeepsOrLacksMemory (start_words kind socket turns profile) most before.spawner ends after.spawner)
 RunsCommand (Pump read node bridge) before after result = PumpsTo read node bridge before.link before.files result after.link after.files
 RunsCommand (Rig kind clients messages number) before after result = RigsTo kind clients messages number before.bench before.out result after.bench after.out
+RunsCommand Version before after result = TellsVersion before.out result after.out
 
 -- what the words ask for, or that they are refused, and why
 abbrev pub RunsWords : Result ToolCommand UsageKind → Told → Told → Status → Type 0
@@ -107,8 +109,8 @@ RunsWords (Err why) before after result = result ≡ status.Usage why
 
 -- the tools that ask a modem
 abbrev pub is_of_tool : ToolCommand → Bool
-is_of_tool (Qmicli device proxied cid keep request decode socket bridge) = true
-is_of_tool (Mbimcli device proxied close request decode socket bridge) = true
+is_of_tool (Qmicli device proxied cid keep timeout request decode socket bridge) = true
+is_of_tool (Mbimcli device proxied close timeout request decode socket bridge) = true
 is_of_tool (PduSubmit number text reference) = true
 is_of_tool (Describe path) = true
 is_of_tool _ = false
@@ -153,10 +155,10 @@ pub record Objects (L H P F O B : Type 0) : Type 0 where
 pub data NoObject : Type 0 where
   Absent : NoObject
 
--- what a command has no use for is left as it was: hub, files and bench by one that asks a modem, all but output by one that makes short messages, all but files and output by one that describes a file, all but hub and children by a proxy, all but hub and files by a simulated modem, the files too where no profile is named, all but children by one that is kept running, all but link and files by a pump, and all but bench and output by a rig
+-- what a command has no use for is left as it was: hub, files and bench by one that asks a modem, all but output by one that makes short messages, all but files and output by one that describes a file, all but hub and children by a proxy, all but hub and files by a simulated modem, the files too where no profile is named, all but children by one that is kept running, all but link and files by a pump, all but bench and output by a rig, and all but the output where the version is printed
 abbrev pub CommandLeavesAlone : {L H P F O B : Type 0} → ToolCommand → Objects L H P F O B → Objects L H P F O B → Type 0
-CommandLeavesAlone (Qmicli device proxied cid keep request decode socket bridge) before after = (after.hub ≡ before.hub) × (after.files ≡ before.files) × (after.bench ≡ before.bench)
-CommandLeavesAlone (Mbimcli device proxied close request decode socket bridge) before after = (after.hub ≡ before.hub) × (after.files ≡ before.files) × (after.bench ≡ before.bench)
+CommandLeavesAlone (Qmicli device proxied cid keep timeout request decode socket bridge) before after = (after.hub ≡ before.hub) × (after.files ≡ before.files) × (after.bench ≡ before.bench)
+CommandLeavesAlone (Mbimcli device proxied close timeout request decode socket bridge) before after = (after.hub ≡ before.hub) × (after.files ≡ before.files) × (after.bench ≡ before.bench)
 CommandLeavesAlone (PduSubmit number text reference) before after = (after.link ≡ before.link) × (after.hub ≡ before.hub) × (after.spawner ≡ before.spawner) × (after.files ≡ before.files) × (after.bench ≡ before.bench)
 CommandLeavesAlone (Describe path) before after = (after.link ≡ before.link) × (after.hub ≡ before.hub) × (after.spawner ≡ before.spawner) × (after.bench ≡ before.bench)
 CommandLeavesAlone (Proxy kind device socket bridge empty exit_when_lost time release turns) before after = (after.link ≡ before.link) × (after.files ≡ before.files) × (after.out ≡ before.out) × (after.bench ≡ before.bench)
@@ -164,6 +166,7 @@ CommandLeavesAlone (Simulator kind socket profile turns None) before after = (af
 CommandLeavesAlone (Simulator kind socket profile turns (Some most)) before after = (after.link ≡ before.link) × (after.hub ≡ before.hub) × (after.files ≡ before.files) × (after.out ≡ before.out) × (after.bench ≡ before.bench)
 CommandLeavesAlone (Pump read node bridge) before after = (after.hub ≡ before.hub) × (after.spawner ≡ before.spawner) × (after.out ≡ before.out) × (after.bench ≡ before.bench)
 CommandLeavesAlone (Rig kind clients messages number) before after = (after.link ≡ before.link) × (after.hub ≡ before.hub) × (after.spawner ≡ before.spawner) × (after.files ≡ before.files)
+CommandLeavesAlone Version before after = (after.link ≡ before.link) × (after.hub ≡ before.hub) × (after.spawner ≡ before.spawner) × (after.files ≡ before.files) × (after.bench ≡ before.bench)
 
 -- words that are refused leave all as it was
 abbrev pub LeavesAlone : {L H P F O B : Type 0} → Result ToolCommand UsageKind → Objects L H P F O B → Objects L H P F O B → Type 0
@@ -174,8 +177,8 @@ LeavesAlone (Err why) before after = after ≡ before
 
 -- on its way to a modem, or of a pump's
 abbrev pub CommandFailsOnLink : {L : Type 0} → ToolCommand → (L → ℕ) → (L → ℕ) → L → L → Type 0
-CommandFailsOnLink (Qmicli device proxied cid keep request decode socket bridge) = LinkFails (way_to kind.Qmi proxied device socket bridge)
-CommandFailsOnLink (Mbimcli device proxied close request decode socket bridge) = LinkFails (way_to kind.Mbim proxied device socket bridge)
+CommandFailsOnLink (Qmicli device proxied cid keep timeout request decode socket bridge) = LinkFails (way_to kind.Qmi proxied device socket bridge)
+CommandFailsOnLink (Mbimcli device proxied close timeout request decode socket bridge) = LinkFails (way_to kind.Mbim proxied device socket bridge)
 CommandFailsOnLink (Pump read node bridge) = λ faults open_faults before after. Rose (open_faults before) (open_faults after) ⊎ Rose (faults before) (faults after)
 CommandFailsOnLink _ = λ faults open_faults before after. ⊥
 

@@ -8,6 +8,7 @@ ghost use Rattle.program.specs.Status.{line_of};
 
 use crate::report::report;
 use crate::status::Status;
+use crate::telling::tell_version;
 use crate::tools::{
     run_command_of_proxy, run_command_of_pump, run_command_of_rig, run_command_of_simulator,
     run_command_of_tool,
@@ -22,7 +23,7 @@ use std::alloc::Global;
 use tool_words::{ToolCommand, WordFault, command_of};
 
 /// Does all that the program does: what the words ask, as a tool, a proxy, a simulated modem, a pump
-/// or a rig. The program ends with the status.
+/// or a rig, or telling its version. The program ends with the status.
 pub fn run<O: Sink, E: Sink, L: Link, H: Hub, P: Spawner, F: Files, B: Bench>(
     alloc: Global,
     words: &[String],
@@ -100,5 +101,6 @@ fn run_command<O: Sink, L: Link, H: Hub, P: Spawner, F: Files, B: Bench>(
         }
         ToolCommand::Pump { .. } => run_command_of_pump(alloc, command, link, files),
         ToolCommand::Rig { .. } => run_command_of_rig(alloc, command, out, bench),
+        ToolCommand::Version => tell_version(out),
     }
 }

@@ -1,4 +1,5 @@
-//! What the program does: as a tool, as a proxy, as a simulated modem, as a pump and as a rig, from its words to its status.
+//! What the program does: as a tool, as a proxy, as a simulated modem, as a pump, as a rig, and where its version is asked
+//! for, from its words to its status.
 #![tactic(auto)]
 
 mod dispatch;
@@ -9,6 +10,7 @@ mod report;
 mod rigging;
 mod simulator;
 mod status;
+mod telling;
 mod tool;
 mod tools;
 

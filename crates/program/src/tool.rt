@@ -55,6 +55,7 @@ pub fn ask_qmi<O: Sink, L: Link, P: Spawner>(
     proxied: bool,
     cid: Option<u8>,
     keep: bool,
+    timeout: u16,
     request: QmiRequest,
     decode: bool,
     socket: &PathText,
@@ -63,7 +64,7 @@ pub fn ask_qmi<O: Sink, L: Link, P: Spawner>(
     link: &mut L,
     spawner: &mut P,
 ) -> Status
-    ensures asks { Asks (way_to kinds.Qmi proxied device socket.now bridge.now) (qmi_asked decode (qmi_plan device proxied cid keep request))
+    ensures asks { Asks (way_to kinds.Qmi proxied device socket.now bridge.now) (qmi_asked decode (qmi_plan device proxied cid keep timeout request))
         (record { link = L.calls link.old; spawner = P.calls spawner.old; out = O.taken out.old })
         (record { link = L.calls link.new; spawner = P.calls spawner.new; out = O.taken out.new })
         result }
@@ -77,6 +78,7 @@ pub fn ask_qmi<O: Sink, L: Link, P: Spawner>(
         proxied,
         cid,
         keep,
+        timeout,
         request,
     };
     let device = &plan.device;
@@ -103,6 +105,7 @@ pub fn ask_mbim<O: Sink, L: Link, P: Spawner>(
     device: PathText,
     proxied: bool,
     close: bool,
+    timeout: u16,
     request: MbimRequest,
     decode: bool,
     socket: &PathText,
@@ -111,7 +114,7 @@ pub fn ask_mbim<O: Sink, L: Link, P: Spawner>(
     link: &mut L,
     spawner: &mut P,
 ) -> Status
-    ensures asks { Asks (way_to kinds.Mbim proxied device socket.now bridge.now) (mbim_asked decode (mbim_plan device proxied close request))
+    ensures asks { Asks (way_to kinds.Mbim proxied device socket.now bridge.now) (mbim_asked decode (mbim_plan device proxied close timeout request))
         (record { link = L.calls link.old; spawner = P.calls spawner.old; out = O.taken out.old })
         (record { link = L.calls link.new; spawner = P.calls spawner.new; out = O.taken out.new })
         result }
@@ -124,6 +127,7 @@ pub fn ask_mbim<O: Sink, L: Link, P: Spawner>(
         device,
         proxied,
         close,
+        timeout,
         request,
     };
     let device = &plan.device;

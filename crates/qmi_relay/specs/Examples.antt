@@ -13,7 +13,7 @@ use Rattle.qmi_relay.specs.Runs.{relay}
 use Rattle.qmi_relay.specs.Law.{IsPlan}
 
 abbrev pub plan_of : Option ℕ → QmiRequest → QmiPlan
-plan_of cid asked = record { device = codes "rig"; proxied = false; cid = cid; keep = false; request = asked }
+plan_of cid asked = record { device = codes "rig"; proxied = false; cid = cid; keep = false; timeout = 30; request = asked }
 
 abbrev pub opens : List Event
 opens = Joined 1 ∷ Piece 1 (hex (codes "01 11 00 00 00 00 00 01 00 FF 06 00 01 03 00 72 69 67")) ∷ Took 1 19 ∷ []

@@ -1,6 +1,6 @@
 -- A rig that words ask for is within its limits, and messages are made of a text that they send; nothing else has any limits.
 use Rattle.std.proofs.Common.{◌≡◌, ◌≤◌, ◌-◌, ◌^◌, ℕ, Bool, true, false, cond, List, [], ◌∷◌, Option, Some, None, option_map, Result, Ok, Err, refl, subst, chars, arith}
-use Rattle.std.specs.Prelude.{IfOk, IfSome, codes, option_and_then}
+use Rattle.std.specs.Prelude.{IfOk, IfSome, codes, if◌then◌else◌, option_and_then}
 use Rattle.std.specs.Str.{bytes_eq}
 use Rattle.std.proofs.lemmas.Bool.{cond_both}
 use Rattle.sms_pdu.specs.Parts.{can_be_sent}
@@ -22,6 +22,7 @@ use Rattle.tool_words.specs.Qmicli.{asked_for, asked_with, described, qmi_asked,
 use Rattle.tool_words.specs.Reading.{is_refused}
 use Rattle.tool_words.specs.Rig.{IsWithinLimits, clients_in, messages_in, rig_asked, rig_spelling, rig_values}
 use Rattle.tool_words.specs.Simulator.{simulator_asked, simulator_values}
+use Rattle.tool_words.specs.Version.{version_asked}
 use Rattle.tool_words.specs.Values.{flag_of, kind_or, number_or, number_within, optional, path_in, split_at}
 use Rattle.tool_words.specs.declared.command.Tool.{Tool}
 use Rattle.tool_words.specs.declared.command.Tool.TheVariants as tool
@@ -191,12 +192,22 @@ pump-asked-fits (a ∷ b ∷ c ∷ []) = tt
 pump-asked-fits (name ∷ way ∷ node ∷ bridge ∷ []) = pump-named-fits (reads_named way) node bridge
 pump-asked-fits (a ∷ b ∷ c ∷ d ∷ e ∷ more) = tt
 
+version-asked-fits : (words : List Text) → IsFitting (version_asked words)
+unfolding version_asked
+version-asked-fits [] = tt
+version-asked-fits (name ∷ []) = tt
+version-asked-fits (a ∷ b ∷ more) = tt
+
 command-fits : (words : List Text) → IsFitting (command_in words)
 unfolding command_in
 command-fits [] = tt
 command-fits (word ∷ more) =
-    cond_both (bytes_eq word (codes "pump")) (pump_asked (word ∷ more)) (read_if_named (tool_named word) (word ∷ more)) IsFitting
-    (λ _. pump-asked-fits (word ∷ more)) (λ _. named-fits (tool_named word) (word ∷ more))
+    let of_others : Result ToolCommand UsageKind = if bytes_eq word (codes "version") then version_asked (word ∷ more) else read_if_named (tool_named word) (word ∷ more) in
+    let others-fit : IsFitting of_others =
+    cond_both (bytes_eq word (codes "version")) (version_asked (word ∷ more)) (read_if_named (tool_named word) (word ∷ more)) IsFitting
+    (λ _. version-asked-fits (word ∷ more)) (λ _. named-fits (tool_named word) (word ∷ more)) in
+    cond_both (bytes_eq word (codes "pump")) (pump_asked (word ∷ more)) of_others IsFitting
+    (λ _. pump-asked-fits (word ∷ more)) (λ _. others-fit)
 
 -- what is answered to words
 pub answer-is_within : (words : List Text) (answer : Result ToolCommand WordFault) → Answers (command_in words) answer → IfOk answer IsWithinLimits

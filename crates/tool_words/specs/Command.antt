@@ -11,6 +11,7 @@ use Rattle.tool_words.specs.Pump.{pump_asked}
 use Rattle.tool_words.specs.Qmicli.{qmicli_app, qmicli_asked}
 use Rattle.tool_words.specs.Rig.{rig_app, rig_asked}
 use Rattle.tool_words.specs.Simulator.{simulator_app, simulator_asked}
+use Rattle.tool_words.specs.Version.{version_asked}
 use Rattle.tool_words.specs.declared.command.Tool.{Tool}
 use Rattle.tool_words.specs.declared.command.Tool.TheVariants as tool
 use Rattle.tool_words.specs.declared.command.ToolCommand.{ToolCommand}
@@ -53,4 +54,5 @@ unfoldable pub command_in : List Text → Result ToolCommand UsageKind
 command_in [] = Err usage.NoTool
 command_in (word ∷ more) =
     if bytes_eq word (codes "pump") then pump_asked (word ∷ more)
+    else if bytes_eq word (codes "version") then version_asked (word ∷ more)
     else read_if_named (tool_named word) (word ∷ more)

@@ -13,6 +13,7 @@ pub mod Proxy
 pub mod Simulator
 pub mod Rig
 pub mod Pump
+pub mod Version
 pub mod QmiCommands
 pub mod Qmicli
 pub mod MbimCommands

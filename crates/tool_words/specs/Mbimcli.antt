@@ -39,7 +39,7 @@ mbim_asks command = true
 
 -- a request is sent to the device, which is closed afterwards, unless it is to stay open
 abbrev pub mbim_sent : LinkSettings → Bool → Bool → MbimRequest → Option ToolCommand
-mbim_sent link stays decode request = option_map (λ device. Mbimcli device link.proxied (not stays) request decode link.socket link.bridge) link.device
+mbim_sent link stays decode request = option_map (λ device. Mbimcli device link.proxied (not stays) link.timeout request decode link.socket link.bridge) link.device
 
 -- the command with its value and the settings, if each of them reads
 unfoldable pub mbimcli_values : MbimCommand → List Row → Option ToolCommand

@@ -55,7 +55,7 @@ reference_in makes None = Some 0
 
 -- a request is sent to the device
 abbrev pub qmi_sent : LinkSettings → Option ℕ → Bool → Bool → QmiRequest → Option ToolCommand
-qmi_sent link cid keep decode request = option_map (λ device. Qmicli device link.proxied cid keep request decode link.socket link.bridge) link.device
+qmi_sent link cid keep decode request = option_map (λ device. Qmicli device link.proxied cid keep link.timeout request decode link.socket link.bridge) link.device
 
 -- that of a command
 unfoldable pub qmi_asked : LinkSettings → Option ℕ → Bool → QmiCommand → List Row → Option ToolCommand

@@ -11,6 +11,7 @@ use crate::qmicli::{qmicli_asked, qmicli_reader};
 use crate::reader::read_words;
 use crate::rig::{rig_asked, rig_reader};
 use crate::simulator::{simulator_asked, simulator_reader};
+use crate::version::version_asked;
 use crate::{UsageKind, WordFault};
 use clap::{ArgMatches, Command};
 use kit_bytes::{Kind, PathText, Text};
@@ -30,6 +31,8 @@ pub enum ToolCommand {
         cid: Option<u8>,
         /// Whether an allocated client id is kept.
         keep: bool,
+        /// For how many seconds without a byte each answer is waited for.
+        timeout: u16,
         request: QmiRequest,
         /// Whether the messages in the answer are told in words.
         decode: bool,
@@ -43,6 +46,8 @@ pub enum ToolCommand {
         proxied: bool,
         /// Whether the modem is closed afterwards.
         close: bool,
+        /// For how many seconds without a byte each answer is waited for.
+        timeout: u16,
         request: MbimRequest,
         /// Whether the messages in the answer are told in words.
         decode: bool,
@@ -106,6 +111,8 @@ pub enum ToolCommand {
         /// The number from which they are drawn.
         number: u64,
     },
+    /// Prints the program's version.
+    Version,
 }
 
 /// A tool that has options, which the first word names.
@@ -184,6 +191,9 @@ fn read_command(alloc: Global, words: &[String]) -> Result<ToolCommand, WordFaul
     }
     if words[0].as_str() == "pump" {
         return pump_asked(alloc, words);
+    }
+    if words[0].as_str() == "version" {
+        return version_asked(words);
     }
     match tool_named(words[0].as_str()) {
         Some(tool) => read_tool(alloc, tool, words),

@@ -20,6 +20,7 @@ mod rig;
 mod simulator;
 mod sole;
 mod values;
+mod version;
 
 pub use command::{ToolCommand, command_of};
 pub use fault::{UsageKind, WordFault};

@@ -1,31 +1,33 @@
-ghost use Rattle.std.specs.Prelude.{◌≡◌};
+ghost use Rattle.std.specs.Prelude.{◌≡◌, option_map};
 ghost use Rattle.clap.specs.Words.{found_of, rows_of};
-ghost use Rattle.tool_words.specs.Link.{link_in, link_options, link_spelling};
+ghost use Rattle.tool_words.specs.Link.{link_in, link_options, link_spelling, timeout_in};
 ghost use Rattle.tool_words.specs.Values.{Gives};
 
 use crate::WordFault;
 use crate::defaults::{bridge_socket, proxy_socket};
 use crate::given::{is_given, value_given};
 use crate::options::{OptionSpelling, ToolOption, flag, valued};
-use crate::values::{path_if_given, path_or};
+use crate::values::{number_or, path_if_given, path_or};
 use clap::ArgMatches;
 use kit_bytes::{Kind, PathText};
 use std::alloc::Global;
 
-/// An option that says how a tool reaches its modem.
+/// An option that says how a tool reaches its modem, or how long it waits for it.
 #[derive(Clone, Copy, Debug, PartialEq, Eq)]
 pub enum LinkOption {
     Device,
     DeviceOpenProxy,
     Socket,
     Bridge,
+    Timeout,
 }
 
-static LINK_OPTIONS: [LinkOption; 4] = [
+static LINK_OPTIONS: [LinkOption; 5] = [
     LinkOption::Device,
     LinkOption::DeviceOpenProxy,
     LinkOption::Socket,
     LinkOption::Bridge,
+    LinkOption::Timeout,
 ];
 
 impl ToolOption for LinkOption {
@@ -37,6 +39,7 @@ impl ToolOption for LinkOption {
             LinkOption::DeviceOpenProxy => flag("device-open-proxy").or_letter('p'),
             LinkOption::Socket => valued("socket"),
             LinkOption::Bridge => valued("bridge"),
+            LinkOption::Timeout => valued("timeout"),
         }
     }
 }
@@ -57,6 +60,15 @@ pub struct LinkSettings {
     pub proxied: bool,
     pub socket: PathText,
     pub bridge: PathText,
+    /// For how many seconds an answer is waited for.
+    pub timeout: u16,
+}
+
+fn timeout(text: Option<&str>) -> Result<u16, WordFault>
+    ensures { Gives (timeout_in (option_map (λ t. t.now) text.entry)) result }
+{
+    let seconds = number_or(30, 1, 600, text)?;
+    Ok(seconds as u16)
 }
 
 /// The settings that the words give to a tool for modems of this kind.
@@ -75,10 +87,12 @@ pub fn link_given(
     let socket = path_or(alloc, proxy_socket(kind), socket)?;
     let bridge = value_given(matches, LinkOption::Bridge);
     let bridge = path_or(alloc, bridge_socket(), bridge)?;
+    let timeout = timeout(value_given(matches, LinkOption::Timeout))?;
     Ok(LinkSettings {
         device,
         proxied,
         socket,
         bridge,
+        timeout,
     })
 }

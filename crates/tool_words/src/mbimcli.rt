@@ -63,6 +63,7 @@ fn sending(
         device,
         proxied: link.proxied,
         close: !stays,
+        timeout: link.timeout,
         request,
         decode,
         socket: link.socket,

@@ -127,6 +127,7 @@ fn sending(
         proxied: link.proxied,
         cid,
         keep,
+        timeout: link.timeout,
         request,
         decode,
         socket: link.socket,

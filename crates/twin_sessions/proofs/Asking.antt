@@ -73,14 +73,14 @@ module _ (size : List ℕ → Size) (kept : Keeps size) (positive : (bytes : Lis
     abbrev answered_so : Ending
     answered_so = record { outcome = Answered [] message; left = [] }
 
-    module _ (answers : asked.judge [] message ≡ meaning.Answer) where
+    module _ (answers : asked.wait.judge [] message ≡ meaning.Answer) where
       ending_is : ending_of peer asked talk ≡ answered_so
       ending_is =
-          ap (λ (l : List Mark). ending asked.judge (l ++ piece_marks asked.size talk.heard.taken (reply_to peer asked talk))) left
-          ∙ ap (λ (z : List ℕ → Size). ending asked.judge (piece_marks z talk.heard.taken (reply_to peer asked talk))) same
-          ∙ ap (λ (l : List ℕ). ending asked.judge (piece_marks size talk.heard.taken l)) replies
-          ∙ ap (ending asked.judge) (marks_are talk.heard.taken x whole is)
-          ∙ ending-decided asked.judge [] (Message message) [] (Answered [] message) (record { each = tt; quiets = omega arith; messages = omega arith })
+          ap (λ (l : List Mark). ending asked.wait (l ++ piece_marks asked.size talk.heard.taken (reply_to peer asked talk))) left
+          ∙ ap (λ (z : List ℕ → Size). ending asked.wait (piece_marks z talk.heard.taken (reply_to peer asked talk))) same
+          ∙ ap (λ (l : List ℕ). ending asked.wait (piece_marks size talk.heard.taken l)) replies
+          ∙ ap (ending asked.wait) (marks_are talk.heard.taken x whole is)
+          ∙ ending-decided asked.wait [] (Message message) [] (Answered [] message) (record { each = tt; quiets = omega arith; messages = omega arith })
           (ap (λ m. decided [] message m) answers)
 
       ask_is : ask peer asked talk ≡ record { outcome = Answered [] message; talk = later }

@@ -88,14 +88,14 @@ placed_alike is_a is_b same = record { framed = ap is_framed is_a ∙ same.frame
 
 module _ (s : Setup) (near : s.starts_away ≡ false) (modem : Answering) (plan : QmiPlan) where
   abbrev at_modem : Peer
-  at_modem = directly (played s near modem)
+  at_modem = directly (played s near modem plan.timeout)
 
   abbrev at_proxy : Peer
-  at_proxy = through (played s near modem)
+  at_proxy = through (played s near modem plan.timeout)
 
   -- what the proxy met on the way may come, and nothing waits
   abbrev pub Met : Talk → Type 0
-  Met talk = (last : ℕ → ℕ) × (before : List (List ℕ)) × Through s near modem true last talk before
+  Met talk = (last : ℕ → ℕ) × (before : List (List ℕ)) × Through s near modem plan.timeout true last talk before
 
   abbrev pub IsAlike : Finish LastWord → Finish LastWord → Type 0
   IsAlike a b = Alike a.end b.end × Met b.talk
@@ -106,7 +106,7 @@ module _ (s : Setup) (near : s.starts_away ≡ false) (modem : Answering) (plan 
 
   -- ---- the client id is given back ----
 
-  released_then : (peer : Peer) (client number : ℕ) (talk : Talk) (message : Placed) (h : NewMessage) (tlvs : List ℕ) (Then : Talk → Type 0) → h.flags ≡ flags_for h.service kind.Response → (g : Goes s near modem peer (release plan client number) talk (message_text h tlvs) Then)
+  released_then : (peer : Peer) (client number : ℕ) (talk : Talk) (message : Placed) (h : NewMessage) (tlvs : List ℕ) (Then : Talk → Type 0) → h.flags ≡ flags_for h.service kind.Response → (g : Goes s near modem plan.timeout peer (release plan client number) talk (message_text h tlvs) Then)
       → release_at peer plan client number message talk ≡ finish (OfAnswer plan.request None message) g.later
   released_then peer client number talk message h tlvs Then flags g =
       g.is unanswered (λ before last talk. if is_framed last.bytes then finish (OfAnswer plan.request None message) talk else finish (Unframed last) talk)
@@ -130,21 +130,21 @@ module _ (s : Setup) (near : s.starts_away ≡ false) (modem : Answering) (plan 
     space_control = ap (λ (n : ℕ). if n == 0 then 0 else 1) (is_read t_release).service
 
     module _ (dm tm : Placed) (same : ReadsAs dm.bytes tm.bytes) (d_talk t_talk : Talk) where
-      pub released_alike : (before : List (List ℕ)) (last : ℕ → ℕ) → (client == 0) ≡ false → (client == 255) ≡ false → Direct s near modem d_talk before → Through s near modem true last t_talk before → number ≡ following 255 (last 0)
+      pub released_alike : (before : List (List ℕ)) (last : ℕ → ℕ) → (client == 0) ≡ false → (client == 255) ≡ false → Direct s near modem plan.timeout d_talk before → Through s near modem plan.timeout true last t_talk before → number ≡ following 255 (last 0)
           → Answers modem before (message_of d_release) → IsAlike (release_at at_modem plan client number dm d_talk) (release_at at_proxy plan client (number + 1) tm t_talk)
       released_alike before last low high direct has n_is a =
-          let d = direct_goes s near modem d_release d_talk before direct a in
+          let d = direct_goes s near modem plan.timeout d_release d_talk before direct a in
           let shared = release_shared (message_of t_release) (service plan) client (control_is t_release.body t_release.number refl) some low high in
-          let t = forward_goes s near modem last t_release number t_talk before has (n_is ∙ ap (λ (p : ℕ). following (top_of p) (last p)) (sym space_control)) shared release_short a in
+          let t = forward_goes s near modem plan.timeout last t_release number t_talk before has (n_is ∙ ap (λ (p : ℕ). following (top_of p) (last p)) (sym space_control)) shared release_short a in
           alike_by (released_then at_modem client number d_talk dm a.response a.tlvs _ a.flags d) (released_then at_proxy client (number + 1) t_talk tm (record a.response { number = number + 1 }) a.tlvs _ a.flags t) ((refl, refl, same), (_, _, t.goes_on))
 
-      pub released_badly : (d_before t_before : List (List ℕ)) (last : ℕ → ℕ) → (client == 0 || (client == 255)) ≡ true → Direct s near modem d_talk d_before → Through s near modem true last t_talk t_before
+      pub released_badly : (d_before t_before : List (List ℕ)) (last : ℕ → ℕ) → (client == 0 || (client == 255)) ≡ true → Direct s near modem plan.timeout d_talk d_before → Through s near modem plan.timeout true last t_talk t_before
           → Answers modem d_before (message_of d_release) → IsAlike (release_at at_modem plan client number dm d_talk) (release_at at_proxy plan client (number + 1) tm t_talk)
       released_badly d_before t_before last bad direct has a =
-          let d = direct_goes s near modem d_release d_talk d_before direct a in
+          let d = direct_goes s near modem plan.timeout d_release d_talk d_before direct a in
           let refused = release_refused s.device (message_of t_release) (service plan) client (control_is t_release.body t_release.number refl) bad in
-          let t = own_goes s near modem true last t_release t_talk t_before (own_head t_release) (result_tlv 7) has refused.0 release_short (ap (result_reply (message_of t_release)) refused.1 ∙ own_text t_release 7) refl refl refl refl in
-          alike_by (released_then at_modem client number d_talk dm a.response a.tlvs _ a.flags d) (released_then at_proxy client (number + 1) t_talk tm (own_head t_release) (result_tlv 7) _ refl t) ((refl, refl, same), (last, t_before, subst (λ (b : Bool). Through s near modem b last t.later t_before) (or_true (is_opening s.device (message_of t_release) Own)) t.goes_on))
+          let t = own_goes s near modem plan.timeout true last t_release t_talk t_before (own_head t_release) (result_tlv 7) has refused.0 release_short (ap (result_reply (message_of t_release)) refused.1 ∙ own_text t_release 7) refl refl refl refl in
+          alike_by (released_then at_modem client number d_talk dm a.response a.tlvs _ a.flags d) (released_then at_proxy client (number + 1) t_talk tm (own_head t_release) (result_tlv 7) _ refl t) ((refl, refl, same), (last, t_before, subst (λ (b : Bool). Through s near modem plan.timeout b last t.later t_before) (or_true (is_opening s.device (message_of t_release) Own)) t.goes_on))
 
       -- the session is left
       left_alike : Met t_talk → IsAlike (release_at at_modem plan client number dm d_talk) (release_at at_proxy plan client (number + 1) tm t_talk) → IsAlike (leave_at at_modem plan client number dm d_talk) (leave_at at_proxy plan client (number + 1) tm t_talk)
@@ -170,18 +170,18 @@ module _ (s : Setup) (near : s.starts_away ≡ false) (modem : Answering) (plan 
   module _ (device_is : s.device ≡ encode_utf8_all plan.device) (served : IsServed modem plan) where
     -- ---- the command, with a client id ----
 
-    command_then : (peer : Peer) (client number : ℕ) (talk : Talk) (x : List ℕ) (Then : Talk → Type 0) → (service plan == 0) ≡ false → (g : Goes s near modem peer (first_command plan client) talk x Then)
+    command_then : (peer : Peer) (client number : ℕ) (talk : Talk) (x : List ℕ) (Then : Talk → Type 0) → (service plan == 0) ≡ false → (g : Goes s near modem plan.timeout peer (first_command plan client) talk x Then)
         → command_at peer plan client number talk ≡ (if reads plan.request g.placed.bytes then leave_at peer plan client number g.placed g.later else finish (OfAnswer plan.request None g.placed) g.later)
     command_then peer client number talk x Then some g =
         let next : List Placed → Placed → Talk → Finish LastWord = λ before message talk. if reads plan.request message.bytes then leave_at peer plan client number message talk else finish (OfAnswer plan.request None message) talk in
-        ap (λ (b : Bool). let r : Request = record { body = plan.request; client = client; number = if b then number else 1 } in ask_then peer (asked r) talk unanswered next) some
+        ap (λ (b : Bool). let r : Request = record { body = plan.request; client = client; number = if b then number else 1 } in ask_then peer (asked plan.timeout r) talk unanswered next) some
         ∙ g.is unanswered next
 
     command_short : (client : ℕ) → length (message_of (first_command plan client)) ≤ piece_limit
     unfolding message_of
     command_short client = omega (arith, text_is_short (new_message (first_command plan client)) (tlv_text (inputs_of plan.request)), served.inputs)
 
-    module _ (some : (service plan == 0) ≡ false) (client number : ℕ) (d_talk t_talk : Talk) (before : List (List ℕ)) (last : ℕ → ℕ) (direct : Direct s near modem d_talk before) (has : Through s near modem true last t_talk before) where
+    module _ (some : (service plan == 0) ≡ false) (client number : ℕ) (d_talk t_talk : Talk) (before : List (List ℕ)) (last : ℕ → ℕ) (direct : Direct s near modem plan.timeout d_talk before) (has : Through s near modem plan.timeout true last t_talk before) where
       abbrev m : List ℕ
       m = message_of (first_command plan client)
 
@@ -197,9 +197,9 @@ module _ (s : Setup) (near : s.starts_away ≡ false) (modem : Answering) (plan 
       pub commanded_alike : Answers modem before m → (client == 0) ≡ false → (client == 255) ≡ false → number ≡ following 255 (last 0) → 1 ≡ following 65535 (last 1)
           → IsAlike (command_at at_modem plan client number d_talk) (command_at at_proxy plan client (number + 1) t_talk)
       commanded_alike a low high n_is one_is =
-          let d = direct_goes s near modem (first_command plan client) d_talk before direct a in
+          let d = direct_goes s near modem plan.timeout (first_command plan client) d_talk before direct a in
           let shared : view_decides true m ≡ false = service_shared m read.framed read.flags service_some (ap (λ (n : ℕ). n == 0) read.client ∙ low) (ap (λ (n : ℕ). n == 255) read.client ∙ high) in
-          let t = forward_goes s near modem last (first_command plan client) 1 t_talk before has (one_is ∙ ap (λ (p : ℕ). following (top_of p) (last p)) (sym space_service)) shared (command_short client) a in
+          let t = forward_goes s near modem plan.timeout last (first_command plan client) 1 t_talk before has (one_is ∙ ap (λ (p : ℕ). following (top_of p) (last p)) (sym space_service)) shared (command_short client) a in
           let same : ReadsAs d.placed.bytes t.placed.bytes = placed_alike d.bytes t.bytes (texts_read_alike a.response (record a.response { number = 1 }) a.tlvs a.flags a.flags) in
           let later_number : number ≡ following 255 (if space_of m == 0 then 1 else last 0) = n_is ∙ ap (λ (p : ℕ). following 255 (if p == 0 then 1 else last 0)) (sym space_service) in
           let released = released_alike some client number d.placed t.placed same d.later t.later (m ∷ before) (λ space. if space_of m == space then 1 else last space) low high d.goes_on t.goes_on later_number ((served.services some).releases client number (subst (λ (n : ℕ). n < 256) (sym n_is) (following_small (last 0))) (m ∷ before)) in
@@ -207,24 +207,24 @@ module _ (s : Setup) (near : s.starts_away ≡ false) (modem : Answering) (plan 
           (read_alike some client number d.placed t.placed same d.later t.later (_, _, t.goes_on) (left_alike some client number d.placed t.placed same d.later t.later (_, _, t.goes_on) released))
 
     -- with one that is nobody's
-    refused_alike : (some : (service plan == 0) ≡ false) (client number : ℕ) (d_talk t_talk : Talk) (last : ℕ → ℕ) → number ≡ following 255 (last 0) → Direct s near modem d_talk [] → Through s near modem true last t_talk [] → (client == 0 || (client == 255)) ≡ true
+    refused_alike : (some : (service plan == 0) ≡ false) (client number : ℕ) (d_talk t_talk : Talk) (last : ℕ → ℕ) → number ≡ following 255 (last 0) → Direct s near modem plan.timeout d_talk [] → Through s near modem plan.timeout true last t_talk [] → (client == 0 || (client == 255)) ≡ true
         → IsAlike (command_at at_modem plan client number d_talk) (command_at at_proxy plan client (number + 1) t_talk)
     refused_alike some client number d_talk t_talk last n_is direct has bad =
         let r : Request = first_command plan client in
         let m : List ℕ = message_of r in
         let read = is_read r in
         let a = (served.services some).given client in
-        let d = direct_goes s near modem r d_talk [] direct a in
+        let d = direct_goes s near modem plan.timeout r d_talk [] direct a in
         let refused = service_refused s.device m read.framed read.flags (ap (λ (n : ℕ). n == 0) read.service ∙ some) (ap (λ (n : ℕ). n == 0 || (n == 255)) read.client ∙ bad) in
-        let t = own_goes s near modem true last r t_talk [] (own_head r) (result_tlv 7) has refused.0 (command_short client) (ap (result_reply m) refused.1 ∙ own_text r 7) refl refl refl refl in
+        let t = own_goes s near modem plan.timeout true last r t_talk [] (own_head r) (result_tlv 7) has refused.0 (command_short client) (ap (result_reply m) refused.1 ∙ own_text r 7) refl refl refl refl in
         let same : ReadsAs d.placed.bytes t.placed.bytes = placed_alike d.bytes t.bytes (subst (λ (l : List ℕ). ReadsAs (message_text a.response a.tlvs) (message_text (own_head r) l)) ((served.services some).refuses client bad) (texts_read_alike a.response (own_head r) a.tlvs a.flags refl)) in
-        let opened : Through s near modem true last t.later [] = subst (λ (b : Bool). Through s near modem b last t.later []) (or_true (is_opening s.device m Own)) t.goes_on in
+        let opened : Through s near modem plan.timeout true last t.later [] = subst (λ (b : Bool). Through s near modem plan.timeout b last t.later []) (or_true (is_opening s.device m Own)) t.goes_on in
         let released = released_badly some client number d.placed t.placed same d.later t.later (m ∷ []) [] last bad d.goes_on opened ((served.services some).releases client number (subst (λ (n : ℕ). n < 256) (sym n_is) (following_small (last 0))) (m ∷ [])) in
         alike_by (command_then at_modem client number d_talk _ _ some d) (command_then at_proxy client (number + 1) t_talk _ _ some t)
         (read_alike some client number d.placed t.placed same d.later t.later (last, [], opened) (left_alike some client number d.placed t.placed same d.later t.later (last, [], opened) released))
 
     -- a client id that is given
-    given_alike : (some : (service plan == 0) ≡ false) (client number : ℕ) (d_talk t_talk : Talk) (last : ℕ → ℕ) → Direct s near modem d_talk [] → Through s near modem true last t_talk [] → number ≡ following 255 (last 0) → 1 ≡ following 65535 (last 1)
+    given_alike : (some : (service plan == 0) ≡ false) (client number : ℕ) (d_talk t_talk : Talk) (last : ℕ → ℕ) → Direct s near modem plan.timeout d_talk [] → Through s near modem plan.timeout true last t_talk [] → number ≡ following 255 (last 0) → 1 ≡ following 65535 (last 1)
         → IsAlike (command_at at_modem plan client number d_talk) (command_at at_proxy plan client (number + 1) t_talk)
     given_alike some client number d_talk t_talk last direct has n_is one_is =
         let Goal : Type 0 = IsAlike (command_at at_modem plan client number d_talk) (command_at at_proxy plan client (number + 1) t_talk) in
@@ -240,18 +240,18 @@ module _ (s : Setup) (near : s.starts_away ≡ false) (modem : Answering) (plan 
 
     -- ---- a client id is allocated ----
 
-    allocated_alike : (some : (service plan == 0) ≡ false) (d_talk t_talk : Talk) → Direct s near modem d_talk [] → Through s near modem true (λ space. 0) t_talk [] → IsAlike (allocate_at at_modem plan 1 d_talk) (allocate_at at_proxy plan 2 t_talk)
+    allocated_alike : (some : (service plan == 0) ≡ false) (d_talk t_talk : Talk) → Direct s near modem plan.timeout d_talk [] → Through s near modem plan.timeout true (λ space. 0) t_talk [] → IsAlike (allocate_at at_modem plan 1 d_talk) (allocate_at at_proxy plan 2 t_talk)
     unfolding message_of
     allocated_alike some d_talk t_talk direct has =
         let r : Request = allocate plan 2 in
         let m : List ℕ = message_of r in
         let read = is_read r in
         let a = (served.services some).allocates in
-        let d = direct_goes s near modem (allocate plan 1) d_talk [] direct a in
+        let d = direct_goes s near modem plan.timeout (allocate plan 1) d_talk [] direct a in
         let space : space_of m ≡ 0 = ap (λ (n : ℕ). if n == 0 then 0 else 1) read.service in
         let shared = allocate_shared m (service plan) (control_is r.body 2 refl) in
         let m_short : length m ≤ piece_limit = omega (arith, text_is_short (new_message r) (tlv_text (inputs_of r.body))) in
-        let t = forward_goes s near modem (λ space. 0) r 1 t_talk [] has (ap (λ (p : ℕ). following (top_of p) 0) (sym space)) shared m_short a in
+        let t = forward_goes s near modem plan.timeout (λ space. 0) r 1 t_talk [] has (ap (λ (p : ℕ). following (top_of p) 0) (sym space)) shared m_short a in
         let same : ReadsAs d.placed.bytes t.placed.bytes = placed_alike d.bytes t.bytes (texts_read_alike a.response (record a.response { number = 2 }) a.tlvs a.flags a.flags) in
         let tlvs_are : tlvs_in d.placed.bytes ≡ a.tlvs = ap tlvs_in d.bytes ∙ (is_response_text a.response a.tlvs a.flags).tlvs_are in
         let client_is : unwrap_or (allocated_in (tlvs_in d.placed.bytes)) 0 ≡ 1 = ap (λ (l : List ℕ). unwrap_or (allocated_in l) 0) tlvs_are ∙ ap (λ (o : Option ℕ). unwrap_or o 0) (served.services some).brings in
@@ -280,37 +280,37 @@ module _ (s : Setup) (near : s.starts_away ≡ false) (modem : Answering) (plan 
 
     -- ---- a command of service 0 ----
 
-    control_then : (peer : Peer) (number : ℕ) (talk : Talk) (x : List ℕ) (Then : Talk → Type 0) → (service plan == 0) ≡ true → (g : Goes s near modem peer (of_control plan.request number) talk x Then)
+    control_then : (peer : Peer) (number : ℕ) (talk : Talk) (x : List ℕ) (Then : Talk → Type 0) → (service plan == 0) ≡ true → (g : Goes s near modem plan.timeout peer (of_control plan.request number) talk x Then)
         → command_at peer plan 0 number talk ≡ finish (OfAnswer plan.request None g.placed) g.later
     control_then peer number talk x Then none g =
         let next : List Placed → Placed → Talk → Finish LastWord = λ before message talk. if reads plan.request message.bytes then leave_at peer plan 0 number message talk else finish (OfAnswer plan.request None message) talk in
         let ended : Finish LastWord = finish (OfAnswer plan.request None g.placed) g.later in
         let left : leave_at peer plan 0 number g.placed g.later ≡ ended = ap (λ (b : Bool). if b then ended else if plan.keep then finish (OfAnswer plan.request (Some (service plan, 0)) g.placed) g.later else release_at peer plan 0 number g.placed g.later) none in
-        ap (λ (b : Bool). let r : Request = record { body = plan.request; client = 0; number = if b then number else 1 } in ask_then peer (asked r) talk unanswered next) none
+        ap (λ (b : Bool). let r : Request = record { body = plan.request; client = 0; number = if b then number else 1 } in ask_then peer (asked plan.timeout r) talk unanswered next) none
         ∙ g.is unanswered next
         ∙ ap (λ (f : Finish LastWord). if reads plan.request g.placed.bytes then f else ended) left
         ∙ elim (reads plan.request g.placed.bytes) as (λ b. (if b then ended else ended) ≡ ended) [ true ↦ refl | false ↦ refl ]
 
-    control_alike : (none : (service plan == 0) ≡ true) (d_talk t_talk : Talk) → Direct s near modem d_talk [] → Through s near modem true (λ space. 0) t_talk [] → IsAlike (command_at at_modem plan 0 1 d_talk) (command_at at_proxy plan 0 2 t_talk)
+    control_alike : (none : (service plan == 0) ≡ true) (d_talk t_talk : Talk) → Direct s near modem plan.timeout d_talk [] → Through s near modem plan.timeout true (λ space. 0) t_talk [] → IsAlike (command_at at_modem plan 0 1 d_talk) (command_at at_proxy plan 0 2 t_talk)
     unfolding message_of
     control_alike none d_talk t_talk direct has =
         let r : Request = of_control plan.request 2 in
         let m : List ℕ = message_of r in
         let v = served.versions none in
         let a = v.answers in
-        let d = direct_goes s near modem (of_control plan.request 1) d_talk [] direct a in
+        let d = direct_goes s near modem plan.timeout (of_control plan.request 1) d_talk [] direct a in
         let zero_service : service plan ≡ 0 = eqb-true (service plan) 0 none in
         let space : space_of m ≡ 0 = ap (λ (n : ℕ). if n == 0 then 0 else 1) ((is_read r).service ∙ zero_service) in
         let of = control_is plan.request 2 zero_service in
         let of_version : OfControl m 0x21 None = subst (OfControl m 0x21) v.input (subst (λ (id : ℕ). OfControl m id (first_value 1 (inputs_of plan.request))) v.id of) in
         let m_short : length m ≤ piece_limit = omega (arith, text_is_short (new_message r) (tlv_text (inputs_of r.body)), served.inputs) in
-        let t = forward_goes s near modem (λ space. 0) r 1 t_talk [] has (ap (λ (p : ℕ). following (top_of p) 0) (sym space)) (version_shared m of_version) m_short a in
+        let t = forward_goes s near modem plan.timeout (λ space. 0) r 1 t_talk [] has (ap (λ (p : ℕ). following (top_of p) 0) (sym space)) (version_shared m of_version) m_short a in
         let same : ReadsAs d.placed.bytes t.placed.bytes = placed_alike d.bytes t.bytes (texts_read_alike a.response (record a.response { number = 2 }) a.tlvs a.flags a.flags) in
         alike_by (control_then at_modem 1 d_talk _ _ none d) (control_then at_proxy 2 t_talk _ _ none t) ((refl, refl, same), (_, _, t.goes_on))
 
     -- ---- the whole session ----
 
-    chosen_alike : (d_talk t_talk : Talk) → Direct s near modem d_talk [] → Through s near modem true (λ space. 0) t_talk [] → IsAlike (choose_at at_modem plan 1 d_talk) (choose_at at_proxy plan 2 t_talk)
+    chosen_alike : (d_talk t_talk : Talk) → Direct s near modem plan.timeout d_talk [] → Through s near modem plan.timeout true (λ space. 0) t_talk [] → IsAlike (choose_at at_modem plan 1 d_talk) (choose_at at_proxy plan 2 t_talk)
     chosen_alike d_talk t_talk direct has =
         let by : (z : Bool) → (service plan == 0) ≡ z → IsAlike (if z then command_at at_modem plan 0 1 d_talk else given_at at_modem plan plan.cid 1 d_talk) (if z then command_at at_proxy plan 0 2 t_talk else given_at at_proxy plan plan.cid 2 t_talk) =
         λ z. elim z as (λ z. (service plan == 0) ≡ z → IsAlike (if z then command_at at_modem plan 0 1 d_talk else given_at at_modem plan plan.cid 1 d_talk) (if z then command_at at_proxy plan 0 2 t_talk else given_at at_proxy plan plan.cid 2 t_talk)) [
@@ -323,11 +323,11 @@ module _ (s : Setup) (near : s.starts_away ≡ false) (modem : Answering) (plan 
         by_id some None = allocated_alike some d_talk t_talk direct has
         by_id some (Some client) = given_alike some client 1 d_talk t_talk (λ space. 0) direct has refl refl
 
-    d_start : Direct s near modem nothing_said []
+    d_start : Direct s near modem plan.timeout nothing_said []
     unfolding cut_from asked_by
     d_start = record { left = refl; whole = refl; before_is = refl }
 
-    t_start : Through s near modem false (λ space. 0) nothing_said []
+    t_start : Through s near modem plan.timeout false (λ space. 0) nothing_said []
     unfolding cut_from relayed
     t_start = record { left = refl; whole = refl; stands = begins s near; before_is = refl }
 
@@ -343,8 +343,8 @@ module _ (s : Setup) (near : s.starts_away ≡ false) (modem : Answering) (plan 
         let m : List ℕ = message_of r in
         let opens_it : Opens s.device m = subst (λ (l : List ℕ). Opens l m) (sym device_is) (open_opens (encode_utf8_all plan.device) m (control_is r.body 1 refl)) in
         let m_short : length m ≤ piece_limit = omega (arith, text_is_short (new_message r) (tlv_text (inputs_of r.body)), served.device) in
-        let t = own_goes s near modem false (λ space. 0) r nothing_said [] (own_head r) (result_tlv 0) t_start opens_it.decides m_short (ap (result_reply m) opens_it.error ∙ own_text r 0) refl refl refl refl in
-        let opened : Through s near modem true (λ space. 0) t.later [] = subst (λ (b : Bool). Through s near modem b (λ space. 0) t.later []) (rw (opens_it.fine, opens_it.opening) refl) t.goes_on in
+        let t = own_goes s near modem plan.timeout false (λ space. 0) r nothing_said [] (own_head r) (result_tlv 0) t_start opens_it.decides m_short (ap (result_reply m) opens_it.error ∙ own_text r 0) refl refl refl refl in
+        let opened : Through s near modem plan.timeout true (λ space. 0) t.later [] = subst (λ (b : Bool). Through s near modem plan.timeout b (λ space. 0) t.later []) (rw (opens_it.fine, opens_it.opening) refl) t.goes_on in
         let good : succeeds (request.ProxyOpen plan.device) t.placed.bytes ≡ true = ap (succeeds (request.ProxyOpen plan.device)) t.bytes ∙ opened_reply r in
         let is : proxy_at at_proxy plan ≡ choose_at at_proxy plan 2 t.later =
         t.is unanswered (λ before message talk. if succeeds (request.ProxyOpen plan.device) message.bytes then choose_at at_proxy plan 2 talk else finish (OfAnswer (request.ProxyOpen plan.device) None message) talk)

@@ -78,7 +78,7 @@ answers_it r h tlvs flags service client number =
 newest_is : (texts : List (List ℕ)) (m : List ℕ) → reverse (texts ++ m ∷ []) ≡ m ∷ reverse texts
 newest_is texts m = reverse-append texts (m ∷ [])
 
-module _ (s : Setup) (near : s.starts_away ≡ false) (modem : Answering) where
+module _ (s : Setup) (near : s.starts_away ≡ false) (modem : Answering) (seconds : ℕ) where
   abbrev pub played : Cast
   played = cast_of s modem
 
@@ -94,7 +94,7 @@ module _ (s : Setup) (near : s.starts_away ≡ false) (modem : Answering) where
     pub placed : Placed
     pub bytes : placed.bytes ≡ x
     pub later : Talk
-    pub is : (failed : SessionFault → LastWord) (next : List Placed → Placed → Talk → Finish LastWord) → ask_then peer (asked r) talk failed next ≡ next [] placed later
+    pub is : (failed : SessionFault → LastWord) (next : List Placed → Placed → Talk → Finish LastWord) → ask_then peer (asked seconds r) talk failed next ≡ next [] placed later
     pub goes_on : Then later
 
   pub direct_goes : (r : Request) (talk : Talk) (before : List (List ℕ)) → Direct talk before → (a : Answers modem before (message_of r)) → Goes (directly played) r talk (message_text a.response a.tlvs) (λ later. Direct later (message_of r ∷ before))
@@ -105,7 +105,7 @@ module _ (s : Setup) (near : s.starts_away ≡ false) (modem : Answering) where
       let x : List ℕ = message_text a.response a.tlvs in
       let is = is_response_text a.response a.tlvs a.flags in
       let answered : answers (wanted_by r) x ≡ true = answers_it r a.response a.tlvs a.flags (a.service ∙ read.service) (a.client ∙ read.client) (a.number ∙ read.number) in
-      let replies : reply_to (directly played) (asked r) talk ≡ x =
+      let replies : reply_to (directly played) (asked seconds r) talk ≡ x =
       ap (to_newest (λ text before. concat (sent_for size_of modem (asked_by size_of before) (cut size_of text).messages))) (newest_is talk.texts m)
       ∙ ap (λ (l : List (List ℕ)). concat (sent_for size_of modem l (cut size_of m).messages)) direct.before_is
       ∙ ap (λ (l : List (List ℕ)). concat (sent_for size_of modem before l)) (one_message m read.is_message)
@@ -113,15 +113,15 @@ module _ (s : Setup) (near : s.starts_away ≡ false) (modem : Answering) where
       ∙ ap (λ (l : List (List ℕ)). concat (l ++ [])) (one_message x is.is_message)
       ∙ append-nil x
       in
-      let judged : judge_by (wanted_by r) [] (message size_of size_of-kept size_of-positive refl (directly played) (asked r) refl talk x direct.left direct.whole replies is.is_message) ≡ meaning.Answer = ap (λ (b : Bool). if b then meaning.Answer else meaning.NoAnswer) answered in
+      let judged : judge_by (wanted_by r) [] (message size_of size_of-kept size_of-positive refl (directly played) (asked seconds r) refl talk x direct.left direct.whole replies is.is_message) ≡ meaning.Answer = ap (λ (b : Bool). if b then meaning.Answer else meaning.NoAnswer) answered in
       record {
-        placed = message size_of size_of-kept size_of-positive refl (directly played) (asked r) refl talk x direct.left direct.whole replies is.is_message;
+        placed = message size_of size_of-kept size_of-positive refl (directly played) (asked seconds r) refl talk x direct.left direct.whole replies is.is_message;
         bytes = refl;
-        later = later size_of size_of-kept size_of-positive refl (directly played) (asked r) refl talk x direct.left direct.whole replies is.is_message;
-        is = λ failed next. asks_then size_of size_of-kept size_of-positive refl (directly played) (asked r) refl talk x direct.left direct.whole replies is.is_message judged failed next;
+        later = later size_of size_of-kept size_of-positive refl (directly played) (asked seconds r) refl talk x direct.left direct.whole replies is.is_message;
+        is = λ failed next. asks_then size_of size_of-kept size_of-positive refl (directly played) (asked seconds r) refl talk x direct.left direct.whole replies is.is_message judged failed next;
         goes_on = record {
           left = refl;
-          whole = whole_later size_of size_of-kept size_of-positive refl (directly played) (asked r) refl talk x direct.left direct.whole replies is.is_message;
+          whole = whole_later size_of size_of-kept size_of-positive refl (directly played) (asked seconds r) refl talk x direct.left direct.whole replies is.is_message;
           before_is = ap (asked_by size_of) (newest_is talk.texts m) ∙ ap (λ (l : List (List ℕ)). asked_then l (cut size_of m).messages) direct.before_is ∙ ap (asked_then before) (one_message m read.is_message);
         };
       }
@@ -145,18 +145,18 @@ module _ (s : Setup) (near : s.starts_away ≡ false) (modem : Answering) where
       let x : List ℕ = message_text h tlvs in
       let is = is_response_text h tlvs flags in
       let answered : answers (wanted_by r) x ≡ true = answers_it r h tlvs flags service client number in
-      let replies : reply_to (through played) (asked r) talk ≡ x =
+      let replies : reply_to (through played) (asked seconds r) talk ≡ x =
       ap (to_newest (λ text before. reply played text (relayed played before))) (newest_is talk.texts m) ∙ exchanged.reply_is
       in
-      let judged : judge_by (wanted_by r) [] (message size_of size_of-kept size_of-positive refl (through played) (asked r) refl talk x has.left has.whole replies is.is_message) ≡ meaning.Answer = ap (λ (b : Bool). if b then meaning.Answer else meaning.NoAnswer) answered in
+      let judged : judge_by (wanted_by r) [] (message size_of size_of-kept size_of-positive refl (through played) (asked seconds r) refl talk x has.left has.whole replies is.is_message) ≡ meaning.Answer = ap (λ (b : Bool). if b then meaning.Answer else meaning.NoAnswer) answered in
       record {
-        placed = message size_of size_of-kept size_of-positive refl (through played) (asked r) refl talk x has.left has.whole replies is.is_message;
+        placed = message size_of size_of-kept size_of-positive refl (through played) (asked seconds r) refl talk x has.left has.whole replies is.is_message;
         bytes = refl;
-        later = later size_of size_of-kept size_of-positive refl (through played) (asked r) refl talk x has.left has.whole replies is.is_message;
-        is = λ failed next. asks_then size_of size_of-kept size_of-positive refl (through played) (asked r) refl talk x has.left has.whole replies is.is_message judged failed next;
+        later = later size_of size_of-kept size_of-positive refl (through played) (asked seconds r) refl talk x has.left has.whole replies is.is_message;
+        is = λ failed next. asks_then size_of size_of-kept size_of-positive refl (through played) (asked seconds r) refl talk x has.left has.whole replies is.is_message judged failed next;
         goes_on = record {
           left = refl;
-          whole = whole_later size_of size_of-kept size_of-positive refl (through played) (asked r) refl talk x has.left has.whole replies is.is_message;
+          whole = whole_later size_of size_of-kept size_of-positive refl (through played) (asked seconds r) refl talk x has.left has.whole replies is.is_message;
           stands = subst (λ (l : List (List ℕ)). Stands s near opened' last' (relayed played l).events) (sym (newest_is talk.texts m)) exchanged.stands;
           before_is = ap (λ (l : List (List ℕ)). (relayed played l).asked) (newest_is talk.texts m) ∙ exchanged.asked_is;
         };

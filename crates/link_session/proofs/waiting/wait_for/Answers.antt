@@ -55,12 +55,12 @@ loop-found-preserved-else-messages-eq-MOST_MESSAGES g c =
       later_open = omega arith;
     }
 
-pub returns-then-quiets-eq-MOST_QUIETS-clause-waits : goal.returns-then-quiets-eq-MOST_QUIETS-clause-waits
-returns-then-quiets-eq-MOST_QUIETS-clause-waits g c = λ heard stands.
+pub returns-then-quiets-patience-clause-waits : goal.returns-then-quiets-patience-clause-waits
+returns-then-quiets-patience-clause-waits g c = λ heard stands.
     let i = c.loop-found.invariant in
     let passed = i.passed heard stands in
     let looks = c.in-Quiet.ensures.looks passed.now passed.stands in
-    WaitsFor-timed_out _ _ passed looks _ i.few_quiets i.few_messages c.if-quiets-eq-MOST_QUIETS.true
+    WaitsFor-timed_out _ _ passed looks _ i.few_quiets i.few_messages (c.if-quiets-patience.true ∙ c.patience_of-patience.ensures)
 
 pub loop-found-preserved : goal.loop-found-preserved
 loop-found-preserved g c =
@@ -72,7 +72,7 @@ loop-found-preserved g c =
           Passed-quiet _ _ passed looks _ refl;
       judge = i.judge;
       number = i.number;
-      few_quiets = omega (arith, i.few_quiets, c.if-quiets-eq-MOST_QUIETS.false);
+      few_quiets = omega (arith, i.few_quiets, c.if-quiets-patience.false, c.patience_of-patience.ensures);
       few_messages = i.few_messages;
       later = omega arith;
       later_open = omega arith;

@@ -1,5 +1,7 @@
+use Rattle.std.proofs.Common.{ap}
 use Rattle.std.proofs.lemmas.Result.{err_from_is_err_and}
 use Rattle.link_session.proofs.Steps.{AsksFor-unmade, RepliesTo-fails}
+use Rattle.mbim_session.specs.declared.command_answer.CommandAnswer.{CommandAnswer}
 use Rattle.mbim_session.specs.Hearing.{KeepsNothing}
 use Rattle.mbim_session.proofs.asking.ask.Goals as goal
 
@@ -12,4 +14,4 @@ returns-in_err-coming-clause-asks g c = λ heard stands.
     let p = err_from_is_err_and c.from_residual-in_err-coming.result c.from_residual-in_err-coming.ensures.1 in rw (p.1, p.2) (RepliesTo-fails (AsksFor-unmade _ KeepsNothing _ _ _))
 
 pub returns-clause-asks : goal.returns-clause-asks
-returns-clause-asks g c = λ heard stands. rw (c.as_slice-messages.ensures, c.in_ok-messages.ensures) at (c.hear.ensures.asks heard stands)
+returns-clause-asks g c = λ heard stands. rw (c.as_slice-messages.ensures, c.in_ok-messages.ensures, ap (λ (a : CommandAnswer). a.number) c.in_ok-coming.ensures) at (c.hear.ensures.asks heard stands)

@@ -15,4 +15,6 @@ returns c =
       ← c.bridge_socket.ensures,
       ← c.value_given-bridge.ensures,
       c.in_ok-bridge.ensures,
+      ← c.value_given.ensures,
+      c.in_ok-timeout.ensures,
     ) refl
