@@ -96,15 +96,12 @@ fn time_messages(rt: &HostRuntime) -> io::Result<()> {
     let mut reading = u128::MAX;
     for _ in 0..20 {
         let start = Instant::now(rt)?;
-        let mut made = 0;
         for _ in 0..10_000 {
-            if let Ok(list) = submit_pdus(alloc, &number, &text, 0) {
-                made += list.as_slice().len().min(1);
+            if submit_pdus(alloc, &number, &text, 0).is_err() {
+                return Ok(());
             }
         }
-        if made == 10_000 {
-            making = making.min(start.elapsed(rt)?.as_micros());
-        }
+        making = making.min(start.elapsed(rt)?.as_micros());
         let Ok(list) = submit_pdus(alloc, &number, &text, 0) else {
             return Ok(());
         };
