@@ -1,0 +1,22 @@
+ghost use Rattle.std.specs.Prelude.{◌≡◌, ◌≤◌, [], length, MatchOption};
+ghost use Rattle.framing.specs.Cutting.{cut};
+ghost use Rattle.rig_stage.specs.Messages.{Splits};
+
+use framing::{Framing, Size};
+
+/// The length of the first message of some bytes, if they begin with a whole one.
+pub(crate) fn first_message<F: Framing>(bytes: &[u8]) -> Option<usize>
+    ensures { MatchOption result ((cut F.size bytes.now).messages ≡ []) (λ count. Splits F.size bytes.now count) }
+{
+    match F::size(bytes) {
+        Size::Known(count) => {
+            if count <= bytes.len() {
+                Some(count)
+            } else {
+                None
+            }
+        }
+        Size::Unknown => None,
+        Size::Invalid => None,
+    }
+}
