@@ -1,8 +1,7 @@
 -- What a tool's command ends with and prints, at a simulated modem itself and through a proxy where the tool is alone.
-use Rattle.std.specs.Prelude.{◌≡◌, ◌≤◌, length, Result, Ok, Err}
+use Rattle.std.specs.Prelude.{◌≡◌, ◌≤◌, length, Result}
 use Rattle.tlv_codec.specs.Tlv.{tlv_text}
 use Rattle.link_session.specs.declared.fault.SessionFault.{SessionFault}
-use Rattle.link_session.specs.declared.fault.SessionFault.TheVariants as fault
 use Rattle.proxy_history.specs.Coming.{AreSound}
 use Rattle.qmi_proxy.specs.History.{qmi_protocol}
 use Rattle.qmi_requests.specs.declared.QmiRequest.{QmiRequest}
@@ -12,7 +11,7 @@ use Rattle.qmi_services.specs.declared.answers.QmiEnd.{QmiEnd}
 use Rattle.device_core.specs.declared.plan.QmiPlan.{QmiPlan}
 use Rattle.device_core.specs.Peer.{EndsWith}
 use Rattle.device_core.specs.Hearing.{failure_in}
-use Rattle.twin_sessions.specs.Runs.{Alike}
+use Rattle.twin_sessions.specs.Runs.{Alike, ComeToTheSame}
 use Rattle.modem_profile.specs.Profile.{Profile}
 use Rattle.modem_profile.specs.Limits.{IsWithin}
 use Rattle.sim_qmi.specs.State.{IsSound, fresh}
@@ -43,13 +42,9 @@ SessionsEndAlike = OfEach (λ profile plan. Alike (direct_run profile plan).end 
 abbrev pub RelaysMayCome : Type 0
 RelaysMayCome = OfEach (λ profile plan. AreSound (qmi_protocol (setup_of plan)) (relay profile plan))
 
--- two ends print the same, and are refused by the same error; an answer that doesn't read breaks both, each at its place; want of memory says nothing
+-- two ends print the same, and are refused by the same error
 abbrev pub PrintsTheSame : Result QmiEnd SessionFault → Result QmiEnd SessionFault → Type 0
-PrintsTheSame (Ok a) (Ok b) = (end_text a ≡ end_text b) × (failure_in a.answer ≡ failure_in b.answer)
-PrintsTheSame (Err fault.OutOfMemory) result = Unit {0}
-PrintsTheSame result (Err fault.OutOfMemory) = Unit {0}
-PrintsTheSame (Err (fault.Broken place)) (Err (fault.Broken place')) = Unit {0}
-PrintsTheSame _ _ = ⊥
+PrintsTheSame = ComeToTheSame (λ a b. (end_text a ≡ end_text b) × (failure_in a.answer ≡ failure_in b.answer))
 
 -- whatever the two sessions end with, it prints the same
 abbrev pub ToolsPrintTheSame : Type 0

@@ -19,7 +19,7 @@ use Rattle.link_session.specs.declared.waiting.Meaning.TheVariants as meaning
 use Rattle.link_session.specs.declared.fault.SessionFault.{SessionFault}
 use Rattle.link_session.specs.Marks.{Placed}
 use Rattle.link_session.specs.Peer.{Peer, Talk, Finish, ask_then, reply_to}
-use Rattle.device_core.specs.Requests.{Request, asked, message_of, answers, wanted_by, judge_by}
+use Rattle.device_core.specs.Requests.{Request, asked, message_of, answers, wanted_by}
 use Rattle.device_core.specs.Peer.{LastWord}
 use Rattle.qmi_services.specs.Requests.{row_of}
 use Rattle.proxy_history.specs.Coming.{piece_limit}
@@ -33,7 +33,7 @@ use Rattle.lone_client.specs.Law.{cast_of}
 use Rattle.lone_client.proofs.Rounds.{Stands, Exchanged, one_message, own_exchange, forward_exchange}
 use Rattle.lone_client.proofs.Served.{message_long}
 use Rattle.twin_sessions.specs.Serving.{Answers}
-use Rattle.twin_sessions.proofs.Asking.{IsWhole, message, later, asks_then, whole_later}
+use Rattle.twin_sessions.proofs.Asking.{IsWhole, IsAnsweredBy, goes_on, one_said, answered_by_one}
 use Rattle.twin_sessions.proofs.Messages.{with_number_is, is_read}
 
 -- ---- what is written ----
@@ -86,7 +86,7 @@ module _ (s : Setup) (near : s.starts_away ≡ false) (modem : Answering) (secon
 
   pub record Direct (talk : Talk) (before : List (List ℕ)) : Type 0 where
     pub left : talk.heard.left ≡ []
-    pub whole : IsWhole size_of size_of-kept size_of-positive refl talk.heard.taken
+    pub whole : IsWhole size_of talk.heard.taken
     pub before_is : asked_by size_of (reverse talk.texts) ≡ before
 
   -- a request was answered by this message, and the talk goes on so
@@ -97,40 +97,48 @@ module _ (s : Setup) (near : s.starts_away ≡ false) (modem : Answering) (secon
     pub is : (failed : SessionFault → LastWord) (next : List Placed → Placed → Talk → Finish LastWord) → ask_then peer (asked seconds r) talk failed next ≡ next [] placed later
     pub goes_on : Then later
 
+  -- a response that fits a request answers it, where nothing was left and the peer says nothing else
+  module _ (peer : Peer) (r : Request) (talk : Talk) (left : talk.heard.left ≡ []) (whole : IsWhole size_of talk.heard.taken) (h : NewMessage) (tlvs : List ℕ) (flags : h.flags ≡ flags_for h.service kind.Response) where
+    abbrev said_text : List ℕ
+    said_text = message_text h tlvs
+
+    abbrev said_now : Placed
+    said_now = one_said size_of size_of-kept size_of-positive refl peer (asked seconds r) refl talk whole said_text
+
+    answered_so : reply_to peer (asked seconds r) talk ≡ said_text → h.service ≡ (row_of r.body).service → h.client ≡ r.client → h.number ≡ r.number → IsAnsweredBy size_of peer (asked seconds r) talk [] said_now []
+    answered_so replies service client number =
+        answered_by_one size_of size_of-kept size_of-positive refl peer (asked seconds r) refl talk whole said_text (is_response_text h tlvs flags).is_message replies [] left
+        (record { each = tt; quiets = omega arith; messages = omega arith }) (ap (λ (b : Bool). if b then meaning.Answer else meaning.NoAnswer) (answers_it r h tlvs flags service client number))
+
+    goes_by : (Then : Talk → Type 0) → (a : IsAnsweredBy size_of peer (asked seconds r) talk [] said_now []) → Then a.later → Goes peer r talk said_text Then
+    goes_by Then a goes = record { placed = said_now; bytes = refl; later = a.later; is = λ failed next. goes_on size_of peer (asked seconds r) talk [] said_now [] a failed next; goes_on = goes }
+
   pub direct_goes : (r : Request) (talk : Talk) (before : List (List ℕ)) → Direct talk before → (a : Answers modem before (message_of r)) → Goes (directly played) r talk (message_text a.response a.tlvs) (λ later. Direct later (message_of r ∷ before))
   unfolding sent_for asked_then asked_by
   direct_goes r talk before direct a =
       let m : List ℕ = message_of r in
       let read = is_read r in
       let x : List ℕ = message_text a.response a.tlvs in
-      let is = is_response_text a.response a.tlvs a.flags in
-      let answered : answers (wanted_by r) x ≡ true = answers_it r a.response a.tlvs a.flags (a.service ∙ read.service) (a.client ∙ read.client) (a.number ∙ read.number) in
       let replies : reply_to (directly played) (asked seconds r) talk ≡ x =
       ap (to_newest (λ text before. concat (sent_for size_of modem (asked_by size_of before) (cut size_of text).messages))) (newest_is talk.texts m)
       ∙ ap (λ (l : List (List ℕ)). concat (sent_for size_of modem l (cut size_of m).messages)) direct.before_is
       ∙ ap (λ (l : List (List ℕ)). concat (sent_for size_of modem before l)) (one_message m read.is_message)
       ∙ ap (λ (l : List ℕ). concat ((cut size_of l).messages ++ [])) a.replies
-      ∙ ap (λ (l : List (List ℕ)). concat (l ++ [])) (one_message x is.is_message)
+      ∙ ap (λ (l : List (List ℕ)). concat (l ++ [])) (one_message x (is_response_text a.response a.tlvs a.flags).is_message)
       ∙ append-nil x
       in
-      let judged : judge_by (wanted_by r) [] (message size_of size_of-kept size_of-positive refl (directly played) (asked seconds r) refl talk x direct.left direct.whole replies is.is_message) ≡ meaning.Answer = ap (λ (b : Bool). if b then meaning.Answer else meaning.NoAnswer) answered in
-      record {
-        placed = message size_of size_of-kept size_of-positive refl (directly played) (asked seconds r) refl talk x direct.left direct.whole replies is.is_message;
-        bytes = refl;
-        later = later size_of size_of-kept size_of-positive refl (directly played) (asked seconds r) refl talk x direct.left direct.whole replies is.is_message;
-        is = λ failed next. asks_then size_of size_of-kept size_of-positive refl (directly played) (asked seconds r) refl talk x direct.left direct.whole replies is.is_message judged failed next;
-        goes_on = record {
-          left = refl;
-          whole = whole_later size_of size_of-kept size_of-positive refl (directly played) (asked seconds r) refl talk x direct.left direct.whole replies is.is_message;
-          before_is = ap (asked_by size_of) (newest_is talk.texts m) ∙ ap (λ (l : List (List ℕ)). asked_then l (cut size_of m).messages) direct.before_is ∙ ap (asked_then before) (one_message m read.is_message);
-        };
-      }
+      let by = answered_so (directly played) r talk direct.left direct.whole a.response a.tlvs a.flags replies (a.service ∙ read.service) (a.client ∙ read.client) (a.number ∙ read.number) in
+      goes_by (directly played) r talk direct.left direct.whole a.response a.tlvs a.flags (λ later. Direct later (m ∷ before)) by (record {
+        left = by.left_is;
+        whole = by.whole;
+        before_is = ap (λ (l : List (List ℕ)). asked_by size_of (reverse l)) by.texts ∙ ap (asked_by size_of) (newest_is talk.texts m) ∙ ap (λ (l : List (List ℕ)). asked_then l (cut size_of m).messages) direct.before_is ∙ ap (asked_then before) (one_message m read.is_message);
+      })
 
   -- ---- through the proxy ----
 
   pub record Through (opened : Bool) (last : ℕ → ℕ) (talk : Talk) (before : List (List ℕ)) : Type 0 where
     pub left : talk.heard.left ≡ []
-    pub whole : IsWhole size_of size_of-kept size_of-positive refl talk.heard.taken
+    pub whole : IsWhole size_of talk.heard.taken
     pub stands : Stands s near opened last (relayed played (reverse talk.texts)).events
     pub before_is : (relayed played (reverse talk.texts)).asked ≡ before
 
@@ -143,24 +151,17 @@ module _ (s : Setup) (near : s.starts_away ≡ false) (modem : Answering) (secon
   through_goes opened last r talk before after opened' last' h tlvs has flags service client number exchanged =
       let m : List ℕ = message_of r in
       let x : List ℕ = message_text h tlvs in
-      let is = is_response_text h tlvs flags in
-      let answered : answers (wanted_by r) x ≡ true = answers_it r h tlvs flags service client number in
       let replies : reply_to (through played) (asked seconds r) talk ≡ x =
       ap (to_newest (λ text before. reply played text (relayed played before))) (newest_is talk.texts m) ∙ exchanged.reply_is
       in
-      let judged : judge_by (wanted_by r) [] (message size_of size_of-kept size_of-positive refl (through played) (asked seconds r) refl talk x has.left has.whole replies is.is_message) ≡ meaning.Answer = ap (λ (b : Bool). if b then meaning.Answer else meaning.NoAnswer) answered in
-      record {
-        placed = message size_of size_of-kept size_of-positive refl (through played) (asked seconds r) refl talk x has.left has.whole replies is.is_message;
-        bytes = refl;
-        later = later size_of size_of-kept size_of-positive refl (through played) (asked seconds r) refl talk x has.left has.whole replies is.is_message;
-        is = λ failed next. asks_then size_of size_of-kept size_of-positive refl (through played) (asked seconds r) refl talk x has.left has.whole replies is.is_message judged failed next;
-        goes_on = record {
-          left = refl;
-          whole = whole_later size_of size_of-kept size_of-positive refl (through played) (asked seconds r) refl talk x has.left has.whole replies is.is_message;
-          stands = subst (λ (l : List (List ℕ)). Stands s near opened' last' (relayed played l).events) (sym (newest_is talk.texts m)) exchanged.stands;
-          before_is = ap (λ (l : List (List ℕ)). (relayed played l).asked) (newest_is talk.texts m) ∙ exchanged.asked_is;
-        };
-      }
+      let by = answered_so (through played) r talk has.left has.whole h tlvs flags replies service client number in
+      let newest : reverse by.later.texts ≡ m ∷ reverse talk.texts = ap (λ (l : List (List ℕ)). reverse l) by.texts ∙ newest_is talk.texts m in
+      goes_by (through played) r talk has.left has.whole h tlvs flags (λ later. Through opened' last' later after) by (record {
+        left = by.left_is;
+        whole = by.whole;
+        stands = subst (λ (l : List (List ℕ)). Stands s near opened' last' (relayed played l).events) (sym newest) exchanged.stands;
+        before_is = ap (λ (l : List (List ℕ)). (relayed played l).asked) newest ∙ exchanged.asked_is;
+      })
 
   -- a request that is forwarded under this number
   pub forward_goes : (last : ℕ → ℕ) (r : Request) (n : ℕ) (talk : Talk) (before : List (List ℕ)) → Through true last talk before → n ≡ following (top_of (space_of (message_of r))) (last (space_of (message_of r)))
