@@ -20,6 +20,7 @@ use Rattle.proxy_history.specs.View.{view}
 use Rattle.proxy_history.specs.Rendering.{render}
 use Rattle.proxy_history.specs.Noting.{end_overfull}
 use Rattle.lone_client.specs.Relay.{sent_for, asked_then, hear_each, relayed, asked_by}
+use Rattle.modem_profile.proofs.Within.{default-within}
 use Rattle.mbim_relay.specs.Examples.{Relays, PremisesAreMet}
 
 pub relays : Relays
@@ -30,5 +31,5 @@ pub premises_are_met : PremisesAreMet
 unfolding layout_for encode_utf8
 premises_are_met = record {
   plan = record { command = tt; range = tt; device = (refl, lit≤ tt) };
-  answer = lit≤ tt;
+  profile = default-within;
 }

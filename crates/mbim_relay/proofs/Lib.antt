@@ -1,5 +1,7 @@
 pub mod Leaving
 pub mod Heard
+pub mod Lengths
+pub mod Fitting
 pub mod Naming
 pub mod Plans
 pub mod Served

@@ -94,10 +94,10 @@ alike_prints (OfOpen number message) w' one other alike ends ends' = absurd alik
 alike_prints (Unanswered why) w' one other alike ends ends' = absurd alike
 
 pub sessions_end_alike : SessionsEndAlike
-sessions_end_alike profile plan is few = twin.sessions_end_alike time_limit (simulated_modem profile) plan (as_planned plan is) (is_served profile plan is few)
+sessions_end_alike profile plan within is = twin.sessions_end_alike time_limit (simulated_modem profile) plan (as_planned plan is) (is_served profile plan within is)
 
 pub relays_may_come : RelaysMayCome
-relays_may_come profile plan is few = twin.sessions_may_come time_limit (simulated_modem profile) plan (as_planned plan is) (is_served profile plan is few)
+relays_may_come profile plan within is = twin.sessions_may_come time_limit (simulated_modem profile) plan (as_planned plan is) (is_served profile plan within is)
 
 pub tools_print_the_same : ToolsPrintTheSame
-tools_print_the_same profile plan is few direct through ends ends' = alike_prints _ _ direct through (sessions_end_alike profile plan is few) ends ends'
+tools_print_the_same profile plan within is direct through ends ends' = alike_prints _ _ direct through (sessions_end_alike profile plan within is) ends ends'

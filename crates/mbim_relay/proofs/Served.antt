@@ -28,14 +28,16 @@ use Rattle.lone_client.specs.Relay.{asked_then}
 use Rattle.lone_mbim_client.specs.Law.{IsShort, IsTold}
 use Rattle.twin_mbim_sessions.specs.Serving.{command_of, messages_of, Answers, IsServed, opened, commanded}
 use Rattle.modem_profile.specs.Profile.{Profile}
+use Rattle.modem_profile.specs.Limits.{IsWithin}
 use Rattle.sim_mbim.specs.Modem.{Modem}
 use Rattle.sim_mbim.specs.Values.{number_at}
 use Rattle.sim_mbim.specs.BasicConnect.{switch_radio}
 use Rattle.sim_mbim.specs.Commands.{Reply, reply_to, reply_in, reply_to_values, replied}
 use Rattle.sim_mbim.specs.Writing.{is_radio_set, reply_text}
 use Rattle.mbim_relay.specs.Runs.{simulated_modem}
-use Rattle.mbim_relay.specs.Law.{IsCommand, IsPlan, opened_modem, AnswerFits}
-use Rattle.mbim_relay.proofs.Leaving.{stays_open}
+use Rattle.mbim_relay.specs.Law.{IsCommand, IsPlan}
+use Rattle.mbim_relay.proofs.Leaving.{opened_modem, stays_open}
+use Rattle.mbim_relay.proofs.Fitting.{answers_fit}
 use Rattle.mbim_relay.proofs.Heard.{state_of, after, heard_messages, heard_state, done_of, told_if, told_of, reply_messages, reply_waits}
 use Rattle.mbim_relay.proofs.Plans.{IsPlain, plain, or_radio, fits, reads_back}
 
@@ -116,7 +118,7 @@ module _ (profile : Profile) (asked : List (List ℕ)) (m : Modem) (is_open : m.
 
 -- ---- a plan ----
 
-module _ (profile : Profile) (plan : MbimPlan) (is : IsPlan plan) (few : AnswerFits profile plan) where
+module _ (profile : Profile) (plan : MbimPlan) (within : IsWithin profile) (is : IsPlan plan) where
   abbrev q : MbimRequest
   q = plan.request
 
@@ -137,6 +139,9 @@ module _ (profile : Profile) (plan : MbimPlan) (is : IsPlan plan) (few : AnswerF
 
   abbrev planned : Reply
   planned = reply_to head (buffer_for q) (opened_modem profile)
+
+  few : 28 + length planned.buffer ≤ 65536
+  few = omega (arith, answers_fit profile within q is.command is.range)
 
   done_short : IsShort (done_of head planned)
   done_short =

@@ -3,12 +3,13 @@
 use Rattle.std.specs.Prelude.{◌≡◌, Bool, true, false, List, [], ◌∷◌, ◌++◌, reverse, codes}
 use Rattle.kit_bytes.specs.Hex.{hex}
 use Rattle.modem_profile.specs.Profile.{default_profile}
+use Rattle.modem_profile.specs.Limits.{IsWithin}
 use Rattle.proxy_history.specs.Events.{Event, Joined, Piece, ModemPiece, Took, ModemTook}
 use Rattle.mbim_requests.specs.declared.MbimRequest.{MbimRequest}
 use Rattle.mbim_requests.specs.declared.MbimRequest.TheVariants as request
 use Rattle.mbim_session.specs.declared.plan.MbimPlan.{MbimPlan}
 use Rattle.mbim_relay.specs.Runs.{relay}
-use Rattle.mbim_relay.specs.Law.{IsPlan, AnswerFits}
+use Rattle.mbim_relay.specs.Law.{IsPlan}
 
 abbrev pub plan_of : (close : Bool) → MbimRequest → MbimPlan
 plan_of close asked = record { device = codes "rig"; proxied = false; close = close; timeout = 30; request = asked }
@@ -59,4 +60,4 @@ pub record Relays : Type 0 where
 -- a plan and a profile of which the laws speak
 pub record PremisesAreMet : Type 0 where
   pub plan : IsPlan (plan_of true request.QueryRadioState)
-  pub answer : AnswerFits default_profile (plan_of true request.QueryRadioState)
+  pub profile : IsWithin default_profile

@@ -1,5 +1,5 @@
 -- What an MBIM tool's command ends with and prints, at a simulated modem itself and through a proxy where the tool is alone.
-use Rattle.std.specs.Prelude.{◌≡◌, ◌≤◌, ℕ, ◌+◌, true, length, Option, Some, None, Result}
+use Rattle.std.specs.Prelude.{◌≡◌, ℕ, Option, Some, None, Result}
 use Rattle.link_session.specs.declared.fault.SessionFault.{SessionFault}
 use Rattle.proxy_history.specs.Coming.{AreSound}
 use Rattle.mbim_proxy.specs.History.{mbim_protocol}
@@ -11,12 +11,10 @@ use Rattle.mbim_services.specs.declared.answers.MbimAnswer.TheVariants.{Success,
 use Rattle.mbim_session.specs.declared.plan.MbimPlan.{MbimPlan}
 use Rattle.mbim_session.specs.declared.plan.MbimEnd.{MbimEnd}
 use Rattle.mbim_session.specs.declared.plan.MbimEnd.TheVariants.{Answer}
-use Rattle.mbim_session.specs.Requests.{command_head, buffer_for}
 use Rattle.mbim_session.specs.Session.{configuration}
 use Rattle.mbim_session.specs.Peer.{EndsWith}
 use Rattle.modem_profile.specs.Profile.{Profile}
-use Rattle.sim_mbim.specs.Modem.{Modem, started}
-use Rattle.sim_mbim.specs.Commands.{reply_to}
+use Rattle.modem_profile.specs.Limits.{IsWithin}
 use Rattle.mbimcli_print.specs.Answer.{answer_text}
 use Rattle.lone_mbim_client.specs.Law as lone
 use Rattle.twin_sessions.specs.Runs.{ComeToTheSame}
@@ -34,17 +32,9 @@ pub record IsPlan (plan : MbimPlan) : Type 0 where
   pub range : IsInRange plan.request
   pub device : IsInRange (configuration plan)
 
--- the simulated modem once it was opened
-abbrev pub opened_modem : Profile → Modem
-opened_modem profile = record (started profile) { opened = true; longest = 4096 }
-
--- its answer to the plan's command fits a message in fragments
-abbrev pub AnswerFits : Profile → MbimPlan → Type 0
-AnswerFits profile plan = 28 + length (reply_to (command_head plan.request) (buffer_for plan.request) (opened_modem profile)).buffer ≤ 65536
-
 -- so it is for each profile and each plan
 abbrev pub OfEach : (Profile → MbimPlan → Type 0) → Type 0
-OfEach P = (profile : Profile) (plan : MbimPlan) → IsPlan plan → AnswerFits profile plan → P profile plan
+OfEach P = (profile : Profile) (plan : MbimPlan) → IsWithin profile → IsPlan plan → P profile plan
 
 -- the sessions end with answers that carry the same body
 abbrev pub SessionsEndAlike : Type 0

@@ -1,9 +1,9 @@
 ghost use Rattle.mbim_relay.specs.Examples.{PremisesAreMet, Relays};
 ghost use Rattle.mbim_relay.specs.Law.{RelaysMayCome, SessionsEndAlike, ToolsPrintTheSame};
 
-/// The law that an MBIM tool's command, alone through a proxy on a fresh simulated modem that serves it,
-/// ends with an answer that carries the same body as the one at the modem itself, and prints the same;
-/// and that a proxy can be run on what it meets then.
+/// The law that an MBIM tool's command, alone through a proxy on a fresh simulated modem, ends with an
+/// answer that carries the same body as the one at the modem itself, and prints the same; and that a
+/// proxy can be run on what it meets then.
 pub fn tools_print_the_same()
     ensures alike { SessionsEndAlike }
     ensures printed { ToolsPrintTheSame }
