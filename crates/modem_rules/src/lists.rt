@@ -1,0 +1,158 @@
+ghost use Rattle.std.specs.Prelude.{◌≡◌, Option, IfOk};
+ghost use Rattle.serde_json.specs.Data.{Data};
+ghost use Rattle.serde_json.specs.View.{view};
+ghost use Rattle.modem_rules.specs.Answers.{Gives};
+ghost use Rattle.modem_rules.specs.Lists.{list_in, rules_in_list};
+ghost use Rattle.modem_rules.specs.Values.{answer_rule, data_in, error_in, fault_rule, indication_rule};
+
+use crate::numbers::{number_in, number_within};
+use crate::{AnswerRule, FaultRule, IndicationRule, RequestKind, RuleData, RuleList, RulesFault};
+use hex::FromHexError;
+use kit_bytes::{Kind, Octets};
+use serde_json::Value;
+use std::alloc::{AllocError, Global};
+
+/// What the values of a list of rules give.
+pub(crate) trait Rule: Sized + Drop {
+    ghost use Rattle.kit_bytes.specs.declared.Kind as modem;
+
+    /// The rule that a value is for a modem of this kind, if it is one.
+    ghost read: { modem.Kind → Data → Option Self };
+
+    fn read(alloc: Global, kind: Kind, value: &Value) -> Result<Option<Self>, AllocError>
+        ensures { IfOk result (λ rule. rule ≡ read kind (view value.now)) };
+}
+
+impl Rule for AnswerRule {
+    ghost read = { answer_rule };
+
+    #[tactic(auto, unfolding(crate::specs::Values::answer_rule))]
+    fn read(alloc: Global, kind: Kind, value: &Value) -> Result<Option<Self>, AllocError> {
+        let Some(request) = RequestKind::read(kind, value) else {
+            return Ok(None);
+        };
+        let Some(data) = data_in(alloc, value)? else {
+            return Ok(None);
+        };
+        Ok(Some(AnswerRule {
+            kind: request,
+            data,
+        }))
+    }
+}
+
+impl Rule for FaultRule {
+    ghost read = { fault_rule };
+
+    #[tactic(auto, unfolding(crate::specs::Values::fault_rule))]
+    fn read(_alloc: Global, kind: Kind, value: &Value) -> Result<Option<Self>, AllocError> {
+        Ok(fault_rule(kind, value))
+    }
+}
+
+impl Rule for IndicationRule {
+    ghost read = { indication_rule };
+
+    #[tactic(auto, unfolding(crate::specs::Values::indication_rule))]
+    fn read(alloc: Global, kind: Kind, value: &Value) -> Result<Option<Self>, AllocError> {
+        let Some(request) = value.get("after") else {
+            return Ok(None);
+        };
+        let Some(after) = RequestKind::read(kind, request) else {
+            return Ok(None);
+        };
+        let Some(indicated) = RequestKind::read(kind, value) else {
+            return Ok(None);
+        };
+        let Some(data) = data_in(alloc, value)? else {
+            return Ok(None);
+        };
+        Ok(Some(IndicationRule {
+            after,
+            kind: indicated,
+            data,
+        }))
+    }
+}
+
+#[tactic(auto, unfolding(crate::specs::Values::fault_rule))]
+fn fault_rule(kind: Kind, value: &Value) -> Option<FaultRule>
+    ensures { result ≡ fault_rule kind (view value.now) }
+{
+    let request = RequestKind::read(kind, value)?;
+    let nth = number_in(value, "nth", 1, u64::MAX)?;
+    let error = error_in(value)?;
+    Some(FaultRule {
+        kind: request,
+        nth,
+        error,
+    })
+}
+
+// The error that an object names, if it names one and that is one.
+#[tactic(auto, unfolding(crate::specs::Values::error_in))]
+fn error_in(object: &Value) -> Option<Option<u16>>
+    ensures { result ≡ error_in (view object.now) }
+{
+    let Some(value) = object.get("error") else {
+        return Some(None);
+    };
+    let error = number_within(1, 0xffff, value)?;
+    Some(Some(error as u16))
+}
+
+// The bytes that an object's pairs of hexadecimal digits spell.
+#[tactic(auto, unfolding(crate::specs::Values::data_in))]
+fn data_in(alloc: Global, object: &Value) -> Result<Option<RuleData>, AllocError>
+    ensures { IfOk result (λ found. found ≡ data_in (view object.now)) }
+{
+    let Some(value) = object.get("data") else {
+        return Ok(None);
+    };
+    let Some(text) = value.as_str() else {
+        return Ok(None);
+    };
+    match hex::decode(alloc, text) {
+        Ok(bytes) => Ok(RuleData::of(Octets::from(bytes))),
+        Err(FromHexError::OutOfMemory) => Err(AllocError),
+        Err(_) => Ok(None),
+    }
+}
+
+/// The rules that a member lists for a modem of this kind.
+#[tactic(auto, unfolding(crate::specs::Lists::list_in))]
+pub(crate) fn list_in<T: Rule>(
+    alloc: Global,
+    kind: Kind,
+    object: &Value,
+    list: RuleList,
+) -> Result<Vec<T>, RulesFault>
+    ensures { Gives (λ rules. rules.items) (list_in list (T.read kind) (view object.now)) result }
+{
+    let Some(value) = object.get(list.as_str()) else {
+        return Ok(Vec::new(alloc));
+    };
+    let Some(values) = value.as_array() else {
+        return Err(RulesFault::NoList(list));
+    };
+    rules_of(alloc, kind, values.as_slice(), list)
+}
+
+// The rules that these values are, or the place of the first that is none.
+fn rules_of<T: Rule>(
+    alloc: Global,
+    kind: Kind,
+    values: &[Value],
+    list: RuleList,
+) -> Result<Vec<T>, RulesFault>
+    ensures { Gives (λ rules. rules.items) (rules_in_list list (T.read kind) values.now) result }
+{
+    let mut rules = Vec::new(alloc);
+    for value in values {
+        let Some(rule) = T::read(alloc, kind, value)? else {
+            return Err(RulesFault::NoRule(list, rules.as_slice().len() as u64));
+        };
+        rules.push(rule)?;
+    }
+    Ok(rules)
+}

@@ -1,0 +1,37 @@
+use crate::{RequestKind, RuleData};
+
+/// Each request of a kind is answered by a success with these TLVs or this buffer.
+#[derive(Debug, Drop)]
+pub struct AnswerRule {
+    pub kind: RequestKind,
+    pub data: RuleData,
+}
+
+/// One request of a kind fails.
+#[derive(Clone, Copy, Debug, PartialEq, Eq)]
+pub struct FaultRule {
+    pub kind: RequestKind,
+    /// Which of the requests of the kind it is, counted from 1.
+    pub nth: u64,
+    /// The error by which it is refused, or None where it isn't answered.
+    pub error: Option<u16>,
+}
+
+/// Each request of a kind brings an indication.
+#[derive(Debug, Drop)]
+pub struct IndicationRule {
+    /// The kind of the requests behind which it is sent.
+    pub after: RequestKind,
+    /// What it is an indication of.
+    pub kind: RequestKind,
+    /// Its TLVs or its buffer.
+    pub data: RuleData,
+}
+
+/// What a simulated modem does otherwise than by itself.
+#[derive(Debug, Drop)]
+pub struct Rules {
+    pub answers: Vec<AnswerRule>,
+    pub faults: Vec<FaultRule>,
+    pub indications: Vec<IndicationRule>,
+}

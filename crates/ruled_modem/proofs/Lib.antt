@@ -1,0 +1,3 @@
+pub mod Nearer
+pub mod Keeping
+pub mod Telling

@@ -1,0 +1,5 @@
+pub mod Requests
+pub mod Replies
+pub mod Turns
+pub mod Ruled
+pub mod Keeping

@@ -1,0 +1,52 @@
+-- What a modem sends by a rule. To a message that is no whole request it sends nothing.
+use Rattle.std.specs.Prelude.{ℕ, List, [], ◌++◌, length, Option, Some, None}
+use Rattle.kit_bytes.specs.declared.Kind.{Kind}
+use Rattle.kit_bytes.specs.declared.Kind.TheVariants.{Qmi, Mbim}
+use Rattle.qmux_frame.specs.declared.head.Head.{Head}
+use Rattle.qmux_frame.specs.declared.kind.MessageKind.TheVariants as qmi
+use Rattle.qmux_frame.specs.declared.writing.Sender.TheVariants as sender
+use Rattle.qmux_frame.specs.Kind.{flags_for}
+use Rattle.qmux_frame.specs.Reply.{reply_to, result_tlv}
+use Rattle.qmux_frame.specs.Writing.{message_text}
+use Rattle.mbim_frame.specs.declared.bodies.CommandHead.{CommandHead}
+use Rattle.mbim_frame.specs.declared.kind.MessageKind.TheVariants.{CommandDone, IndicateStatus}
+use Rattle.mbim_frame.specs.Bodies.{done_text}
+use Rattle.mbim_frame.specs.Head.{number_of}
+use Rattle.mbim_frame.specs.Kinds.{kind_number}
+use Rattle.mbim_frame.specs.Numbers.{u32_bytes}
+use Rattle.mbim_fragments.specs.Splitting.{split}
+use Rattle.modem_rules.specs.declared.kind.RequestKind.{RequestKind}
+use Rattle.modem_rules.specs.declared.kind.RequestKind.TheVariants.{Message, Command}
+use Rattle.ruled_modem.specs.Requests.{request_in, command_in}
+
+-- ---- replies ----
+
+-- the reply to a command, in messages of at most 4,096 bytes
+abbrev pub done : (number : ℕ) → CommandHead → (status : ℕ) → (buffer : List ℕ) → List ℕ
+done number head status buffer = split (kind_number CommandDone) number 4096 (done_text (record { uuid = head.uuid; cid = head.cid; status = status }) buffer)
+
+abbrev pub done_if : (number : ℕ) → Option CommandHead → (status : ℕ) → (buffer : List ℕ) → List ℕ
+done_if number None status buffer = []
+done_if number (Some head) status buffer = done number head status buffer
+
+abbrev pub response_if : Option Head → (error : ℕ) → (tlvs : List ℕ) → List ℕ
+response_if None error tlvs = []
+response_if (Some head) error tlvs = message_text (reply_to head) (result_tlv error ++ tlvs)
+
+-- with this error in the Result TLV and these TLVs behind it, or with this status and buffer; 0 is a success
+abbrev pub reply : Kind → (message : List ℕ) → (error : ℕ) → (bytes : List ℕ) → List ℕ
+reply Qmi message error bytes = response_if (request_in message) error bytes
+reply Mbim message error bytes = done_if (number_of message) (command_in message) error bytes
+
+-- ---- indications ----
+
+-- to every client of a service
+abbrev pub message_told : (service message : ℕ) → (tlvs : List ℕ) → List ℕ
+message_told service message tlvs = message_text (record { sender = sender.Modem; service = service; client = 255; flags = flags_for service qmi.Indication; number = 0; message = message }) tlvs
+
+abbrev pub command_told : (service : List ℕ) → (command : ℕ) → (buffer : List ℕ) → List ℕ
+command_told service command buffer = split (kind_number IndicateStatus) 0 4096 (service ++ u32_bytes command ++ u32_bytes (length buffer) ++ buffer)
+
+abbrev pub indication : RequestKind → (bytes : List ℕ) → List ℕ
+indication (Message service message) bytes = message_told service message bytes
+indication (Command service command) bytes = command_told service command bytes

@@ -1,0 +1,47 @@
+-- A modem that goes by rules: what it answers, by what it answers without them. Lists of messages have the newest first.
+use Rattle.std.specs.Prelude.{ℕ, ◌+◌, Bool, false, ◌&&◌, ◌==◌, List, [], ◌∷◌, filter, find, length, Option, Some, None}
+use Rattle.kit_bytes.specs.declared.Kind.{Kind}
+use Rattle.modem_rules.specs.declared.kind.RequestKind.{RequestKind}
+use Rattle.modem_rules.specs.declared.rules.FaultRule.{FaultRule}
+use Rattle.modem_rules.specs.Kinds.{is_same}
+use Rattle.modem_rules.specs.Rules.{Rules}
+use Rattle.sim_modem.specs.Sim.{Answering}
+use Rattle.ruled_modem.specs.Requests.{kind_of}
+use Rattle.ruled_modem.specs.Turns.{meets, reaches}
+
+-- ---- which request it is ----
+
+abbrev pub is_kind : RequestKind → Option RequestKind → Bool
+is_kind kind None = false
+is_kind kind (Some other) = is_same other kind
+
+-- how many of these messages are requests of the kind
+abbrev pub count : Kind → RequestKind → List (List ℕ) → ℕ
+count modem kind past = length (filter (λ message. is_kind kind (kind_of modem message)) past)
+
+-- a fault is for the Nth request of its kind, which comes behind N - 1 others
+abbrev pub is_for : Kind → (past : List (List ℕ)) → RequestKind → FaultRule → Bool
+is_for modem past kind fault = is_same kind fault.kind && fault.nth == count modem fault.kind past + 1
+
+-- the first fault for a request of the kind behind these messages
+abbrev pub fault_for : Kind → (past : List (List ℕ)) → RequestKind → List FaultRule → Option FaultRule
+fault_for modem past kind faults = find (is_for modem past kind) faults
+
+-- ---- what it answers ----
+
+-- the messages that reach the modem itself: those that are no requests, and the requests for which there is no rule
+abbrev pub reached_by : Kind → Rules → (past reached : List (List ℕ)) → (message : List ℕ) → Option RequestKind → List (List ℕ)
+reached_by modem rules past reached message None = message ∷ reached
+reached_by modem rules past reached message (Some kind) = reaches rules reached kind (fault_for modem past kind rules.faults) message
+
+abbrev pub reached : Kind → Rules → List (List ℕ) → List (List ℕ)
+reached modem rules [] = []
+reached modem rules (message ∷ past) = reached_by modem rules past (reached modem rules past) message (kind_of modem message)
+
+abbrev pub ruled_by : Kind → Rules → Answering → (past reached : List (List ℕ)) → (message : List ℕ) → Option RequestKind → List ℕ
+ruled_by modem rules answers past reached message None = answers reached message
+ruled_by modem rules answers past reached message (Some kind) = meets modem rules answers reached kind (fault_for modem past kind rules.faults) message
+
+-- by these rules, where it has these answers without them
+abbrev pub ruled : Kind → Rules → Answering → Answering
+ruled modem rules answers past message = ruled_by modem rules answers past (reached modem rules past) message (kind_of modem message)

@@ -1,0 +1,155 @@
+ghost use Rattle.std.specs.Prelude.{◌≡◌, ◌≤◌, ◌++◌, [], length, IfOk};
+ghost use Rattle.mbim_frame.specs.Head.{number_of};
+ghost use Rattle.qmux_frame.specs.Reply.{reply_to, result_tlv};
+ghost use Rattle.qmux_frame.specs.Writing.{message_text};
+ghost use Rattle.ruled_modem.specs.Replies as spec;
+
+use crate::requests::{command_in, request_in};
+use kit_bytes::{Kind, Octets, u16_bytes, u32_bytes};
+use mbim_fragments::split;
+use mbim_frame::{CommandHead, DoneHead, MHead};
+use modem_rules::{LONGEST_DATA, RequestKind, RuleData};
+use qmux_frame::{Head, MessageKind, NewMessage, Sender};
+use std::alloc::{AllocError, Global};
+use uuid::Uuid;
+
+// The client id of what goes to every client.
+const EVERY_CLIENT: u8 = 255;
+
+// How many bytes a message of MBIM has at most.
+const LONGEST_MESSAGE: u32 = 4_096;
+
+/// The reply to a request with this error, where 0 is a success, and these bytes.
+pub(crate) fn reply(
+    alloc: Global,
+    kind: Kind,
+    message: &[u8],
+    error: u16,
+    bytes: &[u8],
+) -> Result<Octets, AllocError>
+    requires { length bytes.now ≤ LONGEST_DATA }
+    ensures { IfOk result (λ octets. octets ≡ spec.reply kind message.now error bytes.now) }
+{
+    match kind {
+        Kind::Qmi => match request_in(message) {
+            Some(head) => response(alloc, &head, error, bytes),
+            None => Ok(Octets::new(alloc)),
+        },
+        Kind::Mbim => match command_in(message) {
+            Some(head) => {
+                let number = MHead::read(message).number;
+                done(alloc, number, &head, u32::from(error), bytes)
+            }
+            None => Ok(Octets::new(alloc)),
+        },
+    }
+}
+
+// The response that has these TLVs behind the Result TLV.
+fn response(alloc: Global, head: &Head, error: u16, tlvs: &[u8]) -> Result<Octets, AllocError>
+    requires { length tlvs.now ≤ LONGEST_DATA }
+    ensures { IfOk result (λ octets. octets ≡ message_text (reply_to head.now) (result_tlv error ++ tlvs.now)) }
+{
+    let mut all = Octets::from_slice(alloc, &result_tlv(error))?;
+    all.extend_from_slice(tlvs)?;
+    reply_to(head).write(alloc, all.as_slice())
+}
+
+fn result_tlv(error: u16) -> [u8; 7]
+    ensures { result ≡ result_tlv error }
+{
+    let status = u8::from(error != 0);
+    let [low, high] = u16_bytes(error);
+    [0x02, 0x04, 0x00, status, 0x00, low, high]
+}
+
+// What answers a message with this head, but for its TLVs.
+fn reply_to(head: &Head) -> NewMessage
+    ensures reply { result ≡ reply_to head.now }
+    ensures fits { result.service ≡ 0 → result.number ≤ 255 }
+{
+    let number = if head.service == 0 {
+        head.number % 256
+    } else {
+        head.number
+    };
+    NewMessage {
+        sender: Sender::Modem,
+        service: head.service,
+        client: head.client,
+        flags: MessageKind::Response.flags(head.service),
+        number,
+        message: head.message,
+    }
+}
+
+// The reply to a command with this status and buffer.
+fn done(
+    alloc: Global,
+    number: u32,
+    head: &CommandHead,
+    status: u32,
+    buffer: &[u8],
+) -> Result<Octets, AllocError>
+    requires { length buffer.now ≤ LONGEST_DATA }
+    ensures { IfOk result (λ octets. octets ≡ spec.done number head.now status buffer.now) }
+{
+    let done = DoneHead {
+        uuid: head.uuid,
+        cid: head.cid,
+        status,
+    };
+    let mut body = Octets::from_slice(alloc, &done.bytes(buffer.len() as u32))?;
+    body.extend_from_slice(buffer)?;
+    let kind = mbim_frame::MessageKind::CommandDone.number();
+    split(alloc, kind, number, body.as_slice(), LONGEST_MESSAGE)
+}
+
+/// The indication of this kind with this data, which goes to every client.
+pub(crate) fn indication(
+    alloc: Global,
+    kind: &RequestKind,
+    data: &RuleData,
+) -> Result<Octets, AllocError>
+    ensures { IfOk result (λ octets. octets ≡ spec.indication kind.now «data».now) }
+{
+    match kind {
+        RequestKind::Message { service, message } => message_told(alloc, *service, *message, data),
+        RequestKind::Command { service, command } => command_told(alloc, *service, *command, data),
+    }
+}
+
+fn message_told(
+    alloc: Global,
+    service: u8,
+    message: u16,
+    data: &RuleData,
+) -> Result<Octets, AllocError>
+    ensures { IfOk result (λ octets. octets ≡ spec.message_told service message «data».now) }
+{
+    let told = NewMessage {
+        sender: Sender::Modem,
+        service,
+        client: EVERY_CLIENT,
+        flags: MessageKind::Indication.flags(service),
+        number: 0,
+        message,
+    };
+    told.write(alloc, data.as_slice())
+}
+
+fn command_told(
+    alloc: Global,
+    service: Uuid,
+    command: u32,
+    data: &RuleData,
+) -> Result<Octets, AllocError>
+    ensures { IfOk result (λ octets. octets ≡ spec.command_told service command «data».now) }
+{
+    let buffer = data.as_slice();
+    let mut body = Octets::from_slice(alloc, service.as_bytes())?;
+    body.extend_from_slice(&u32_bytes(command))?;
+    body.extend_from_slices(&u32_bytes(buffer.len() as u32), buffer)?;
+    let kind = mbim_frame::MessageKind::IndicateStatus.number();
+    split(alloc, kind, 0, body.as_slice(), LONGEST_MESSAGE)
+}
