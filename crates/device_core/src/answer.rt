@@ -14,7 +14,7 @@ use tlv_codec::tlv_value;
 const ALLOCATION: u8 = 0x01;
 
 /// What the whole message that begins at this place says to a request.
-pub(crate) fn read(
+pub fn read(
     alloc: Global,
     body: &QmiRequest,
     place: u64,
@@ -34,7 +34,7 @@ pub(crate) fn read(
 }
 
 /// The client id that these TLVs allocate.
-pub(crate) fn allocated(tlvs: &[u8]) -> u8
+pub fn allocated(tlvs: &[u8]) -> u8
     requires { IsSome (allocated_in tlvs.now) }
     ensures { allocated_in tlvs.now ≡ Some result }
 {

@@ -47,7 +47,7 @@ pub fn qmi_session<L: Link>(
 }
 
 /// The error, where an answer is a failure.
-fn failure(answer: &QmiAnswer) -> Option<u16>
+pub fn failure(answer: &QmiAnswer) -> Option<u16>
     ensures { result ≡ failure_in answer.now }
 {
     match answer {
@@ -57,7 +57,7 @@ fn failure(answer: &QmiAnswer) -> Option<u16>
 }
 
 /// The end of a session whose command wasn't sent.
-fn failed(error: u16) -> QmiEnd
+pub fn failed(error: u16) -> QmiEnd
     ensures { result ≡ failed error }
 {
     QmiEnd {
@@ -144,7 +144,7 @@ fn run_command<L: Link>(
 }
 
 /// The number of a command: of service 0 the next one, of the others the first.
-fn command_number(body: &QmiRequest, next: u8) -> u8
+pub fn command_number(body: &QmiRequest, next: u8) -> u8
     ensures { result ≡ (if (row_of body.now).service == 0 then next else 1) }
 {
     if service_of(body) == 0 { next } else { 1 }

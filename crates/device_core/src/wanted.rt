@@ -6,15 +6,15 @@ use qmux_frame::{Head, Qmux};
 
 /// The service, the client id and the number that an answer has.
 #[derive(Clone, Copy, Debug, PartialEq, Eq)]
-pub(crate) struct Wanted {
-    pub(crate) service: u8,
-    pub(crate) client: u8,
-    pub(crate) number: u8,
+pub struct Wanted {
+    pub service: u8,
+    pub client: u8,
+    pub number: u8,
 }
 
 impl Wanted {
-    // Whether a whole message is the answer.
-    fn is_answered_by(self, message: &[u8]) -> bool
+    /// Whether a whole message is the answer.
+    pub fn is_answered_by(self, message: &[u8]) -> bool
         requires { 12 ≤ length message.now }
         ensures { result ≡ answers self message.now }
     {

@@ -70,7 +70,7 @@ fn hear<L: Link>(
 }
 
 /// Closes the modem. What the answer says isn't read.
-pub(crate) fn close<L: Link>(
+pub fn close<L: Link>(
     link: &mut L,
     incoming: &mut Incoming<Mbim>,
     number: u32,

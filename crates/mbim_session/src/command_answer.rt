@@ -1,8 +1,9 @@
 ghost use Rattle.std.specs.Prelude.{◌≡◌, ◌≢◌, ◌≤◌, [], List, None, Err, IfOk, length};
+ghost use Rattle.std.specs.Option.{unwrap_or};
 ghost use Rattle.mbim_fragments.specs.Assembling.{fresh};
 ghost use Rattle.link_session.specs.Marks.{Placed};
 ghost use Rattle.link_session.specs.Hearing.{Hears};
-ghost use Rattle.mbim_session.specs.Requests.{judge_piece};
+ghost use Rattle.mbim_session.specs.Requests.{is_error, judge_piece};
 ghost use Rattle.mbim_session.specs.Answers.{Reads, ReadsBody, ReadsError, body_with};
 ghost use Rattle.mbim_session.specs.Hearing.{HasBody, HasPieces, HasReply};
 
@@ -18,7 +19,7 @@ use std::alloc::{AllocError, Global};
 
 /// The answer to a command, as it comes in.
 #[derive(Drop)]
-pub(crate) struct CommandAnswer {
+pub struct CommandAnswer {
     number: u32,
     assembly: Assembly,
     // What its fragments carry, once all have come.
@@ -29,7 +30,7 @@ pub(crate) struct CommandAnswer {
 
 impl CommandAnswer {
     /// The answer to the command with this number, of which nothing has come.
-    pub(crate) fn open(alloc: Global, number: u32) -> Result<Self, AllocError>
+    pub fn open(alloc: Global, number: u32) -> Result<Self, AllocError>
         ensures { IfOk result (λ answer. answer ≡ record { number = number; assembly = fresh; body = []; first = None }) }
     {
         Ok(CommandAnswer {
@@ -56,6 +57,28 @@ impl CommandAnswer {
             Took::Message => Meaning::Answer,
             Took::OutOfSequence | Took::TooLong => Meaning::Broken { place },
         }
+    }
+
+    /// Whether a message is a FUNCTION_ERROR in place of the answer.
+    pub fn is_error(&self, message: &[u8]) -> bool
+        requires { 12 ≤ length message.now }
+        ensures { result ≡ is_error self.now.number message.now }
+    {
+        is_of(MessageKind::FunctionError, self.number, message)
+    }
+
+    /// Where the answer begins, if not at this place.
+    pub fn begin(&self, place: u64) -> u64
+        ensures { result ≡ unwrap_or self.now.first place }
+    {
+        self.first.unwrap_or(place)
+    }
+
+    /// What its fragments carry, once all have come.
+    pub fn body(&self) -> &[u8]
+        ensures { result.now ≡ self.now.body }
+    {
+        self.body.as_slice()
     }
 
     /// What the answer says to a request. Its last message begins at this place.

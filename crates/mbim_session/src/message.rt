@@ -10,7 +10,7 @@ use mbim_services::command;
 use std::alloc::{AllocError, Global};
 
 /// The messages of a session have at most so many bytes.
-pub(crate) const LONGEST_SENT: u32 = 4_096;
+pub const LONGEST_SENT: u32 = 4_096;
 
 // The body of the message that carries the command of a request whole.
 fn command_body(alloc: Global, request: &MbimRequest) -> Result<Octets, AllocError>

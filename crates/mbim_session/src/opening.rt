@@ -17,7 +17,7 @@ use mbim_services::MbimAnswer;
 
 /// Opens the modem, and tells how it refuses, if it does. The answer is waited for for so many
 /// seconds.
-pub(crate) fn open<L: Link>(
+pub fn open<L: Link>(
     link: &mut L,
     incoming: &mut Incoming<Mbim>,
     number: u32,

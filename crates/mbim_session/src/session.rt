@@ -61,7 +61,7 @@ fn ask_all<L: Link>(
 }
 
 /// Asks the proxy behind the link for the device of this path.
-fn configure<L: Link>(
+pub fn configure<L: Link>(
     alloc: Global,
     link: &mut L,
     incoming: &mut Incoming<Mbim>,

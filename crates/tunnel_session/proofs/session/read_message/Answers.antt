@@ -1,0 +1,6 @@
+use Rattle.std.proofs.Common.{ℕ, List, subst}
+use Rattle.device_core.specs.Session.{Reads}
+use Rattle.tunnel_session.proofs.session.read_message.Goals as goal
+
+pub returns : goal.returns
+returns c = subst (λ (l : List ℕ). Reads c.args.body.now (record { place = c.args.message.now.place; bytes = l }) c.read.result) c.as_slice.ensures c.read.ensures

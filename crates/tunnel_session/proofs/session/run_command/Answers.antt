@@ -1,0 +1,18 @@
+use Rattle.std.proofs.Common.{Ok, refl, ap}
+use Rattle.std.proofs.lemmas.Result.{err_from_is_err_and}
+use Rattle.link_session.proofs.Steps.{Makes-none, Replies-as, Step-read, Step-unread}
+use Rattle.tunnel_session.specs.declared.ends.TunnelEnd.{TunnelEnd}
+use Rattle.tunnel_session.proofs.session.run_command.Goals as goal
+
+pub returns-in_err-reply-clause-commands : goal.returns-in_err-reply-clause-commands
+returns-in_err-reply-clause-commands g c = λ heard stands.
+    let p = err_from_is_err_and c.from_residual.result c.from_residual.ensures.1 in
+    rw (p.1, p.2) (Step-unread (rw c.command_number-qmi_number.ensures at (c.in_err-reply.ensures.asks heard stands)))
+
+pub returns-in-Message-clause-commands : goal.returns-in-Message-clause-commands
+returns-in-Message-clause-commands g c = λ heard stands.
+    let replies = Replies-as c.in-Message.is (rw c.command_number-qmi_number.ensures at (c.in_ok-reply.ensures.asks heard stands)) in Step-read replies (rw c.in-Message.message-is at (c.read_command.ensures.reads replies.later replies.says.2))
+
+pub returns-in-Refused-clause-commands : goal.returns-in-Refused-clause-commands
+returns-in-Refused-clause-commands g c = λ heard stands.
+    let replies = Replies-as c.in-Refused.is (rw c.command_number-qmi_number.ensures at (c.in_ok-reply.ensures.asks heard stands)) in Step-read replies (Makes-none _ (refl, ap (λ (e : TunnelEnd). Ok e) c.in-Refused.end-is))
