@@ -1,10 +1,10 @@
 -- One text more comes to a peer.
-use Rattle.std.proofs.Common.{◌≡◌, ℕ, List, [], ◌∷◌, ◌++◌, reverse, refl, sym, ap, ◌∙◌, subst}
+use Rattle.std.proofs.Common.{◌≡◌, ℕ, List, [], ◌∷◌, ◌++◌, reverse, refl, sym, ap}
 use Rattle.std.proofs.lemmas.List.{reverse-append}
 use Rattle.std.specs.List.{concat}
 use Rattle.framing.specs.Cutting.{cut}
 use Rattle.proxy_history.specs.Streams.{Framing}
-use Rattle.lone_client.specs.Relay.{Answering, Cast, Stage, ask, asked_by, asked_then, relayed, reply, sent_for, through, to_newest}
+use Rattle.lone_client.specs.Relay.{Answering, Cast, ask, asked_by, asked_then, relayed, reply, sent_for, through, to_newest}
 use Rattle.qmi_twice.specs.Peers.{at_modem}
 
 pub reverse_last : (texts : List (List ℕ)) (text : List ℕ) → reverse (texts ++ text ∷ []) ≡ text ∷ reverse texts

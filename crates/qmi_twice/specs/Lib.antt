@@ -4,3 +4,6 @@ pub mod Named
 pub mod Relaying
 pub mod Peers
 pub mod Told
+pub mod Printed
+pub mod Held
+pub mod Twice

@@ -1,6 +1,6 @@
 -- From the calls that name them a profile and a device can be told.
-use Rattle.std.proofs.Common.{◌≡◌, ℕ, ℤ, pos, negsuc, List, [], ◌∷◌, ◌++◌, refl, ap, sym, ◌∙◌}
-use Rattle.link_io.specs.Calls.{Call, Took, Closed}
+use Rattle.std.proofs.Common.{◌≡◌, ℕ, ℤ, pos, negsuc, List, [], ◌∷◌, ◌++◌, refl, ap, ◌∙◌}
+use Rattle.link_io.specs.Calls.{Call, Took}
 use Rattle.modem_profile.specs.declared.phonebook.PhonebookEntry.{PhonebookEntry}
 use Rattle.modem_profile.specs.Profile.{Profile}
 use Rattle.qmi_twice.specs.Naming.{named_number, named_texts, named_entries, named_profile, named_proxy}

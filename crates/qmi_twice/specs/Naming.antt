@@ -1,6 +1,5 @@
 -- Calls that name a profile and a device: from them both can be told.
 use Rattle.std.specs.Prelude.{ℕ, ℤ, pos, negsuc, List, [], ◌∷◌}
-use Rattle.std.specs.Str.{encode_utf8_all}
 use Rattle.link_io.specs.Calls.{Call, Took, Closed}
 use Rattle.modem_profile.specs.declared.phonebook.PhonebookEntry.{PhonebookEntry}
 use Rattle.modem_profile.specs.Profile.{Profile}

@@ -9,7 +9,6 @@ use Rattle.proxy_history.specs.Proxy.{Proxy}
 use Rattle.proxy_history.specs.Streams.{Framing}
 use Rattle.core_bench.specs.Runs.{Run, proxy_for}
 use Rattle.rig_runs.specs.Rig.{time_limit}
-use Rattle.rig_stage.specs.Running.{Runs}
 use Rattle.lone_client.specs.Relay.{Answering, Cast, asked_by, relayed, sent_for, to_newest}
 use Rattle.qmi_twice.specs.Relaying.{IsRelayed}
 

@@ -1,13 +1,16 @@
-//! What a tool finds that is alone: a simulated modem itself, or a core of a proxy before one, each of
-//! which answers a text at once.
+//! A command of a QMI tool twice, at a simulated modem itself and through a proxy where the tool is
+//! alone: it prints the same.
 #![tactic(auto)]
 
 mod asking;
 mod messages;
 mod modem;
+mod printed;
 mod proxy;
 mod relaying;
+mod session;
+mod sim;
+mod twice;
 
-pub use modem::{ModemPeer, Simulated};
-pub use proxy::ProxyPeer;
-pub use relaying::play;
+pub use printed::Printed;
+pub use twice::{Twice, qmi_twice};

@@ -1,4 +1,4 @@
-use Rattle.std.proofs.Common.{List, ℕ, ◌∙◌}
+use Rattle.std.proofs.Common.{◌∙◌}
 use Rattle.framing.specs.Cutting.{cut}
 use Rattle.rig_stage.proofs.Splitting.{first_is}
 use Rattle.qmi_twice.proofs.Hearing.{hearing_begins, hearing_one, hearing_done}

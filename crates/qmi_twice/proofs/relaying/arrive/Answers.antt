@@ -1,4 +1,4 @@
-use Rattle.std.proofs.Common.{◌≡◌, ℕ, ◌+◌, ◌≤◌, List, [], ◌∷◌, length, take, refl, sym, ap, ◌∙◌, subst, rules}
+use Rattle.std.proofs.Common.{ℕ, ◌≤◌, List, ◌∷◌, length, take, refl, sym, ap, ◌∙◌, subst, rules}
 use Rattle.std.proofs.lemmas.List.{take_all}
 use Rattle.proxy_history.specs.Events.{ModemPiece}
 use Rattle.lone_client.specs.Relay.{hear_each}
