@@ -26,8 +26,9 @@ impl Printed {
 
 /// What is printed where a session ended so.
 ///
-/// The link of such a session fails for want of memory alone, and whoever it leads to answers each text
-/// at once: so the faults that aren't named here come for want of memory.
+/// The link of such a session fails for want of memory alone, and the session of a command gets an answer:
+/// so the faults that aren't named here come for want of memory. A session of anything else may also end in
+/// silence, which is answered as want of memory too.
 pub(crate) fn print(
     alloc: Global,
     end: &Result<QmiEnd, SessionFault>,
