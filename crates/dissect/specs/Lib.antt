@@ -1,5 +1,7 @@
 pub mod Lines
+pub mod Places
 pub mod Qmi
 pub mod Mbim
+pub mod Runs
 pub mod Stream
 pub mod Examples

@@ -9,6 +9,8 @@ use Rattle.mbim_frame.specs.declared.bodies.IndicationHead.{IndicationHead}
 use Rattle.mbim_frame.specs.Kinds.{kind_numbered}
 use Rattle.mbim_frame.specs.Head.{head_of, kind_of, tail_of, is_kind}
 use Rattle.mbim_frame.specs.Bodies.{read_command, read_done, read_indication, buffer_of, indicated_buffer_of}
+use Rattle.mbim_fragments.specs.declared.assembly.Took.{Took}
+use Rattle.mbim_fragments.specs.declared.assembly.Took.TheVariants as took
 use Rattle.mbim_fragments.specs.declared.assembly.TheConstants.{LONGEST_BODY}
 use Rattle.mbim_fragments.specs.Runs.{Joining, More, Whole, OutOfSequence, TooLong, joining, run_of}
 use Rattle.mbim_fields.specs.Layout.{Layout}
@@ -123,6 +125,12 @@ joined_lines kind More = []
 joined_lines kind (Whole body) = body_lines kind body
 joined_lines kind OutOfSequence = codes "  refused\n"
 joined_lines kind TooLong = codes "  refused\n"
+
+-- what is told of a fragment, with the body that was completed last
+abbrev pub took_lines : MessageKind → Took → List ℕ → List ℕ
+took_lines kind took.Message body = body_lines kind body
+took_lines kind took.More body = []
+took_lines kind _ body = codes "  refused\n"
 
 -- ---- the message ----
 

@@ -1,0 +1,172 @@
+ghost use Rattle.std.specs.Prelude.{◌≡◌, ◌≤◌, ◌<◌, ◌++◌, ◌==◌, [], ◌∷◌, length, map, option_map, encode_utf8_all, string_bytes, slice_index, codes, true, IfOk, IfSome, OnOk};
+ghost use Rattle.std.specs.List.{AllByRecursion, find, flat_map};
+ghost use Rattle.message_tables.specs.View.{tlv_view};
+ghost use Rattle.message_tables.specs.WellMade.{IsSoundTlv};
+ghost use Rattle.qmi_values.specs.View.{val_view};
+ghost use Rattle.dissect.specs.Places.{StandsWithin, entry_at};
+ghost use Rattle.dissect.specs.Qmi.{bytes_line, is_outcome, named_tlv, outcome_line, plain_lines, tlv_lines, tlv_name, value_lines};
+
+use crate::parts::{push_hex_line, push_number};
+use kit_bytes::{Octets, Text, u16_at};
+use message_tables::TlvShape;
+use qmi_values::Val;
+use qmicli_print::value_text;
+use qmux_frame::MessageKind;
+use std::alloc::{AllocError, Global};
+use tlv_codec::Tlv;
+use tlv_values::read_value;
+
+/// Adds the lines of the TLVs that stand at these places of some bytes.
+pub(crate) fn push_each(
+    alloc: Global,
+    text: &mut Octets,
+    kind: MessageKind,
+    forms: &[TlvShape],
+    bytes: &[u8],
+    list: &[Tlv],
+) -> Result<(), AllocError>
+    requires sound { AllByRecursion IsSoundTlv (map tlv_view forms.now) }
+    requires within { AllByRecursion (StandsWithin bytes.now) list.now }
+    ensures { OnOk result (text.new ≡ text.old ++ flat_map (tlv_lines kind (map tlv_view forms.now)) (map (entry_at bytes.now) list.now)) }
+{
+    for tlv in list {
+        let value = &bytes[tlv.start..tlv.end];
+        push_tlv(alloc, text, kind, forms, tlv.kind, value)?;
+    }
+    Ok(())
+}
+
+// Adds the lines of a TLV.
+fn push_tlv(
+    alloc: Global,
+    text: &mut Octets,
+    kind: MessageKind,
+    forms: &[TlvShape],
+    tlv: u8,
+    value: &[u8],
+) -> Result<(), AllocError>
+    requires { AllByRecursion IsSoundTlv (map tlv_view forms.now) }
+    ensures { OnOk result (text.new ≡ text.old ++ tlv_lines kind (map tlv_view forms.now) (record { kind = tlv; value = value.now })) }
+{
+    if is_outcome(kind, tlv, value) {
+        return push_outcome(text, value);
+    }
+    push_plain(alloc, text, form_of(forms, tlv), tlv, value)
+}
+
+// Whether it is the Result TLV of a response.
+fn is_outcome(kind: MessageKind, tlv: u8, value: &[u8]) -> bool
+    ensures outcome { result ≡ is_outcome kind (record { kind = tlv; value = value.now }) }
+    ensures whole { result ≡ true → length value.now ≡ 4 }
+{
+    matches!(kind, MessageKind::Response) && tlv == 2 && value.len() == 4
+}
+
+// Adds the line of the Result TLV.
+fn push_outcome(text: &mut Octets, value: &[u8]) -> Result<(), AllocError>
+    requires { length value.now ≡ 4 }
+    ensures { OnOk result (text.new ≡ text.old ++ outcome_line value.now) }
+{
+    push_number(text, "  0x02: status ", u64::from(u16_at(value, 0)))?;
+    push_number(text, ", error ", u64::from(u16_at(value, 2)))?;
+    text.extend_from_slice(b"\n")?;
+    Ok(())
+}
+
+// The form of a TLV, where there is one.
+fn form_of(forms: &[TlvShape], tlv: u8) -> Option<&TlvShape>
+    ensures { option_map (λ form. tlv_view form.now) result ≡ find (λ form. form.kind == tlv) (map tlv_view forms.now) }
+{
+    forms.iter().find(|form| form.kind == tlv)
+}
+
+// Adds the lines of a TLV of this form, if it has one.
+fn push_plain(
+    alloc: Global,
+    text: &mut Octets,
+    form: Option<&TlvShape>,
+    tlv: u8,
+    value: &[u8],
+) -> Result<(), AllocError>
+    requires { IfSome (option_map (λ form. tlv_view form.now) form) IsSoundTlv }
+    ensures { OnOk result (text.new ≡ text.old ++ plain_lines (record { kind = tlv; value = value.now }) (option_map (λ form. tlv_view form.now) form.entry)) }
+{
+    let Some(form) = form else {
+        return push_bytes(alloc, text, tlv, value);
+    };
+    let val = read_value(alloc, &form.shape, value)?;
+    push_value(alloc, text, form, val, tlv, value)
+}
+
+// Adds the lines of a value, or its bytes where it doesn't read.
+fn push_value(
+    alloc: Global,
+    text: &mut Octets,
+    form: &TlvShape,
+    val: Option<Val>,
+    tlv: u8,
+    value: &[u8],
+) -> Result<(), AllocError>
+    ensures { OnOk result (text.new ≡ text.old ++ value_lines (record { kind = tlv; value = value.now }) (tlv_view form.now) (option_map val_view val)) }
+{
+    let Some(val) = val else {
+        return push_bytes(alloc, text, tlv, value);
+    };
+    let name = named_tlv(alloc, tlv, form)?;
+    let lines = value_text(alloc, 1, &name, &form.shape, &val)?;
+    text.extend_from_slice(lines.as_slice())
+}
+
+// Adds the bytes of a TLV.
+fn push_bytes(alloc: Global, text: &mut Octets, tlv: u8, value: &[u8]) -> Result<(), AllocError>
+    ensures { OnOk result (text.new ≡ text.old ++ bytes_line (record { kind = tlv; value = value.now })) }
+{
+    let name = tlv_name(alloc, tlv)?;
+    push_hex_line(alloc, text, name.as_str(), value)
+}
+
+// A TLV by its type.
+fn tlv_name(alloc: Global, tlv: u8) -> Result<String, AllocError>
+    ensures { IfOk result (λ text. string_bytes text ≡ tlv_name tlv) }
+{
+    let mut text = String::from_str(alloc, "0x")?;
+    text.push_str(digit(tlv / 16))?;
+    text.push_str(digit(tlv % 16))?;
+    Ok(text)
+}
+
+// A TLV by its type and its name in the tables.
+#[tactic(auto, unfolding(crate::specs::Qmi::named_tlv))]
+fn named_tlv(alloc: Global, tlv: u8, form: &TlvShape) -> Result<Text, AllocError>
+    ensures { IfOk result (λ text. encode_utf8_all text ≡ named_tlv tlv (tlv_view form.now)) }
+{
+    let mut text = tlv_name(alloc, tlv)?;
+    text.push_str(" ")?;
+    text.push_str(form.name.as_str())?;
+    Ok(Text::from(text))
+}
+
+// A number as a hexadecimal digit.
+fn digit(number: u8) -> &'static str
+    requires { number < 16 }
+    ensures { result.now ≡ slice_index (codes "0123456789ABCDEF") number ∷ [] }
+{
+    match number {
+        0 => "0",
+        1 => "1",
+        2 => "2",
+        3 => "3",
+        4 => "4",
+        5 => "5",
+        6 => "6",
+        7 => "7",
+        8 => "8",
+        9 => "9",
+        10 => "A",
+        11 => "B",
+        12 => "C",
+        13 => "D",
+        14 => "E",
+        _ => "F",
+    }
+}
