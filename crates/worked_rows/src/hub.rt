@@ -108,6 +108,7 @@ fn call_of(key: &str, value: &str) -> Result<Option<HubCall>, RowFault> {
         "hub ends" => HubCall::Told(HubEvent::Stop),
         "hub fails" => HubCall::NextFailed,
         "reopens" => HubCall::Reopened,
+        "reopen fails" => HubCall::ReopenFailed,
         "hangs up" => HubCall::HungUp {
             conn: value.parse::<u64>()?,
         },
@@ -115,8 +116,11 @@ fn call_of(key: &str, value: &str) -> Result<Option<HubCall>, RowFault> {
     }))
 }
 
-// Bytes that are sent and taken whole, or come.
+// Bytes that are sent and taken whole, that can't be sent, or that come.
 fn piece_of(sent: bool, whom: &str, count: usize) -> Result<HubCall, RowFault> {
+    if sent && let Some(whom) = whom.strip_suffix(" fails") {
+        return failed_to(whom);
+    }
     if whom == "modem" {
         return Ok(if sent {
             HubCall::SentModem { taken: count }
@@ -130,6 +134,15 @@ fn piece_of(sent: bool, whom: &str, count: usize) -> Result<HubCall, RowFault> {
     } else {
         HubCall::Told(HubEvent::Piece(conn, count))
     })
+}
+
+// A send that fails.
+fn failed_to(whom: &str) -> Result<HubCall, RowFault> {
+    if whom == "modem" {
+        return Ok(HubCall::SendModemFailed);
+    }
+    let conn = whom.parse::<u64>()?;
+    Ok(HubCall::SendFailed { conn })
 }
 
 // The turn by which the hub tells something so.
@@ -151,6 +164,9 @@ fn turn_of(alloc: Global, call: HubCall, bytes: &[u8]) -> Result<Option<HubTurn>
 fn answer_of(call: HubCall) -> Option<HubAnswer> {
     match call {
         HubCall::Opened { ok: false } | HubCall::Paired { ok: false } => Some(HubAnswer::Fails),
+        HubCall::SendFailed { .. } | HubCall::SendModemFailed | HubCall::ReopenFailed => {
+            Some(HubAnswer::Fails)
+        }
         HubCall::Opened { ok: true } | HubCall::Paired { ok: true } | HubCall::Reopened => {
             Some(HubAnswer::Takes(0))
         }

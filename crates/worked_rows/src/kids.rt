@@ -38,6 +38,7 @@ impl KidCalls {
             "stops" => self.add_stop(alloc, value, true)?,
             "stop fails" => self.add_stop(alloc, value, false)?,
             "child ends" => self.add_end(alloc, value)?,
+            "child end fails" => self.add_failed_end(alloc, value)?,
             _ => return Ok(false),
         }
         Ok(true)
@@ -79,6 +80,11 @@ impl KidCalls {
             Made::Ended { child, status },
             SpawnerAnswer::EndsWith(status),
         )
+    }
+
+    fn add_failed_end(&mut self, alloc: Global, child: &str) -> Result<(), RowFault> {
+        let child = child.parse::<u32>()?;
+        self.answer(alloc, Made::EndFailed { child }, SpawnerAnswer::Fails)
     }
 
     // Notes a call with no bytes that is answered so.

@@ -43,7 +43,7 @@ pub fn run_row(
 // An outside that answers as the row tells, before the run.
 fn outside_of(alloc: Global, row: &ToolRow<'_>, whole: bool) -> Result<Ran, AllocError> {
     let out = MemSink::new(alloc, Vec::from_slice(alloc, &row.sink)?, 10_000)?;
-    let err = MemSink::new(alloc, Vec::new(alloc), 1_000)?;
+    let err = MemSink::new(alloc, Vec::from_slice(alloc, &row.err_sink)?, 1_000)?;
     let link = link_of(alloc, &row.calls, whole)?;
     let hub = row.hub.hub(alloc)?;
     let kids = row.kids.spawner(alloc)?;

@@ -22,6 +22,7 @@ use std::alloc::Global;
 /// A send that fails has sent the first half. `repeats: N` makes the next of these N. Further lines:
 ///
 ///     stdout takes: N     stdout fails:        how stdout answers; then it takes all
+///     stderr fails:                            stderr takes nothing
 ///     file: TEXT          file bytes: BYTES    what the reads of the file give; then it ends
 ///     read fails:         file open fails:     a call on the file that fails
 ///     file calls: N                            how many calls are made on it
@@ -33,6 +34,7 @@ use std::alloc::Global;
 ///     starts, start fails: WORDS               a child that is started, or can't be
 ///     stops, stop fails: N                     the Nth child that is stopped, or can't be
 ///     child ends: N STATUS                     the Nth child, which is waited for, ends so
+///     child end fails: N                       or can't be waited for
 ///     out: LINE           out begins: TEXT     what is printed
 ///     err: LINE           status: N            how the run ends
 ///     asks: COMMAND       requests: REQUEST    what the words ask for; then nothing is run
@@ -49,7 +51,8 @@ use std::alloc::Global;
 ///     from N: BYTES       from modem: BYTES   what it gives
 ///     hub ends:           hub fails:          it tells to stop, or can't tell anything
 ///     to N: BYTES         to modem: BYTES     what is sent, and is taken whole
-///     reopens:            hangs up: N
+///     to N fails: BYTES   to modem fails: BYTES       or can't be sent
+///     reopens:            reopen fails:       hangs up: N
 ///
 /// and all that is run on the bench:
 ///
@@ -62,6 +65,7 @@ pub struct ToolRow<'a> {
     pub words: Vec<String>,
     pub calls: Vec<Call>,
     pub sink: Vec<SinkAnswer>,
+    pub err_sink: Vec<SinkAnswer>,
     pub files: FileCalls,
     pub kids: KidCalls,
     pub hub: HubCalls,
@@ -127,6 +131,7 @@ fn read_tool_row<'a>(
         words: words_of(alloc, row.first.value)?,
         calls: Vec::new(alloc),
         sink: Vec::new(alloc),
+        err_sink: Vec::new(alloc),
         files: FileCalls::none(alloc),
         kids: KidCalls::none(alloc),
         hub: HubCalls::none(alloc),
@@ -192,6 +197,7 @@ impl<'a> ToolRow<'a> {
             "repeats" => self.times = value.parse::<u32>()?,
             "stdout takes" => self.sink.push(SinkAnswer::Takes(value.parse::<usize>()?))?,
             "stdout fails" => self.sink.push(SinkAnswer::Fails)?,
+            "stderr fails" => self.err_sink.push(SinkAnswer::Fails)?,
             _ => return Ok(false),
         }
         Ok(true)
