@@ -95,4 +95,5 @@ is_of_simulator (sim.Served end.OutOfMemory) never = tt
 is_of_simulator sim.HubFault never = tt
 is_of_simulator sim.ReadFault never = tt
 is_of_simulator (sim.ProfileFault fault) never = tt
+is_of_simulator (sim.RulesFault fault) never = tt
 is_of_simulator sim.OutOfMemory never = tt

@@ -94,10 +94,12 @@ RunsCommand (PduSubmit number text reference) before after result = EndsAs statu
 RunsCommand (Describe path) before after result = EndsAs status_of result (λ ends. Describes (encode_utf8_all path) before.files after.files before.out ends after.out)
 RunsCommand (Proxy kind device socket bridge empty exit_when_lost time release turns) before after result =
     ServesProxy kind (asked_in device socket (record { empty = empty; lost = exit_when_lost }) time release turns) (place_of (encode_utf8_all device) (encode_utf8_all bridge)) before.hub before.spawner result after.hub after.spawner
-RunsCommand (Simulator kind socket profile turns None) before after result =
+RunsCommand (Simulator kind socket profile None turns None) before after result =
     EndsAs status_of_sim result (λ ends. sim.Simulates profile (sim.asked_in kind socket turns) (record { files = before.files; hub = before.hub }) (record { files = after.files; hub = after.hub }) ends)
-RunsCommand (Simulator kind socket profile turns (Some most)) before after result =
-    EndsAs status_of_keeping result (λ ends. KeepsOrLacksMemory (start_words kind socket turns profile) most before.spawner ends after.spawner)
+RunsCommand (Simulator kind socket profile (Some rules) turns None) before after result =
+    EndsAs status_of_sim result (λ ends. sim.SimulatesByRules rules profile kind socket turns (record { files = before.files; hub = before.hub }) (record { files = after.files; hub = after.hub }) ends)
+RunsCommand (Simulator kind socket profile rules turns (Some most)) before after result =
+    EndsAs status_of_keeping result (λ ends. KeepsOrLacksMemory (start_words kind socket turns profile rules) most before.spawner ends after.spawner)
 RunsCommand (Pump read node bridge) before after result = PumpsTo read node bridge before.link before.files result after.link after.files
 RunsCommand (Rig kind clients messages number) before after result = RigsTo kind clients messages number before.bench before.out result after.bench after.out
 RunsCommand Version before after result = TellsVersion before.out result after.out
@@ -120,7 +122,7 @@ is_of_proxy (Proxy kind device socket bridge empty exit_when_lost time release t
 is_of_proxy _ = false
 
 abbrev pub is_of_simulator : ToolCommand → Bool
-is_of_simulator (Simulator kind socket profile turns keep) = true
+is_of_simulator (Simulator kind socket profile rules turns keep) = true
 is_of_simulator _ = false
 
 abbrev pub is_of_pump : ToolCommand → Bool
@@ -155,15 +157,15 @@ pub record Objects (L H P F O B : Type 0) : Type 0 where
 pub data NoObject : Type 0 where
   Absent : NoObject
 
--- what a command has no use for is left as it was: hub, files and bench by one that asks a modem, all but output by one that makes short messages, all but files and output by one that describes a file, all but hub and children by a proxy, all but hub and files by a simulated modem, the files too where no profile is named, all but children by one that is kept running, all but link and files by a pump, all but bench and output by a rig, and all but the output where the version is printed
+-- what a command has no use for is left as it was: hub, files and bench by one that asks a modem, all but output by one that makes short messages, all but files and output by one that describes a file, all but hub and children by a proxy, all but hub and files by a simulated modem, the files too where neither profile nor rules are named, all but children by one that is kept running, all but link and files by a pump, all but bench and output by a rig, and all but the output where the version is printed
 abbrev pub CommandLeavesAlone : {L H P F O B : Type 0} → ToolCommand → Objects L H P F O B → Objects L H P F O B → Type 0
 CommandLeavesAlone (Qmicli device proxied cid keep timeout request decode socket bridge) before after = (after.hub ≡ before.hub) × (after.files ≡ before.files) × (after.bench ≡ before.bench)
 CommandLeavesAlone (Mbimcli device proxied close timeout request decode socket bridge) before after = (after.hub ≡ before.hub) × (after.files ≡ before.files) × (after.bench ≡ before.bench)
 CommandLeavesAlone (PduSubmit number text reference) before after = (after.link ≡ before.link) × (after.hub ≡ before.hub) × (after.spawner ≡ before.spawner) × (after.files ≡ before.files) × (after.bench ≡ before.bench)
 CommandLeavesAlone (Describe path) before after = (after.link ≡ before.link) × (after.hub ≡ before.hub) × (after.spawner ≡ before.spawner) × (after.bench ≡ before.bench)
 CommandLeavesAlone (Proxy kind device socket bridge empty exit_when_lost time release turns) before after = (after.link ≡ before.link) × (after.files ≡ before.files) × (after.out ≡ before.out) × (after.bench ≡ before.bench)
-CommandLeavesAlone (Simulator kind socket profile turns None) before after = (after.link ≡ before.link) × (after.spawner ≡ before.spawner) × (profile ≡ None → after.files ≡ before.files) × (after.out ≡ before.out) × (after.bench ≡ before.bench)
-CommandLeavesAlone (Simulator kind socket profile turns (Some most)) before after = (after.link ≡ before.link) × (after.hub ≡ before.hub) × (after.files ≡ before.files) × (after.out ≡ before.out) × (after.bench ≡ before.bench)
+CommandLeavesAlone (Simulator kind socket profile rules turns None) before after = (after.link ≡ before.link) × (after.spawner ≡ before.spawner) × (profile ≡ None → rules ≡ None → after.files ≡ before.files) × (after.out ≡ before.out) × (after.bench ≡ before.bench)
+CommandLeavesAlone (Simulator kind socket profile rules turns (Some most)) before after = (after.link ≡ before.link) × (after.hub ≡ before.hub) × (after.files ≡ before.files) × (after.out ≡ before.out) × (after.bench ≡ before.bench)
 CommandLeavesAlone (Pump read node bridge) before after = (after.hub ≡ before.hub) × (after.spawner ≡ before.spawner) × (after.out ≡ before.out) × (after.bench ≡ before.bench)
 CommandLeavesAlone (Rig kind clients messages number) before after = (after.link ≡ before.link) × (after.hub ≡ before.hub) × (after.spawner ≡ before.spawner) × (after.files ≡ before.files)
 CommandLeavesAlone Version before after = (after.link ≡ before.link) × (after.hub ≡ before.hub) × (after.spawner ≡ before.spawner) × (after.files ≡ before.files) × (after.bench ≡ before.bench)

@@ -8,6 +8,9 @@ use Rattle.message_tables.specs.Members.{member_text}
 use Rattle.modem_profile.specs.Members as profile_members
 use Rattle.modem_profile.specs.declared.fault.ProfileFault.{ProfileFault}
 use Rattle.modem_profile.specs.declared.fault.ProfileFault.TheVariants as profile
+use Rattle.modem_rules.specs.Lists.{list_text}
+use Rattle.modem_rules.specs.declared.fault.RulesFault.{RulesFault}
+use Rattle.modem_rules.specs.declared.fault.RulesFault.TheVariants as rules
 use Rattle.pump.specs.declared.ending.PumpEnd.{PumpEnd}
 use Rattle.pump.specs.declared.ending.PumpEnd.TheVariants as pump
 use Rattle.sim_keeping.specs.declared.keeping.KeepEnd.{KeepEnd}
@@ -59,6 +62,14 @@ profile_line (Some profile.Json) = error_line (codes "profile: json") []
 profile_line (Some (profile.Member name)) = error_line (codes "profile: ") (profile_members.member_text name)
 profile_line (Some profile.OutOfMemory) = error_line (codes "out of memory") []
 
+-- why rules aren't read; the rules of a list are counted from 0, and a file without a fault of its own is too long
+abbrev pub rules_line : Option RulesFault → List ℕ
+rules_line None = error_line (codes "rules: long") []
+rules_line (Some rules.Json) = error_line (codes "rules: json") []
+rules_line (Some (rules.NoList list)) = error_line (codes "rules: ") (list_text list)
+rules_line (Some (rules.NoRule list place)) = object_line (codes "rules: ") (list_text list) (decimal place)
+rules_line (Some rules.OutOfMemory) = error_line (codes "out of memory") []
+
 -- the line that tells how a run ended: none where all went well
 abbrev pub line_of : Status → List ℕ
 line_of status.Done = []
@@ -77,6 +88,7 @@ line_of status.NoProxy = error_line (codes "no proxy") []
 line_of status.HubFault = error_line (codes "hub fault") []
 line_of status.TurnsSpent = error_line (codes "turns spent") []
 line_of (status.ProfileFault fault) = profile_line fault
+line_of (status.RulesFault fault) = rules_line fault
 line_of status.OutOfMemory = error_line (codes "out of memory") []
 
 abbrev pub code_of : Status → ℕ
@@ -96,6 +108,7 @@ code_of status.NoProxy = 12
 code_of status.HubFault = 13
 code_of status.TurnsSpent = 14
 code_of (status.ProfileFault fault) = 15
+code_of (status.RulesFault fault) = 16
 code_of status.OutOfMemory = 70
 
 -- how a run ends whose command ended so
@@ -129,6 +142,7 @@ status_of_sim (sim.Served why) = status_of_end why
 status_of_sim sim.HubFault = status.HubFault
 status_of_sim sim.ReadFault = status.ReadFault
 status_of_sim (sim.ProfileFault fault) = status.ProfileFault fault
+status_of_sim (sim.RulesFault fault) = status.RulesFault fault
 status_of_sim sim.OutOfMemory = status.OutOfMemory
 
 -- how a run ends whose last child ended with this status; one below 0 counts as 255
@@ -185,6 +199,7 @@ IsOfSimulator status.HubFault = Unit {0}
 IsOfSimulator status.TurnsSpent = Unit {0}
 IsOfSimulator status.ReadFault = Unit {0}
 IsOfSimulator (status.ProfileFault fault) = Unit {0}
+IsOfSimulator (status.RulesFault fault) = Unit {0}
 IsOfSimulator status.OutOfMemory = Unit {0}
 IsOfSimulator _ = ⊥
 

@@ -1,7 +1,7 @@
 ghost use Rattle.std.specs.Prelude.{◌≡◌, OnOk, Some};
 ghost use Rattle.kit_io.specs.Causes.{Rose, HasCause};
 ghost use Rattle.kit_io.specs.Told.{Grows};
-ghost use Rattle.program.specs.Status.{denied_text, error_line, line_of, object_line, profile_line, tables_line};
+ghost use Rattle.program.specs.Status.{denied_text, error_line, line_of, object_line, profile_line, rules_line, tables_line};
 
 use crate::Status;
 use crate::status::kind_word;
@@ -9,6 +9,7 @@ use itoa::Buffer;
 use kit_io::{Sink, WriteFault, write_all_to};
 use message_tables::TableFault;
 use modem_profile::ProfileFault;
+use modem_rules::RulesFault;
 use tool_words::UsageKind;
 
 /// Refuses words that couldn't be read.
@@ -67,6 +68,7 @@ fn write_line<E: Sink>(status: Status, err: &mut E) -> Result<(), WriteFault>
         Status::HubFault => write_error(b"hub fault", b"", err),
         Status::TurnsSpent => write_error(b"turns spent", b"", err),
         Status::ProfileFault { fault } => write_fault_of_profile(fault, err),
+        Status::RulesFault { fault } => write_fault_of_rules(fault, err),
         Status::OutOfMemory => write_error(b"out of memory", b"", err),
     }
 }
@@ -155,4 +157,21 @@ fn write_object<E: Sink>(
     write_all_to(err, number)?;
     write_all_to(err, b"\n")?;
     Ok(())
+}
+
+fn write_fault_of_rules<E: Sink>(fault: Option<RulesFault>, err: &mut E) -> Result<(), WriteFault>
+    ensures line { OnOk result (Grows (E.taken err.old) (rules_line fault) (E.taken err.new)) }
+    ensures cause { HasCause (E.faults err.old) (E.faults err.new) result }
+{
+    match fault {
+        None => write_error(b"rules: long", b"", err),
+        Some(RulesFault::Json) => write_error(b"rules: json", b"", err),
+        Some(RulesFault::NoList(list)) => write_error(b"rules: ", list.as_str().as_bytes(), err),
+        Some(RulesFault::NoRule(list, place)) => {
+            let mut number = Buffer::new();
+            let place = number.format(place).as_bytes();
+            write_object(b"rules: ", list.as_str().as_bytes(), place, err)
+        }
+        Some(RulesFault::OutOfMemory) => write_error(b"out of memory", b"", err),
+    }
 }

@@ -3,7 +3,7 @@ ghost use Rattle.std.specs.Option.{option_copied};
 ghost use Rattle.kit_io.specs.Causes.{Rose};
 ghost use Rattle.sim_keeping.specs.Keeping.{KeepsOrLacksMemory};
 ghost use Rattle.sim_keeping.specs.Words.{start_words};
-ghost use Rattle.sim_runs.specs.Simulating.{Simulates, asked_in};
+ghost use Rattle.sim_runs.specs.Simulating.{Simulates, SimulatesByRules, asked_in};
 ghost use Rattle.program.specs.Status.{EndsAs, IsOfKeeping, IsOfSimulator, status_of_keeping, status_of_sim};
 
 use crate::status::Status;
@@ -12,7 +12,7 @@ use file_io::Files;
 use hub_io::Hub;
 use kit_bytes::{Kind, PathText};
 use sim_keeping::keep_simulator;
-use sim_runs::simulate;
+use sim_runs::{simulate, simulate_by_rules};
 use std::alloc::Global;
 
 // Simulates a modem to the clients of a socket.
@@ -37,19 +37,43 @@ pub fn simulate_modem<H: Hub, F: Files>(
     Status::from(simulate(alloc, kind, socket, profile, turns, hub, files))
 }
 
+// Simulates one that goes by the rules of a file.
+pub fn simulate_ruled_modem<H: Hub, F: Files>(
+    alloc: Global,
+    kind: Kind,
+    socket: &PathText,
+    profile: Option<&PathText>,
+    rules: &PathText,
+    turns: u64,
+    hub: &mut H,
+    files: &mut F,
+) -> Status
+    ensures simulates { EndsAs status_of_sim result (λ ends. SimulatesByRules rules.now (option_copied profile.entry) kind socket.now turns
+        (record { files = F.calls files.old; hub = H.calls hub.old })
+        (record { files = F.calls files.new; hub = H.calls hub.new })
+        ends) }
+    ensures own { IsOfSimulator result }
+    ensures hub_fault { result ≡ Status.HubFault → Rose (H.faults hub.old) (H.faults hub.new) }
+    ensures read_fault { result ≡ Status.ReadFault → Rose (F.read_faults files.old) (F.read_faults files.new) }
+{
+    let ends = simulate_by_rules(alloc, kind, socket, profile, rules, turns, hub, files);
+    Status::from(ends)
+}
+
 // Keeps a simulated modem running, as a child that is started so often at most.
 pub fn keep_modem<P: Spawner>(
     alloc: Global,
     kind: Kind,
     socket: &PathText,
     profile: Option<&PathText>,
+    rules: Option<&PathText>,
     turns: u64,
     most: u8,
     spawner: &mut P,
 ) -> Status
-    ensures keeps { EndsAs status_of_keeping result (λ ends. KeepsOrLacksMemory (start_words kind socket.now turns (option_copied profile.entry)) most (P.calls spawner.old) ends (P.calls spawner.new)) }
+    ensures keeps { EndsAs status_of_keeping result (λ ends. KeepsOrLacksMemory (start_words kind socket.now turns (option_copied profile.entry) (option_copied rules.entry)) most (P.calls spawner.old) ends (P.calls spawner.new)) }
     ensures own { IsOfKeeping result }
     ensures start_fault { result ≡ Status.StartFault → Rose (P.faults spawner.old) (P.faults spawner.new) }
 {
-    Status::from(keep_simulator(alloc, kind, socket, profile, turns, most, spawner))
+    Status::from(keep_simulator(alloc, kind, socket, profile, rules, turns, most, spawner))
 }

@@ -5,6 +5,7 @@ use crate::opening::OpenFault;
 use hub_io::ServeEnd;
 use message_tables::TableFault;
 use modem_profile::ProfileFault;
+use modem_rules::RulesFault;
 use pump::PumpEnd;
 use sim_keeping::KeepEnd;
 use sim_runs::SimEnd;
@@ -46,6 +47,8 @@ pub enum Status {
     TurnsSpent,
     /// The profile of a simulated modem isn't read, for this fault or since it is too long.
     ProfileFault { fault: Option<ProfileFault> },
+    /// The rules of a simulated modem aren't read, for this fault or since they are too long.
+    RulesFault { fault: Option<RulesFault> },
     OutOfMemory,
 }
 
@@ -88,6 +91,7 @@ impl Status {
             Status::HubFault => 13,
             Status::TurnsSpent => 14,
             Status::ProfileFault { .. } => 15,
+            Status::RulesFault { .. } => 16,
             Status::OutOfMemory => 70,
         }
     }
@@ -185,6 +189,7 @@ impl From<SimEnd> for Status {
             SimEnd::HubFault => Status::HubFault,
             SimEnd::ReadFault => Status::ReadFault,
             SimEnd::ProfileFault(fault) => Status::ProfileFault { fault },
+            SimEnd::RulesFault(fault) => Status::RulesFault { fault },
             SimEnd::OutOfMemory => Status::OutOfMemory,
         }
     }

@@ -11,7 +11,7 @@ use crate::proxy::proxy_modem;
 use crate::pumping::pump_bytes;
 use crate::report::report;
 use crate::rigging::print_rig;
-use crate::simulator::{keep_modem, simulate_modem};
+use crate::simulator::{keep_modem, simulate_modem, simulate_ruled_modem};
 use crate::status::Status;
 use crate::tool::{ask_mbim, ask_qmi, describe_file, submit_text};
 use child_io::Spawner;
@@ -257,13 +257,33 @@ pub fn run_command_of_simulator<H: Hub, P: Spawner, F: Files>(
             kind,
             socket,
             profile,
+            rules,
             turns,
             keep,
-        } => match keep {
-            None => simulate_modem(alloc, kind, &socket, profile.as_ref(), turns, hub, files),
-            Some(most) => {
-                keep_modem(alloc, kind, &socket, profile.as_ref(), turns, most, spawner)
+        } => match (keep, rules) {
+            (None, None) => {
+                simulate_modem(alloc, kind, &socket, profile.as_ref(), turns, hub, files)
             }
+            (None, Some(rules)) => simulate_ruled_modem(
+                alloc,
+                kind,
+                &socket,
+                profile.as_ref(),
+                &rules,
+                turns,
+                hub,
+                files,
+            ),
+            (Some(most), rules) => keep_modem(
+                alloc,
+                kind,
+                &socket,
+                profile.as_ref(),
+                rules.as_ref(),
+                turns,
+                most,
+                spawner,
+            ),
         },
         other => {
             drop(other);

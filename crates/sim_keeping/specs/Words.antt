@@ -18,6 +18,11 @@ default_words kind socket turns =
     ∷ []
 
 -- and --profile=FILE, where a file is named
-abbrev pub start_words : Kind → (socket : List ℕ) → (turns : ℕ) → (profile : Option (List ℕ)) → List (List ℕ)
-start_words kind socket turns (Some file) = default_words kind socket turns ++ (codes "--profile=" ++ encode_utf8_all file) ∷ []
-start_words kind socket turns None = default_words kind socket turns
+abbrev pub profile_words : Kind → (socket : List ℕ) → (turns : ℕ) → (profile : Option (List ℕ)) → List (List ℕ)
+profile_words kind socket turns (Some file) = default_words kind socket turns ++ (codes "--profile=" ++ encode_utf8_all file) ∷ []
+profile_words kind socket turns None = default_words kind socket turns
+
+-- and --rules=FILE likewise
+abbrev pub start_words : Kind → (socket : List ℕ) → (turns : ℕ) → (profile rules : Option (List ℕ)) → List (List ℕ)
+start_words kind socket turns profile (Some file) = profile_words kind socket turns profile ++ (codes "--rules=" ++ encode_utf8_all file) ∷ []
+start_words kind socket turns profile None = profile_words kind socket turns profile

@@ -26,21 +26,23 @@ pub enum KeepEnd {
 /// another status than 0 and fewer than so many were started.
 ///
 /// It is a modem of a kind, to whose socket clients connect, with the profile of the file at a path,
-/// or the default one where no file is named. It serves for so many turns at most.
+/// or the default one where no file is named, and goes by the rules of another file, if one is named.
+/// It serves for so many turns at most.
 pub fn keep_simulator<P: Spawner>(
     alloc: Global,
     kind: Kind,
     socket: &PathText,
     profile: Option<&PathText>,
+    rules: Option<&PathText>,
     turns: u64,
     most: u8,
     spawner: &mut P,
 ) -> KeepEnd
-    ensures keeps { KeepsOrLacksMemory (start_words kind socket.now turns (option_copied profile.entry)) most (P.calls spawner.old) result (P.calls spawner.new) }
+    ensures keeps { KeepsOrLacksMemory (start_words kind socket.now turns (option_copied profile.entry) (option_copied rules.entry)) most (P.calls spawner.old) result (P.calls spawner.new) }
     // It doesn't give up by itself.
     ensures start_fault { result ≡ KeepEnd.StartFault → Rose (P.faults spawner.old) (P.faults spawner.new) }
 {
-    match start_words(alloc, kind, socket, turns, profile) {
+    match start_words(alloc, kind, socket, turns, profile, rules) {
         Ok(words) => keep_running(words.as_slice(), most, spawner),
         Err(AllocError) => KeepEnd::OutOfMemory,
     }

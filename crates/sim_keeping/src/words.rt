@@ -1,6 +1,6 @@
 ghost use Rattle.std.specs.Prelude.{◌≡◌, [], ◌∷◌, ◌++◌, IfOk, OnOk, map, string_bytes};
 ghost use Rattle.std.specs.Option.{option_copied};
-ghost use Rattle.sim_keeping.specs.Words.{default_words, kind_word, start_words};
+ghost use Rattle.sim_keeping.specs.Words.{default_words, kind_word, profile_words, start_words};
 
 use itoa::Buffer;
 use kit_bytes::{Kind, PathText};
@@ -55,6 +55,25 @@ fn default_words(
     Ok(words)
 }
 
+// The words that start a simulated modem that goes by no rules.
+fn profile_words(
+    alloc: Global,
+    kind: Kind,
+    socket: &PathText,
+    turns: u64,
+    profile: Option<&PathText>,
+) -> Result<Vec<String>, AllocError>
+    ensures { IfOk result (λ words. map string_bytes words.items ≡ profile_words kind socket.now turns (option_copied profile.entry)) }
+{
+    let mut words = default_words(alloc, kind, socket, turns)?;
+    let Some(file) = profile else {
+        return Ok(words);
+    };
+    let word = option_word(alloc, "--profile=", file.value().as_str())?;
+    add(&mut words, word)?;
+    Ok(words)
+}
+
 /// The words that start a simulated modem.
 pub fn start_words(
     alloc: Global,
@@ -62,14 +81,15 @@ pub fn start_words(
     socket: &PathText,
     turns: u64,
     profile: Option<&PathText>,
+    rules: Option<&PathText>,
 ) -> Result<Vec<String>, AllocError>
-    ensures { IfOk result (λ words. map string_bytes words.items ≡ start_words kind socket.now turns (option_copied profile.entry)) }
+    ensures { IfOk result (λ words. map string_bytes words.items ≡ start_words kind socket.now turns (option_copied profile.entry) (option_copied rules.entry)) }
 {
-    let mut words = default_words(alloc, kind, socket, turns)?;
-    let Some(file) = profile else {
+    let mut words = profile_words(alloc, kind, socket, turns, profile)?;
+    let Some(file) = rules else {
         return Ok(words);
     };
-    let word = option_word(alloc, "--profile=", file.value().as_str())?;
+    let word = option_word(alloc, "--rules=", file.value().as_str())?;
     add(&mut words, word)?;
     Ok(words)
 }

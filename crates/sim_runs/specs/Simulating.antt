@@ -1,5 +1,5 @@
 -- What simulating a modem does to its files and its hub. The hub's calls have the newest first.
-use Rattle.std.specs.Prelude.{◌≡◌, ◌⊎◌, ℕ, Bool, true, false, List, [], ◌∷◌, ◌++◌, Option, Some, None, Result, Ok, Err}
+use Rattle.std.specs.Prelude.{◌≡◌, ◌⊎◌, ℕ, Bool, true, false, List, [], ◌∷◌, ◌++◌, Option, Some, None, option_map, Result, Ok, Err}
 use Rattle.std.specs.Str.{encode_utf8_all}
 use Rattle.kit_bytes.specs.declared.Kind.{Kind}
 use Rattle.kit_bytes.specs.declared.Kind.TheVariants as kind
@@ -20,11 +20,17 @@ use Rattle.modem_profile.specs.Profile.{Profile, default_profile}
 use Rattle.modem_profile.specs.Reading.{profile_in}
 use Rattle.modem_profile.specs.declared.fault.ProfileFault.{ProfileFault}
 use Rattle.modem_profile.specs.declared.fault.ProfileFault.TheVariants as profile_fault
-use Rattle.sim_modem.specs.Sim.{answers}
+use Rattle.modem_rules.specs.Reading.{rules_in}
+use Rattle.modem_rules.specs.Rules.{Rules, rules_view}
+use Rattle.modem_rules.specs.declared.fault.RulesFault.{RulesFault}
+use Rattle.modem_rules.specs.declared.fault.RulesFault.TheVariants as rules_fault
+use Rattle.ruled_modem.specs.Ruled.{ruled}
+use Rattle.sim_modem.specs.Sim.{Answering, answers}
 use Rattle.sim_serving.specs.Core.{TakesMemory}
 use Rattle.sim_serving.specs.Proxy.{proxy_of}
 use Rattle.sim_qmi.specs.Modem as qmi
 use Rattle.sim_mbim.specs.Answers as mbim
+use Rattle.sim_runs.specs.declared.manner.Manner.{Manner}
 use Rattle.sim_runs.specs.declared.sim_end.SimEnd.{SimEnd}
 use Rattle.sim_runs.specs.declared.sim_end.SimEnd.TheVariants as sim
 
@@ -33,17 +39,32 @@ pub record Asked : Type 0 where
   pub kind : Kind
   -- the path of the socket, to which clients connect
   pub socket : List ℕ
+  -- by which the modem goes, if any were given
+  pub rules : Option Rules
   pub turns : ℕ
 
+-- a modem that goes by no rules
 abbrev pub asked_in : Kind → List ℕ → ℕ → Asked
-asked_in kind socket turns = record { kind = kind; socket = socket; turns = turns }
+asked_in kind socket turns = record { kind = kind; socket = socket; rules = None; turns = turns }
+
+-- one that behaves so
+abbrev pub asked_of : Manner → List ℕ → ℕ → Asked
+asked_of manner socket turns = record { kind = manner.kind; socket = socket; rules = option_map rules_view manner.rules; turns = turns }
+
+abbrev pub asked_by : Rules → Kind → List ℕ → ℕ → Asked
+asked_by rules kind socket turns = record { kind = kind; socket = socket; rules = Some rules; turns = turns }
 
 -- ---- the modem ----
 
+-- what a modem with these answers answers by the rules, if any were given
+abbrev pub answers_by : Kind → Option Rules → Answering → Answering
+answers_by kind None answering = answering
+answers_by kind (Some rules) answering = ruled kind rules answering
+
 -- serving a simulated modem of this kind and profile, as serving a proxy
-abbrev pub modem_of : Kind → Profile → Proxy
-modem_of kind.Qmi profile = proxy_of qmux.size_of (answers (qmi.machine profile))
-modem_of kind.Mbim profile = proxy_of mbim_frame.size_of (answers (mbim.machine profile))
+abbrev pub modem_of : Kind → Option Rules → Profile → Proxy
+modem_of kind.Qmi rules profile = proxy_of qmux.size_of (answers_by kind.Qmi rules (answers (qmi.machine profile)))
+modem_of kind.Mbim rules profile = proxy_of mbim_frame.size_of (answers_by kind.Mbim rules (answers (mbim.machine profile)))
 
 -- ---- the hub ----
 
@@ -65,7 +86,7 @@ Serves modem socket turns sim.OutOfMemory calls = calls ≡ []
 Serves modem socket turns _ calls = ⊥
 
 abbrev pub ServesProfile : Asked → Profile → SimEnd → List hub.Call → Type 0
-ServesProfile asked profile ends calls = Serves (modem_of asked.kind profile) asked.socket asked.turns ends calls
+ServesProfile asked profile ends calls = Serves (modem_of asked.kind asked.rules profile) asked.socket asked.turns ends calls
 
 -- ---- the profile ----
 
@@ -105,6 +126,39 @@ pub record SimulatesFile (path : List ℕ) (asked : Asked) (before after : Told)
 abbrev pub Simulates : (path : Option (List ℕ)) → Asked → Told → Told → SimEnd → Type 0
 Simulates None asked before after ends = Grows before.files [] after.files × hub.Since before.hub after.hub (ServesProfile asked default_profile ends)
 Simulates (Some path) asked before after ends = SimulatesFile (encode_utf8_all path) asked before after ends
+
+-- ---- rules ----
+
+-- how it ends where the file of the rules isn't read
+abbrev pub end_of_rules_file : FileFault → SimEnd
+end_of_rules_file file_fault.ReadFault = sim.ReadFault
+end_of_rules_file file_fault.Long = sim.RulesFault None
+end_of_rules_file file_fault.OutOfMemory = sim.OutOfMemory
+
+abbrev pub end_of_rules : RulesFault → SimEnd
+end_of_rules rules_fault.OutOfMemory = sim.OutOfMemory
+end_of_rules fault = sim.RulesFault (Some fault)
+
+-- nothing more was done
+abbrev pub StaysAs : Told → Told → Type 0
+StaysAs before after = Grows before.files [] after.files × hub.Since before.hub after.hub (λ calls. calls ≡ [])
+
+-- a text has rules, by which a modem of the profile was served, or this fault; want of memory comes at any text
+abbrev pub SimulatesByText : Result Rules RulesFault → (profile : Option (List ℕ)) → Kind → (socket : List ℕ) → (turns : ℕ) → Told → Told → SimEnd → Type 0
+SimulatesByText (Ok rules) profile kind socket turns before after ends =
+    Simulates profile (asked_by rules kind socket turns) before after ends ⊎ ((ends ≡ sim.OutOfMemory) × StaysAs before after)
+SimulatesByText (Err fault) profile kind socket turns before after ends = ((ends ≡ sim.RulesFault (Some fault)) ⊎ (ends ≡ sim.OutOfMemory)) × StaysAs before after
+
+abbrev pub SimulatesByFile : Result (List ℕ) FileFault → (profile : Option (List ℕ)) → Kind → (socket : List ℕ) → (turns : ℕ) → Told → Told → SimEnd → Type 0
+SimulatesByFile (Ok text) profile kind socket turns before after ends = SimulatesByText (rules_in kind text) profile kind socket turns before after ends
+SimulatesByFile (Err why) profile kind socket turns before after ends = (ends ≡ end_of_rules_file why) × StaysAs before after
+
+-- the file of the rules at this path was read, and then it went on by them
+pub record SimulatesByRules (rules : List ℕ) (profile : Option (List ℕ)) (kind : Kind) (socket : List ℕ) (turns : ℕ) (before after : Told) (ends : SimEnd) : Type 0 where
+  pub read : Result (List ℕ) FileFault
+  pub middle : Option (List file.Call)
+  pub reads : GrowsByFile (encode_utf8_all rules) before.files read middle
+  pub goes_on : SimulatesByFile read profile kind socket turns (record { files = middle; hub = before.hub }) after ends
 
 -- ---- faults ----
 

@@ -1,44 +1,73 @@
-ghost use Rattle.std.specs.Prelude.{◌≡◌, [], ℕ, List};
+ghost use Rattle.std.specs.Prelude.{◌≡◌, [], ℕ, List, option_map};
 ghost use Rattle.kit_io.specs.Causes.{Rose};
 ghost use Rattle.hub_io.specs.Record.{Since};
+ghost use Rattle.modem_rules.specs.Rules.{rules_view};
 ghost use Rattle.sim_modem.specs.Sim.{Answering};
 ghost use Rattle.sim_serving.specs.Proxy.{proxy_of};
-ghost use Rattle.sim_runs.specs.Simulating.{IsHubFault, Serves, ServesProfile, asked_in};
+ghost use Rattle.sim_runs.specs.Simulating.{IsHubFault, Serves, ServesProfile, answers_by, asked_of};
 
-use crate::SimEnd;
+use crate::{Manner, SimEnd};
 use hub_io::{Hub, ServeEnd};
 use kit_bytes::{Kind, PathText};
 use kit_io::Failed;
 use modem_profile::Profile;
+use modem_rules::Rules;
+use ruled_modem::Ruled;
 use sim_mbim::MbimSim;
 use sim_modem::Sim;
 use sim_qmi::QmiSim;
 use sim_serving::serve_sim;
 use std::alloc::{AllocError, Global};
 
-// Serves the clients of a simulated modem of a kind that has this profile.
+// Serves the clients of a simulated modem that has this profile and behaves so.
 pub fn serve_profile<H: Hub>(
     alloc: Global,
-    kind: Kind,
+    manner: Manner,
     socket: &PathText,
     profile: Profile,
     turns: u64,
     hub: &mut H,
 ) -> SimEnd
-    ensures serves { Since (H.calls hub.old) (H.calls hub.new) (ServesProfile (asked_in kind socket.now turns) profile result) }
+    ensures serves { Since (H.calls hub.old) (H.calls hub.new) (ServesProfile (asked_of manner socket.now turns) profile result) }
     ensures own { ¬ (result ≡ SimEnd.ReadFault) }
     ensures never_lost { ¬ (result ≡ SimEnd.Served ServeEnd.Lost) }
     ensures hub_fault { IsHubFault result → Rose (H.faults hub.old) (H.faults hub.new) }
 {
-    match kind {
+    match manner.kind {
         Kind::Qmi => match QmiSim::open(alloc, &profile) {
-            Ok(sim) => serve_at(alloc, socket, sim, turns, hub),
+            Ok(sim) => serve_by(alloc, Kind::Qmi, manner.rules, socket, sim, turns, hub),
             Err(AllocError) => SimEnd::OutOfMemory,
         },
         Kind::Mbim => match MbimSim::open(alloc, &profile) {
-            Ok(sim) => serve_at(alloc, socket, sim, turns, hub),
+            Ok(sim) => serve_by(alloc, Kind::Mbim, manner.rules, socket, sim, turns, hub),
             Err(AllocError) => SimEnd::OutOfMemory,
         },
+    }
+}
+
+// Serves the clients of a simulated modem of a kind, which goes by the rules, if any were given.
+fn serve_by<H: Hub, S: Sim>(
+    alloc: Global,
+    kind: Kind,
+    rules: Option<Rules>,
+    socket: &PathText,
+    sim: S,
+    turns: u64,
+    hub: &mut H,
+) -> SimEnd
+    requires { (answers : Answering) × S.keeps answers [] sim }
+    ensures serves { (answers : Answering) → S.keeps answers [] sim →
+        Since (H.calls hub.old) (H.calls hub.new) (Serves (proxy_of S.Framing.size (answers_by kind (option_map rules_view rules) answers)) socket.now turns result) }
+    ensures own { ¬ (result ≡ SimEnd.ReadFault) }
+    ensures never_lost { ¬ (result ≡ SimEnd.Served ServeEnd.Lost) }
+    ensures hub_fault { IsHubFault result → Rose (H.faults hub.old) (H.faults hub.new) }
+{
+    match rules {
+        None => serve_at(alloc, socket, sim, turns, hub),
+        Some(rules) => {
+            let ruled = Ruled::open(alloc, kind, rules, sim);
+            serve_at(alloc, socket, ruled, turns, hub)
+        }
     }
 }
 

@@ -3,6 +3,7 @@ ghost use Rattle.std.specs.Prelude.{◌≡◌};
 use file_io::FileFault;
 use hub_io::ServeEnd;
 use modem_profile::ProfileFault;
+use modem_rules::RulesFault;
 
 /// How simulating a modem ended.
 #[derive(Clone, Copy, Debug, PartialEq, Eq)]
@@ -11,10 +12,12 @@ pub enum SimEnd {
     Served(ServeEnd),
     /// The hub couldn't be opened.
     HubFault,
-    /// The profile's file couldn't be read.
+    /// The file of the profile or of the rules couldn't be read.
     ReadFault,
     /// The profile isn't read, for this fault or since its file is too long.
     ProfileFault(Option<ProfileFault>),
+    /// The rules aren't read, for this fault or since their file is too long.
+    RulesFault(Option<RulesFault>),
     /// No memory was there to begin with.
     OutOfMemory,
 }
@@ -42,6 +45,19 @@ impl From<ProfileFault> for SimEnd {
         match fault {
             ProfileFault::OutOfMemory => SimEnd::OutOfMemory,
             fault => SimEnd::ProfileFault(Some(fault)),
+        }
+    }
+}
+
+impl From<RulesFault> for SimEnd {
+    ghost use Rattle.sim_runs.specs.Simulating.{end_of_rules};
+
+    ghost from_gives = { λ fault end. end ≡ end_of_rules fault };
+
+    fn from(fault: RulesFault) -> Self {
+        match fault {
+            RulesFault::OutOfMemory => SimEnd::OutOfMemory,
+            fault => SimEnd::RulesFault(Some(fault)),
         }
     }
 }

@@ -17,16 +17,17 @@ use Rattle.tool_words.specs.declared.simulator.SimulatorOption.TheVariants as op
 
 -- ---- the options ----
 
--- --kind qmi or --kind mbim, --socket PATH, --profile FILE, --turns N, --keep N
+-- --kind qmi or --kind mbim, --socket PATH, --profile FILE, --rules FILE, --turns N, --keep N
 abbrev pub simulator_spelling : SimulatorOption → Spelling
 simulator_spelling option.Kind = valued (codes "kind")
 simulator_spelling option.Socket = valued (codes "socket")
 simulator_spelling option.Profile = valued (codes "profile")
+simulator_spelling option.Rules = valued (codes "rules")
 simulator_spelling option.Turns = valued (codes "turns")
 simulator_spelling option.Keep = valued (codes "keep")
 
 unfoldable pub simulator_options : List SimulatorOption
-simulator_options = option.Kind ∷ option.Socket ∷ option.Profile ∷ option.Turns ∷ option.Keep ∷ []
+simulator_options = option.Kind ∷ option.Socket ∷ option.Profile ∷ option.Rules ∷ option.Turns ∷ option.Keep ∷ []
 
 unfoldable pub simulator_app : App
 simulator_app = with_options simulator_spelling (without_options (codes "modem-sim")) simulator_options
@@ -45,7 +46,8 @@ simulator_values rows = do
   keep ← optional starts_in (value_given simulator_spelling rows option.Keep)
   socket ← path_or simulator_socket (value_given simulator_spelling rows option.Socket)
   profile ← optional path_in (value_given simulator_spelling rows option.Profile)
-  Some (Simulator kind socket profile turns keep)
+  rules ← optional path_in (value_given simulator_spelling rows option.Rules)
+  Some (Simulator kind socket profile rules turns keep)
 
 -- ---- what the words ask for ----
 

@@ -89,6 +89,8 @@ pub enum ToolCommand {
         socket: PathText,
         /// The file that says what the modem tells of itself, if one is given.
         profile: Option<PathText>,
+        /// The file that says what the modem does otherwise than by itself, if one is given.
+        rules: Option<PathText>,
         /// After how many events it ends.
         turns: u64,
         /// How often it may be started, each time by a program of its own, if it is started anew at all.

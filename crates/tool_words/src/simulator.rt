@@ -20,6 +20,7 @@ pub enum SimulatorOption {
     Kind,
     Socket,
     Profile,
+    Rules,
     Turns,
     /// How often it may be started, where it is started anew.
     Keep,
@@ -33,16 +34,18 @@ impl ToolOption for SimulatorOption {
             SimulatorOption::Kind => valued("kind"),
             SimulatorOption::Socket => valued("socket"),
             SimulatorOption::Profile => valued("profile"),
+            SimulatorOption::Rules => valued("rules"),
             SimulatorOption::Turns => valued("turns"),
             SimulatorOption::Keep => valued("keep"),
         }
     }
 }
 
-static SIMULATOR_OPTIONS: [SimulatorOption; 5] = [
+static SIMULATOR_OPTIONS: [SimulatorOption; 6] = [
     SimulatorOption::Kind,
     SimulatorOption::Socket,
     SimulatorOption::Profile,
+    SimulatorOption::Rules,
     SimulatorOption::Turns,
     SimulatorOption::Keep,
 ];
@@ -83,10 +86,12 @@ fn values(alloc: Global, matches: &ArgMatches<'_>) -> Result<ToolCommand, WordFa
     let socket = value_given(matches, SimulatorOption::Socket);
     let socket = path_or(alloc, simulator_socket(), socket)?;
     let profile = path_if_given(alloc, value_given(matches, SimulatorOption::Profile))?;
+    let rules = path_if_given(alloc, value_given(matches, SimulatorOption::Rules))?;
     Ok(ToolCommand::Simulator {
         kind,
         socket,
         profile,
+        rules,
         turns,
         keep,
     })

@@ -17,4 +17,6 @@ returns c =
       c.in_ok-socket.ensures,
       ← c.value_given-4.ensures,
       c.in_ok-profile.ensures,
+      ← c.value_given-5.ensures,
+      c.in_ok-rules.ensures,
     ) refl

@@ -1,0 +1,9 @@
+use kit_bytes::Kind;
+use modem_rules::Rules;
+
+/// How a simulated modem behaves: as one of a kind does, but for the rules, if any were given.
+#[derive(Debug, Drop)]
+pub struct Manner {
+    pub kind: Kind,
+    pub rules: Option<Rules>,
+}
