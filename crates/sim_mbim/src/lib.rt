@@ -22,4 +22,6 @@ mod values;
 mod writing;
 
 pub use laws::answers_have_encodings;
+pub use request::Request;
 pub use sim::MbimSim;
+pub use writing::{done, indication};

@@ -20,7 +20,7 @@ pub enum Request {
 
 impl Request {
     /// Reads a message, which has its head at least.
-    pub(crate) fn read(message: &[u8]) -> Self
+    pub fn read(message: &[u8]) -> Self
         requires { 12 ≤ length message.now }
         ensures { result ≡ request_of message.now }
     {

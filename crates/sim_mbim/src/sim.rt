@@ -1,4 +1,5 @@
 ghost use Rattle.std.specs.Prelude.{◌≡◌, ◌≤◌, ◌++◌, [], ◌&&◌, ◌==◌, if◌then◌else◌, length, IfOk, OnOk};
+ghost use Rattle.kit_bytes.specs.Indications as indications;
 ghost use Rattle.mbim_frame.specs.Bodies.{read_command};
 ghost use Rattle.mbim_frame.specs.Head.{number_of};
 ghost use Rattle.mbim_frame.specs.Writing as writing;
@@ -12,7 +13,7 @@ use crate::commands::Reply;
 use crate::lists::wants;
 use crate::modem::Modem;
 use crate::request::Request;
-use crate::writing::{done, indication};
+use crate::writing::{indication, reply_done};
 use kit_bytes::Octets;
 use mbim_fragments::{Assembly, Body, Took};
 use mbim_frame::error::{LENGTH_MISMATCH, NOT_OPENED, OUT_OF_SEQUENCE, TOO_LONG};
@@ -23,6 +24,7 @@ use modem_profile::Profile;
 use sim_modem::Sim;
 use std::alloc::{AllocError, Global};
 use std::marker::Model;
+use uuid::Uuid;
 
 // The CID of the radio, a command of Basic Connect.
 const RADIO_STATE: u32 = 3;
@@ -63,8 +65,8 @@ impl MbimSim {
         })
     }
 
-    // What is said to a message.
-    fn hear(&mut self, message: &[u8]) -> Result<Octets, AllocError>
+    /// What is said to a message. Where memory runs out, the modem is only to be dropped.
+    pub fn hear(&mut self, message: &[u8]) -> Result<Octets, AllocError>
         requires { 12 ≤ length message.now }
         ensures text { IfOk result (λ text. text ≡ (exchange_at message.now self.old).text) }
         ensures state { OnOk result (self.new ≡ state_at message.now self.old) }
@@ -80,6 +82,29 @@ impl MbimSim {
             Request::Wrong => Ok(error(self.alloc, number, LENGTH_MISMATCH)?),
             Request::Other => Ok(Octets::new(self.alloc)),
         }
+    }
+
+    /// Whether it was opened.
+    pub fn is_open(&self) -> bool
+        ensures { result ≡ self.now.modem.opened }
+    {
+        self.modem.is_open()
+    }
+
+    /// How many bytes a message has at most that it sends.
+    pub fn longest(&self) -> u32
+        ensures longest { result ≡ self.now.modem.longest }
+        ensures least { 64 ≤ result }
+        ensures most { result ≤ 4096 }
+    {
+        self.modem.longest()
+    }
+
+    /// Whether its host listens to this CID of a service.
+    pub fn is_heard(&self, service: Uuid, cid: u32) -> bool
+        ensures { result ≡ indications.wants self.now.modem.subscribed service cid }
+    {
+        wants(&self.modem.subscribed, service, cid)
     }
 
     // What is said to a fragment of a command.
@@ -135,7 +160,7 @@ impl Modem {
     ) -> Result<Octets, AllocError>
         ensures { IfOk result (λ text. text ≡ spec.reply_text number self.now.longest head.now (record { status = reply.now.status; buffer = reply.now.buffer; modem = self.now })) }
     {
-        let mut text = done(alloc, number, self.longest(), head, reply)?;
+        let mut text = reply_done(alloc, number, self.longest(), head, reply)?;
         if !self.is_indicated(head, reply.status) {
             return Ok(text);
         }

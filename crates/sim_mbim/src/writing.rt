@@ -30,7 +30,7 @@ fn length_of(buffer: &[u8]) -> Result<u32, AllocError>
 }
 
 /// The answer to a command, in messages of at most so many bytes.
-pub(crate) fn done(
+pub(crate) fn reply_done(
     alloc: Global,
     number: u32,
     longest: u32,
@@ -41,12 +41,28 @@ pub(crate) fn done(
     requires most { longest ≤ 4096 }
     ensures { IfOk result (λ text. text ≡ spec.done number longest head.now reply.now.status reply.now.buffer) }
 {
+    let buffer = reply.buffer.as_slice();
+    Ok(done(alloc, number, longest, head, reply.status, buffer)?)
+}
+
+/// The same, with this status and this buffer.
+pub fn done(
+    alloc: Global,
+    number: u32,
+    longest: u32,
+    head: &CommandHead,
+    status: u32,
+    buffer: &[u8],
+) -> Result<Octets, AllocError>
+    requires least { 64 ≤ longest }
+    requires most { longest ≤ 4096 }
+    ensures { IfOk result (λ text. text ≡ spec.done number longest head.now status buffer.now) }
+{
     let done = DoneHead {
         uuid: head.uuid,
         cid: head.cid,
-        status: reply.status,
+        status,
     };
-    let buffer = reply.buffer.as_slice();
     let front = done.bytes(length_of(buffer)?);
     let mut body = Octets::from_slice(alloc, &front)?;
     body.extend_from_slice(buffer)?;
@@ -54,8 +70,8 @@ pub(crate) fn done(
     split(alloc, kind, number, body.as_slice(), longest)
 }
 
-/// The indication of what a command changed, with the buffer of its answer.
-pub(crate) fn indication(
+/// An indication to whoever listens to this command, with this buffer.
+pub fn indication(
     alloc: Global,
     longest: u32,
     head: &CommandHead,
