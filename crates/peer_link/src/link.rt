@@ -52,7 +52,9 @@ impl<A: Answerer> Model for PeerLink<A> {
 }
 
 impl<A: Answerer> PeerLink<A> {
-    ghost use Rattle.link_session.specs.Peer.{LeadsTo};
+    ghost use Rattle.std.specs.Prelude.{IsTrue};
+    ghost use Rattle.link_session.specs.Marks.{bytes_in};
+    ghost use Rattle.link_session.specs.Peer.{LeadsTo, said};
 
     /// A link to a peer to which no text has come.
     pub fn to(alloc: Global, answerer: A) -> Self
@@ -77,6 +79,13 @@ impl<A: Answerer> PeerLink<A> {
         ensures leads { (calls : List Call) → self.now.told ≡ Some calls → LeadsTo (A.peer self.now.answerer) [] [] calls }
     {
         self.tells
+    }
+
+    /// Whether all that the peer said was taken.
+    pub fn is_drained(&self) -> bool
+        ensures { IsTrue result → (calls : List Call) → self.now.told ≡ Some calls → said (A.peer self.now.answerer) [] (texts_in calls) ≡ bytes_in calls }
+    {
+        self.taken == self.said.len()
     }
 
     /// The texts that were sent, the oldest first.

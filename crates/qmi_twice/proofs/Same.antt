@@ -13,12 +13,17 @@ ends_alike (Ok a) (Ok b) is_a is_b same = (same.0, ap status_by same.1)
 ends_alike (Err (fault.Broken place)) (Err (fault.Broken other)) is_a is_b same = (refl, refl)
 ends_alike (Err (fault.Broken place)) (Ok b) is_a is_b same = absurd same
 ends_alike (Err (fault.Broken place)) (Err fault.Flooded) is_a is_b same = absurd same
+ends_alike (Err (fault.Broken place)) (Err fault.TimedOut) is_a is_b same = absurd same
 ends_alike (Err (fault.Broken place)) (Err why) is_a is_b same = absurd is_b
+ends_alike (Err fault.TimedOut) (Ok b) is_a is_b same = absurd same
+ends_alike (Err fault.TimedOut) (Err fault.OutOfMemory) is_a is_b same = absurd is_b
+ends_alike (Err fault.TimedOut) (Err why) is_a is_b same = absurd same
 ends_alike (Err fault.Flooded) (Ok b) is_a is_b same = absurd same
 ends_alike (Err fault.Flooded) (Err fault.OutOfMemory) is_a is_b same = absurd is_b
 ends_alike (Err fault.Flooded) (Err why) is_a is_b same = absurd same
 ends_alike (Ok a) (Err (fault.Broken place)) is_a is_b same = absurd same
 ends_alike (Ok a) (Err fault.Flooded) is_a is_b same = absurd same
+ends_alike (Ok a) (Err fault.TimedOut) is_a is_b same = absurd same
 ends_alike (Ok a) (Err why) is_a is_b same = absurd is_b
 ends_alike (Err why) b is_a is_b same = absurd is_a
 

@@ -30,11 +30,12 @@ status_of (Err fault.OutOfMemory) = 70
 abbrev pub IsOf : Result QmiEnd SessionFault → Printed → Type 0
 IsOf end printed = (printed.text ≡ text_of end) × (printed.status ≡ status_of end)
 
--- the peer ended it, and no want of memory did
+-- the peer ended it, by what it said or by its silence, and no want of memory did
 abbrev pub IsByPeer : Result QmiEnd SessionFault → Type 0
 IsByPeer (Ok end) = Unit {0}
 IsByPeer (Err (fault.Broken place)) = Unit {0}
 IsByPeer (Err fault.Flooded) = Unit {0}
+IsByPeer (Err fault.TimedOut) = Unit {0}
 IsByPeer _ = ⊥
 
 -- it is printed by a session that ends as this says

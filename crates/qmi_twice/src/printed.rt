@@ -26,9 +26,8 @@ impl Printed {
 
 /// What is printed where a session ended so.
 ///
-/// The link of such a session fails for want of memory alone, and the session of a command gets an answer:
-/// so the faults that aren't named here come for want of memory. A session of anything else may also end in
-/// silence, which is answered as want of memory too.
+/// The link of such a session fails for want of memory alone and has no end: so the faults that aren't
+/// named here come for want of memory.
 pub(crate) fn print(
     alloc: Global,
     end: &Result<QmiEnd, SessionFault>,
@@ -41,6 +40,7 @@ pub(crate) fn print(
             text: qmi_text(alloc, end)?,
             status: status(&end.answer),
         }),
+        Err(SessionFault::TimedOut) => Ok(nothing(alloc, 5)),
         Err(SessionFault::Broken { .. }) => Ok(nothing(alloc, 6)),
         Err(SessionFault::Flooded) => Ok(nothing(alloc, 7)),
         Err(_) => Err(AllocError),
