@@ -13,19 +13,18 @@ use Rattle.sim_qmi.specs.Modem.{machine}
 use Rattle.lone_client.specs.Relay.{relayed}
 use Rattle.qmi_relay.specs.Runs.{direct_run, through_run}
 use Rattle.qmi_relay.proofs.Printed.{tools_print_the_same}
-use Rattle.qmi_twice.specs.Peers.{cast_of, opened}
+use Rattle.printed_ends.specs.declared.printed.Printed.{Printed}
+use Rattle.printed_ends.proofs.Same.{prints_alike}
+use Rattle.lone_peers.specs.Peers.{cast_of, opened}
 use Rattle.qmi_twice.specs.Printed.{Prints}
 use Rattle.qmi_twice.specs.Twice.{AreShort, IsTold, run_of}
-use Rattle.qmi_twice.specs.declared.printed.Printed.{Printed}
-use Rattle.qmi_twice.proofs.Same.{printed_alike}
 
 module _ (profile : Profile) (plan : QmiPlan) where
-  pub prints_alike : (direct through : Printed) → IsWithin profile → AreShort plan → IsTold profile plan
+  pub same_printed : (direct through : Printed) → IsWithin profile → AreShort plan → IsTold profile plan
       → Prints (direct_run profile plan).end direct → Prints (through_run profile plan).end through → direct ≡ through
-  prints_alike direct through within short told a b =
-      printed_alike a.end b.end direct through a.by_peer b.by_peer
-      (tools_print_the_same profile plan within told.sound (record { command = told.command; inputs = short.inputs; device = short.device }) a.end b.end a.ends b.ends)
-      a.printed_is b.printed_is
+  same_printed direct through within short told =
+      prints_alike (λ a b same. same) (direct_run profile plan).end (through_run profile plan).end direct through
+      (tools_print_the_same profile plan within told.sound (record { command = told.command; inputs = short.inputs; device = short.device }))
 
   -- a core that was run for these texts, which are those of the session through the proxy
   abbrev played : (device : List ℕ) (texts : List (List ℕ)) → Run

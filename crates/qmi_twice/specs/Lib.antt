@@ -1,9 +1,2 @@
-pub mod Asking
-pub mod Naming
-pub mod Named
-pub mod Relaying
-pub mod Peers
-pub mod Told
 pub mod Printed
-pub mod Held
 pub mod Twice

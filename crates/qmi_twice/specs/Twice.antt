@@ -9,7 +9,7 @@ use Rattle.qmi_services.specs.Requests.{inputs_of}
 use Rattle.device_core.specs.declared.plan.QmiPlan.{QmiPlan}
 use Rattle.modem_profile.specs.Profile.{Profile}
 use Rattle.sim_qmi.specs.State.{IsSound, fresh}
-use Rattle.qmi_twice.specs.Peers.{opened}
+use Rattle.lone_peers.specs.Peers.{opened}
 use Rattle.qmi_relay.specs.Law.{IsCommand}
 use Rattle.qmi_relay.specs.Runs.{relay}
 

@@ -2,15 +2,9 @@
 //! alone: it prints the same.
 #![tactic(auto)]
 
-mod asking;
-mod messages;
-mod modem;
 mod printed;
-mod proxy;
-mod relaying;
 mod session;
-mod sim;
 mod twice;
 
-pub use printed::Printed;
-pub use twice::{Twice, qmi_twice};
+pub use printed_ends::{Printed, Twice};
+pub use twice::qmi_twice;

@@ -3,28 +3,18 @@ ghost use Rattle.core_bench.specs.Runs.{Run};
 ghost use Rattle.rig_stage.specs.Running.{AreTold};
 ghost use Rattle.qmi_relay.specs.Runs.{direct_run, through_run};
 ghost use Rattle.qmi_twice.specs.Printed.{Prints};
-ghost use Rattle.qmi_twice.specs.Held.{IsHeld};
 ghost use Rattle.qmi_twice.specs.Twice.{AreShort, IsTold, run_of};
 
-use crate::modem::ModemPeer;
-use crate::printed::Printed;
-use crate::proxy::ProxyPeer;
-use crate::relaying::play;
 use crate::session::hold;
 use core_bench::{Bench, Cores};
 use device_core::QmiPlan;
+use lone_peers::{ModemPeer, ProxyPeer, play};
 use modem_profile::Profile;
+use printed_ends::Twice;
 use qmi_requests::QmiRequest;
 use qmi_services::request;
 use sim_qmi::QmiSim;
 use std::alloc::{AllocError, Global};
-
-/// What a command prints, at a modem itself and through a proxy.
-#[derive(Debug, Drop)]
-pub struct Twice {
-    pub direct: Printed,
-    pub through: Printed,
-}
 
 /// Runs the command of a plan on a simulated modem of this profile itself, and on another one through
 /// the QMI proxy of the plan's device, where no time passes and the tool is alone. It prints the same.
@@ -63,6 +53,9 @@ fn have_room(alloc: Global, plan: &QmiPlan) -> Result<(), AllocError>
 {
     let _inputs = request(alloc, &plan.request)?;
     let device = plan.device.copy(alloc)?;
-    let _opening = request(alloc, &QmiRequest::ProxyOpen(device))?;
+    let opening = QmiRequest::ProxyOpen(device);
+    let inputs = request(alloc, &opening);
+    drop(opening);
+    let _inputs = inputs?;
     Ok(())
 }

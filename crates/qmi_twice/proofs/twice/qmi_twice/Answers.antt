@@ -9,9 +9,9 @@ use Rattle.device_core.specs.declared.plan.QmiPlan.{QmiPlan}
 use Rattle.device_core.specs.Peer.{session_at}
 use Rattle.lone_client.specs.Relay.{asked_by, through}
 use Rattle.qmi_relay.specs.Runs.{through_run}
-use Rattle.qmi_twice.specs.Peers.{at_modem, cast_of}
+use Rattle.lone_peers.specs.Peers.{at_modem, cast_of}
 use Rattle.qmi_twice.specs.Printed.{Prints}
-use Rattle.qmi_twice.proofs.Alike.{prints_alike, runs_so}
+use Rattle.qmi_twice.proofs.Alike.{same_printed, runs_so}
 use Rattle.qmi_twice.proofs.twice.qmi_twice.Goals as goal
 
 pub hold-requires : goal.hold-requires
@@ -33,7 +33,7 @@ returns-clause-through g c =
 
 pub returns-clause-same : goal.returns-clause-same
 returns-clause-same g c = λ told.
-    prints_alike c.args.profile.now c.args.plan c.in_ok-direct.direct.printed c.in_ok-through.through.printed c.in_ok-modem.ensures.limits c.in_ok-have_room.ensures told
+    same_printed c.args.profile.now c.args.plan c.in_ok-direct.direct.printed c.in_ok-through.through.printed c.in_ok-modem.ensures.limits c.in_ok-have_room.ensures told
     (returns-clause-direct g c) (returns-clause-through g c)
 
 pub returns-clause-runs : goal.returns-clause-runs

@@ -1,0 +1,3 @@
+pub mod Hearing
+pub mod OnBench
+pub mod Texts
