@@ -5,7 +5,7 @@ use Rattle.link_session.specs.declared.fault.SessionFault.{SessionFault}
 use Rattle.link_session.specs.declared.fault.SessionFault.TheVariants as fault
 use Rattle.twin_sessions.specs.Runs.{ComeToTheSame}
 use Rattle.printed_ends.specs.declared.printed.Printed.{Printed}
-use Rattle.printed_ends.specs.Printed.{IsByPeer, IsOf, Prints, status_by, status_of, text_of}
+use Rattle.printed_ends.specs.Printed.{IsByPeer, Prints, status_by, status_of, text_of}
 
 -- ends that are the same in this sense have the same text, and refuse by the same code or don't
 module _ {E : Type 0} {Same : E → E → Type 0} {text : E → List ℕ} {refusal : E → Option ℕ} (prints : (a b : E) → Same a b → (text a ≡ text b) × (refusal a ≡ refusal b)) where
