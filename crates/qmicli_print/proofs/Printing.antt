@@ -16,7 +16,9 @@ use Rattle.qmi_values.proofs.Readings.{around, depth_in}
 use Rattle.qmi_shapes.proofs.Views.{view-form}
 use Rattle.print_text.specs.Lines.{heading, deeper}
 use Rattle.print_text.specs.declared.wording.Wording.{Wording}
-use Rattle.qmicli_print.specs.Printed.{list_text, value_text, fields_text}
+use Rattle.qmicli_print.specs.declared.shown.Shown.{Shown}
+use Rattle.qmicli_print.specs.declared.shown.Shown.TheVariants.{Plainly}
+use Rattle.qmicli_print.specs.Printed.{list_text, titled_text, value_text, fields_text}
 
 -- one field more
 pub fields_text-push : (wording : Wording) (named : List NamedForm) (last : NamedForm) (indent : List ℕ) (values : List Value) (value : Value) → length named ≡ length values
@@ -67,22 +69,22 @@ members_are (members found) vs is = cc
 listed : (items : List Val) (all : Values) → values_of (map val_view items) ≡ all → list_of all ≡ map val_view items
 listed items all is = sym (ap list_of is) ∙ list_of-values_of (map val_view items)
 
-pub value_text-list : (wording : Wording) (prefix : Prefix) (form : Form) (indent name : List ℕ) (items : List Val) (values : Values) (value : Value) → Some values ≡ elements_in value → values_of (map val_view items) ≡ values
-    → value_text wording (array prefix form) indent name value ≡ list_text (value_text wording form) indent name (map val_view items)
-value_text-list wording prefix form indent name items values value found is =
-    ap (value_text wording (array prefix form) indent name) (elements_are value values found) ∙ ap (list_text (value_text wording form) indent name) (listed items values is)
+pub titled_text-list : (wording : Wording) (prefix : Prefix) (form : Form) (shown : Shown) (indent title : List ℕ) (items : List Val) (values : Values) (value : Value) → Some values ≡ elements_in value → values_of (map val_view items) ≡ values
+    → titled_text wording (array prefix form) shown indent title value ≡ list_text shown (titled_text wording form Plainly) indent title (map val_view items)
+titled_text-list wording prefix form shown indent title items values value found is =
+    ap (titled_text wording (array prefix form) shown indent title) (elements_are value values found) ∙ ap (list_text shown (titled_text wording form Plainly) indent title) (listed items values is)
 
-pub value_text-sequence : (wording : Wording) (all : Fields) (indent inner name out headed : List ℕ) (fields : List ShapeField) (items : List Val) (values : Values) (value : Value) → Some values ≡ members_in value → values_of (map val_view items) ≡ values
-    → fields_of (map field_view fields) ≡ all → inner ≡ deeper indent → headed ≡ out ++ heading indent name
-    → out ++ value_text wording (sequence all) indent name value ≡ headed ++ fields_text wording (fields_of (map field_view fields)) inner (map val_view items)
-value_text-sequence wording all indent inner name out headed fields items values value found is fields_is deep head =
+pub titled_text-sequence : (wording : Wording) (all : Fields) (shown : Shown) (indent inner title out headed : List ℕ) (fields : List ShapeField) (items : List Val) (values : Values) (value : Value) → Some values ≡ members_in value → values_of (map val_view items) ≡ values
+    → fields_of (map field_view fields) ≡ all → inner ≡ deeper indent → headed ≡ out ++ heading indent title
+    → out ++ titled_text wording (sequence all) shown indent title value ≡ headed ++ fields_text wording (fields_of (map field_view fields)) inner (map val_view items)
+titled_text-sequence wording all shown indent inner title out headed fields items values value found is fields_is deep head =
     let inside : List ℕ = fields_text wording (fields_of (map field_view fields)) inner (map val_view items) in
-    let same : value_text wording (sequence all) indent name value ≡ heading indent name ++ inside =
-    ap (value_text wording (sequence all) indent name) (members_are value values found)
-    ∙ ap (λ (l : List Value). heading indent name ++ fields_text wording all (deeper indent) l) (listed items values is)
-    ∙ ap (λ (f : Fields). heading indent name ++ fields_text wording f (deeper indent) (map val_view items)) (sym fields_is)
-    ∙ ap (λ (l : List ℕ). heading indent name ++ fields_text wording (fields_of (map field_view fields)) l (map val_view items)) (sym deep) in
-    ap (λ (l : List ℕ). out ++ l) same ∙ sym (append_assoc out (heading indent name) inside) ∙ ap (λ (l : List ℕ). l ++ inside) (sym head)
+    let same : titled_text wording (sequence all) shown indent title value ≡ heading indent title ++ inside =
+    ap (titled_text wording (sequence all) shown indent title) (members_are value values found)
+    ∙ ap (λ (l : List Value). heading indent title ++ fields_text wording all (deeper indent) l) (listed items values is)
+    ∙ ap (λ (f : Fields). heading indent title ++ fields_text wording f (deeper indent) (map val_view items)) (sym fields_is)
+    ∙ ap (λ (l : List ℕ). heading indent title ++ fields_text wording (fields_of (map field_view fields)) l (map val_view items)) (sym deep) in
+    ap (λ (l : List ℕ). out ++ l) same ∙ sym (append_assoc out (heading indent title) inside) ∙ ap (λ (l : List ℕ). l ++ inside) (sym head)
 
 module _ (wording : Wording) (indent before now new : List ℕ) where
   -- the fields so far, and one more

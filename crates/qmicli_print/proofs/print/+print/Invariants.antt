@@ -3,11 +3,12 @@ use Rattle.qmi_shapes.specs.View.{fields_of, shape_view, field_view}
 use Rattle.qmi_values.proofs.Depth.{depth, fields_depth}
 use Rattle.qmi_values.specs.View.{val_view}
 use Rattle.print_text.specs.Lines.{each_text}
-use Rattle.qmicli_print.specs.Printed.{value_text, fields_text}
+use Rattle.qmicli_print.specs.declared.shown.Shown.TheVariants.{Plainly}
+use Rattle.qmicli_print.specs.Printed.{titled_text, fields_text}
 use Rattle.qmicli_print.proofs.print.+print.Given as goal
 
 abbrev pub invariant-print_elements-loop-index : goal.invariant-print_elements-loop-index
-invariant-print_elements-loop-index l = l.out ≡ l.initial.out ++ each_text (value_text l.wording (shape_view l.element) l.indent) 1 (map val_view (take l.index l.vals))
+invariant-print_elements-loop-index l = l.out ≡ l.initial.out ++ each_text (titled_text l.wording (shape_view l.element) Plainly l.indent) 1 (map val_view (take l.index l.vals))
 
 abbrev pub invariant-print_fields-loop-index : goal.invariant-print_fields-loop-index
 invariant-print_fields-loop-index l = l.out ≡ l.initial.out ++ fields_text l.wording (fields_of (map field_view (take l.index l.fields))) l.indent (map val_view (take l.index l.vals))
