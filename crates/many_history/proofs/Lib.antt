@@ -1,0 +1,4 @@
+pub mod Own
+pub mod Meeting
+pub mod Seated
+pub mod There

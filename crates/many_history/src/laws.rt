@@ -1,0 +1,30 @@
+ghost use Rattle.many_history.specs.Laws.{
+  EachHasItsModemAndTheClock,
+  NothingIsLostByChoosing,
+  OthersChangeNothing,
+  OwnEventsMayCome,
+};
+ghost use Rattle.many_history.specs.Seated.{WhoIsThereSits};
+
+/// The law that where some events may come to a proxy of several devices, those of each device may
+/// come to a proxy of this device alone.
+pub fn own_events_may_come<Known>()
+    ensures { OwnEventsMayCome Known }
+{}
+
+/// The law of what the proxy of a device meets: its modem's events and the clock's, and of a client
+/// that chooses the device all that it said.
+pub fn each_device_meets_its_own<Known>()
+    ensures modem { EachHasItsModemAndTheClock Known }
+    ensures client { NothingIsLostByChoosing }
+{}
+
+/// The law that a client notices nothing of what comes to other devices.
+pub fn other_devices_change_nothing<Known>()
+    ensures { OthersChangeNothing Known }
+{}
+
+/// The law that whoever is there for the proxy of a device is there for that of all.
+pub fn who_is_there_sits<Known>()
+    ensures { WhoIsThereSits Known }
+{}
