@@ -4,4 +4,5 @@ pub mod Qmi
 pub mod Mbim
 pub mod Runs
 pub mod Stream
+pub mod Tables
 pub mod Examples

@@ -16,8 +16,8 @@ use Rattle.print_text.specs.Texts.{hex_pair}
 use Rattle.print_text.specs.Lines.{spaces}
 use Rattle.print_text.specs.declared.wording.Wording.TheVariants.{NumbersAlone}
 use Rattle.qmicli_print.specs.declared.shown.Shown.TheVariants.{Service}
-use Rattle.qmicli_print.specs.Words.{word_of}
-use Rattle.qmicli_print.specs.Printed.{value_text}
+use Rattle.qmicli_print.specs.Words.{shown_as, word_of}
+use Rattle.qmicli_print.specs.Printed.{titled_text}
 use Rattle.stream_lines.specs.Lines.{Showing, place_behind}
 use Rattle.dissect.specs.Lines.{hex, hex_line}
 
@@ -75,17 +75,22 @@ head_line form at head =
 abbrev pub tlv_name : ℕ → List ℕ
 tlv_name kind = codes "0x" ++ hex_pair kind
 
+-- a name behind a blank, where there is one
+abbrev pub name_behind : List ℕ → List ℕ
+name_behind [] = []
+name_behind (byte ∷ name) = codes " " ++ byte ∷ name
+
 -- a TLV by its type and its name in the tables
 unfoldable pub named_tlv : ℕ → TlvForm → List ℕ
-named_tlv kind form = tlv_name kind ++ codes " " ++ encode_utf8_all form.name
+named_tlv kind form = tlv_name kind ++ name_behind (encode_utf8_all form.name)
 
 abbrev pub bytes_line : Entry → List ℕ
 bytes_line entry = hex_line (tlv_name entry.kind) entry.value
 
--- a value where it reads, else its bytes
+-- a value where it reads, shown as its name in the tables says, else its bytes
 abbrev pub value_lines : Entry → TlvForm → Option Value → List ℕ
 value_lines entry form None = bytes_line entry
-value_lines entry form (Some value) = value_text NumbersAlone form.form (spaces 1) (named_tlv entry.kind form) value
+value_lines entry form (Some value) = titled_text NumbersAlone form.form (shown_as (encode_utf8_all form.name)) (spaces 1) (named_tlv entry.kind form) value
 
 abbrev pub plain_lines : Entry → Option TlvForm → List ℕ
 plain_lines entry None = bytes_line entry

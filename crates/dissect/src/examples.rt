@@ -1,6 +1,6 @@
 //! Worked examples, letter for letter.
 
-ghost use Rattle.dissect.specs.Examples.{CloseIsShown, FragmentIsRefused, PartShowsNothing, QueryIsShown, StrangeMessagesAreShown, TailsAreShown, VersionInfoIsShown};
+ghost use Rattle.dissect.specs.Examples.{AnswersAreShown, CloseIsShown, CommandsAreShown, EndsAreTold, FragmentIsRefused, IndicationsAreShown, PartShowsNothing, QueryIsShown, StatusesAreShown, StrangeMessagesAreShown, TailsAreShown, TlvsAreShown, VersionInfoIsShown};
 
 pub fn close_is_shown()
     ensures { CloseIsShown }
@@ -28,4 +28,28 @@ pub fn part_shows_nothing()
 
 pub fn strange_messages_are_shown()
     ensures { StrangeMessagesAreShown }
+{}
+
+pub fn tlvs_are_shown()
+    ensures { TlvsAreShown }
+{}
+
+pub fn indications_are_shown()
+    ensures { IndicationsAreShown }
+{}
+
+pub fn commands_are_shown()
+    ensures { CommandsAreShown }
+{}
+
+pub fn answers_are_shown()
+    ensures { AnswersAreShown }
+{}
+
+pub fn statuses_are_shown()
+    ensures { StatusesAreShown }
+{}
+
+pub fn ends_are_told()
+    ensures { EndsAreTold }
 {}

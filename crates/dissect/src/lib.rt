@@ -1,7 +1,9 @@
 //! A captured stream of one direction, shown message by message in lines.
 #![tactic(auto)]
 
+mod by_tables;
 mod capture;
+mod capture_end;
 pub mod examples;
 mod mbim;
 mod mbim_body;
@@ -11,5 +13,7 @@ mod qmi;
 mod qmi_message;
 mod qmi_tlvs;
 
+pub use by_tables::dissect_by_tables;
 pub use capture::dissect;
+pub use capture_end::CaptureEnd;
 pub use stream_lines::DissectEnd;

@@ -4,13 +4,13 @@ ghost use Rattle.message_tables.specs.View.{tlv_view};
 ghost use Rattle.message_tables.specs.WellMade.{IsSoundTlv};
 ghost use Rattle.qmi_values.specs.View.{val_view};
 ghost use Rattle.dissect.specs.Places.{StandsWithin, entry_at};
-ghost use Rattle.dissect.specs.Qmi.{bytes_line, is_outcome, named_tlv, outcome_line, plain_lines, tlv_lines, tlv_name, value_lines};
+ghost use Rattle.dissect.specs.Qmi.{bytes_line, is_outcome, name_behind, named_tlv, outcome_line, plain_lines, tlv_lines, tlv_name, value_lines};
 
 use crate::parts::{push_hex_line, push_number};
 use kit_bytes::{Octets, Text, u16_at};
 use message_tables::TlvShape;
 use qmi_values::Val;
-use qmicli_print::value_text;
+use qmicli_print::titled_text;
 use qmux_frame::MessageKind;
 use std::alloc::{AllocError, Global};
 use tlv_codec::Tlv;
@@ -112,8 +112,8 @@ fn push_value(
     let Some(val) = val else {
         return push_bytes(alloc, text, tlv, value);
     };
-    let name = named_tlv(alloc, tlv, form)?;
-    let lines = value_text(alloc, 1, &name, &form.shape, &val)?;
+    let title = named_tlv(alloc, tlv, form)?;
+    let lines = titled_text(alloc, 1, &title, &form.name, &form.shape, &val)?;
     text.extend_from_slice(lines.as_slice())
 }
 
@@ -141,9 +141,19 @@ fn named_tlv(alloc: Global, tlv: u8, form: &TlvShape) -> Result<Text, AllocError
     ensures { IfOk result (λ text. encode_utf8_all text ≡ named_tlv tlv (tlv_view form.now)) }
 {
     let mut text = tlv_name(alloc, tlv)?;
-    text.push_str(" ")?;
-    text.push_str(form.name.as_str())?;
+    push_name(&mut text, form.name.as_str())?;
     Ok(Text::from(text))
+}
+
+// Adds a name behind a blank, where there is one.
+fn push_name(text: &mut String, name: &str) -> Result<(), AllocError>
+    ensures { OnOk result (string_bytes text.new ≡ string_bytes text.old ++ name_behind name.now) }
+{
+    if name.is_empty() {
+        return Ok(());
+    }
+    text.push_str(" ")?;
+    text.push_str(name)
 }
 
 // A number as a hexadecimal digit.

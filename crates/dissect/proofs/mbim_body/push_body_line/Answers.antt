@@ -1,4 +1,4 @@
-use Rattle.std.proofs.Common.{◌≡◌, ℕ, List, ◌++◌, ◌∙◌, ap, codes, decimal}
+use Rattle.std.proofs.Common.{ℕ, List, ◌++◌, ◌∙◌, ap, codes, decimal}
 use Rattle.mbimcli_print.specs.Texts.{uuid_text}
 use Rattle.dissect.specs.Mbim.{body_line}
 use Rattle.dissect.proofs.Joined.{both, then_two}

@@ -1,4 +1,4 @@
-use Rattle.std.proofs.Common.{◌≡◌, ℕ, List, ◌++◌, ◌∙◌, ap, sym}
+use Rattle.std.proofs.Common.{ℕ, List, ◌++◌, ◌∙◌, ap, sym}
 use Rattle.mbim_fields.specs.Layout.{Layout}
 use Rattle.mbim_fields.specs.Reading.{Read}
 use Rattle.mbim_fields.specs.Value.{Value, list_of}

@@ -1,4 +1,4 @@
-use Rattle.std.proofs.Common.{◌≡◌, ℕ, List, ◌++◌, ◌∙◌, ap, Option, codes, decimal}
+use Rattle.std.proofs.Common.{ℕ, List, ◌++◌, ◌∙◌, ap, Option, codes, decimal}
 use Rattle.mbim_frame.specs.declared.kind.MessageKind.{MessageKind}
 use Rattle.mbim_frame.specs.Kinds.{kind_numbered}
 use Rattle.dissect.specs.Mbim.{head_line, kind_by}

@@ -1,4 +1,4 @@
-use Rattle.std.proofs.Common.{◌≡◌, ℕ, List, ◌++◌, ◌∙◌, ap, Option, option_map, Bor, codes, decimal}
+use Rattle.std.proofs.Common.{ℕ, List, ◌++◌, ◌∙◌, ap, Option, option_map, Bor, codes, decimal}
 use Rattle.message_tables.specs.declared.message.Message.{Message}
 use Rattle.message_tables.specs.View.{message_view}
 use Rattle.qmux_frame.specs.declared.head.Head.{Head}

@@ -1,4 +1,4 @@
-use Rattle.std.proofs.Common.{◌≡◌, ◌++◌, ◌∙◌, ap, sym, subst, map, List, Option}
+use Rattle.std.proofs.Common.{◌++◌, ◌∙◌, ap, sym, subst, map, List, Option}
 use Rattle.std.specs.List.{AllByRecursion, flat_map}
 use Rattle.message_tables.specs.View.{tlv_view}
 use Rattle.tlv_codec.specs.declared.tlv.Tlv.{Tlv}

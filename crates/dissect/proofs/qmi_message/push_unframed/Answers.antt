@@ -1,4 +1,4 @@
-use Rattle.std.proofs.Common.{◌≡◌, ℕ, List, ◌++◌, codes, decimal}
+use Rattle.std.proofs.Common.{ℕ, List, ◌++◌, codes, decimal}
 use Rattle.dissect.specs.Lines.{hex}
 use Rattle.dissect.specs.Qmi.{unframed_line}
 use Rattle.dissect.proofs.Joined.{then_one}

@@ -1,4 +1,4 @@
-use Rattle.std.proofs.Common.{◌≡◌, ℕ, List, ◌++◌, ◌∙◌, ap, codes, decimal}
+use Rattle.std.proofs.Common.{ℕ, List, ◌++◌, ◌∙◌, ap, codes, decimal}
 use Rattle.kit_bytes.specs.Numbers.{number_at}
 use Rattle.dissect.specs.Qmi.{outcome_line}
 use Rattle.dissect.proofs.Joined.{both, then_one, then_two}
