@@ -38,12 +38,12 @@ mbim() { timeout 2 "$program" mbimcli -d "$folder/mbim" "$@" 2>&1; }
 basic=a289cc33-bcbb-8b4f-b6b0-133ec2aae6df
 cat >"$folder/qmi.json" <<END
 {"answers": [{"service": 2, "message": 35, "data": "01010039"}],
- "faults": [{"service": 3, "message": 32, "nth": 1, "error": 3}, {"service": 2, "message": 34, "nth": 2}],
+ "faults": [{"service": 3, "message": 32, "nth": 1, "error": 3}, {"service": 2, "message": 34, "nth": 2, "error": null}],
  "indications": [{"service": 3, "message": 2, "data": "", "after": {"service": 3, "message": 32}}]}
 END
 cat >"$folder/mbim.json" <<END
 {"answers": [{"service": "$basic", "command": 11, "data": "1f00000000000000000000000000000000000000"}],
- "faults": [{"service": "$basic", "command": 3, "nth": 1, "error": 14}, {"service": "$basic", "command": 1, "nth": 1}],
+ "faults": [{"service": "$basic", "command": 3, "nth": 1, "error": 14}, {"service": "$basic", "command": 1, "nth": 1, "error": null}],
  "indications": [{"service": "$basic", "command": 11, "data": "", "after": {"service": "$basic", "command": 11}}]}
 END
 starts qmi --rules="$folder/qmi.json"
@@ -77,7 +77,7 @@ open(f"{folder}/longer.json", "w").write(text + " ")
 def request(n):
     return {"service": 16 + n % 200, "message": n}
 answers = [{**request(n), "data": "010100%02x" % (n % 256)} for n in range(0, 1000, 3)]
-faults = [{**request(n), "nth": n} for n in range(1, 1000, 3)]
+faults = [{**request(n), "nth": n, "error": n} for n in range(1, 1000, 3)]
 indications = [{**request(n), "data": "", "after": request(n)} for n in range(2, 1000, 3)]
 with open(f"{folder}/thousand.json", "w") as file:
     json.dump({"answers": answers, "faults": faults, "indications": indications}, file)

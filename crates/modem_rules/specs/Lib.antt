@@ -4,3 +4,4 @@ pub mod Values
 pub mod Lists
 pub mod Reading
 pub mod Answers
+pub mod Examples

@@ -1,10 +1,11 @@
 -- The values that rules are in JSON.
-use Rattle.std.specs.Prelude.{ℕ, ◌-◌, ◌^◌, ◌&&◌, nat_le, List, length, codes, Option, Some, None, if◌then◌else◌, option_and_then, option_map}
+use Rattle.std.specs.Prelude.{ℕ, ◌-◌, ◌^◌, Bool, ◌&&◌, ◌==◌, nat_le, List, length, codes, Option, Some, None, is_some, if◌then◌else◌, option_and_then, option_map}
 use Rattle.std.specs.Result.{result_ok}
 use Rattle.hex.specs.Hex.{decode_of}
 use Rattle.uuid.specs.Text.{parsed}
-use Rattle.serde_json.specs.Data.{Data}
-use Rattle.serde_json.specs.Find.{get, as_str, as_number, as_u64}
+use Rattle.serde_json.specs.Data.{Data, Members}
+use Rattle.serde_json.specs.Events.{members_len}
+use Rattle.serde_json.specs.Find.{get, as_null, as_str, as_number, as_object, as_u64}
 use Rattle.kit_bytes.specs.declared.Kind.{Kind}
 use Rattle.kit_bytes.specs.declared.Kind.TheVariants.{Qmi, Mbim}
 use Rattle.modem_rules.specs.declared.kind.RequestKind.{RequestKind}
@@ -17,6 +18,20 @@ use Rattle.modem_rules.specs.declared.rules.IndicationRule.{IndicationRule}
 infixl 10 ◌>>=◌
 abbrev pub ◌>>=◌ : {A B : Type 0} → Option A → (A → Option B) → Option B
 found >>= next = option_and_then next found
+
+-- ---- members ----
+
+abbrev pub count_of : Option Members → ℕ
+count_of None = 0
+count_of (Some members) = members_len members
+
+-- whether it has so many members in all
+unfoldable pub has_members : (count : ℕ) → Data → Bool
+has_members count value = count_of (as_object value) == count
+
+-- each member that a rule has is needed, so that where it has so many there is none of another name
+abbrev pub if_members : {A : Type 0} → (count : ℕ) → Data → A → Option A
+if_members count members rule = if has_members count members then Some rule else None
 
 -- ---- numbers, which are integers ----
 
@@ -46,6 +61,12 @@ kind_in Mbim members = do
   command ← number_in (codes "command") 0 0xffff_ffff members
   Some (Command service command)
 
+-- by an object that has no other members
+unfoldable pub kind_alone : Kind → Data → Option RequestKind
+kind_alone kind members = do
+  request ← kind_in kind members
+  if_members 2 members request
+
 -- ---- what is sent ----
 
 abbrev pub if_short : List ℕ → Option (List ℕ)
@@ -64,27 +85,31 @@ unfoldable pub answer_rule : Kind → Data → Option AnswerRule
 answer_rule kind members = do
   request ← kind_in kind members
   bytes ← data_in members
-  Some (record { kind = request; «data» = bytes })
+  if_members 3 members (record { kind = request; «data» = bytes })
 
--- an error may be missing: the request isn't answered then
-abbrev pub error_of : Option Data → Option (Option ℕ)
-error_of None = Some None
-error_of (Some value) = option_map Some (number_within 1 0xffff value)
+-- an error of QMI has 16 bits, and a status of MBIM has 32
+abbrev pub most_error : Kind → ℕ
+most_error Qmi = 0xffff
+most_error Mbim = 0xffff_ffff
 
-unfoldable pub error_in : Data → Option (Option ℕ)
-error_in members = error_of (get (codes "error") members)
+-- null says that the request isn't answered
+abbrev pub error_of : Kind → Data → Option (Option ℕ)
+error_of kind value = if is_some (as_null value) then Some None else option_map Some (number_within 1 (most_error kind) value)
+
+unfoldable pub error_in : Kind → Data → Option (Option ℕ)
+error_in kind members = option_and_then (error_of kind) (get (codes "error") members)
 
 unfoldable pub fault_rule : Kind → Data → Option FaultRule
 fault_rule kind members = do
   request ← kind_in kind members
   nth ← number_in (codes "nth") 1 (2 ^ 64 - 1) members
-  error ← error_in members
-  Some (record { kind = request; nth = nth; error = error })
+  error ← error_in kind members
+  if_members 4 members (record { kind = request; nth = nth; error = error })
 
 unfoldable pub indication_rule : Kind → Data → Option IndicationRule
 indication_rule kind members = do
   request ← get (codes "after") members
-  after ← kind_in kind request
+  after ← kind_alone kind request
   indicated ← kind_in kind members
   bytes ← data_in members
-  Some (record { after = after; kind = indicated; «data» = bytes })
+  if_members 4 members (record { after = after; kind = indicated; «data» = bytes })

@@ -2,15 +2,15 @@ ghost use Rattle.std.specs.Prelude.{◌≡◌};
 ghost use Rattle.serde_json.specs.View.{view};
 ghost use Rattle.uuid.specs.Text.{parsed};
 ghost use Rattle.modem_rules.specs.Kinds.{is_same};
-ghost use Rattle.modem_rules.specs.Values.{kind_in, uuid_in};
+ghost use Rattle.modem_rules.specs.Values.{kind_alone, kind_in, uuid_in};
 
-use crate::numbers::number_in;
+use crate::members::{has_members, number_in};
 use kit_bytes::Kind;
 use serde_json::Value;
 use uuid::Uuid;
 
 /// A kind of request: all requests of one message or command.
-#[derive(Clone, Copy, Debug, PartialEq, Eq)]
+#[derive(Clone, Copy, Debug, PartialEq, Eq, Hash)]
 pub enum RequestKind {
     /// The message of a QMI service.
     Message { service: u8, message: u16 },
@@ -49,6 +49,19 @@ impl RequestKind {
         match kind {
             Kind::Qmi => message_in(object),
             Kind::Mbim => command_in(object),
+        }
+    }
+
+    /// The same, where the object has no other members.
+    #[tactic(auto, unfolding(crate::specs::Values::kind_alone))]
+    pub(crate) fn read_alone(kind: Kind, object: &Value) -> Option<RequestKind>
+        ensures { result ≡ kind_alone kind (view object.now) }
+    {
+        let request = RequestKind::read(kind, object)?;
+        if has_members(object, 2) {
+            Some(request)
+        } else {
+            None
         }
     }
 }

@@ -2,10 +2,11 @@
 #![tactic(auto)]
 
 mod data;
+pub mod examples;
 mod fault;
 mod kind;
 mod lists;
-mod numbers;
+mod members;
 mod read;
 mod rules;
 

@@ -1,11 +1,11 @@
-ghost use Rattle.std.specs.Prelude.{◌≡◌, Option, IfOk};
+ghost use Rattle.std.specs.Prelude.{◌≡◌, ◌≤◌, Option, IfOk};
 ghost use Rattle.serde_json.specs.Data.{Data};
 ghost use Rattle.serde_json.specs.View.{view};
 ghost use Rattle.modem_rules.specs.Answers.{Gives};
 ghost use Rattle.modem_rules.specs.Lists.{list_in, rules_in_list};
-ghost use Rattle.modem_rules.specs.Values.{answer_rule, data_in, error_in, fault_rule, indication_rule};
+ghost use Rattle.modem_rules.specs.Values.{answer_rule, data_in, error_in, fault_rule, indication_rule, most_error};
 
-use crate::numbers::{number_in, number_within};
+use crate::members::{has_members, number_in, number_within};
 use crate::{AnswerRule, FaultRule, IndicationRule, RequestKind, RuleData, RuleList, RulesFault};
 use hex::FromHexError;
 use kit_bytes::{Kind, Octets};
@@ -34,6 +34,9 @@ impl Rule for AnswerRule {
         let Some(data) = data_in(alloc, value)? else {
             return Ok(None);
         };
+        if !has_members(value, 3) {
+            return Ok(None);
+        }
         Ok(Some(AnswerRule {
             kind: request,
             data,
@@ -58,7 +61,7 @@ impl Rule for IndicationRule {
         let Some(request) = value.get("after") else {
             return Ok(None);
         };
-        let Some(after) = RequestKind::read(kind, request) else {
+        let Some(after) = RequestKind::read_alone(kind, request) else {
             return Ok(None);
         };
         let Some(indicated) = RequestKind::read(kind, value) else {
@@ -67,6 +70,9 @@ impl Rule for IndicationRule {
         let Some(data) = data_in(alloc, value)? else {
             return Ok(None);
         };
+        if !has_members(value, 4) {
+            return Ok(None);
+        }
         Ok(Some(IndicationRule {
             after,
             kind: indicated,
@@ -81,7 +87,10 @@ fn fault_rule(kind: Kind, value: &Value) -> Option<FaultRule>
 {
     let request = RequestKind::read(kind, value)?;
     let nth = number_in(value, "nth", 1, u64::MAX)?;
-    let error = error_in(value)?;
+    let error = error_in(kind, value)?;
+    if !has_members(value, 4) {
+        return None;
+    }
     Some(FaultRule {
         kind: request,
         nth,
@@ -89,16 +98,27 @@ fn fault_rule(kind: Kind, value: &Value) -> Option<FaultRule>
     })
 }
 
-// The error that an object names, if it names one and that is one.
+// The error that an object names, or that it names none on purpose.
 #[tactic(auto, unfolding(crate::specs::Values::error_in))]
-fn error_in(object: &Value) -> Option<Option<u16>>
-    ensures { result ≡ error_in (view object.now) }
+fn error_in(kind: Kind, object: &Value) -> Option<Option<u32>>
+    ensures { result ≡ error_in kind (view object.now) }
 {
-    let Some(value) = object.get("error") else {
+    let value = object.get("error")?;
+    if value.is_null() {
         return Some(None);
-    };
-    let error = number_within(1, 0xffff, value)?;
-    Some(Some(error as u16))
+    }
+    let error = number_within(1, most_error(kind), value)?;
+    Some(Some(error as u32))
+}
+
+fn most_error(kind: Kind) -> u64
+    ensures exact { result ≡ most_error kind }
+    ensures within { result ≤ 0xffff_ffff }
+{
+    match kind {
+        Kind::Qmi => 0xffff,
+        Kind::Mbim => 0xffff_ffff,
+    }
 }
 
 // The bytes that an object's pairs of hexadecimal digits spell.

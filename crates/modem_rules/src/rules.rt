@@ -13,8 +13,8 @@ pub struct FaultRule {
     pub kind: RequestKind,
     /// Which of the requests of the kind it is, counted from 1.
     pub nth: u64,
-    /// The error by which it is refused, or None where it isn't answered.
-    pub error: Option<u16>,
+    /// The error of QMI or the status of MBIM by which it is refused, or None where it isn't answered.
+    pub error: Option<u32>,
 }
 
 /// Each request of a kind brings an indication.

@@ -1,5 +1,5 @@
 -- What a modem sends by a rule. To a message that is no whole request it sends nothing.
-use Rattle.std.specs.Prelude.{ℕ, List, [], ◌++◌, length, Option, Some, None}
+use Rattle.std.specs.Prelude.{ℕ, ◌%◌, ◌^◌, List, [], ◌++◌, length, Option, Some, None}
 use Rattle.kit_bytes.specs.declared.Kind.{Kind}
 use Rattle.kit_bytes.specs.declared.Kind.TheVariants.{Qmi, Mbim}
 use Rattle.qmux_frame.specs.declared.head.Head.{Head}
@@ -33,9 +33,9 @@ abbrev pub response_if : Option Head → (error : ℕ) → (tlvs : List ℕ) →
 response_if None error tlvs = []
 response_if (Some head) error tlvs = message_text (reply_to head) (result_tlv error ++ tlvs)
 
--- with this error in the Result TLV and these TLVs behind it, or with this status and buffer; 0 is a success
+-- with this error in the Result TLV, which has 16 bits, and these TLVs behind it, or with this status and buffer; 0 is a success
 abbrev pub reply : Kind → (message : List ℕ) → (error : ℕ) → (bytes : List ℕ) → List ℕ
-reply Qmi message error bytes = response_if (request_in message) error bytes
+reply Qmi message error bytes = response_if (request_in message) (error % 2 ^ 16) bytes
 reply Mbim message error bytes = done_if (number_of message) (command_in message) error bytes
 
 -- ---- indications ----

@@ -24,7 +24,7 @@ pub(crate) fn reply(
     alloc: Global,
     kind: Kind,
     message: &[u8],
-    error: u16,
+    error: u32,
     bytes: &[u8],
 ) -> Result<Octets, AllocError>
     requires { length bytes.now ≤ LONGEST_DATA }
@@ -32,13 +32,13 @@ pub(crate) fn reply(
 {
     match kind {
         Kind::Qmi => match request_in(message) {
-            Some(head) => response(alloc, &head, error, bytes),
+            Some(head) => response(alloc, &head, (error % 0x1_0000) as u16, bytes),
             None => Ok(Octets::new(alloc)),
         },
         Kind::Mbim => match command_in(message) {
             Some(head) => {
                 let number = MHead::read(message).number;
-                done(alloc, number, &head, u32::from(error), bytes)
+                done(alloc, number, &head, error, bytes)
             }
             None => Ok(Octets::new(alloc)),
         },

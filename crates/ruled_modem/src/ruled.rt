@@ -100,7 +100,7 @@ fn failed(
     alloc: Global,
     kind: Kind,
     message: &[u8],
-    error: Option<u16>,
+    error: Option<u32>,
 ) -> Result<Octets, AllocError>
     ensures { IfOk result (λ octets. octets ≡ failed kind message.now error) }
 {

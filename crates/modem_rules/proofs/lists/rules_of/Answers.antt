@@ -1,4 +1,4 @@
-use Rattle.std.proofs.Common.{sym, ◌∙◌, ap}
+use Rattle.std.proofs.Common.{sym, ◌∙◌}
 use Rattle.modem_rules.proofs.Continued.{HasRead-begin, HasRead-part, HasRead-none, HasRead-all}
 use Rattle.modem_rules.proofs.lists.rules_of.Goals as goal
 

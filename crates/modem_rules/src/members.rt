@@ -1,6 +1,6 @@
 ghost use Rattle.std.specs.Prelude.{◌≡◌, ◌≤◌, IfSome};
 ghost use Rattle.serde_json.specs.View.{view};
-ghost use Rattle.modem_rules.specs.Values.{number_in, number_within};
+ghost use Rattle.modem_rules.specs.Values.{has_members, number_in, number_within};
 
 use serde_json::Value;
 
@@ -25,4 +25,15 @@ pub(crate) fn number_in(object: &Value, name: &str, least: u64, most: u64) -> Op
     ensures within { IfSome result (λ number. (least ≤ number) × (number ≤ most)) }
 {
     number_within(least, most, object.get(name)?)
+}
+
+/// Whether an object has so many members in all.
+#[tactic(auto, unfolding(crate::specs::Values::has_members))]
+pub(crate) fn has_members(object: &Value, count: usize) -> bool
+    ensures { result ≡ has_members count (view object.now) }
+{
+    match object.as_object() {
+        Some(members) => members.len() == count,
+        None => count == 0,
+    }
 }

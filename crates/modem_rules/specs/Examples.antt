@@ -1,0 +1,55 @@
+-- Worked examples of values that are rules, and of some that are none. Members stand in the order of their names.
+use Rattle.std.specs.Prelude.{◌≡◌, ℕ, List, [], ◌∷◌, Some, None, codes}
+use Rattle.serde_json.specs.Data.{Data, null, number, string, object, unsigned, Members, no_members, member}
+use Rattle.kit_bytes.specs.declared.Kind.TheVariants.{Qmi, Mbim}
+use Rattle.modem_rules.specs.declared.kind.RequestKind.TheVariants.{Message, Command}
+use Rattle.modem_rules.specs.Values.{answer_rule, fault_rule, indication_rule}
+
+abbrev pub integer : ℕ → Data
+integer n = number (unsigned n)
+
+-- {"data": DIGITS, "message": 34, "service": 2}
+abbrev pub answering : (digits : List ℕ) → Data
+answering digits = object (member (codes "data") (string digits) (member (codes "message") (integer 34) (member (codes "service") (integer 2) no_members)))
+
+-- {NAME: VALUE, "message": 34, "nth": NTH, "service": 2}
+abbrev pub failing : (name : List ℕ) → (value : Data) → (nth : ℕ) → Data
+failing name value nth = object (member name value (member (codes "message") (integer 34) (member (codes "nth") (integer nth) (member (codes "service") (integer 2) no_members))))
+
+-- the fault of MBIM's Radio State with this status
+abbrev pub mbim_failing : (status : ℕ) → Data
+mbim_failing status = object (member (codes "command") (integer 3) (member (codes "error") (integer status) (member (codes "nth") (integer 1)
+    (member (codes "service") (string (codes "a289cc33-bcbb-8b4f-b6b0-133ec2aae6df")) no_members))))
+
+-- {"message": 34, "service": 2} and these members in front
+abbrev pub request_with : (Members → Members) → Data
+request_with more = object (more (member (codes "message") (integer 34) (member (codes "service") (integer 2) no_members)))
+
+-- {"after": AFTER, "data": "", "message": 34, "service": 2}
+abbrev pub telling : (after : Data) → Data
+telling after = request_with (λ members. member (codes "after") after (member (codes "data") (string []) members))
+
+pub record RulesHaveNoOtherMembers : Type 0 where
+  pub answers : answer_rule Qmi (answering (codes "0102")) ≡ Some (record { kind = Message 2 34; «data» = 1 ∷ 2 ∷ [] })
+  -- nor fewer
+  pub without_data : answer_rule Qmi (request_with (λ members. members)) ≡ None
+  pub with_another : answer_rule Qmi (failing (codes "data") (string []) 1) ≡ None
+  pub tells : indication_rule Qmi (telling (request_with (λ members. members))) ≡ Some (record { after = Message 2 34; kind = Message 2 34; «data» = [] })
+  pub after_more : indication_rule Qmi (telling (answering [])) ≡ None
+
+pub record SilenceIsSpelledOut : Type 0 where
+  pub refused : fault_rule Qmi (failing (codes "error") (integer 3) 2) ≡ Some (record { kind = Message 2 34; nth = 2; error = Some 3 })
+  pub silent : fault_rule Qmi (failing (codes "error") null 2) ≡ Some (record { kind = Message 2 34; nth = 2; error = None })
+  pub misspelled : fault_rule Qmi (failing (codes "eror") (integer 3) 2) ≡ None
+  pub another : fault_rule Qmi (failing (codes "late") (integer 5) 2) ≡ None
+  pub none : fault_rule Qmi (failing (codes "error") (integer 0) 2) ≡ None
+
+pub record ErrorsHaveTheirSize : Type 0 where
+  pub most : fault_rule Qmi (failing (codes "error") (integer 65535) 1) ≡ Some (record { kind = Message 2 34; nth = 1; error = Some 65535 })
+  pub more : fault_rule Qmi (failing (codes "error") (integer 65536) 1) ≡ None
+  pub status : fault_rule Mbim (mbim_failing 65536) ≡ Some (record {
+    kind = Command (0xa2 ∷ 0x89 ∷ 0xcc ∷ 0x33 ∷ 0xbc ∷ 0xbb ∷ 0x8b ∷ 0x4f ∷ 0xb6 ∷ 0xb0 ∷ 0x13 ∷ 0x3e ∷ 0xc2 ∷ 0xaa ∷ 0xe6 ∷ 0xdf ∷ []) 3;
+    nth = 1;
+    error = Some 65536;
+  })
+  pub most_status : fault_rule Mbim (mbim_failing 4294967296) ≡ None

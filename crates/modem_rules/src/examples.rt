@@ -1,0 +1,18 @@
+//! Worked examples of values that are rules, and of some that are none.
+
+ghost use Rattle.modem_rules.specs.Examples.{ErrorsHaveTheirSize, RulesHaveNoOtherMembers, SilenceIsSpelledOut};
+
+/// A rule has the members that its list asks for, and no others.
+pub fn rules_have_no_other_members()
+    ensures { RulesHaveNoOtherMembers }
+{}
+
+/// A fault that isn't answered says so; one that lacks its error is no rule.
+pub fn silence_is_spelled_out()
+    ensures { SilenceIsSpelledOut }
+{}
+
+/// An error of QMI has 16 bits, and a status of MBIM 32.
+pub fn errors_have_their_size()
+    ensures { ErrorsHaveTheirSize }
+{}
