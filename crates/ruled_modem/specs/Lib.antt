@@ -3,3 +3,4 @@ pub mod Replies
 pub mod Turns
 pub mod Ruled
 pub mod Keeping
+pub mod Laws

@@ -3,8 +3,10 @@
 #![tactic(auto)]
 
 mod counting;
+mod laws;
 mod replies;
 mod requests;
 mod ruled;
 
+pub use laws::{no_rules_change_nothing, others_reach_the_modem};
 pub use ruled::Ruled;
