@@ -29,7 +29,7 @@ use Rattle.sim_modem.specs.Sim.{Answering, answers}
 use Rattle.sim_serving.specs.Core.{TakesMemory}
 use Rattle.sim_serving.specs.Proxy.{proxy_of}
 use Rattle.sim_qmi.specs.Modem as qmi
-use Rattle.sim_mbim.specs.Answers as mbim
+use Rattle.sim_tunnel.specs.Carrying as mbim
 use Rattle.sim_runs.specs.declared.manner.Manner.{Manner}
 use Rattle.sim_runs.specs.declared.sim_end.SimEnd.{SimEnd}
 use Rattle.sim_runs.specs.declared.sim_end.SimEnd.TheVariants as sim

@@ -13,10 +13,10 @@ use kit_io::Failed;
 use modem_profile::Profile;
 use modem_rules::Rules;
 use ruled_modem::Ruled;
-use sim_mbim::MbimSim;
 use sim_modem::Sim;
 use sim_qmi::QmiSim;
 use sim_serving::serve_sim;
+use sim_tunnel::TunnelSim;
 use std::alloc::{AllocError, Global};
 
 // Serves the clients of a simulated modem that has this profile and behaves so.
@@ -38,7 +38,7 @@ pub fn serve_profile<H: Hub>(
             Ok(sim) => serve_by(alloc, Kind::Qmi, manner.rules, socket, sim, turns, hub),
             Err(AllocError) => SimEnd::OutOfMemory,
         },
-        Kind::Mbim => match MbimSim::open(alloc, &profile) {
+        Kind::Mbim => match TunnelSim::open(alloc, &profile) {
             Ok(sim) => serve_by(alloc, Kind::Mbim, manner.rules, socket, sim, turns, hub),
             Err(AllocError) => SimEnd::OutOfMemory,
         },

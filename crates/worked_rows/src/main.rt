@@ -22,8 +22,8 @@ mod tool;
 use crate::found::{Place, tell};
 use crate::proxy::{mbim_proxy, qmi_proxy};
 use row_text::{Row, RowFault, Rows, joined_lines, read_rows};
-use sim_mbim::MbimSim;
 use sim_qmi::QmiSim;
+use sim_tunnel::TunnelSim;
 use std::alloc::Global;
 use std::process::ExitCode;
 use std::{env, fs, io};
@@ -172,7 +172,7 @@ fn mbim_modem(
     same
 }
 
-fn mbim_sim(alloc: Global, rows: &Rows<'_>, row: &Row<'_>) -> Result<MbimSim, RowFault> {
+fn mbim_sim(alloc: Global, rows: &Rows<'_>, row: &Row<'_>) -> Result<TunnelSim, RowFault> {
     let profile = modem::profile_of(alloc, rows, row)?;
-    Ok(MbimSim::open(alloc, &profile)?)
+    Ok(TunnelSim::open(alloc, &profile)?)
 }
