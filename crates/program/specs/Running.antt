@@ -27,6 +27,7 @@ use Rattle.tool_runs.specs.Asking.{AsksModem, Asked, PrintsText}
 use Rattle.tool_runs.specs.Asking as asking
 use Rattle.tool_runs.specs.Qmi.{qmi_asked}
 use Rattle.tool_runs.specs.Mbim.{mbim_asked}
+use Rattle.tool_runs.specs.Tunnel.{tunnel_asked}
 use Rattle.tool_runs.specs.Describing.{Describes}
 use Rattle.sim_keeping.specs.Keeping.{KeepsOrLacksMemory}
 use Rattle.sim_keeping.specs.Words.{start_words}
@@ -82,12 +83,17 @@ qmi_plan device proxied cid keep seconds request = record { device = device; pro
 abbrev pub mbim_plan : List ℕ → Bool → Bool → (seconds : ℕ) → MbimRequest → MbimPlan
 mbim_plan device proxied close seconds request = record { device = device; proxied = proxied; close = close; timeout = seconds; request = request }
 
+-- a QMI modem is asked itself, or inside an MBIM modem
+abbrev pub AsksQmi : Kind → (decode : Bool) → QmiPlan → (path : Path) → asking.Told → asking.Told → Status → Type 0
+AsksQmi kind.Qmi decode plan path before after result = Asks path (qmi_asked decode plan) before after result
+AsksQmi kind.Mbim decode plan path before after result = Asks path (tunnel_asked decode plan) before after result
+
 -- ---- what the words ask for ----
 
 -- a tool asks a modem, makes short messages or describes a file, a proxy or a simulated modem serves, one is kept running, a pump passes on, a rig runs a core on the bench, and the version is printed
 abbrev pub RunsCommand : ToolCommand → Told → Told → Status → Type 0
-RunsCommand (Qmicli device proxied cid keep timeout request decode socket bridge) before after result =
-    Asks (way_to kind.Qmi proxied device socket bridge) (qmi_asked decode (qmi_plan device proxied cid keep timeout request)) (of_tool before) (of_tool after) result
+RunsCommand (Qmicli device kind proxied cid keep timeout request decode socket bridge) before after result =
+    AsksQmi kind decode (qmi_plan device proxied cid keep timeout request) (way_to kind proxied device socket bridge) (of_tool before) (of_tool after) result
 RunsCommand (Mbimcli device proxied close timeout request decode socket bridge) before after result =
     Asks (way_to kind.Mbim proxied device socket bridge) (mbim_asked decode (mbim_plan device proxied close timeout request)) (of_tool before) (of_tool after) result
 RunsCommand (PduSubmit number text reference) before after result = EndsAs status_of result (λ ends. PrintsText (hex_lines (messages number text reference)) before.out ends after.out)
@@ -111,7 +117,7 @@ RunsWords (Err why) before after result = result ≡ status.Usage why
 
 -- the tools that ask a modem
 abbrev pub is_of_tool : ToolCommand → Bool
-is_of_tool (Qmicli device proxied cid keep timeout request decode socket bridge) = true
+is_of_tool (Qmicli device kind proxied cid keep timeout request decode socket bridge) = true
 is_of_tool (Mbimcli device proxied close timeout request decode socket bridge) = true
 is_of_tool (PduSubmit number text reference) = true
 is_of_tool (Describe path) = true
@@ -159,7 +165,7 @@ pub data NoObject : Type 0 where
 
 -- what a command has no use for is left as it was: hub, files and bench by one that asks a modem, all but output by one that makes short messages, all but files and output by one that describes a file, all but hub and children by a proxy, all but hub and files by a simulated modem, the files too where neither profile nor rules are named, all but children by one that is kept running, all but link and files by a pump, all but bench and output by a rig, and all but the output where the version is printed
 abbrev pub CommandLeavesAlone : {L H P F O B : Type 0} → ToolCommand → Objects L H P F O B → Objects L H P F O B → Type 0
-CommandLeavesAlone (Qmicli device proxied cid keep timeout request decode socket bridge) before after = (after.hub ≡ before.hub) × (after.files ≡ before.files) × (after.bench ≡ before.bench)
+CommandLeavesAlone (Qmicli device kind proxied cid keep timeout request decode socket bridge) before after = (after.hub ≡ before.hub) × (after.files ≡ before.files) × (after.bench ≡ before.bench)
 CommandLeavesAlone (Mbimcli device proxied close timeout request decode socket bridge) before after = (after.hub ≡ before.hub) × (after.files ≡ before.files) × (after.bench ≡ before.bench)
 CommandLeavesAlone (PduSubmit number text reference) before after = (after.link ≡ before.link) × (after.hub ≡ before.hub) × (after.spawner ≡ before.spawner) × (after.files ≡ before.files) × (after.bench ≡ before.bench)
 CommandLeavesAlone (Describe path) before after = (after.link ≡ before.link) × (after.hub ≡ before.hub) × (after.spawner ≡ before.spawner) × (after.bench ≡ before.bench)
@@ -179,7 +185,7 @@ LeavesAlone (Err why) before after = after ≡ before
 
 -- on its way to a modem, or of a pump's
 abbrev pub CommandFailsOnLink : {L : Type 0} → ToolCommand → (L → ℕ) → (L → ℕ) → L → L → Type 0
-CommandFailsOnLink (Qmicli device proxied cid keep timeout request decode socket bridge) = LinkFails (way_to kind.Qmi proxied device socket bridge)
+CommandFailsOnLink (Qmicli device kind proxied cid keep timeout request decode socket bridge) = LinkFails (way_to kind proxied device socket bridge)
 CommandFailsOnLink (Mbimcli device proxied close timeout request decode socket bridge) = LinkFails (way_to kind.Mbim proxied device socket bridge)
 CommandFailsOnLink (Pump read node bridge) = λ faults open_faults before after. Rose (open_faults before) (open_faults after) ⊎ Rose (faults before) (faults after)
 CommandFailsOnLink _ = λ faults open_faults before after. ⊥

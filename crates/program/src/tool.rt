@@ -10,7 +10,8 @@ ghost use Rattle.tool_runs.specs.Asking.{AsksModem, asked_of, PrintsText, shown}
 ghost use Rattle.tool_runs.specs.Describing.{Describes};
 ghost use Rattle.tool_runs.specs.Qmi.{qmi_asked};
 ghost use Rattle.tool_runs.specs.Mbim.{mbim_asked};
-ghost use Rattle.program.specs.Running.{Asks, way_to, qmi_plan, mbim_plan};
+ghost use Rattle.tool_runs.specs.Tunnel.{tunnel_asked};
+ghost use Rattle.program.specs.Running.{Asks, AsksQmi, way_to, qmi_plan, mbim_plan};
 ghost use Rattle.program.specs.Status.{IsOfTool, EndsAs, status_of};
 
 use crate::status::Status;
@@ -26,7 +27,7 @@ use modem_ways::Way;
 use qmi_requests::QmiRequest;
 use sms_print::Decoding;
 use std::alloc::{AllocError, Global};
-use tool_runs::{Session, ask, describe, mbim_decoding, qmi_decoding, submit};
+use tool_runs::{Session, TunnelPlan, ask, describe, mbim_decoding, qmi_decoding, submit};
 
 // The way of a tool to its modem.
 fn way_to(
@@ -48,10 +49,12 @@ fn way_to(
     Way::direct(alloc, device, bridge)
 }
 
-// Asks a QMI modem what the words of `qmicli` want, over the link that leads to it.
+// Asks a QMI modem what the words of `qmicli` want, over the link that leads to it, or to the MBIM modem
+// that carries its messages.
 pub fn ask_qmi<O: Sink, L: Link, P: Spawner>(
     alloc: Global,
     device: PathText,
+    kind: Kind,
     proxied: bool,
     cid: Option<u8>,
     keep: bool,
@@ -64,12 +67,12 @@ pub fn ask_qmi<O: Sink, L: Link, P: Spawner>(
     link: &mut L,
     spawner: &mut P,
 ) -> Status
-    ensures asks { Asks (way_to kinds.Qmi proxied device socket.now bridge.now) (qmi_asked decode (qmi_plan device proxied cid keep timeout request))
+    ensures asks { AsksQmi kind decode (qmi_plan device proxied cid keep timeout request) (way_to kind proxied device socket.now bridge.now)
         (record { link = L.calls link.old; spawner = P.calls spawner.old; out = O.taken out.old })
         (record { link = L.calls link.new; spawner = P.calls spawner.new; out = O.taken out.new })
         result }
     ensures own { IsOfTool result }
-    ensures link_fault { result ≡ Status.LinkFault → LinkFails (way_to kinds.Qmi proxied device socket.now bridge.now) L.faults L.open_faults link.old link.new }
+    ensures link_fault { result ≡ Status.LinkFault → LinkFails (way_to kind proxied device socket.now bridge.now) L.faults L.open_faults link.old link.new }
     ensures start_fault { result ≡ Status.StartFault → Rose (P.faults spawner.old) (P.faults spawner.new) }
     ensures write_fault { result ≡ Status.WriteFault → Rose (O.faults out.old) (O.faults out.new) }
 {
@@ -81,22 +84,52 @@ pub fn ask_qmi<O: Sink, L: Link, P: Spawner>(
         timeout,
         request,
     };
-    let device = &plan.device;
-    let status = ask_device(
-        alloc,
-        Kind::Qmi,
-        proxied,
-        device,
-        socket,
-        bridge,
-        &plan,
-        qmi_decoding(decode),
-        out,
-        link,
-        spawner,
-    );
-    drop(plan);
-    status
+    ask_of_kind(
+        alloc, kind, plan, decode, socket, bridge, out, link, spawner,
+    )
+}
+
+// Asks a QMI modem at a device of its own, or inside the MBIM modem at one.
+fn ask_of_kind<O: Sink, L: Link, P: Spawner>(
+    alloc: Global,
+    kind: Kind,
+    plan: QmiPlan,
+    decode: bool,
+    socket: &PathText,
+    bridge: &PathText,
+    out: &mut O,
+    link: &mut L,
+    spawner: &mut P,
+) -> Status
+    ensures asks { AsksQmi kind decode plan (way_to kind plan.proxied plan.device socket.now bridge.now)
+        (record { link = L.calls link.old; spawner = P.calls spawner.old; out = O.taken out.old })
+        (record { link = L.calls link.new; spawner = P.calls spawner.new; out = O.taken out.new })
+        result }
+    ensures own { IsOfTool result }
+    ensures link_fault { result ≡ Status.LinkFault → LinkFails (way_to kind plan.proxied plan.device socket.now bridge.now) L.faults L.open_faults link.old link.new }
+    ensures start_fault { result ≡ Status.StartFault → Rose (P.faults spawner.old) (P.faults spawner.new) }
+    ensures write_fault { result ≡ Status.WriteFault → Rose (O.faults out.old) (O.faults out.new) }
+{
+    let decoding = qmi_decoding(decode);
+    match kind {
+        Kind::Qmi => {
+            let (device, proxied) = (&plan.device, plan.proxied);
+            let status = ask_device(
+                alloc, kind, proxied, device, socket, bridge, &plan, decoding, out, link, spawner,
+            );
+            drop(plan);
+            status
+        }
+        Kind::Mbim => {
+            let plan = TunnelPlan { qmi: plan };
+            let (device, proxied) = (&plan.qmi.device, plan.qmi.proxied);
+            let status = ask_device(
+                alloc, kind, proxied, device, socket, bridge, &plan, decoding, out, link, spawner,
+            );
+            drop(plan);
+            status
+        }
+    }
 }
 
 // Asks an MBIM modem what the words of `mbimcli` want, over the link that leads to it.

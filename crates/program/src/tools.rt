@@ -87,6 +87,7 @@ pub fn run_command_of_tool<O: Sink, L: Link, P: Spawner, F: Files>(
     match command {
         ToolCommand::Qmicli {
             device,
+            kind,
             proxied,
             cid,
             keep,
@@ -96,8 +97,8 @@ pub fn run_command_of_tool<O: Sink, L: Link, P: Spawner, F: Files>(
             socket,
             bridge,
         } => ask_qmi(
-            alloc, device, proxied, cid, keep, timeout, request, decode, &socket, &bridge, out,
-            link, spawner,
+            alloc, device, kind, proxied, cid, keep, timeout, request, decode, &socket, &bridge,
+            out, link, spawner,
         ),
         ToolCommand::Mbimcli {
             device,

@@ -1,5 +1,6 @@
 pub mod Asking
 pub mod Qmi
 pub mod Mbim
+pub mod Tunnel
 pub mod Describing
 pub mod Calling

@@ -9,6 +9,7 @@ mod qmi;
 mod run_end;
 mod session;
 mod submitting;
+mod tunnel;
 
 pub use asking::ask;
 pub use describing::describe;
@@ -18,3 +19,4 @@ pub use qmi::qmi_decoding;
 pub use run_end::RunEnd;
 pub use session::{Refusal, Session};
 pub use submitting::submit;
+pub use tunnel::TunnelPlan;

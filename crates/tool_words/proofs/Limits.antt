@@ -18,7 +18,7 @@ use Rattle.tool_words.specs.ModemTools.{asked_by, modem_tool_asked}
 use Rattle.tool_words.specs.Proxy.{proxy_asked, proxy_spelling, proxy_values}
 use Rattle.tool_words.specs.Pump.{pump_asked, pump_if_named, pump_values, reads_named}
 use Rattle.tool_words.specs.QmiCommands.{makes_messages, qmi_asks, qmi_line, qmi_spelling, reads_messages}
-use Rattle.tool_words.specs.Qmicli.{asked_for, asked_with, described, qmi_asked, qmi_setting_spelling, qmicli_asked, qmicli_values, reference_in, sent_to, submitted}
+use Rattle.tool_words.specs.Qmicli.{asked_for, asked_with, described, modem_kind, qmi_asked, qmi_setting_spelling, qmicli_asked, qmicli_values, reference_in, sent_to, submitted}
 use Rattle.tool_words.specs.Reading.{is_refused}
 use Rattle.tool_words.specs.Rig.{IsWithinLimits, clients_in, messages_in, rig_asked, rig_spelling, rig_values}
 use Rattle.tool_words.specs.Simulator.{simulator_asked, simulator_values}
@@ -142,7 +142,7 @@ asked_with-fits link cid command rows =
 qmicli-fits : (command : QmiCommand) (rows : List Row) → Fits (qmicli_values command rows)
 unfolding qmicli_values
 qmicli-fits command rows =
-    Fits-each _ (link_in kind.Qmi rows) (λ link _.
+    Fits-each _ (link_in (modem_kind rows) rows) (λ link _.
     Fits-each _ (optional (number_within 1 254) (value_given qmi_setting_spelling rows setting.ClientCid)) (λ cid _. asked_with-fits link cid command rows))
 
 mbimcli-fits : (command : MbimCommand) (rows : List Row) → Fits (mbimcli_values command rows)

@@ -32,4 +32,4 @@ link_in kind rows = do
   socket ← path_or (proxy_socket kind) (value_given link_spelling rows option.Socket)
   bridge ← path_or bridge_socket (value_given link_spelling rows option.Bridge)
   timeout ← timeout_in (value_given link_spelling rows option.Timeout)
-  Some (record { device = device; proxied = is_given link_spelling rows option.DeviceOpenProxy; socket = socket; bridge = bridge; timeout = timeout })
+  Some (record { device = device; kind = kind; proxied = is_given link_spelling rows option.DeviceOpenProxy; socket = socket; bridge = bridge; timeout = timeout })

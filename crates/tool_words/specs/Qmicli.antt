@@ -2,7 +2,8 @@
 use Rattle.std.specs.Prelude.{ℕ, List, [], ◌∷◌, Option, Some, None, Bool, Result, chars, codes, if◌then◌else◌, option_and_then, option_map}
 use Rattle.clap.specs.Simple.{App}
 use Rattle.clap.specs.Walk.{Row}
-use Rattle.kit_bytes.specs.declared.Kind.TheVariants.{Qmi}
+use Rattle.kit_bytes.specs.declared.Kind.{Kind}
+use Rattle.kit_bytes.specs.declared.Kind.TheVariants.{Mbim, Qmi}
 use Rattle.qmi_requests.specs.declared.QmiRequest.{QmiRequest}
 use Rattle.sms_pdu.specs.Parts.{can_be_sent}
 use Rattle.tool_words.specs.Given.{is_given, value_given}
@@ -21,15 +22,16 @@ use Rattle.tool_words.specs.declared.qmicli.QmiSetting.TheVariants as setting
 
 -- ---- its options ----
 
--- --client-cid N, --client-no-release-cid, --decode-sms and --reference N, beside those of the link
+-- --device-open-mbim, --client-cid N, --client-no-release-cid, --decode-sms and --reference N, beside those of the link
 abbrev pub qmi_setting_spelling : QmiSetting → Spelling
+qmi_setting_spelling setting.DeviceOpenMbim = flag (codes "device-open-mbim")
 qmi_setting_spelling setting.ClientCid = valued (codes "client-cid")
 qmi_setting_spelling setting.ClientNoReleaseCid = flag (codes "client-no-release-cid")
 qmi_setting_spelling setting.DecodeSms = flag (codes "decode-sms")
 qmi_setting_spelling setting.Reference = valued (codes "reference")
 
 unfoldable pub qmi_settings : List QmiSetting
-qmi_settings = setting.ClientCid ∷ setting.ClientNoReleaseCid ∷ setting.DecodeSms ∷ setting.Reference ∷ []
+qmi_settings = setting.DeviceOpenMbim ∷ setting.ClientCid ∷ setting.ClientNoReleaseCid ∷ setting.DecodeSms ∷ setting.Reference ∷ []
 
 unfoldable pub qmicli_app : App
 qmicli_app = modem_tool (codes "qmicli") qmi_setting_spelling qmi_settings qmi_spelling qmi_commands
@@ -55,7 +57,7 @@ reference_in makes None = Some 0
 
 -- a request is sent to the device
 abbrev pub qmi_sent : LinkSettings → Option ℕ → Bool → Bool → QmiRequest → Option ToolCommand
-qmi_sent link cid keep decode request = option_map (λ device. Qmicli device link.proxied cid keep link.timeout request decode link.socket link.bridge) link.device
+qmi_sent link cid keep decode request = option_map (λ device. Qmicli device link.kind link.proxied cid keep link.timeout request decode link.socket link.bridge) link.device
 
 -- that of a command
 unfoldable pub qmi_asked : LinkSettings → Option ℕ → Bool → QmiCommand → List Row → Option ToolCommand
@@ -77,10 +79,14 @@ asked_with link cid command rows = do
   reference ← reference_in (makes_messages command) (value_given qmi_setting_spelling rows setting.Reference)
   asked_for link cid decode reference command rows
 
+-- the kind of the modem, which is MBIM where that is to carry the messages
+unfoldable pub modem_kind : List Row → Kind
+modem_kind rows = if is_given qmi_setting_spelling rows setting.DeviceOpenMbim then Mbim else Qmi
+
 -- the command with its value and the settings, if each of them reads
 unfoldable pub qmicli_values : QmiCommand → List Row → Option ToolCommand
 qmicli_values command rows = do
-  link ← link_in Qmi rows
+  link ← link_in (modem_kind rows) rows
   cid ← optional (number_within 1 254) (value_given qmi_setting_spelling rows setting.ClientCid)
   asked_with link cid command rows
 

@@ -25,6 +25,8 @@ pub enum ToolCommand {
     /// Sends a request to a QMI modem and prints its answer.
     Qmicli {
         device: PathText,
+        /// The kind of the modem: one that speaks MBIM carries the messages.
+        kind: Kind,
         /// Whether the device is reached through the proxy behind the socket.
         proxied: bool,
         /// The client id that the request is sent with, in place of an allocated one.

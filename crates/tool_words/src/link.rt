@@ -56,6 +56,8 @@ pub fn link_options() -> &'static [LinkOption]
 #[derive(Debug, Drop)]
 pub struct LinkSettings {
     pub device: Option<PathText>,
+    /// The kind of the modem.
+    pub kind: Kind,
     /// Whether the device is reached through the proxy behind the socket.
     pub proxied: bool,
     pub socket: PathText,
@@ -90,6 +92,7 @@ pub fn link_given(
     let timeout = timeout(value_given(matches, LinkOption::Timeout))?;
     Ok(LinkSettings {
         device,
+        kind,
         proxied,
         socket,
         bridge,

@@ -2,7 +2,7 @@ ghost use Rattle.std.specs.Prelude.{◌≡◌, IfOk, option_map};
 ghost use Rattle.clap.specs.Words.{app_of, found_of, rows_of};
 ghost use Rattle.tool_words.specs.Answers.{Answers};
 ghost use Rattle.tool_words.specs.QmiCommands.{qmi_asks};
-ghost use Rattle.tool_words.specs.Qmicli.{asked_for, asked_with, described, qmi_asked, qmi_sent, qmi_setting_spelling, qmi_settings, qmicli_app, qmicli_asked, qmicli_values, reference_in, submitted};
+ghost use Rattle.tool_words.specs.Qmicli.{asked_for, asked_with, described, modem_kind, qmi_asked, qmi_sent, qmi_setting_spelling, qmi_settings, qmicli_app, qmicli_asked, qmicli_values, reference_in, submitted};
 ghost use Rattle.tool_words.specs.Values.{Gives, number_within, optional};
 
 use crate::given::{is_given, value_given};
@@ -23,13 +23,15 @@ use std::alloc::{AllocError, Global};
 /// An option of `qmicli` that says how its command is run, beside those of the link.
 #[derive(Clone, Copy, Debug, PartialEq, Eq)]
 pub enum QmiSetting {
+    DeviceOpenMbim,
     ClientCid,
     ClientNoReleaseCid,
     DecodeSms,
     Reference,
 }
 
-static QMI_SETTINGS: [QmiSetting; 4] = [
+static QMI_SETTINGS: [QmiSetting; 5] = [
+    QmiSetting::DeviceOpenMbim,
     QmiSetting::ClientCid,
     QmiSetting::ClientNoReleaseCid,
     QmiSetting::DecodeSms,
@@ -41,6 +43,7 @@ impl ToolOption for QmiSetting {
 
     fn spelling(self) -> OptionSpelling {
         match self {
+            QmiSetting::DeviceOpenMbim => flag("device-open-mbim"),
             QmiSetting::ClientCid => valued("client-cid"),
             QmiSetting::ClientNoReleaseCid => flag("client-no-release-cid"),
             QmiSetting::DecodeSms => flag("decode-sms"),
@@ -124,6 +127,7 @@ fn sending(
     let device = or_fault(link.device)?;
     Ok(ToolCommand::Qmicli {
         device,
+        kind: link.kind,
         proxied: link.proxied,
         cid,
         keep,
@@ -191,6 +195,18 @@ fn asked_with(
     asked_for(alloc, link, cid, decode, reference, command, matches)
 }
 
+// The kind of the modem, which is MBIM where that is to carry the messages.
+#[tactic(auto, unfolding(crate::specs::Qmicli::modem_kind))]
+fn modem_kind(matches: &ArgMatches<'_>) -> Kind
+    ensures { result ≡ modem_kind (rows_of (found_of matches.now)) }
+{
+    if is_given(matches, QmiSetting::DeviceOpenMbim) {
+        Kind::Mbim
+    } else {
+        Kind::Qmi
+    }
+}
+
 impl ModemCommand for QmiCommand {
     ghost asks = { qmi_asks };
 
@@ -202,7 +218,7 @@ impl ModemCommand for QmiCommand {
 
     #[tactic(auto, unfolding(crate::specs::Qmicli::qmicli_values))]
     fn values(self, alloc: Global, matches: &ArgMatches<'_>) -> Result<ToolCommand, WordFault> {
-        let link = link_given(alloc, Kind::Qmi, matches)?;
+        let link = link_given(alloc, modem_kind(matches), matches)?;
         let cid = cid_if_given(value_given(matches, QmiSetting::ClientCid))?;
         asked_with(alloc, link, cid, self, matches)
     }
