@@ -1,6 +1,10 @@
 -- What a status tells of.
 use Rattle.std.proofs.Common.{◌≡◌, ℕ, zero, suc, pos, negsuc, ◌≤◌, Result, Ok, Err, is_ok, refl, arith}
 use Rattle.kit_io.specs.Causes.{Rose, HasCause}
+use Rattle.dissect.specs.Tables.{IsReadFault}
+use Rattle.dissect.specs.declared.capture_end.CaptureEnd.{CaptureEnd}
+use Rattle.dissect.specs.declared.capture_end.CaptureEnd.TheVariants as capture
+use Rattle.stream_lines.specs.declared.end.DissectEnd.TheVariants as shown
 use Rattle.tool_runs.specs.declared.run_end.RunEnd.{RunEnd}
 use Rattle.tool_runs.specs.declared.run_end.RunEnd.TheVariants as run
 use Rattle.program.specs.declared.status.Status.TheVariants as status
@@ -9,7 +13,7 @@ use Rattle.sim_keeping.specs.declared.keeping.KeepEnd.TheVariants as keep
 use Rattle.hub_io.specs.declared.settings.ServeEnd.TheVariants as end
 use Rattle.sim_runs.specs.declared.sim_end.SimEnd.{SimEnd}
 use Rattle.sim_runs.specs.declared.sim_end.SimEnd.TheVariants as sim
-use Rattle.program.specs.Status.{IsOfKeeping, IsOfSimulator, status_of, status_of_child, status_of_keeping, status_of_sim, with_stops}
+use Rattle.program.specs.Status.{IsOfCapture, IsOfKeeping, IsOfSimulator, status_of, status_of_capture, status_of_child, status_of_keeping, status_of_sim, with_stops}
 use Rattle.program.specs.declared.status.Status.{Status}
 
 -- only a command whose link failed ends so
@@ -97,3 +101,39 @@ is_of_simulator sim.ReadFault never = tt
 is_of_simulator (sim.ProfileFault fault) never = tt
 is_of_simulator (sim.RulesFault fault) never = tt
 is_of_simulator sim.OutOfMemory never = tt
+
+-- a run ends so that shows a captured stream
+pub is_of_capture : (ends : CaptureEnd) → IsOfCapture (status_of_capture ends)
+is_of_capture (capture.Shown shown.Done) = tt
+is_of_capture (capture.Shown (shown.Broken place)) = tt
+is_of_capture (capture.Shown shown.ReadFault) = tt
+is_of_capture (capture.Shown shown.WriteFault) = tt
+is_of_capture (capture.Shown shown.TurnsSpent) = tt
+is_of_capture (capture.Shown shown.OutOfMemory) = tt
+is_of_capture capture.ReadFault = tt
+is_of_capture (capture.TableFault fault) = tt
+is_of_capture capture.OutOfMemory = tt
+
+-- only one that couldn't read its tables or its capture ends with a read fault
+pub capture_read_fault_is : (ends : CaptureEnd) → status_of_capture ends ≡ status.ReadFault → IsReadFault ends
+capture_read_fault_is (capture.Shown shown.Done) e = absurd (cc)
+capture_read_fault_is (capture.Shown (shown.Broken place)) e = absurd (cc)
+capture_read_fault_is (capture.Shown shown.ReadFault) e = tt
+capture_read_fault_is (capture.Shown shown.WriteFault) e = absurd (cc)
+capture_read_fault_is (capture.Shown shown.TurnsSpent) e = absurd (cc)
+capture_read_fault_is (capture.Shown shown.OutOfMemory) e = absurd (cc)
+capture_read_fault_is capture.ReadFault e = tt
+capture_read_fault_is (capture.TableFault fault) e = absurd (cc)
+capture_read_fault_is capture.OutOfMemory e = absurd (cc)
+
+-- only one that couldn't write its lines ends with a write fault
+pub capture_write_fault_is : (ends : CaptureEnd) → status_of_capture ends ≡ status.WriteFault → ends ≡ capture.Shown shown.WriteFault
+capture_write_fault_is (capture.Shown shown.Done) e = absurd (cc)
+capture_write_fault_is (capture.Shown (shown.Broken place)) e = absurd (cc)
+capture_write_fault_is (capture.Shown shown.ReadFault) e = absurd (cc)
+capture_write_fault_is (capture.Shown shown.WriteFault) e = refl
+capture_write_fault_is (capture.Shown shown.TurnsSpent) e = absurd (cc)
+capture_write_fault_is (capture.Shown shown.OutOfMemory) e = absurd (cc)
+capture_write_fault_is capture.ReadFault e = absurd (cc)
+capture_write_fault_is (capture.TableFault fault) e = absurd (cc)
+capture_write_fault_is capture.OutOfMemory e = absurd (cc)

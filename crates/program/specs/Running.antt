@@ -18,7 +18,7 @@ use Rattle.mbim_requests.specs.declared.MbimRequest.{MbimRequest}
 use Rattle.device_core.specs.declared.plan.QmiPlan.{QmiPlan}
 use Rattle.mbim_session.specs.declared.plan.MbimPlan.{MbimPlan}
 use Rattle.tool_words.specs.declared.command.ToolCommand.{ToolCommand}
-use Rattle.tool_words.specs.declared.command.ToolCommand.TheVariants.{Qmicli, Mbimcli, PduSubmit, Describe, Proxy, Simulator, Pump, Rig, Version}
+use Rattle.tool_words.specs.declared.command.ToolCommand.TheVariants.{Qmicli, Mbimcli, PduSubmit, Describe, Proxy, Simulator, Pump, Rig, Transparency, Dissect, Version}
 use Rattle.tool_words.specs.declared.fault.UsageKind.{UsageKind}
 use Rattle.tool_words.specs.declared.fault.UsageKind.TheVariants as usage
 use Rattle.sms_pdu.specs.Parts.{messages}
@@ -29,16 +29,17 @@ use Rattle.tool_runs.specs.Qmi.{qmi_asked}
 use Rattle.tool_runs.specs.Mbim.{mbim_asked}
 use Rattle.tool_runs.specs.Tunnel.{tunnel_asked}
 use Rattle.tool_runs.specs.Describing.{Describes}
+use Rattle.dissect.specs.Tables.{Dissects}
 use Rattle.sim_keeping.specs.Keeping.{KeepsOrLacksMemory}
 use Rattle.sim_keeping.specs.Words.{start_words}
 use Rattle.sim_runs.specs.Simulating as sim
 use Rattle.program.specs.declared.status.Status.{Status}
 use Rattle.program.specs.declared.status.Status.TheVariants as status
-use Rattle.program.specs.Status.{EndsAs, status_of, status_of_keeping, status_of_sim}
+use Rattle.program.specs.Status.{EndsAs, status_of, status_of_capture, status_of_keeping, status_of_sim}
 use Rattle.program.specs.Serving.{ServesProxy, asked_in}
 use Rattle.program.specs.Pumping.{PumpsTo}
 use Rattle.rig.specs.Playing.{AddsRuns}
-use Rattle.program.specs.Rigging.{RigsTo}
+use Rattle.program.specs.Rigging.{RigsTo, ShowsTransparency}
 use Rattle.program.specs.Telling.{TellsVersion}
 
 -- what is told of the outside, before and after
@@ -90,7 +91,7 @@ AsksQmi kind.Mbim decode plan path before after result = Asks path (tunnel_asked
 
 -- ---- what the words ask for ----
 
--- a tool asks a modem, makes short messages or describes a file, a proxy or a simulated modem serves, one is kept running, a pump passes on, a rig runs a core on the bench, and the version is printed
+-- a tool asks a modem, makes short messages or describes a file, a proxy or a simulated modem serves, one is kept running, a pump passes on, a rig runs a core on the bench, or a tool alone, a captured stream is shown, and the version is printed
 abbrev pub RunsCommand : ToolCommand → Told → Told → Status → Type 0
 RunsCommand (Qmicli device kind proxied cid keep timeout request decode socket bridge) before after result =
     AsksQmi kind decode (qmi_plan device proxied cid keep timeout request) (way_to kind proxied device socket bridge) (of_tool before) (of_tool after) result
@@ -108,6 +109,9 @@ RunsCommand (Simulator kind socket profile rules turns (Some most)) before after
     EndsAs status_of_keeping result (λ ends. KeepsOrLacksMemory (start_words kind socket turns profile rules) most before.spawner ends after.spawner)
 RunsCommand (Pump read node bridge) before after result = PumpsTo read node bridge before.link before.files result after.link after.files
 RunsCommand (Rig kind clients messages number) before after result = RigsTo kind clients messages number before.bench before.out result after.bench after.out
+RunsCommand (Transparency kind) before after result = ShowsTransparency kind before.bench before.out result after.bench after.out
+RunsCommand (Dissect kind tables turns capture) before after result =
+    EndsAs status_of_capture result (λ ends. Dissects kind tables turns capture (record { files = before.files; out = before.out }) (record { files = after.files; out = after.out }) ends)
 RunsCommand Version before after result = TellsVersion before.out result after.out
 
 -- what the words ask for, or that they are refused, and why
@@ -137,6 +141,7 @@ is_of_pump _ = false
 
 abbrev pub is_of_rig : ToolCommand → Bool
 is_of_rig (Rig kind clients messages number) = true
+is_of_rig (Transparency kind) = true
 is_of_rig _ = false
 
 -- what the words of some tools ask for; the words of others are refused, as those of an unknown one
@@ -163,7 +168,7 @@ pub record Objects (L H P F O B : Type 0) : Type 0 where
 pub data NoObject : Type 0 where
   Absent : NoObject
 
--- what a command has no use for is left as it was: hub, files and bench by one that asks a modem, all but output by one that makes short messages, all but files and output by one that describes a file, all but hub and children by a proxy, all but hub and files by a simulated modem, the files too where neither profile nor rules are named, all but children by one that is kept running, all but link and files by a pump, all but bench and output by a rig, and all but the output where the version is printed
+-- what a command has no use for is left as it was: hub, files and bench by one that asks a modem, all but output by one that makes short messages, all but files and output by one that describes a file, all but hub and children by a proxy, all but hub and files by a simulated modem, the files too where neither profile nor rules are named, all but children by one that is kept running, all but link and files by a pump, all but bench and output by a rig, all but files and output where a captured stream is shown, and all but the output where the version is printed
 abbrev pub CommandLeavesAlone : {L H P F O B : Type 0} → ToolCommand → Objects L H P F O B → Objects L H P F O B → Type 0
 CommandLeavesAlone (Qmicli device kind proxied cid keep timeout request decode socket bridge) before after = (after.hub ≡ before.hub) × (after.files ≡ before.files) × (after.bench ≡ before.bench)
 CommandLeavesAlone (Mbimcli device proxied close timeout request decode socket bridge) before after = (after.hub ≡ before.hub) × (after.files ≡ before.files) × (after.bench ≡ before.bench)
@@ -174,6 +179,8 @@ CommandLeavesAlone (Simulator kind socket profile rules turns None) before after
 CommandLeavesAlone (Simulator kind socket profile rules turns (Some most)) before after = (after.link ≡ before.link) × (after.hub ≡ before.hub) × (after.files ≡ before.files) × (after.out ≡ before.out) × (after.bench ≡ before.bench)
 CommandLeavesAlone (Pump read node bridge) before after = (after.hub ≡ before.hub) × (after.spawner ≡ before.spawner) × (after.out ≡ before.out) × (after.bench ≡ before.bench)
 CommandLeavesAlone (Rig kind clients messages number) before after = (after.link ≡ before.link) × (after.hub ≡ before.hub) × (after.spawner ≡ before.spawner) × (after.files ≡ before.files)
+CommandLeavesAlone (Transparency kind) before after = (after.link ≡ before.link) × (after.hub ≡ before.hub) × (after.spawner ≡ before.spawner) × (after.files ≡ before.files)
+CommandLeavesAlone (Dissect kind tables turns capture) before after = (after.link ≡ before.link) × (after.hub ≡ before.hub) × (after.spawner ≡ before.spawner) × (after.bench ≡ before.bench)
 CommandLeavesAlone Version before after = (after.link ≡ before.link) × (after.hub ≡ before.hub) × (after.spawner ≡ before.spawner) × (after.files ≡ before.files) × (after.bench ≡ before.bench)
 
 -- words that are refused leave all as it was

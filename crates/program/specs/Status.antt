@@ -1,5 +1,9 @@
 -- How a run of the program ends: its exit status, and the line that tells of it.
 use Rattle.std.specs.Prelude.{◌≡◌, ℕ, zero, suc, ℤ, pos, negsuc, Bool, true, false, List, [], ◌++◌, Option, Some, None, codes, decimal, if◌then◌else◌}
+use Rattle.dissect.specs.declared.capture_end.CaptureEnd.{CaptureEnd}
+use Rattle.dissect.specs.declared.capture_end.CaptureEnd.TheVariants as capture
+use Rattle.stream_lines.specs.declared.end.DissectEnd.{DissectEnd}
+use Rattle.stream_lines.specs.declared.end.DissectEnd.TheVariants as shown
 use Rattle.hub_io.specs.declared.settings.ServeEnd.{ServeEnd}
 use Rattle.hub_io.specs.declared.settings.ServeEnd.TheVariants as end
 use Rattle.message_tables.specs.declared.fault.TableFault.{TableFault}
@@ -165,6 +169,22 @@ status_of_pump pump.ReadFault = status.ReadFault
 status_of_pump pump.WriteFault = status.WriteFault
 status_of_pump pump.TurnsSpent = status.TurnsSpent
 
+-- how a run ends whose showing of a captured stream ended so
+abbrev pub status_of_dissect : DissectEnd → Status
+status_of_dissect shown.Done = status.Done
+status_of_dissect (shown.Broken place) = status.Broken place
+status_of_dissect shown.ReadFault = status.ReadFault
+status_of_dissect shown.WriteFault = status.WriteFault
+status_of_dissect shown.TurnsSpent = status.TurnsSpent
+status_of_dissect shown.OutOfMemory = status.OutOfMemory
+
+-- how it ends with the tables that were looked for before
+abbrev pub status_of_capture : CaptureEnd → Status
+status_of_capture (capture.Shown end) = status_of_dissect end
+status_of_capture capture.ReadFault = status.ReadFault
+status_of_capture (capture.TableFault fault) = status.TableFault fault
+status_of_capture capture.OutOfMemory = status.OutOfMemory
+
 -- how it ends where each child was stopped, or one wasn't
 abbrev pub with_stops : Bool → Status → Status
 with_stops true ends = ends
@@ -177,7 +197,7 @@ pub record EndsAs {E : Type 0} (status_for : E → Status) (result : Status) (Is
   pub is : Is ends
   pub status : result ≡ status_for ends
 
--- how a run may end of a tool, of a proxy, of a simulated modem and of one that is kept running, of a pump, and of a rig
+-- how a run may end of a tool, of a proxy, of a simulated modem and of one that is kept running, of a pump, of a rig, and of what shows a captured stream
 abbrev pub IsOfTool : Status → Type 0
 IsOfTool status.HubFault = ⊥
 IsOfTool status.TurnsSpent = ⊥
@@ -224,3 +244,13 @@ IsOfRig status.Done = Unit {0}
 IsOfRig status.WriteFault = Unit {0}
 IsOfRig status.OutOfMemory = Unit {0}
 IsOfRig _ = ⊥
+
+abbrev pub IsOfCapture : Status → Type 0
+IsOfCapture status.Done = Unit {0}
+IsOfCapture (status.Broken place) = Unit {0}
+IsOfCapture status.ReadFault = Unit {0}
+IsOfCapture status.WriteFault = Unit {0}
+IsOfCapture (status.TableFault fault) = Unit {0}
+IsOfCapture status.TurnsSpent = Unit {0}
+IsOfCapture status.OutOfMemory = Unit {0}
+IsOfCapture _ = ⊥

@@ -6,6 +6,7 @@ ghost use Rattle.tool_words.specs.Rig.{IsWithinLimits};
 ghost use Rattle.program.specs.Running.{CommandFailsOnLink, CommandLeavesAlone, FailsOnLink, LeavesAlone, Runs, RunsCommand};
 ghost use Rattle.program.specs.Status.{line_of};
 
+use crate::dissecting::dissect_capture;
 use crate::report::report;
 use crate::status::Status;
 use crate::telling::tell_version;
@@ -23,7 +24,7 @@ use std::alloc::Global;
 use tool_words::{ToolCommand, WordFault, command_of};
 
 /// Does all that the program does: what the words ask, as a tool, a proxy, a simulated modem, a pump
-/// or a rig, or telling its version. The program ends with the status.
+/// or a rig, showing a captured stream, or telling its version. The program ends with the status.
 pub fn run<O: Sink, E: Sink, L: Link, H: Hub, P: Spawner, F: Files, B: Bench>(
     alloc: Global,
     words: &[String],
@@ -100,7 +101,15 @@ fn run_command<O: Sink, L: Link, H: Hub, P: Spawner, F: Files, B: Bench>(
             run_command_of_simulator(alloc, command, hub, spawner, files)
         }
         ToolCommand::Pump { .. } => run_command_of_pump(alloc, command, link, files),
-        ToolCommand::Rig { .. } => run_command_of_rig(alloc, command, out, bench),
+        ToolCommand::Rig { .. } | ToolCommand::Transparency { .. } => {
+            run_command_of_rig(alloc, command, out, bench)
+        }
+        ToolCommand::Dissect {
+            kind,
+            tables,
+            turns,
+            capture,
+        } => dissect_capture(alloc, kind, tables.as_ref(), turns, &capture, out, files),
         ToolCommand::Version => tell_version(out),
     }
 }

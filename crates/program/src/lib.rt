@@ -3,6 +3,7 @@
 #![tactic(auto)]
 
 mod dispatch;
+mod dissecting;
 mod opening;
 mod proxy;
 mod pumping;

@@ -2,6 +2,7 @@ ghost use Rattle.std.specs.Prelude.{◌≡◌};
 ghost use Rattle.program.specs.Status.{kind_word};
 
 use crate::opening::OpenFault;
+use dissect::{CaptureEnd, DissectEnd};
 use hub_io::ServeEnd;
 use message_tables::TableFault;
 use modem_profile::ProfileFault;
@@ -205,6 +206,38 @@ impl From<KeepEnd> for Status {
             KeepEnd::Ended(status) => Status::of_child(status),
             KeepEnd::StartFault => Status::StartFault,
             KeepEnd::OutOfMemory => Status::OutOfMemory,
+        }
+    }
+}
+
+impl From<CaptureEnd> for Status {
+    ghost use Rattle.program.specs.Status.{status_of_capture};
+
+    ghost from_gives = { λ end status. status ≡ status_of_capture end };
+
+    fn from(end: CaptureEnd) -> Self {
+        match end {
+            CaptureEnd::Shown(end) => Status::from(end),
+            CaptureEnd::ReadFault => Status::ReadFault,
+            CaptureEnd::TableFault(fault) => Status::TableFault { fault },
+            CaptureEnd::OutOfMemory => Status::OutOfMemory,
+        }
+    }
+}
+
+impl From<DissectEnd> for Status {
+    ghost use Rattle.program.specs.Status.{status_of_dissect};
+
+    ghost from_gives = { λ end status. status ≡ status_of_dissect end };
+
+    fn from(end: DissectEnd) -> Self {
+        match end {
+            DissectEnd::Done => Status::Done,
+            DissectEnd::Broken { place } => Status::Broken { place },
+            DissectEnd::ReadFault => Status::ReadFault,
+            DissectEnd::WriteFault => Status::WriteFault,
+            DissectEnd::TurnsSpent => Status::TurnsSpent,
+            DissectEnd::OutOfMemory => Status::OutOfMemory,
         }
     }
 }

@@ -10,7 +10,7 @@ ghost use Rattle.program.specs.Status.{line_of};
 use crate::proxy::proxy_modem;
 use crate::pumping::pump_bytes;
 use crate::report::report;
-use crate::rigging::print_rig;
+use crate::rigging::{print_rig, print_transparency};
 use crate::simulator::{keep_modem, simulate_modem, simulate_ruled_modem};
 use crate::status::Status;
 use crate::tool::{ask_mbim, ask_qmi, describe_file, submit_text};
@@ -408,6 +408,7 @@ pub fn run_command_of_rig<O: Sink, B: Bench>(
             messages,
             number,
         } => print_rig(alloc, kind, clients, messages, number, out, bench),
+        ToolCommand::Transparency { kind } => print_transparency(alloc, kind, out, bench),
         other => {
             drop(other);
             OTHER

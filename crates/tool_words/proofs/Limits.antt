@@ -1,4 +1,4 @@
--- A rig that words ask for is within its limits, and messages are made of a text that they send; nothing else has any limits.
+-- A rig that words ask for is within its limits, messages are made of a text that they send, and a capture is read a bounded number of times; nothing else has any limits.
 use Rattle.std.proofs.Common.{◌≡◌, ◌≤◌, ◌-◌, ◌^◌, ℕ, Bool, true, false, cond, List, [], ◌∷◌, Option, Some, None, option_map, Result, Ok, Err, refl, subst, chars, arith}
 use Rattle.std.specs.Prelude.{IfOk, IfSome, codes, if◌then◌else◌, option_and_then}
 use Rattle.std.specs.Str.{bytes_eq}
@@ -10,7 +10,8 @@ use Rattle.kit_bytes.specs.declared.Kind.{Kind}
 use Rattle.kit_bytes.specs.declared.Kind.TheVariants as kind
 use Rattle.tool_words.specs.Answers.{Answers, or_value}
 use Rattle.tool_words.specs.Command.{command_in, read_if_named, tool_app, tool_asked, tool_named}
-use Rattle.tool_words.specs.Given.{is_given, value_given}
+use Rattle.tool_words.specs.Dissect.{dissect_asked, dissect_if_given, dissect_spelling, dissect_values}
+use Rattle.tool_words.specs.Given.{is_given, value_given, word_given}
 use Rattle.tool_words.specs.Link.{link_in}
 use Rattle.tool_words.specs.MbimCommands.{mbim_line, mbim_spelling, reads_messages as mbim_reads}
 use Rattle.tool_words.specs.Mbimcli.{mbim_asks, mbim_setting_spelling, mbimcli_asked, mbimcli_values}
@@ -20,14 +21,15 @@ use Rattle.tool_words.specs.Pump.{pump_asked, pump_if_named, pump_values, reads_
 use Rattle.tool_words.specs.QmiCommands.{makes_messages, qmi_asks, qmi_line, qmi_spelling, reads_messages}
 use Rattle.tool_words.specs.Qmicli.{asked_for, asked_with, described, modem_kind, qmi_asked, qmi_setting_spelling, qmicli_asked, qmicli_values, reference_in, sent_to, submitted}
 use Rattle.tool_words.specs.Reading.{is_refused}
-use Rattle.tool_words.specs.Rig.{IsWithinLimits, clients_in, messages_in, rig_asked, rig_spelling, rig_values}
+use Rattle.tool_words.specs.Rig.{IsWithinLimits, clients_in, messages_in, rig_asked, rig_spelling, rig_values, transparency_values}
 use Rattle.tool_words.specs.Simulator.{simulator_asked, simulator_values}
 use Rattle.tool_words.specs.Version.{version_asked}
-use Rattle.tool_words.specs.Values.{flag_of, kind_or, number_or, number_within, optional, path_in, split_at}
+use Rattle.tool_words.specs.Values.{flag_of, kind_or, number_or, number_within, optional, path_in, split_at, turns_in}
 use Rattle.tool_words.specs.declared.command.Tool.{Tool}
 use Rattle.tool_words.specs.declared.command.Tool.TheVariants as tool
 use Rattle.tool_words.specs.declared.command.ToolCommand.{ToolCommand}
 use Rattle.tool_words.specs.declared.command.ToolCommand.TheVariants.{PduSubmit}
+use Rattle.tool_words.specs.declared.dissect.DissectOption.TheVariants as dissect_option
 use Rattle.tool_words.specs.declared.fault.UsageKind.{UsageKind}
 use Rattle.tool_words.specs.declared.fault.UsageKind.TheVariants as usage
 use Rattle.tool_words.specs.declared.fault.WordFault.{WordFault}
@@ -86,6 +88,30 @@ rig-fits rows =
       clients_fit = (clients-are_within clients_text clients given).1;
       messages_fit = messages-are_within messages_text messages told;
     }))))
+
+transparency-fits : (rows : List Row) → Fits (transparency_values rows)
+unfolding transparency_values
+transparency-fits rows = Fits-each _ (kind_or kind.Qmi (value_given rig_spelling rows option.Kind)) (λ kind _. tt)
+
+rig_asked-fits : (rows : List Row) → IsFitting (rig_asked rows)
+unfolding rig_asked
+rig_asked-fits rows =
+    cond_both (is_given rig_spelling rows option.Transparent) (or_value (transparency_values rows)) (or_value (rig_values rows)) IsFitting
+    (λ _. IsFitting-value (transparency_values rows) (transparency-fits rows)) (λ _. IsFitting-value (rig_values rows) (rig-fits rows))
+
+-- ---- a capture ----
+
+turns-are_within : (text : Option (List ℕ)) (turns : ℕ) → turns_in text ≡ Some turns → turns ≤ 1000000000000
+turns-are_within text turns is = (number-is_within 1000000000000 0 1000000000000 text turns (omega arith) (omega arith) is).1
+
+dissect-fits : (capture : List ℕ) (rows : List Row) → Fits (dissect_values capture rows)
+unfolding dissect_values
+dissect-fits capture rows =
+    let turns_text : Option (List ℕ) = value_given dissect_spelling rows dissect_option.Turns in
+    Fits-each _ (kind_or kind.Qmi (value_given dissect_spelling rows dissect_option.Kind)) (λ kind _.
+    Fits-each _ (turns_in turns_text) (λ turns given.
+    Fits-each _ (optional path_in (value_given dissect_spelling rows dissect_option.Tables)) (λ tables _.
+    Fits-each _ (path_in capture) (λ path _. turns-are_within turns_text turns given))))
 
 -- ---- all others ----
 
@@ -165,13 +191,18 @@ proxy_asked-fits kind rows =
     cond_both (is_given proxy_spelling rows proxy.Device) (or_value (proxy_values kind rows)) (Err usage.NoDevice) IsFitting
     (λ _. IsFitting-value (proxy_values kind rows) (proxy-fits kind rows)) (λ _. tt)
 
+dissect-if_given-fits : (capture : Option (List ℕ)) (rows : List Row) → IsFitting (dissect_if_given capture rows)
+dissect-if_given-fits (Some capture) rows = IsFitting-value (dissect_values capture rows) (dissect-fits capture rows)
+dissect-if_given-fits None rows = tt
+
 tool-fits : (tool : Tool) (rows : List Row) → IsFitting (tool_asked tool rows)
-unfolding qmicli_asked mbimcli_asked simulator_asked rig_asked modem_tool_asked
+unfolding qmicli_asked mbimcli_asked simulator_asked dissect_asked modem_tool_asked
 tool-fits tool.Qmicli rows = asked_by-fits qmi_asks qmicli_values _ rows (λ c. qmicli-fits c rows)
 tool-fits tool.Mbimcli rows = asked_by-fits mbim_asks mbimcli_values _ rows (λ c. mbimcli-fits c rows)
 tool-fits (tool.Proxy kind) rows = proxy_asked-fits kind rows
 tool-fits tool.Simulator rows = IsFitting-value (simulator_values rows) (simulator-fits rows)
-tool-fits tool.Rig rows = IsFitting-value (rig_values rows) (rig-fits rows)
+tool-fits tool.Rig rows = rig_asked-fits rows
+tool-fits tool.Dissect rows = dissect-if_given-fits (word_given (codes "capture") rows) rows
 
 named-fits : (tool : Option Tool) (words : List Text) → IsFitting (read_if_named tool words)
 named-fits (Some tool) words =

@@ -5,6 +5,7 @@ use Rattle.clap.specs.Simple.{App}
 use Rattle.clap.specs.Walk.{Row, Text}
 use Rattle.kit_bytes.specs.declared.Kind.TheVariants.{Qmi, Mbim}
 use Rattle.tool_words.specs.Answers.{read_by}
+use Rattle.tool_words.specs.Dissect.{dissect_app, dissect_asked}
 use Rattle.tool_words.specs.Mbimcli.{mbimcli_app, mbimcli_asked}
 use Rattle.tool_words.specs.Proxy.{proxy_app, proxy_asked, proxy_name}
 use Rattle.tool_words.specs.Pump.{pump_asked}
@@ -27,6 +28,7 @@ tool_named word =
     else if bytes_eq word (proxy_name Mbim) then Some (tool.Proxy Mbim)
     else if bytes_eq word (codes "modem-sim") then Some tool.Simulator
     else if bytes_eq word (codes "rig") then Some tool.Rig
+    else if bytes_eq word (codes "dissect") then Some tool.Dissect
     else None
 
 -- the options of a tool
@@ -36,6 +38,7 @@ tool_app tool.Mbimcli = mbimcli_app
 tool_app (tool.Proxy kind) = proxy_app kind
 tool_app tool.Simulator = simulator_app
 tool_app tool.Rig = rig_app
+tool_app tool.Dissect = dissect_app
 
 -- what its words ask for, by the options that they give
 abbrev pub tool_asked : Tool → List Row → Result ToolCommand UsageKind
@@ -44,6 +47,7 @@ tool_asked tool.Mbimcli rows = mbimcli_asked rows
 tool_asked (tool.Proxy kind) rows = proxy_asked kind rows
 tool_asked tool.Simulator rows = simulator_asked rows
 tool_asked tool.Rig rows = rig_asked rows
+tool_asked tool.Dissect rows = dissect_asked rows
 
 abbrev pub read_if_named : Option Tool → List Text → Result ToolCommand UsageKind
 read_if_named (Some tool) words = read_by (tool_app tool) (tool_asked tool) words

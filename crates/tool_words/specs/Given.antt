@@ -22,3 +22,7 @@ is_given spelling rows option = is_from_words (source_of (spelling option).name 
 -- the value that the words give to the option
 unfoldable pub value_given : {O : Type 0} → (O → Spelling) → List Row → O → Option (List ℕ)
 value_given spelling rows option = first_of (spelling option).name rows
+
+-- the word of this name that stands besides the options
+unfoldable pub word_given : List ℕ → List Row → Option (List ℕ)
+word_given name rows = first_of name rows

@@ -7,6 +7,7 @@ pub mod Keys
 pub mod Commands
 pub mod Answers
 pub mod Defaults
+pub mod Dissect
 pub mod Link
 pub mod ModemTools
 pub mod Proxy

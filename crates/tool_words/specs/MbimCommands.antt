@@ -104,14 +104,14 @@ mbim_spelling command = (mbim_line command).spelling
 unfoldable pub mbim_commands : List MbimCommand
 mbim_commands =
     command.QueryDeviceCaps ∷ command.QuerySubscriberReadyStatus ∷ command.QueryRadioState
-    ∷ command.SetRadioState ∷ command.QueryPinState ∷ command.QueryHomeProvider
-    ∷ command.QueryVisibleProviders ∷ command.QueryRegistrationState ∷ command.QueryPacketServiceState
-    ∷ command.AttachPacketService ∷ command.DetachPacketService ∷ command.QuerySignalState
-    ∷ command.Connect ∷ command.Disconnect ∷ command.QueryConnectionState ∷ command.QueryIpConfiguration
+    ∷ command.QueryPinState ∷ command.QueryHomeProvider ∷ command.QueryVisibleProviders
+    ∷ command.QueryRegistrationState ∷ command.QuerySignalState ∷ command.QueryPacketServiceState
     ∷ command.QueryDeviceServices ∷ command.QueryPacketStatistics
-    ∷ command.SmsQueryConfiguration ∷ command.SmsReadAll ∷ command.SmsRead ∷ command.SmsDelete ∷ command.SmsQueryStoreStatus
+    ∷ command.SetRadioState ∷ command.AttachPacketService ∷ command.DetachPacketService
+    ∷ command.Connect ∷ command.Disconnect ∷ command.QueryConnectionState ∷ command.QueryIpConfiguration
+    ∷ command.PhonebookQueryConfiguration ∷ command.PhonebookRead ∷ command.PhonebookReadAll ∷ command.PhonebookWrite ∷ command.PhonebookDelete
+    ∷ command.SmsQueryConfiguration ∷ command.SmsQueryStoreStatus ∷ command.SmsRead ∷ command.SmsReadAll ∷ command.SmsDelete
     ∷ command.UssdInitiate ∷ command.UssdContinue ∷ command.UssdCancel
-    ∷ command.PhonebookQueryConfiguration ∷ command.PhonebookReadAll ∷ command.PhonebookRead ∷ command.PhonebookDelete ∷ command.PhonebookWrite
     ∷ []
 
 -- short messages are read

@@ -28,6 +28,14 @@ without_options tool = on_top (λ shape. record shape { disable_help_flag = true
 abbrev pub with_options : {O : Type 0} → (O → Spelling) → App → List O → App
 with_options spelling = fold (λ app option. with_rule app (option_rule (spelling option)))
 
+-- a word that is no option, which may be given once
+abbrev pub word_rule : Text → Rule
+word_rule name = record (new_rule name) { action = Some Set }
+
+-- the tool with such a word besides
+abbrev pub with_word : Text → App → App
+with_word name app = with_rule app (word_rule name)
+
 abbrev pub is_fault : Kinds → Bool
 is_fault [] = false
 is_fault (kind ∷ others) = true

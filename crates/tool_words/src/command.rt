@@ -4,6 +4,7 @@ ghost use Rattle.tool_words.specs.Answers.{Answers, read_by};
 ghost use Rattle.tool_words.specs.Command.{command_in, tool_app, tool_asked, tool_named};
 ghost use Rattle.tool_words.specs.Rig.{IsWithinLimits};
 
+use crate::dissect::{dissect_asked, dissect_reader};
 use crate::mbimcli::{mbimcli_asked, mbimcli_reader};
 use crate::proxy::{proxy_asked, proxy_name, proxy_reader};
 use crate::pump::pump_asked;
@@ -115,6 +116,20 @@ pub enum ToolCommand {
         /// The number from which they are drawn.
         number: u64,
     },
+    /// Runs each command of the tool of a kind that has no value twice: at a simulated modem itself, and
+    /// through a proxy where the tool is alone.
+    Transparency {
+        kind: Kind,
+    },
+    /// Shows the messages of a captured stream in lines.
+    Dissect {
+        kind: Kind,
+        /// The file of the messages' descriptions, if one is given.
+        tables: Option<PathText>,
+        /// After how many reads it ends.
+        turns: u64,
+        capture: PathText,
+    },
     /// Prints the program's version.
     Version,
 }
@@ -130,6 +145,8 @@ enum Tool {
     Simulator,
     /// Many clients before a proxy's core.
     Rig,
+    /// The messages of a captured stream.
+    Dissect,
 }
 
 #[tactic(auto, unfolding(crate::specs::Command::tool_named))]
@@ -148,6 +165,8 @@ fn tool_named(word: &str) -> Option<Tool>
         Some(Tool::Simulator)
     } else if word == "rig" {
         Some(Tool::Rig)
+    } else if word == "dissect" {
+        Some(Tool::Dissect)
     } else {
         None
     }
@@ -163,6 +182,7 @@ fn reader<'a>(alloc: Global, tool: Tool) -> Result<Command<'a>, AllocError>
         Tool::Proxy(kind) => proxy_reader(alloc, kind),
         Tool::Simulator => simulator_reader(alloc),
         Tool::Rig => rig_reader(alloc),
+        Tool::Dissect => dissect_reader(alloc),
     }
 }
 
@@ -176,6 +196,7 @@ fn asked(alloc: Global, tool: Tool, matches: &ArgMatches<'_>) -> Result<ToolComm
         Tool::Proxy(kind) => proxy_asked(alloc, kind, matches),
         Tool::Simulator => simulator_asked(alloc, matches),
         Tool::Rig => rig_asked(matches),
+        Tool::Dissect => dissect_asked(alloc, matches),
     }
 }
 

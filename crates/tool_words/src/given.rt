@@ -1,6 +1,6 @@
 ghost use Rattle.std.specs.Prelude.{◌≡◌, option_map};
 ghost use Rattle.clap.specs.Words.{found_of, rows_of};
-ghost use Rattle.tool_words.specs.Given.{is_given, value_given};
+ghost use Rattle.tool_words.specs.Given.{is_given, value_given, word_given};
 ghost use Rattle.tool_words.specs.Sole.{command_given, sole, those_given};
 
 use crate::UsageKind;
@@ -26,6 +26,14 @@ pub fn value_given<'a, O: ToolOption>(matches: &ArgMatches<'a>, option: O) -> Op
     ensures { option_map (λ value. value.now) result ≡ value_given O.spelling (rows_of (found_of matches.now)) option }
 {
     matches.get_str(option.spelling().name)
+}
+
+/// The word that the words give besides the options.
+#[tactic(auto, using(crate::proofs::Rows::value_rows), unfolding(crate::specs::Given::word_given))]
+pub fn word_given<'a>(matches: &ArgMatches<'a>, name: &str) -> Option<&'a str>
+    ensures { option_map (λ value. value.now) result ≡ word_given name.now (rows_of (found_of matches.now)) }
+{
+    matches.get_str(name)
 }
 
 /// The one of these commands that the words give.

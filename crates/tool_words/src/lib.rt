@@ -3,6 +3,7 @@
 
 mod command;
 mod defaults;
+mod dissect;
 mod fault;
 mod given;
 mod keys;
@@ -11,6 +12,7 @@ mod mbim_commands;
 mod mbimcli;
 mod modem_tools;
 mod options;
+mod plain;
 mod proxy;
 mod pump;
 mod qmi_commands;
@@ -24,3 +26,6 @@ mod version;
 
 pub use command::{ToolCommand, command_of};
 pub use fault::{UsageKind, WordFault};
+pub use mbim_commands::{MbimCommand, mbimcli_commands};
+pub use plain::PlainCommand;
+pub use qmi_commands::{QmiCommand, qmicli_commands};

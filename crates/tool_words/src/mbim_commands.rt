@@ -1,10 +1,11 @@
-ghost use Rattle.std.specs.Prelude.{◌≡◌, map, option_and_then, option_map};
+ghost use Rattle.std.specs.Prelude.{◌≡◌, None, Some, map, option_map};
 ghost use Rattle.tool_words.specs.Keys.{keyed_or};
 ghost use Rattle.tool_words.specs.MbimCommands.{connect_in, context_of, entry_in, ip_type_in, mbim_commands, mbim_line, mbim_spelling, number_and_index, radio_in, reads_messages, ussd_in};
 ghost use Rattle.tool_words.specs.Values.{Gives, number_32_in, optional};
 
 use crate::keys::{parts_in, text_of_key, value_of};
 use crate::options::{OptionSpelling, ToolOption, flag, valued};
+use crate::plain::PlainCommand;
 use crate::values::{at_comma, number_8, number_32, octets, or_fault, short};
 use crate::{UsageKind, WordFault};
 use kit_bytes::ShortOctets;
@@ -51,34 +52,34 @@ static MBIM_COMMANDS: [MbimCommand; 31] = [
     MbimCommand::QueryDeviceCaps,
     MbimCommand::QuerySubscriberReadyStatus,
     MbimCommand::QueryRadioState,
-    MbimCommand::SetRadioState,
     MbimCommand::QueryPinState,
     MbimCommand::QueryHomeProvider,
     MbimCommand::QueryVisibleProviders,
     MbimCommand::QueryRegistrationState,
+    MbimCommand::QuerySignalState,
     MbimCommand::QueryPacketServiceState,
+    MbimCommand::QueryDeviceServices,
+    MbimCommand::QueryPacketStatistics,
+    MbimCommand::SetRadioState,
     MbimCommand::AttachPacketService,
     MbimCommand::DetachPacketService,
-    MbimCommand::QuerySignalState,
     MbimCommand::Connect,
     MbimCommand::Disconnect,
     MbimCommand::QueryConnectionState,
     MbimCommand::QueryIpConfiguration,
-    MbimCommand::QueryDeviceServices,
-    MbimCommand::QueryPacketStatistics,
+    MbimCommand::PhonebookQueryConfiguration,
+    MbimCommand::PhonebookRead,
+    MbimCommand::PhonebookReadAll,
+    MbimCommand::PhonebookWrite,
+    MbimCommand::PhonebookDelete,
     MbimCommand::SmsQueryConfiguration,
-    MbimCommand::SmsReadAll,
-    MbimCommand::SmsRead,
-    MbimCommand::SmsDelete,
     MbimCommand::SmsQueryStoreStatus,
+    MbimCommand::SmsRead,
+    MbimCommand::SmsReadAll,
+    MbimCommand::SmsDelete,
     MbimCommand::UssdInitiate,
     MbimCommand::UssdContinue,
     MbimCommand::UssdCancel,
-    MbimCommand::PhonebookQueryConfiguration,
-    MbimCommand::PhonebookReadAll,
-    MbimCommand::PhonebookRead,
-    MbimCommand::PhonebookDelete,
-    MbimCommand::PhonebookWrite,
 ];
 
 impl ToolOption for MbimCommand {
@@ -121,9 +122,9 @@ impl ToolOption for MbimCommand {
     }
 }
 
-/// All of them.
+/// All of them, in the order of the manual.
 #[tactic(auto, unfolding(crate::specs::MbimCommands::mbim_commands))]
-pub fn mbim_commands() -> &'static [MbimCommand]
+pub fn mbimcli_commands() -> &'static [MbimCommand]
     ensures { result.now ≡ mbim_commands }
 {
     MBIM_COMMANDS.as_slice()
@@ -136,6 +137,45 @@ pub fn reads_messages(command: MbimCommand) -> bool
     matches!(command, MbimCommand::SmsRead | MbimCommand::SmsReadAll)
 }
 
+impl PlainCommand for MbimCommand {
+    ghost line = { mbim_line };
+
+    type Request = MbimRequest;
+
+    fn option_name(self) -> &'static str {
+        self.spelling().name
+    }
+
+    fn plain_request(self) -> Option<MbimRequest> {
+        match self {
+            MbimCommand::QueryDeviceCaps => Some(MbimRequest::QueryDeviceCaps),
+            MbimCommand::QuerySubscriberReadyStatus => Some(
+                MbimRequest::QuerySubscriberReadyStatus,
+            ),
+            MbimCommand::QueryRadioState => Some(MbimRequest::QueryRadioState),
+            MbimCommand::QueryPinState => Some(MbimRequest::QueryPinState),
+            MbimCommand::QueryHomeProvider => Some(MbimRequest::QueryHomeProvider),
+            MbimCommand::QueryVisibleProviders => Some(MbimRequest::QueryVisibleProviders),
+            MbimCommand::QueryRegistrationState => Some(MbimRequest::QueryRegistrationState),
+            MbimCommand::QueryPacketServiceState => Some(MbimRequest::QueryPacketServiceState),
+            MbimCommand::AttachPacketService => Some(MbimRequest::AttachPacketService),
+            MbimCommand::DetachPacketService => Some(MbimRequest::DetachPacketService),
+            MbimCommand::QuerySignalState => Some(MbimRequest::QuerySignalState),
+            MbimCommand::QueryDeviceServices => Some(MbimRequest::QueryDeviceServices),
+            MbimCommand::QueryPacketStatistics => Some(MbimRequest::QueryPacketStatistics),
+            MbimCommand::SmsQueryConfiguration => Some(MbimRequest::SmsQueryConfiguration),
+            MbimCommand::SmsReadAll => Some(MbimRequest::SmsReadAll),
+            MbimCommand::SmsQueryStoreStatus => Some(MbimRequest::SmsQueryStoreStatus),
+            MbimCommand::UssdCancel => Some(MbimRequest::UssdCancel),
+            MbimCommand::PhonebookQueryConfiguration => Some(
+                MbimRequest::PhonebookQueryConfiguration,
+            ),
+            MbimCommand::PhonebookReadAll => Some(MbimRequest::PhonebookReadAll),
+            _ => None,
+        }
+    }
+}
+
 /// The request that a command gives with this value.
 pub fn request(
     alloc: Global,
@@ -144,23 +184,27 @@ pub fn request(
 ) -> Result<MbimRequest, WordFault>
     ensures { Gives ((mbim_line command).request (option_map (λ t. t.now) value.entry)) result }
 {
+    match command.plain_request() {
+        Some(request) => Ok(request),
+        None => valued_request(alloc, command, or_fault(value)?),
+    }
+}
+
+// The same of a command that has a value.
+fn valued_request(
+    alloc: Global,
+    command: MbimCommand,
+    value: &str,
+) -> Result<MbimRequest, WordFault>
+    requires { (mbim_line command).request None ≡ None }
+    ensures { Gives ((mbim_line command).request (Some value.now)) result }
+{
     match command {
-        MbimCommand::QueryDeviceCaps => Ok(MbimRequest::QueryDeviceCaps),
-        MbimCommand::QuerySubscriberReadyStatus => Ok(MbimRequest::QuerySubscriberReadyStatus),
-        MbimCommand::QueryRadioState => Ok(MbimRequest::QueryRadioState),
         MbimCommand::SetRadioState => {
-            let on = or_fault(radio(or_fault(value)?))?;
+            let on = or_fault(radio(value))?;
             Ok(MbimRequest::SetRadioState(on))
         }
-        MbimCommand::QueryPinState => Ok(MbimRequest::QueryPinState),
-        MbimCommand::QueryHomeProvider => Ok(MbimRequest::QueryHomeProvider),
-        MbimCommand::QueryVisibleProviders => Ok(MbimRequest::QueryVisibleProviders),
-        MbimCommand::QueryRegistrationState => Ok(MbimRequest::QueryRegistrationState),
-        MbimCommand::QueryPacketServiceState => Ok(MbimRequest::QueryPacketServiceState),
-        MbimCommand::AttachPacketService => Ok(MbimRequest::AttachPacketService),
-        MbimCommand::DetachPacketService => Ok(MbimRequest::DetachPacketService),
-        MbimCommand::QuerySignalState => Ok(MbimRequest::QuerySignalState),
-        MbimCommand::Connect => connect(alloc, or_fault(value)?),
+        MbimCommand::Connect => connect(alloc, value),
         MbimCommand::Disconnect => Ok(MbimRequest::Disconnect(number_of(value)?)),
         MbimCommand::QueryConnectionState => {
             Ok(MbimRequest::QueryConnectionState(number_of(value)?))
@@ -168,35 +212,27 @@ pub fn request(
         MbimCommand::QueryIpConfiguration => {
             Ok(MbimRequest::QueryIpConfiguration(number_of(value)?))
         }
-        MbimCommand::QueryDeviceServices => Ok(MbimRequest::QueryDeviceServices),
-        MbimCommand::QueryPacketStatistics => Ok(MbimRequest::QueryPacketStatistics),
-        MbimCommand::SmsQueryConfiguration => Ok(MbimRequest::SmsQueryConfiguration),
-        MbimCommand::SmsReadAll => Ok(MbimRequest::SmsReadAll),
         MbimCommand::SmsRead => Ok(MbimRequest::SmsRead(number_of(value)?)),
         MbimCommand::SmsDelete => Ok(MbimRequest::SmsDelete(number_of(value)?)),
-        MbimCommand::SmsQueryStoreStatus => Ok(MbimRequest::SmsQueryStoreStatus),
         MbimCommand::UssdInitiate => {
-            let (scheme, payload) = ussd(alloc, or_fault(value)?)?;
+            let (scheme, payload) = ussd(alloc, value)?;
             Ok(MbimRequest::UssdInitiate(scheme, payload))
         }
         MbimCommand::UssdContinue => {
-            let (scheme, payload) = ussd(alloc, or_fault(value)?)?;
+            let (scheme, payload) = ussd(alloc, value)?;
             Ok(MbimRequest::UssdContinue(scheme, payload))
         }
-        MbimCommand::UssdCancel => Ok(MbimRequest::UssdCancel),
-        MbimCommand::PhonebookQueryConfiguration => Ok(MbimRequest::PhonebookQueryConfiguration),
-        MbimCommand::PhonebookReadAll => Ok(MbimRequest::PhonebookReadAll),
         MbimCommand::PhonebookRead => Ok(MbimRequest::PhonebookRead(number_of(value)?)),
         MbimCommand::PhonebookDelete => Ok(MbimRequest::PhonebookDelete(number_of(value)?)),
-        MbimCommand::PhonebookWrite => entry(alloc, or_fault(value)?),
+        MbimCommand::PhonebookWrite => entry(alloc, value),
+        _ => Err(WordFault::Usage(UsageKind::Value)),
     }
 }
 
-// The number that an option is given.
-fn number_of(value: Option<&str>) -> Result<u32, WordFault>
-    ensures { Gives (option_and_then number_32_in (option_map (λ t. t.now) value.entry)) result }
+fn number_of(text: &str) -> Result<u32, WordFault>
+    ensures { Gives (number_32_in text.now) result }
 {
-    or_fault(number_32(or_fault(value)?))
+    or_fault(number_32(text))
 }
 
 #[tactic(auto, unfolding(crate::specs::MbimCommands::radio_in))]

@@ -6,7 +6,7 @@ ghost use Rattle.tool_words.specs.Values.{Gives};
 
 use crate::given::{is_given, value_given};
 use crate::link::{LinkSettings, link_given};
-use crate::mbim_commands::{MbimCommand, mbim_commands, reads_messages, request};
+use crate::mbim_commands::{MbimCommand, mbimcli_commands, reads_messages, request};
 use crate::modem_tools::{ModemCommand, modem_tool, modem_tool_asked};
 use crate::options::{OptionSpelling, ToolOption, flag};
 use crate::values::{flag_of, or_fault};
@@ -47,7 +47,7 @@ fn settings() -> &'static [MbimSetting]
 pub fn mbimcli_reader<'a>(alloc: Global) -> Result<Command<'a>, AllocError>
     ensures { IfOk result (λ tool. app_of tool ≡ mbimcli_app) }
 {
-    modem_tool(alloc, "mbimcli", settings(), mbim_commands())
+    modem_tool(alloc, "mbimcli", settings(), mbimcli_commands())
 }
 
 fn sending(
@@ -96,5 +96,5 @@ impl ModemCommand for MbimCommand {
 pub fn mbimcli_asked(alloc: Global, matches: &ArgMatches<'_>) -> Result<ToolCommand, WordFault>
     ensures { Answers (mbimcli_asked (rows_of (found_of matches.now))) result }
 {
-    modem_tool_asked(alloc, mbim_commands(), matches)
+    modem_tool_asked(alloc, mbimcli_commands(), matches)
 }

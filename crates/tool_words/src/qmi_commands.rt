@@ -1,10 +1,11 @@
-ghost use Rattle.std.specs.Prelude.{◌≡◌, map, option_map};
+ghost use Rattle.std.specs.Prelude.{◌≡◌, None, Some, map, option_map};
 ghost use Rattle.tool_words.specs.Keys.{keyed};
 ghost use Rattle.tool_words.specs.QmiCommands.{ip_type_in, makes_messages, mode_in, network_of, qmi_asks, qmi_commands, qmi_line, qmi_spelling, reads_messages, start_network_in, stored_in};
 ghost use Rattle.tool_words.specs.Values.{Gives, optional};
 
 use crate::keys::{parts_in, text_of_key, value_of};
 use crate::options::{OptionSpelling, ToolOption, flag, valued};
+use crate::plain::PlainCommand;
 use crate::values::{at_comma, number_8, number_32, octets, or_fault};
 use crate::{UsageKind, WordFault};
 use qmi_requests::QmiRequest;
@@ -101,7 +102,7 @@ impl ToolOption for QmiCommand {
 
 /// All of them, in the order of the manual.
 #[tactic(auto, unfolding(crate::specs::QmiCommands::qmi_commands))]
-pub fn qmi_commands() -> &'static [QmiCommand]
+pub fn qmicli_commands() -> &'static [QmiCommand]
     ensures { result.now ≡ qmi_commands }
 {
     QMI_COMMANDS.as_slice()
@@ -128,6 +129,37 @@ pub fn makes_messages(command: QmiCommand) -> bool
     matches!(command, QmiCommand::PduSubmit)
 }
 
+impl PlainCommand for QmiCommand {
+    ghost line = { qmi_line };
+
+    type Request = QmiRequest;
+
+    fn option_name(self) -> &'static str {
+        self.spelling().name
+    }
+
+    fn plain_request(self) -> Option<QmiRequest> {
+        match self {
+            QmiCommand::GetServiceVersionInfo => Some(QmiRequest::GetServiceVersionInfo),
+            QmiCommand::DmsGetCapabilities => Some(QmiRequest::DmsGetCapabilities),
+            QmiCommand::DmsGetManufacturer => Some(QmiRequest::DmsGetManufacturer),
+            QmiCommand::DmsGetModel => Some(QmiRequest::DmsGetModel),
+            QmiCommand::DmsGetRevision => Some(QmiRequest::DmsGetRevision),
+            QmiCommand::DmsGetMsisdn => Some(QmiRequest::DmsGetMsisdn),
+            QmiCommand::DmsGetIds => Some(QmiRequest::DmsGetIds),
+            QmiCommand::DmsGetOperatingMode => Some(QmiRequest::DmsGetOperatingMode),
+            QmiCommand::NasGetSignalStrength => Some(QmiRequest::NasGetSignalStrength),
+            QmiCommand::NasNetworkScan => Some(QmiRequest::NasNetworkScan),
+            QmiCommand::NasGetServingSystem => Some(QmiRequest::NasGetServingSystem),
+            QmiCommand::NasGetHomeNetwork => Some(QmiRequest::NasGetHomeNetwork),
+            QmiCommand::WdsGetPacketServiceStatus => Some(QmiRequest::WdsGetPacketServiceStatus),
+            QmiCommand::WdsGetChannelRates => Some(QmiRequest::WdsGetChannelRates),
+            QmiCommand::WdsGetCurrentSettings => Some(QmiRequest::WdsGetCurrentSettings),
+            _ => None,
+        }
+    }
+}
+
 /// The request that a command gives with this value.
 pub fn request(
     alloc: Global,
@@ -136,50 +168,44 @@ pub fn request(
 ) -> Result<QmiRequest, WordFault>
     ensures { Gives ((qmi_line command).request (option_map (λ t. t.now) value.entry)) result }
 {
+    match command.plain_request() {
+        Some(request) => Ok(request),
+        None => valued_request(alloc, command, or_fault(value)?),
+    }
+}
+
+// The same of a command that has a value.
+fn valued_request(alloc: Global, command: QmiCommand, value: &str) -> Result<QmiRequest, WordFault>
+    requires { (qmi_line command).request None ≡ None }
+    ensures { Gives ((qmi_line command).request (Some value.now)) result }
+{
     match command {
-        QmiCommand::GetServiceVersionInfo => Ok(QmiRequest::GetServiceVersionInfo),
-        QmiCommand::DmsGetCapabilities => Ok(QmiRequest::DmsGetCapabilities),
-        QmiCommand::DmsGetManufacturer => Ok(QmiRequest::DmsGetManufacturer),
-        QmiCommand::DmsGetModel => Ok(QmiRequest::DmsGetModel),
-        QmiCommand::DmsGetRevision => Ok(QmiRequest::DmsGetRevision),
-        QmiCommand::DmsGetMsisdn => Ok(QmiRequest::DmsGetMsisdn),
-        QmiCommand::DmsGetIds => Ok(QmiRequest::DmsGetIds),
-        QmiCommand::DmsGetOperatingMode => Ok(QmiRequest::DmsGetOperatingMode),
         QmiCommand::DmsSetOperatingMode => {
-            let mode = or_fault(mode(or_fault(value)?))?;
+            let mode = or_fault(mode(value))?;
             Ok(QmiRequest::DmsSetOperatingMode(mode))
         }
-        QmiCommand::NasGetSignalStrength => Ok(QmiRequest::NasGetSignalStrength),
-        QmiCommand::NasNetworkScan => Ok(QmiRequest::NasNetworkScan),
-        QmiCommand::NasGetServingSystem => Ok(QmiRequest::NasGetServingSystem),
-        QmiCommand::NasGetHomeNetwork => Ok(QmiRequest::NasGetHomeNetwork),
-        QmiCommand::WdsStartNetwork => start_network(alloc, or_fault(value)?),
+        QmiCommand::WdsStartNetwork => start_network(alloc, value),
         QmiCommand::WdsStopNetwork => {
-            let handle = or_fault(number_32(or_fault(value)?))?;
+            let handle = or_fault(number_32(value))?;
             Ok(QmiRequest::WdsStopNetwork(handle))
         }
-        QmiCommand::WdsGetPacketServiceStatus => Ok(QmiRequest::WdsGetPacketServiceStatus),
-        QmiCommand::WdsGetChannelRates => Ok(QmiRequest::WdsGetChannelRates),
-        QmiCommand::WdsGetCurrentSettings => Ok(QmiRequest::WdsGetCurrentSettings),
         QmiCommand::WmsRawSend => {
-            let message = octets(alloc, or_fault(value)?)?;
+            let message = octets(alloc, value)?;
             Ok(QmiRequest::WmsRawSend(message))
         }
         QmiCommand::WmsRawRead => {
-            let (storage, index) = or_fault(stored(or_fault(value)?))?;
+            let (storage, index) = or_fault(stored(value))?;
             Ok(QmiRequest::WmsRawRead { storage, index })
         }
         QmiCommand::WmsDelete => {
-            let (storage, index) = or_fault(stored(or_fault(value)?))?;
+            let (storage, index) = or_fault(stored(value))?;
             Ok(QmiRequest::WmsDelete { storage, index })
         }
         QmiCommand::WmsListMessages => {
-            let storage = or_fault(number_8(or_fault(value)?))?;
+            let storage = or_fault(number_8(value))?;
             Ok(QmiRequest::WmsListMessages(storage))
         }
-        QmiCommand::PduSubmit | QmiCommand::DescribeTables => {
-            Err(WordFault::Usage(UsageKind::Value))
-        }
+        _ => Err(WordFault::Usage(UsageKind::Value)),
     }
 }
 

@@ -10,7 +10,7 @@ use crate::link::{LinkSettings, link_given};
 use crate::modem_tools::{ModemCommand, modem_tool, modem_tool_asked};
 use crate::options::{OptionSpelling, ToolOption, flag, valued};
 use crate::qmi_commands::{
-    QmiCommand, asks, makes_messages, qmi_commands, reads_messages, request,
+    QmiCommand, asks, makes_messages, qmicli_commands, reads_messages, request,
 };
 use crate::values::{at_comma, flag_of, number_8, number_within, or_fault, path, text_of};
 use crate::{ToolCommand, UsageKind, WordFault};
@@ -63,7 +63,7 @@ fn settings() -> &'static [QmiSetting]
 pub fn qmicli_reader<'a>(alloc: Global) -> Result<Command<'a>, AllocError>
     ensures { IfOk result (λ tool. app_of tool ≡ qmicli_app) }
 {
-    modem_tool(alloc, "qmicli", settings(), qmi_commands())
+    modem_tool(alloc, "qmicli", settings(), qmicli_commands())
 }
 
 fn cid_if_given(text: Option<&str>) -> Result<Option<u8>, WordFault>
@@ -229,5 +229,5 @@ impl ModemCommand for QmiCommand {
 pub fn qmicli_asked(alloc: Global, matches: &ArgMatches<'_>) -> Result<ToolCommand, WordFault>
     ensures { Answers (qmicli_asked (rows_of (found_of matches.now))) result }
 {
-    modem_tool_asked(alloc, qmi_commands(), matches)
+    modem_tool_asked(alloc, qmicli_commands(), matches)
 }

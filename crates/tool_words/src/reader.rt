@@ -1,7 +1,7 @@
 ghost use Rattle.std.specs.Prelude.{◌≡◌, IfOk, map, true, false, string_bytes};
 ghost use Rattle.clap.specs.Words.{app_of, rule_of};
 ghost use Rattle.clap.specs.Faults.{is_simple_and_free};
-ghost use Rattle.tool_words.specs.Reading.{Reads, option_rule, with_options, without_options};
+ghost use Rattle.tool_words.specs.Reading.{Reads, option_rule, with_options, with_word, without_options, word_rule};
 
 use crate::options::ToolOption;
 use crate::{UsageKind, WordFault};
@@ -49,6 +49,24 @@ fn option_arg<'a>(alloc: Global, name: &'a str, letter: Option<char>, takes_valu
         Some(letter) => arg.short(letter),
         None => arg,
     }
+}
+
+/// The tool with a word besides that is no option.
+pub fn add_word<'a>(
+    alloc: Global,
+    command: Command<'a>,
+    name: &'a str,
+) -> Result<Command<'a>, AllocError>
+    ensures { IfOk result (λ added. app_of added ≡ with_word name.entry.now (app_of command.entry)) }
+{
+    command.arg(word_arg(alloc, name))
+}
+
+fn word_arg<'a>(alloc: Global, name: &'a str) -> Arg<'a>
+    ensures rule { rule_of result ≡ word_rule name.entry.now }
+    ensures own { result.global ≡ false }
+{
+    Arg::new(alloc, name).action(ArgAction::Set)
 }
 
 /// What the words give to a tool's options. The first word is the tool's name.

@@ -1,11 +1,11 @@
 ghost use Rattle.std.specs.Prelude.{◌≡◌, IfOk};
 ghost use Rattle.clap.specs.Words.{app_of, found_of, rows_of};
 ghost use Rattle.tool_words.specs.Answers.{Answers};
-ghost use Rattle.tool_words.specs.Rig.{rig_app, rig_asked, rig_options, rig_spelling, rig_values};
+ghost use Rattle.tool_words.specs.Rig.{rig_app, rig_asked, rig_options, rig_spelling, rig_values, transparency_values};
 ghost use Rattle.tool_words.specs.Values.{Gives};
 
-use crate::given::value_given;
-use crate::options::{OptionSpelling, ToolOption, valued};
+use crate::given::{is_given, value_given};
+use crate::options::{OptionSpelling, ToolOption, flag, valued};
 use crate::reader::{add_options, without_options};
 use crate::values::{kind_or, number_or};
 use crate::{ToolCommand, WordFault};
@@ -20,6 +20,7 @@ pub enum RigOption {
     Clients,
     Messages,
     Number,
+    Transparent,
 }
 
 impl ToolOption for RigOption {
@@ -31,15 +32,17 @@ impl ToolOption for RigOption {
             RigOption::Clients => valued("clients"),
             RigOption::Messages => valued("messages"),
             RigOption::Number => valued("number"),
+            RigOption::Transparent => flag("transparent"),
         }
     }
 }
 
-static RIG_OPTIONS: [RigOption; 4] = [
+static RIG_OPTIONS: [RigOption; 5] = [
     RigOption::Kind,
     RigOption::Clients,
     RigOption::Messages,
     RigOption::Number,
+    RigOption::Transparent,
 ];
 
 #[tactic(auto, unfolding(crate::specs::Rig::rig_options))]
@@ -72,10 +75,21 @@ fn values(matches: &ArgMatches<'_>) -> Result<ToolCommand, WordFault>
     })
 }
 
+#[tactic(auto, unfolding(crate::specs::Rig::transparency_values))]
+fn transparency(matches: &ArgMatches<'_>) -> Result<ToolCommand, WordFault>
+    ensures { Gives (transparency_values (rows_of (found_of matches.now))) result }
+{
+    let kind = kind_or(Kind::Qmi, value_given(matches, RigOption::Kind))?;
+    Ok(ToolCommand::Transparency { kind })
+}
+
 /// What the words of a rig ask for.
 #[tactic(auto, unfolding(crate::specs::Rig::rig_asked))]
 pub fn rig_asked(matches: &ArgMatches<'_>) -> Result<ToolCommand, WordFault>
     ensures { Answers (rig_asked (rows_of (found_of matches.now))) result }
 {
+    if is_given(matches, RigOption::Transparent) {
+        return transparency(matches);
+    }
     values(matches)
 }

@@ -1,1 +1,3 @@
 pub mod InTurn
+pub mod NoValue
+pub mod Equal

@@ -1,1 +1,5 @@
+pub mod Trial
+pub mod Qmi
+pub mod Mbim
 pub mod Lines
+pub mod Tools

@@ -1,8 +1,14 @@
-//! Requests to a QMI modem, each run at a simulated modem itself and through a proxy where the tool is
-//! alone, and the lines that tell how they compare.
+//! Commands of a tool, each run at a simulated modem itself and through a proxy where the tool is alone,
+//! and the lines that tell how they compare.
 #![tactic(auto)]
 
 mod line;
 mod lines;
+mod mbim;
+mod qmi;
+mod runs_twice;
+mod tools;
 
 pub use lines::{NamedRequest, transparency_lines};
+pub use runs_twice::RunsTwice;
+pub use tools::tool_lines;

@@ -1,0 +1,59 @@
+-- The lines of requests that are commands of a tool: each prints the same.
+use Rattle.std.proofs.Common.{◌≡◌, ℕ, List, [], ◌∷◌, Option, codes, sym, ◌∙◌, ap, subst}
+use Rattle.core_bench.specs.Runs.{Run}
+use Rattle.printed_ends.specs.declared.printed.Printed.{Printed}
+use Rattle.tool_words.specs.MbimCommands.{mbim_commands, mbim_line}
+use Rattle.tool_words.specs.QmiCommands.{qmi_commands, qmi_line}
+use Rattle.transparency.specs.Lines.{AreLines, Compares, IsLine, Named, Shown, different, equal, line_of}
+use Rattle.transparency.specs.Mbim.{mbim_trial}
+use Rattle.transparency.specs.Qmi.{qmi_trial}
+use Rattle.transparency.specs.Tools.{IsEqualLine, ShowsEqual, plain_requests}
+use Rattle.transparency.specs.Trial.{Trial}
+
+word_is : {direct through : Printed} {word : List ℕ} → Compares direct through word → direct ≡ through → word ≡ codes "equal"
+word_is (equal _ is) same = is
+word_is (different differ is) same = absurd (differ same)
+
+line_is_equal : {R : Type 0} (trial : Trial R) (named : Named R) (line : List ℕ) → trial.IsCommand named.asked → IsLine trial named line → IsEqualLine trial named line
+line_is_equal trial named line command is = record {
+  printed = is.direct;
+  prints_direct = is.prints_direct;
+  prints_through = subst (trial.PrintsThrough named.asked) (sym (is.same command)) is.prints_through;
+  line_is = is.line_is ∙ ap (λ (word : List ℕ). line_of named.option word is.direct.status) (word_is is.compares (is.same command));
+}
+
+abbrev AreCommands : {R : Type 0} → Trial R → List (Named R) → Type 0
+AreCommands trial [] = Unit {0}
+AreCommands trial (named ∷ requests) = trial.IsCommand named.asked × AreCommands trial requests
+
+lines_are_equal : {R : Type 0} (trial : Trial R) (requests : List (Named R)) (lines : List ℕ) → AreCommands trial requests → AreLines (IsLine trial) requests lines → AreLines (IsEqualLine trial) requests lines
+lines_are_equal trial [] lines commands are = are
+lines_are_equal trial (named ∷ requests) lines commands are = record {
+  line = are.line;
+  more = are.more;
+  first = line_is_equal trial named are.line commands.0 are.first;
+  rest = lines_are_equal trial requests are.more commands.1 are.rest;
+  lines_are = are.lines_are;
+}
+
+shows_equal : {R : Type 0} (trial : Trial R) (requests : List (Named R)) → AreCommands trial requests → (lines : List ℕ) (old new : Option (List Run)) → Shown trial requests lines old new
+    → ShowsEqual trial requests lines old new
+shows_equal trial requests commands lines old new shown = record { lines_are = lines_are_equal trial requests lines commands shown.lines_are; ran = shown.ran }
+
+-- ---- the two tools ----
+
+are_qmi_commands : AreCommands qmi_trial (plain_requests qmi_line qmi_commands)
+unfolding plain_requests qmi_commands
+are_qmi_commands = (tt, tt, tt, tt, tt, tt, tt, tt, tt, tt, tt, tt, tt, tt, tt, tt)
+
+are_mbim_commands : AreCommands mbim_trial (plain_requests mbim_line mbim_commands)
+unfolding plain_requests mbim_commands
+are_mbim_commands = (tt, tt, tt, tt, tt, tt, tt, tt, tt, tt, tt, tt, tt, tt, tt, tt, tt, tt, tt, tt)
+
+pub qmi_shows_equal : (lines : List ℕ) (old new : Option (List Run)) → Shown qmi_trial (plain_requests qmi_line qmi_commands) lines old new
+    → ShowsEqual qmi_trial (plain_requests qmi_line qmi_commands) lines old new
+qmi_shows_equal = shows_equal qmi_trial (plain_requests qmi_line qmi_commands) are_qmi_commands
+
+pub mbim_shows_equal : (lines : List ℕ) (old new : Option (List Run)) → Shown mbim_trial (plain_requests mbim_line mbim_commands) lines old new
+    → ShowsEqual mbim_trial (plain_requests mbim_line mbim_commands) lines old new
+mbim_shows_equal = shows_equal mbim_trial (plain_requests mbim_line mbim_commands) are_mbim_commands

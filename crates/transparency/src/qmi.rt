@@ -1,0 +1,42 @@
+ghost use Rattle.std.specs.Prelude.{◌≡◌, IfOk};
+ghost use Rattle.transparency.specs.Qmi.{plan_of};
+
+use crate::runs_twice::{PATIENCE, RunsTwice, device};
+use core_bench::Bench;
+use device_core::QmiPlan;
+use modem_profile::Profile;
+use printed_ends::Twice;
+use qmi_requests::QmiRequest;
+use qmi_twice::qmi_twice;
+use std::alloc::{AllocError, Global};
+
+// How a request is planned.
+fn plan_of(alloc: Global, request: QmiRequest) -> Result<QmiPlan, AllocError>
+    ensures { IfOk result (λ plan. plan ≡ plan_of request) }
+{
+    Ok(QmiPlan {
+        device: device(alloc)?,
+        proxied: false,
+        cid: None,
+        keep: false,
+        timeout: PATIENCE,
+        request,
+    })
+}
+
+impl RunsTwice for QmiRequest {
+    ghost use Rattle.transparency.specs.Qmi.{qmi_trial};
+
+    ghost trial = { qmi_trial };
+
+    fn run_twice<B: Bench>(
+        self,
+        alloc: Global,
+        bench: &mut B,
+        profile: &Profile,
+    ) -> Result<Twice, AllocError> {
+        let plan = plan_of(alloc, self)?;
+        let twice = qmi_twice(alloc, bench, profile, plan)?;
+        Ok(twice)
+    }
+}
