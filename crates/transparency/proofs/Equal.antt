@@ -2,6 +2,11 @@
 use Rattle.std.proofs.Common.{◌≡◌, ℕ, List, [], ◌∷◌, Option, codes, sym, ◌∙◌, ap, subst}
 use Rattle.core_bench.specs.Runs.{Run}
 use Rattle.printed_ends.specs.declared.printed.Printed.{Printed}
+use Rattle.mbim_requests.specs.declared.MbimRequest.{MbimRequest}
+use Rattle.qmi_requests.specs.declared.QmiRequest.{QmiRequest}
+use Rattle.tool_words.specs.Commands.{CommandLine}
+use Rattle.tool_words.specs.declared.mbim_commands.MbimCommand.{MbimCommand}
+use Rattle.tool_words.specs.declared.qmi_commands.QmiCommand.{QmiCommand}
 use Rattle.tool_words.specs.MbimCommands.{mbim_commands, mbim_line}
 use Rattle.tool_words.specs.QmiCommands.{qmi_commands, qmi_line}
 use Rattle.transparency.specs.Lines.{AreLines, Compares, IsLine, Named, Shown, different, equal, line_of}
@@ -36,24 +41,27 @@ lines_are_equal trial (named ∷ requests) lines commands are = record {
   lines_are = are.lines_are;
 }
 
-shows_equal : {R : Type 0} (trial : Trial R) (requests : List (Named R)) → AreCommands trial requests → (lines : List ℕ) (old new : Option (List Run)) → Shown trial requests lines old new
-    → ShowsEqual trial requests lines old new
-shows_equal trial requests commands lines old new shown = record { lines_are = lines_are_equal trial requests lines commands shown.lines_are; ran = shown.ran }
+-- the requests are those of some commands, all of which are commands of the tool
+shows_equal : {C R : Type 0} (trial : Trial R) (line : C → CommandLine R) (commands : List C) → AreCommands trial (plain_requests line commands) → (given : List C) (requests : List (Named R)) (lines : List ℕ) (old new : Option (List Run))
+    → given ≡ commands → requests ≡ plain_requests line given → Shown trial requests lines old new → ShowsEqual trial (plain_requests line commands) lines old new
+shows_equal trial line commands are given requests lines old new same made shown =
+    let shown : Shown trial (plain_requests line commands) lines old new = subst (λ (l : List (Named _)). Shown trial l lines old new) (made ∙ ap (plain_requests line) same) shown in
+    record { lines_are = lines_are_equal trial (plain_requests line commands) lines are shown.lines_are; ran = shown.ran }
 
 -- ---- the two tools ----
 
 are_qmi_commands : AreCommands qmi_trial (plain_requests qmi_line qmi_commands)
 unfolding plain_requests qmi_commands
-are_qmi_commands = (tt, tt, tt, tt, tt, tt, tt, tt, tt, tt, tt, tt, tt, tt, tt, tt)
+are_qmi_commands = (tt, (tt, (tt, (tt, (tt, (tt, (tt, (tt, (tt, (tt, (tt, (tt, (tt, (tt, (tt, tt)))))))))))))))
 
 are_mbim_commands : AreCommands mbim_trial (plain_requests mbim_line mbim_commands)
 unfolding plain_requests mbim_commands
-are_mbim_commands = (tt, tt, tt, tt, tt, tt, tt, tt, tt, tt, tt, tt, tt, tt, tt, tt, tt, tt, tt, tt)
+are_mbim_commands = (tt, (tt, (tt, (tt, (tt, (tt, (tt, (tt, (tt, (tt, (tt, (tt, (tt, (tt, (tt, (tt, (tt, (tt, (tt, tt)))))))))))))))))))
 
-pub qmi_shows_equal : (lines : List ℕ) (old new : Option (List Run)) → Shown qmi_trial (plain_requests qmi_line qmi_commands) lines old new
-    → ShowsEqual qmi_trial (plain_requests qmi_line qmi_commands) lines old new
-qmi_shows_equal = shows_equal qmi_trial (plain_requests qmi_line qmi_commands) are_qmi_commands
+pub qmi_shows_equal : (given : List QmiCommand) (requests : List (Named QmiRequest)) (lines : List ℕ) (old new : Option (List Run))
+    → given ≡ qmi_commands → requests ≡ plain_requests qmi_line given → Shown qmi_trial requests lines old new → ShowsEqual qmi_trial (plain_requests qmi_line qmi_commands) lines old new
+qmi_shows_equal = shows_equal qmi_trial qmi_line qmi_commands are_qmi_commands
 
-pub mbim_shows_equal : (lines : List ℕ) (old new : Option (List Run)) → Shown mbim_trial (plain_requests mbim_line mbim_commands) lines old new
-    → ShowsEqual mbim_trial (plain_requests mbim_line mbim_commands) lines old new
-mbim_shows_equal = shows_equal mbim_trial (plain_requests mbim_line mbim_commands) are_mbim_commands
+pub mbim_shows_equal : (given : List MbimCommand) (requests : List (Named MbimRequest)) (lines : List ℕ) (old new : Option (List Run))
+    → given ≡ mbim_commands → requests ≡ plain_requests mbim_line given → Shown mbim_trial requests lines old new → ShowsEqual mbim_trial (plain_requests mbim_line mbim_commands) lines old new
+mbim_shows_equal = shows_equal mbim_trial mbim_line mbim_commands are_mbim_commands

@@ -1,4 +1,5 @@
 ghost use Rattle.std.specs.Prelude.{◌≡◌, IfOk, map};
+ghost use Rattle.kit_bytes.specs.declared.Kind.TheVariants.{Mbim, Qmi};
 ghost use Rattle.transparency.specs.Lines.{named_view};
 ghost use Rattle.transparency.specs.Tools.{ShownOf, plain_requests};
 
@@ -14,15 +15,25 @@ pub fn tool_lines<B: Bench>(alloc: Global, bench: &mut B, kind: Kind) -> Result<
     ensures { IfOk result (λ lines. ShownOf kind lines (B.runs bench.old) (B.runs bench.new)) }
 {
     match kind {
-        Kind::Qmi => {
-            let requests = plain_requests(alloc, qmicli_commands())?;
-            transparency_lines(alloc, bench, requests)
-        }
-        Kind::Mbim => {
-            let requests = plain_requests(alloc, mbimcli_commands())?;
-            transparency_lines(alloc, bench, requests)
-        }
+        Kind::Qmi => qmi_lines(alloc, bench),
+        Kind::Mbim => mbim_lines(alloc, bench),
     }
+}
+
+fn qmi_lines<B: Bench>(alloc: Global, bench: &mut B) -> Result<Octets, AllocError>
+    ensures { IfOk result (λ lines. ShownOf Qmi lines (B.runs bench.old) (B.runs bench.new)) }
+{
+    let requests = plain_requests(alloc, qmicli_commands())?;
+    let lines = transparency_lines(alloc, bench, requests)?;
+    Ok(lines)
+}
+
+fn mbim_lines<B: Bench>(alloc: Global, bench: &mut B) -> Result<Octets, AllocError>
+    ensures { IfOk result (λ lines. ShownOf Mbim lines (B.runs bench.old) (B.runs bench.new)) }
+{
+    let requests = plain_requests(alloc, mbimcli_commands())?;
+    let lines = transparency_lines(alloc, bench, requests)?;
+    Ok(lines)
 }
 
 // The requests of the commands that have no value, in the same order.
