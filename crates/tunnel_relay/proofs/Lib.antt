@@ -1,0 +1,4 @@
+pub mod Carrying
+pub mod Steps
+pub mod Sessions
+pub mod Computed
