@@ -1,0 +1,355 @@
+"""What hostile peers cost a proxy and those beside it. `hostile.sh` starts it."""
+import os
+import socket
+import struct
+import subprocess
+import sys
+import threading
+import time
+import uuid
+
+folder, program = sys.argv[1:3]
+TICKS = os.sysconf("SC_CLK_TCK")
+ROUNDS = 3
+beyond = []
+
+
+def show(what, found, limit, unit, most=True):
+    """A figure beside its limit: it may be at most that, or at least."""
+    is_within = found <= limit if most else found >= limit
+    print(f"{what}: {found:.2f} {unit}; at {'most' if most else 'least'} {limit:.2f} {'holds' if is_within else 'DOES NOT HOLD'}", flush=True)
+    if not is_within:
+        beyond.append(what)
+
+
+# QMI messages
+
+
+def qmi(service, client, flags, number, name, tlvs=b""):
+    width = "B" if service == 0 else "H"
+    body = struct.pack(f"<B{width}HH", flags, number, name, len(tlvs)) + tlvs
+    return struct.pack("<BHBBB", 1, 5 + len(body), 0, service, client) + body
+
+
+def tlv(kind, value):
+    return struct.pack("<BH", kind, len(value)) + value
+
+
+DMS, ALLOCATE, PROXY_OPEN, GET_MODEL = 2, 0x22, 0xFF00, 0x22
+OK = tlv(2, bytes(4))
+
+
+def take(stream, kept):
+    """The next QMUX message of a stream; `kept` has what came behind it."""
+    while len(kept) < 3 or len(kept) < 1 + struct.unpack_from("<H", kept, 1)[0]:
+        piece = stream.recv(65536)
+        if not piece:
+            raise EOFError
+        kept += piece
+    size = 1 + struct.unpack_from("<H", kept, 1)[0]
+    message = bytes(kept[:size])
+    del kept[:size]
+    return message
+
+
+class Client:
+    def __init__(self, path, device):
+        self.stream, self.kept, self.number = socket.socket(socket.AF_UNIX), bytearray(), 0
+        for _ in range(400):
+            try:
+                self.stream.connect(path)
+                break
+            except OSError:
+                time.sleep(0.02)
+        self.ask(qmi(0, 0, 0, 1, PROXY_OPEN, tlv(1, device.encode())))
+        given = self.ask(qmi(0, 0, 0, 2, ALLOCATE, tlv(1, bytes([DMS]))))
+        self.id = given[given.index(b"\x01\x02\x00", 12) + 4]
+
+    def ask(self, message):
+        self.stream.sendall(message)
+        return take(self.stream, self.kept)
+
+    def request(self):
+        self.number = self.number % 65535 + 1
+        return qmi(DMS, self.id, 0, self.number, GET_MODEL)
+
+
+# What runs
+
+
+def wait_for(path):
+    for _ in range(400):
+        if os.path.exists(path):
+            return
+        time.sleep(0.02)
+    sys.exit(f"{path} doesn't come")
+
+
+def on_core(core, words):
+    return subprocess.Popen(["taskset", "-c", str(core % os.cpu_count()), *words], stdout=subprocess.DEVNULL, stderr=subprocess.DEVNULL)
+
+
+class Proxy:
+    """A proxy on a core of its own, before the modem at this path."""
+
+    def __init__(self, device, kind="qmi"):
+        self.device, self.path = device, f"{folder}/{kind}.sock"
+        self.process = on_core(0, [program, f"{kind}-proxy", "-d", device, "--socket", self.path, "--no-exit", "--turns", "1000000000000"])
+        wait_for(self.path)
+
+    def time(self):
+        fields = open(f"/proc/{self.process.pid}/stat").read().rsplit(")", 1)[1].split()
+        return (int(fields[11]) + int(fields[12])) / TICKS
+
+    def end(self):
+        self.process.terminate()
+        self.process.wait()
+        if os.path.exists(self.path):
+            os.unlink(self.path)
+
+
+class Modem:
+    """A stand-in modem on a core of its own."""
+
+    def __init__(self):
+        self.path = f"{folder}/modem.sock"
+        if os.path.exists(self.path):
+            os.unlink(self.path)
+        self.process = on_core(1, [f"{folder}/modem", "unix", self.path])
+        wait_for(self.path)
+
+    def end(self):
+        self.process.kill()
+        self.process.wait()
+
+
+def load(proxy, clients, in_flight, requests):
+    words = ["taskset", "-c", str(2 % os.cpu_count()), f"{folder}/load", proxy.path, proxy.device, str(clients), str(in_flight), str(requests)]
+    done = subprocess.run(words, capture_output=True, text=True, timeout=600)
+    if done.returncode:
+        sys.exit(f"the load fails: {done.stderr}")
+    return float(done.stdout.split()[0])
+
+
+# The measures
+
+
+def strays(count=3_000_000):
+    """Processor time of a message for nobody, beside that of an answer with its request."""
+    path = f"{folder}/flood.sock"
+    listener = socket.socket(socket.AF_UNIX)
+    listener.bind(path)
+    listener.listen(1)
+    streams, flooded = [], threading.Event()
+
+    def answer():
+        """A modem that gives client ids, and answers a command only behind the flood."""
+        stream, kept = listener.accept()[0], bytearray()
+        streams.append(stream)
+        try:
+            while True:
+                asked = take(stream, kept)
+                if asked[4] == 0:
+                    number, name = asked[7], struct.unpack_from("<H", asked, 8)[0]
+                    given = tlv(1, bytes([DMS, 1])) if name == ALLOCATE else b""
+                    stream.sendall(qmi(0, 0, 1, number, name, OK + given))
+                else:
+                    flooded.wait()
+                    number = struct.unpack_from("<H", asked, 7)[0]
+                    stream.sendall(qmi(DMS, asked[5], 2, number, GET_MODEL, OK + tlv(1, b"EM7455")))
+        except EOFError:
+            pass
+
+    threading.Thread(target=answer, daemon=True).start()
+    proxy = Proxy(path)
+    client = Client(proxy.path, path)
+    client.stream.sendall(client.request())
+    # each as long as an answer, under a number that isn't in use
+    strays = qmi(DMS, 1, 2, 60000, GET_MODEL, OK + tlv(1, b"EM7455")) * 2000
+    before = proxy.time()
+    for _ in range(count // 2000):
+        streams[0].sendall(strays)
+    flooded.set()
+    take(client.stream, client.kept)  # it comes behind the flood, so all of that was read
+    stray = (proxy.time() - before) / count * 1e6
+    proxy.end()
+    modem = Modem()
+    proxy = Proxy(modem.path)
+    before, requests = proxy.time(), 1_000_000
+    load(proxy, 16, 8, requests)
+    answered = (proxy.time() - before) / requests * 1e6
+    proxy.end()
+    modem.end()
+    show("a message for nobody, beside a request with its answer", stray / answered, 1, f"times ({stray:.2f} us, {answered:.2f} us)")
+
+
+def delays(client, count=20_000):
+    found = []
+    for _ in range(count):
+        began = time.perf_counter()
+        client.ask(client.request())
+        found.append(time.perf_counter() - began)
+    found.sort()
+    return found[len(found) * 99 // 100] * 1e6, found[len(found) // 2] * 1e6
+
+
+DRIBBLE = """
+import socket, sys
+path, device, count = sys.argv[1], sys.argv[2], int(sys.argv[3])
+sys.argv = ["hostile", "", ""]
+source = open(%r).read().split("# The measures")[0]
+exec(source)
+clients = [Client(path, device) for _ in range(count)]
+for client in clients:
+    client.stream.setblocking(False)
+print("ready", flush=True)
+while True:
+    requests = [client.request() for client in clients]
+    for at in range(len(requests[0])):
+        for client, request in zip(clients, requests):
+            client.stream.send(request[at:at + 1])
+    for client in clients:
+        try:
+            client.stream.recv(65536)
+        except BlockingIOError:
+            pass
+"""
+
+
+def byte_by_byte():
+    """The delays of a client beside 16 that send a byte at a time."""
+    modem = Modem()
+    proxy = Proxy(modem.path)
+    os.sched_setaffinity(0, {2 % os.cpu_count()})
+    client = Client(proxy.path, modem.path)
+    alone = min(delays(client) for _ in range(ROUNDS))
+    words = ["taskset", "-c", str(3 % os.cpu_count()), sys.executable, "-c", DRIBBLE % os.path.abspath(__file__), proxy.path, modem.path, "16"]
+    others = subprocess.Popen(words, stdout=subprocess.PIPE, text=True)
+    others.stdout.readline()
+    beside = min(delays(client) for _ in range(ROUNDS))
+    others.kill()
+    others.wait()
+    os.sched_setaffinity(0, range(os.cpu_count()))
+    proxy.end()
+    modem.end()
+    show("the delay that 1 of 100 requests exceeds, beside 16 clients that send byte by byte", beside[0] / alone[0], 2, f"times ({alone[0]:.0f} us alone, {beside[0]:.0f} us beside; medians {alone[1]:.0f}, {beside[1]:.0f})")
+
+
+def passing_by(a_second=1000):
+    """The rate of 16 clients with 8 in flight each, beside programs that connect and go at once."""
+    modem = Modem()
+    proxy = Proxy(modem.path)
+    requests = 4_000_000
+    alone = max(load(proxy, 16, 8, requests) for _ in range(ROUNDS))
+    ends, came = threading.Event(), [0]
+
+    def come_and_go():
+        began = time.monotonic()
+        while not ends.is_set():
+            with socket.socket(socket.AF_UNIX) as stream:
+                stream.connect(proxy.path)
+            came[0] += 1
+            late = began + came[0] / a_second - time.monotonic()
+            if late > 0:
+                time.sleep(late)
+
+    thread = threading.Thread(target=come_and_go)
+    began = time.monotonic()
+    thread.start()
+    beside = max(load(proxy, 16, 8, requests) for _ in range(ROUNDS))
+    ends.set()
+    thread.join()
+    rate = came[0] / (time.monotonic() - began)
+    proxy.end()
+    modem.end()
+    show("the rate of 16 clients with 8 in flight, beside those that connect and go", beside / alone, 0.9, f"times ({alone:,.0f} a second alone, {beside:,.0f} beside {rate:,.0f} connections a second)", most=False)
+
+
+# MBIM's dearest message: a list whose entries share their CIDs
+
+BASIC_CONNECT = uuid.UUID("a289cc33-bcbb-8b4f-b6b0-133ec2aae6df").bytes
+PROXY_CONTROL = uuid.UUID("838cf7fb-8d0d-4d7f-871e-d71dbefbb39b").bytes
+
+
+def mbim(kind, number, body):
+    return struct.pack("<III", kind, 12 + len(body), number) + body
+
+
+def fragments(number, service, cid, buffer, longest=4096):
+    body = service + struct.pack("<III", cid, 1, len(buffer)) + buffer
+    room = longest - 20
+    pieces = [body[at:at + room] for at in range(0, len(body), room)]
+    return b"".join(mbim(3, number, struct.pack("<II", len(pieces), at) + piece) for at, piece in enumerate(pieces))
+
+
+def shared_list(length=65_000, share=0.5):
+    """Entries that all refer to one structure with as many CIDs as are left."""
+    entries = int(length * share) // 8
+    cids = (length - 4 - 8 * entries - 20) // 4
+    at = 4 + 8 * entries
+    structure = BASIC_CONNECT + struct.pack("<I", cids) + b"".join(struct.pack("<I", n % 30 + 1) for n in range(cids))
+    return struct.pack("<I", entries) + struct.pack("<II", at, len(structure)) * entries + structure
+
+
+def mbim_client(path, device):
+    """An open program, that named the device where it is at a proxy."""
+    stream = socket.socket(socket.AF_UNIX)
+    stream.connect(path)
+    if device:
+        name = device.encode("utf-16-le")
+        stream.sendall(fragments(1, PROXY_CONTROL, 1, struct.pack("<III", 12, len(name), 30) + name + bytes(-len(name) % 4)))
+        stream.recv(65536)
+    stream.sendall(mbim(1, 2, struct.pack("<I", 4096)))
+    stream.recv(65536)
+    return stream
+
+
+def waits(path, device, buffer):
+    """How long the sender of a list waits at best, and another program at most, in milliseconds."""
+    one, other = mbim_client(path, device), mbim_client(path, device)
+    asks = fragments(7, BASIC_CONNECT, 1, b"")
+    text = fragments(9, BASIC_CONNECT, 19, buffer)
+    worst, ends = [0.0], threading.Event()
+
+    def ask():
+        while not ends.is_set():
+            began = time.perf_counter()
+            other.sendall(asks)
+            other.recv(65536)
+            worst[0] = max(worst[0], time.perf_counter() - began)
+
+    thread = threading.Thread(target=ask)
+    thread.start()
+    took = 9e9
+    for _ in range(10):
+        began = time.perf_counter()
+        one.sendall(text)
+        one.recv(65536)
+        took = min(took, time.perf_counter() - began)
+    ends.set()
+    thread.join()
+    one.close()
+    other.close()
+    return took * 1e3, worst[0] * 1e3
+
+
+def dear_lists():
+    modem_path = f"{folder}/sim.sock"
+    modem = on_core(1, [program, "modem-sim", "--kind", "mbim", "--socket", modem_path])
+    wait_for(modem_path)
+    proxy = Proxy(modem_path, "mbim")
+    for name, path, device in (("the MBIM proxy", proxy.path, modem_path), ("a simulated modem", modem_path, "")):
+        found = [waits(path, device, shared_list(share=share)) for share in (0.02, 0.1, 0.5, 0.9)]
+        sender, other = max(found)
+        show(f"the dearest of four lists of subscriptions of 65,000 bytes, at {name}", sender, 1, f"ms ({other:.2f} at most for another program)")
+    proxy.end()
+    modem.terminate()
+    modem.wait()
+
+
+if __name__ == "__main__":
+    strays()
+    byte_by_byte()
+    passing_by()
+    dear_lists()
+    sys.exit(1 if beyond else 0)
