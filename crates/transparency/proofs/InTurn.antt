@@ -18,7 +18,7 @@ one_more Is (first ∷ requests) named lines line each is = record {
 }
 
 run_last : {R : Type 0} (trial : Trial R) (requests : List (Named R)) (named : Named R) → runs_for trial (requests ++ named ∷ []) ≡ trial.run_of named.asked ∷ runs_for trial requests
-run_last trial requests named =
+run_last {R = R} trial requests named =
     let run : Named R → Run = λ named. trial.run_of named.asked in
     ap reverse (map-append run requests (named ∷ [])) ∙ reverse-append (map run requests) (run named ∷ [])
 
