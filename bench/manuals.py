@@ -21,7 +21,7 @@ import sys
 import tempfile
 import time
 
-MANUALS = ["README.md"] + [f"docs/{name}.md" for name in ("QMICLI", "MBIMCLI", "MODEM-SIM", "QMI-PROXY", "MBIM-PROXY", "RIG", "DEVICES", "ERRORS", "SMS")]
+MANUALS = ["README.md"] + [f"docs/{name}.md" for name in ("QMICLI", "MBIMCLI", "MODEM-SIM", "QMI-PROXY", "MBIM-PROXY", "RIG", "DEVICES", "ERRORS", "SMS", "DISSECT")]
 PROFILE = "profiles/em7455.json"
 COMMANDS = re.compile(r"(modemkit|\./modemkit|qmicli|mbimcli|socat|systemctl|\./install|\./demo|rt|apt|adduser|dpkg|packaging/\S+|bench/\S+)( |$)")
 
