@@ -1,5 +1,5 @@
 -- A proxy of one device is served where it is served as the only one of several.
-use Rattle.std.proofs.Common.{◌≡◌, ℕ, zero, suc, ◌+◌, ◌≤◌, Bool, true, false, ◌==◌, List, [], ◌∷◌, ◌++◌, map, take, reverse, refl, ap, sym, ◌∙◌, subst, arith, inl, inr, ⊎_elim, if◌then◌else◌, Option, Some, None}
+use Rattle.std.proofs.Common.{◌≡◌, ℕ, zero, suc, ◌+◌, ◌≤◌, List, [], ◌∷◌, ◌++◌, map, reverse, refl, ap, sym, ◌∙◌, subst, arith, inl, inr, ⊎_elim, if◌then◌else◌, Option, Some, None}
 use Rattle.std.specs.List.{AllByRecursion}
 use Rattle.link_io.specs.Target.{Address}
 use Rattle.kit_bytes.proofs.Lists.{all_weaker}

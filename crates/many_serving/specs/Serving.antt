@@ -1,9 +1,9 @@
 -- What serving a proxy of several devices comes to, read off the hub's record. Lists of calls and of events have the newest first.
-use Rattle.std.specs.Prelude.{◌≡◌, ◌⊎◌, ℕ, zero, suc, ◌+◌, ◌<◌, ◌≤◌, Bool, true, false, ◌==◌, if◌then◌else◌, List, [], ◌∷◌, ◌++◌, take, reverse}
+use Rattle.std.specs.Prelude.{◌≡◌, ◌⊎◌, ℕ, zero, suc, ◌+◌, ◌<◌, ◌≤◌, Bool, true, false, ◌==◌, if◌then◌else◌, List, [], ◌∷◌, ◌++◌, reverse}
 use Rattle.std.specs.List.{AllByRecursion}
 use Rattle.proxy_serving.specs.Serving.{IsFront, taken_by, is_blocked, hang_ups, IsNoOpening}
-use Rattle.many_history.specs.Events.{Joined, ModemGone, ModemBack, Now}
-use Rattle.many_serving.specs.Record.{ManyCall, Told, ToldRoom, ToldModemRoom, ToldStop, NextFailed, Sent, SendFailed, SentModem, SendModemFailed, Opened, Paired, Reopened, ReopenFailed, HungUp, events, unnamed_calls}
+use Rattle.many_history.specs.Events.{ModemGone, ModemBack, Now}
+use Rattle.many_serving.specs.Record.{ManyCall, Told, ToldRoom, ToldModemRoom, ToldStop, NextFailed, Sent, SendFailed, SentModem, SendModemFailed, Reopened, ReopenFailed, events, unnamed_calls}
 use Rattle.many_serving.specs.Proxy.{ManyProxy}
 
 -- each sending was handed a front, not empty, of what waited
