@@ -1,6 +1,5 @@
 -- A core of several QMI devices: one of `qmi_state` for each. Lists of events have the newest first.
 use Rattle.std.specs.Prelude.{ℕ, List, [], ◌∷◌, Option}
-use Rattle.proxy_state.specs.Stands.{Kept}
 use Rattle.qmi_state.specs.declared.client.Client.{Client}
 use Rattle.qmi_state.specs.Core.{ModemSide, kept_of, opened}
 use Rattle.qmi_state.specs.Transitions.{qmi_handlers}

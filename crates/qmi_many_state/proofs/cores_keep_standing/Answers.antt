@@ -2,7 +2,6 @@ use Rattle.std.proofs.Common.{ℕ, List, [], refl, Option}
 use Rattle.proxy_state.proofs.Waiting.{steps_may_come, may_step}
 use Rattle.qmi_proxy.specs.History.{qmi_protocol}
 use Rattle.qmi_proxy.specs.Regular.{Regular}
-use Rattle.qmi_proxy.specs.Setup.{Setup}
 use Rattle.qmi_state.specs.Core.{kept_of, opened}
 use Rattle.qmi_state.specs.Transitions.{qmi_handlers}
 use Rattle.qmi_state.proofs.Steps.{is_faithful, stands_open, stands_step}
