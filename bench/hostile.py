@@ -200,8 +200,6 @@ sys.argv = ["hostile", "", ""]
 source = open(%r).read().split("# The measures")[0]
 exec(source)
 clients = [Client(path, device) for _ in range(count)]
-for client in clients:
-    client.stream.setblocking(False)
 print("ready", flush=True)
 while True:
     requests = [client.request() for client in clients]
@@ -210,7 +208,7 @@ while True:
             client.stream.send(request[at:at + 1])
     for client in clients:
         try:
-            client.stream.recv(65536)
+            client.stream.recv(65536, socket.MSG_DONTWAIT)
         except BlockingIOError:
             pass
 """
@@ -291,6 +289,14 @@ def shared_list(length=65_000, share=0.5):
     return struct.pack("<I", entries) + struct.pack("<II", at, len(structure)) * entries + structure
 
 
+def structures_in_turn(entries=4090, structures=91, cids=85):
+    """Entries that refer to these structures in turn, each with as many CIDs: the slowest list that was found."""
+    one = BASIC_CONNECT + struct.pack("<I", cids) + b"".join(struct.pack("<I", n % 30 + 1) for n in range(cids))
+    first = 4 + 8 * entries
+    places = (first + n % structures * len(one) for n in range(entries))
+    return struct.pack("<I", entries) + b"".join(struct.pack("<II", at, len(one)) for at in places) + one * structures
+
+
 def mbim_client(path, device):
     """An open program, that named the device where it is at a proxy."""
     stream = socket.socket(socket.AF_UNIX)
@@ -339,9 +345,9 @@ def dear_lists():
     wait_for(modem_path)
     proxy = Proxy(modem_path, "mbim")
     for name, path, device in (("the MBIM proxy", proxy.path, modem_path), ("a simulated modem", modem_path, "")):
-        found = [waits(path, device, shared_list(share=share)) for share in (0.02, 0.1, 0.5, 0.9)]
-        sender, other = max(found)
-        show(f"the dearest of four lists of subscriptions of 65,000 bytes, at {name}", sender, 1, f"ms ({other:.2f} at most for another program)")
+        lists = [*(shared_list(share=share) for share in (0.02, 0.1, 0.5, 0.9)), structures_in_turn()]
+        sender, other = max(waits(path, device, buffer) for buffer in lists)
+        show(f"the dearest of five lists of subscriptions of 65 KB, at {name}", sender, 1, f"ms ({other:.2f} at most for another program)")
     proxy.end()
     modem.terminate()
     modem.wait()

@@ -63,7 +63,8 @@ ask() {
         own) timeout 30 "$program" qmicli "$@" -d "$folder/modem" $words ;;
         esac </dev/null >"$side.$tool.$row.out" 2>"$folder/said"
         echo "$?" >"$side.$tool.$row.status"
-        sed 's/^\[[^]]* [0-9:]*\] //' "$folder/said" >"$side.$tool.$row.err" # without the time of day
+        # without the time of day, and what libqmi says of the mode and of a modem that it leaves open
+        sed 's/^\[[^]]* [0-9:]*\] //; / mode but unexpected transport type found$/d; / MBIM device wasn.t explicitly closed$/d' "$folder/said" >"$side.$tool.$row.err"
         kept=$(sed -n "s/.*CID: '\([0-9]*\)'.*/\1/p; s/^client id kept: .* id //p" "$side.$tool.$row.out")
         id=${kept:-$id}
     done <"$folder/commands"
