@@ -1,5 +1,5 @@
 -- What a modem that goes by rules keeps from message to message.
-use Rattle.std.proofs.Common.{◌≡◌, ℕ, List, [], ◌∷◌, ◌++◌, Option, Some, None, option_map, refl, sym, ap, ◌∙◌, subst}
+use Rattle.std.proofs.Common.{◌≡◌, ℕ, List, [], ◌∷◌, ◌++◌, Option, Some, None, option_map, slice_get, refl, sym, ap, ◌∙◌, subst}
 use Rattle.kit_bytes.specs.declared.Kind.{Kind}
 use Rattle.modem_rules.specs.declared.kind.RequestKind.{RequestKind}
 use Rattle.modem_rules.specs.Rules.{Rules}
@@ -7,30 +7,36 @@ use Rattle.sim_modem.specs.Sim.{Answering}
 use Rattle.ruled_modem.specs.Requests.{kind_of}
 use Rattle.modem_rules.specs.declared.rules.AnswerRule.{AnswerRule}
 use Rattle.modem_rules.specs.declared.rules.FaultRule.{FaultRule}
-use Rattle.ruled_modem.specs.Turns.{answer_to, answer_text, passed, told, meets, reaches}
-use Rattle.ruled_modem.specs.Ruled.{fault_for, reached, reached_by, ruled, ruled_by}
-use Rattle.ruled_modem.specs.Keeping.{due, counted_rules, fault_behind, Ruled, Keeps}
-use Rattle.ruled_modem.proofs.Nearer.{due-for, rules-fresh, rules-request, rules-other}
+use Rattle.modem_rules.specs.declared.rules.IndicationRule.{IndicationRule}
+use Rattle.modem_rules.specs.Kinds.{is_same}
+use Rattle.ruled_modem.specs.Turns.{all_told, answer_to, answer_text, passed, told}
+use Rattle.ruled_modem.specs.Ruled.{count, fault_for, reached, reached_by, ruled, ruled_by}
+use Rattle.ruled_modem.specs.Keeping.{ByKind, Counts, Has, due, nearer, own, rules_for, Ruled, Keeps}
+use Rattle.ruled_modem.proofs.Nearer.{behind-none, behind-request, behind-other, due-for}
+use Rattle.ruled_modem.proofs.Tables.{first-own}
 
 -- before any message
-pub keeps-fresh : {S : Type 0} (keeps : Answering → List (List ℕ) → S → Type 0) (modem : Kind) (rules : Rules) (answers : Answering) (sim : S) → keeps answers [] sim
-    → Keeps keeps (ruled modem rules answers) [] (record { kind = modem; sim = sim; rules = rules })
-keeps-fresh keeps modem rules answers sim kept = record { given = rules; answers = answers; same = refl; modem = kept; rules = rules-fresh modem rules }
+pub keeps-fresh : {S : Type 0} (keeps : Answering → List (List ℕ) → S → Type 0) (rules : Rules) (answers : Answering) (r : Ruled S) → keeps answers [] r.sim
+    → Has (λ rule. rule.kind) rules.answers r.answers → Has (λ rule. rule.kind) rules.faults r.faults → Has (λ rule. rule.after) rules.indications r.indications
+    → Keeps keeps (ruled r.kind rules answers) [] r
+keeps-fresh keeps rules answers r kept has_answers has_faults has_indications = record {
+  given = rules;
+  answers = answers;
+  same = refl;
+  modem = kept;
+  rules = record { answers = has_answers; faults = behind-none r.kind rules.faults r.faults has_faults; indications = has_indications };
+}
 
 -- ---- a fault does the same whatever its number ----
 
-module _ (modem : Kind) (past : List (List ℕ)) where
-  behind : FaultRule → FaultRule
-  behind = fault_behind modem past
-
+module _ (modem : Kind) (n : ℕ) where
   text-behind : (answers : Answering) (reached : List (List ℕ)) (message : List ℕ) (fault : Option FaultRule) (rule : Option AnswerRule)
-      → answer_text modem answers reached message (option_map behind fault) rule ≡ answer_text modem answers reached message fault rule
-  unfolding behind
+      → answer_text modem answers reached message (option_map (nearer n) fault) rule ≡ answer_text modem answers reached message fault rule
   text-behind answers reached message None rule = refl
   text-behind answers reached message (Some fault) rule = refl
 
   passed-behind : (reached : List (List ℕ)) (message : List ℕ) (fault : Option FaultRule) (rule : Option AnswerRule)
-      → passed reached message (option_map behind fault) rule ≡ passed reached message fault rule
+      → passed reached message (option_map (nearer n) fault) rule ≡ passed reached message fault rule
   passed-behind reached message None rule = refl
   passed-behind reached message (Some fault) rule = refl
 
@@ -52,52 +58,60 @@ module _ {S : Type 0} (keeps : Answering → List (List ℕ) → S → Type 0) (
   answers-other none = ap (λ answers. answers past message) K.same ∙ ap by none
 
   pub keeps-other : (sim : S) → kind_of r.kind message ≡ None → keeps K.answers (message ∷ reached r.kind K.given past) sim
-      → Keeps keeps answering (message ∷ past) (record { kind = r.kind; sim = sim; rules = r.rules })
+      → Keeps keeps answering (message ∷ past) (record r { sim = sim })
   unfolding through before
   keeps-other sim none kept = record {
     given = K.given;
     answers = K.answers;
     same = K.same;
     modem = subst (λ l. keeps K.answers l sim) (sym (ap through none)) kept;
-    rules = K.rules ∙ rules-other r.kind past message K.given none;
+    rules = record { answers = K.rules.answers; faults = behind-other r.kind past message K.given.faults r.faults none K.rules.faults; indications = K.rules.indications };
   }
 
   -- ---- a request of a kind is met by the rules as they are then ----
 
-  due-is : (kind : RequestKind) → due kind r.rules.faults ≡ option_map (fault_behind r.kind past) (fault_for r.kind past kind K.given.faults)
-  due-is kind = ap (λ rules. due kind rules.faults) K.rules ∙ due-for r.kind past kind K.given.faults
+  due-is : (kind : RequestKind) → due (rules_for kind r.faults) ≡ option_map (nearer (count r.kind kind past)) (fault_for r.kind past kind K.given.faults)
+  due-is kind = ap due (K.rules.faults kind) ∙ due-for r.kind past kind K.given.faults
 
-  said : (kind : RequestKind) → Option FaultRule → List ℕ
-  said kind fault = meets r.kind K.given K.answers before kind fault message
+  first-is : (kind : RequestKind) → slice_get (rules_for kind r.answers) 0 ≡ answer_to kind K.given.answers
+  first-is kind = ap (λ (rules : List AnswerRule). slice_get rules 0) (K.rules.answers kind) ∙ first-own (λ (rule : AnswerRule). is_same kind rule.kind) K.given.answers
+
+  -- what is said, by the fault that is due and the rules for the kind
+  said : Option FaultRule → Option AnswerRule → List IndicationRule → List ℕ
+  said fault rule indications = answer_text r.kind K.answers before message fault rule ++ all_told indications
 
   pub answers-request : (kind : RequestKind) → kind_of r.kind message ≡ Some kind
-      → answering past message ≡ meets r.kind r.rules K.answers (reached r.kind K.given past) kind (due kind r.rules.faults) message
-  unfolding by before said behind
+      → answering past message
+      ≡ answer_text r.kind K.answers (reached r.kind K.given past) message (due (rules_for kind r.faults)) (slice_get (rules_for kind r.answers) 0) ++ all_told (rules_for kind r.indications)
+  unfolding by before said
   answers-request kind some =
-      ap (λ answers. answers past message) K.same ∙ ap by some
-      ∙ sym (ap (λ l. l ++ told kind K.given.indications) (text-behind r.kind past K.answers before message (fault_for r.kind past kind K.given.faults) (answer_to kind K.given.answers)))
-      ∙ sym (ap (said kind) (due-is kind))
-      ∙ ap (λ rules. meets r.kind rules K.answers before kind (due kind r.rules.faults) message) (sym K.rules)
+      let given = fault_for r.kind past kind K.given.faults in
+      ap (λ (answers : Answering). answers past message) K.same ∙ ap by some
+      ∙ sym (ap (λ (l : List ℕ). l ++ told kind K.given.indications) (text-behind r.kind (count r.kind kind past) K.answers before message given (answer_to kind K.given.answers)))
+      ∙ sym (ap (λ (fault : Option FaultRule). said fault (answer_to kind K.given.answers) (own (λ (rule : IndicationRule). rule.after) kind K.given.indications)) (due-is kind))
+      ∙ sym (ap (λ (rule : Option AnswerRule). said (due (rules_for kind r.faults)) rule (own (λ (rule : IndicationRule). rule.after) kind K.given.indications)) (first-is kind))
+      ∙ sym (ap (λ (rules : List IndicationRule). said (due (rules_for kind r.faults)) (slice_get (rules_for kind r.answers) 0) rules) (K.rules.indications kind))
 
-  goes : (kind : RequestKind) → Option FaultRule → List (List ℕ)
-  goes kind fault = reaches K.given before kind fault message
+  goes : Option FaultRule → Option AnswerRule → List (List ℕ)
+  goes fault rule = passed before message fault rule
 
-  reaches-is : (kind : RequestKind) → kind_of r.kind message ≡ Some kind → reached r.kind K.given (message ∷ past) ≡ reaches r.rules before kind (due kind r.rules.faults) message
-  unfolding through before goes behind
+  reaches-is : (kind : RequestKind) → kind_of r.kind message ≡ Some kind
+      → reached r.kind K.given (message ∷ past) ≡ passed before message (due (rules_for kind r.faults)) (slice_get (rules_for kind r.answers) 0)
+  unfolding through before goes
   reaches-is kind some =
       ap through some
-      ∙ sym (passed-behind r.kind past before message (fault_for r.kind past kind K.given.faults) (answer_to kind K.given.answers))
-      ∙ sym (ap (goes kind) (due-is kind))
-      ∙ ap (λ rules. reaches rules before kind (due kind r.rules.faults) message) (sym K.rules)
+      ∙ sym (passed-behind r.kind (count r.kind kind past) before message (fault_for r.kind past kind K.given.faults) (answer_to kind K.given.answers))
+      ∙ sym (ap (λ (fault : Option FaultRule). goes fault (answer_to kind K.given.answers)) (due-is kind))
+      ∙ sym (ap (λ (rule : Option AnswerRule). goes (due (rules_for kind r.faults)) rule) (first-is kind))
 
-  pub keeps-request : (sim : S) (kind : RequestKind) → kind_of r.kind message ≡ Some kind
-      → keeps K.answers (reaches r.rules (reached r.kind K.given past) kind (due kind r.rules.faults) message) sim
-      → Keeps keeps answering (message ∷ past) (record { kind = r.kind; sim = sim; rules = counted_rules kind r.rules })
+  pub keeps-request : (sim : S) (faults : ByKind FaultRule) (kind : RequestKind) → kind_of r.kind message ≡ Some kind → Counts kind r.faults faults
+      → keeps K.answers (passed (reached r.kind K.given past) message (due (rules_for kind r.faults)) (slice_get (rules_for kind r.answers) 0)) sim
+      → Keeps keeps answering (message ∷ past) (record r { sim = sim; faults = faults })
   unfolding before
-  keeps-request sim kind some kept = record {
+  keeps-request sim faults kind some counts kept = record {
     given = K.given;
     answers = K.answers;
     same = K.same;
     modem = subst (λ l. keeps K.answers l sim) (sym (reaches-is kind some)) kept;
-    rules = ap (counted_rules kind) K.rules ∙ rules-request r.kind past message K.given kind some;
+    rules = record { answers = K.rules.answers; faults = behind-request r.kind past message K.given.faults r.faults faults kind some K.rules.faults counts; indications = K.rules.indications };
   }

@@ -1,3 +1,4 @@
+pub mod Tables
 pub mod Nearer
 pub mod Keeping
 pub mod Telling

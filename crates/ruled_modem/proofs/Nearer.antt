@@ -6,24 +6,27 @@ use Rattle.kit_bytes.specs.declared.Kind.{Kind}
 use Rattle.modem_rules.specs.declared.kind.RequestKind.{RequestKind}
 use Rattle.modem_rules.specs.declared.rules.FaultRule.{FaultRule}
 use Rattle.modem_rules.specs.Kinds.{is_same}
-use Rattle.modem_rules.specs.Rules.{Rules}
 use Rattle.ruled_modem.specs.Requests.{kind_of}
 use Rattle.ruled_modem.specs.Ruled.{is_kind, count, is_for, fault_for}
-use Rattle.ruled_modem.specs.Keeping.{is_due, due, counted, counted_if, counted_rules, fault_behind, rules_behind}
+use Rattle.ruled_modem.specs.Keeping.{ByKind, Counts, Has, HasBehind, due, nearer, own}
 
 -- ---- behind one message more ----
 
-with_nth : FaultRule → ℕ → FaultRule
-with_nth f n = record { kind = f.kind; nth = f.nth - n; error = f.error }
+nearer-more : (n : ℕ) (f : FaultRule) → nearer 1 (nearer n f) ≡ nearer (n + 1) f
+nearer-more n f = ap (λ nth. record { kind = f.kind; nth = nth; error = f.error }) (omega arith)
+
+nearer-all : (n : ℕ) (faults : List FaultRule) → map (nearer 1) (map (nearer n) faults) ≡ map (nearer (n + 1)) faults
+nearer-all n [] = refl
+nearer-all n (f ∷ faults) = ap (λ y. y ∷ map (nearer 1) (map (nearer n) faults)) (nearer-more n f) ∙ ap (λ ys. nearer (n + 1) f ∷ ys) (nearer-all n faults)
 
 count-step : (same : Bool) (xs : List (List ℕ)) (x : List ℕ) → length (if same then x ∷ xs else xs) ≡ (if same then length xs + 1 else length xs)
 count-step true xs x = omega arith
 count-step false xs x = refl
 
-nth-step : (f : FaultRule) (n : ℕ) (same : Bool) → with_nth f (if same then n + 1 else n) ≡ counted_if same (with_nth f n)
-unfolding with_nth
-nth-step f n true = ap (λ nth. record { kind = f.kind; nth = nth; error = f.error }) (omega arith)
-nth-step f n false = refl
+-- what became of the faults of a kind, by whether the request was of the kind
+moved : (same : Bool) (n : ℕ) (faults : List FaultRule) → (if same then map (nearer 1) (map (nearer n) faults) else map (nearer n) faults) ≡ map (nearer (if same then n + 1 else n)) faults
+moved true n faults = nearer-all n faults
+moved false n faults = refl
 
 module _ (modem : Kind) (past : List (List ℕ)) (message : List ℕ) where
   others : RequestKind → List (List ℕ)
@@ -37,38 +40,19 @@ module _ (modem : Kind) (past : List (List ℕ)) (message : List ℕ) where
       ∙ count-step (is_kind kind found) (others kind) message
 
   -- a request of a kind
-  fault-request : (kind : RequestKind) → kind_of modem message ≡ Some kind → (f : FaultRule) → counted kind (fault_behind modem past f) ≡ fault_behind modem (message ∷ past) f
-  unfolding with_nth
-  fault-request kind is f = sym (ap (with_nth f) (count-is f.kind (Some kind) is) ∙ nth-step f (count modem f.kind past) (is_same kind f.kind))
+  pub behind-request : (faults : List FaultRule) (before after : ByKind FaultRule) (kind : RequestKind) → kind_of modem message ≡ Some kind
+      → HasBehind modem past faults before → Counts kind before after → HasBehind modem (message ∷ past) faults after
+  behind-request faults before after kind is has counts = λ other.
+      let mine = own (λ (f : FaultRule). f.kind) other faults in
+      counts other
+      ∙ ap (λ (l : List FaultRule). if is_same kind other then map (nearer 1) l else l) (has other)
+      ∙ moved (is_same kind other) (count modem other past) mine
+      ∙ ap (λ (n : ℕ). map (nearer n) mine) (sym (count-is other (Some kind) is))
 
   -- or a message that is none
-  fault-other : kind_of modem message ≡ None → (f : FaultRule) → fault_behind modem past f ≡ fault_behind modem (message ∷ past) f
-  unfolding with_nth
-  fault-other is f = sym (ap (with_nth f) (count-is f.kind None is))
-
-  faults-request : (kind : RequestKind) → kind_of modem message ≡ Some kind → (faults : List FaultRule)
-      → map (counted kind) (map (fault_behind modem past) faults) ≡ map (fault_behind modem (message ∷ past)) faults
-  faults-request kind is [] = refl
-  faults-request kind is (f ∷ faults) =
-      ap (λ y. y ∷ map (counted kind) (map (fault_behind modem past) faults)) (fault-request kind is f)
-      ∙ ap (λ ys. fault_behind modem (message ∷ past) f ∷ ys) (faults-request kind is faults)
-
-  faults-other : kind_of modem message ≡ None → (faults : List FaultRule) → map (fault_behind modem past) faults ≡ map (fault_behind modem (message ∷ past)) faults
-  faults-other is [] = refl
-  faults-other is (f ∷ faults) =
-      ap (λ y. y ∷ map (fault_behind modem past) faults) (fault-other is f)
-      ∙ ap (λ ys. fault_behind modem (message ∷ past) f ∷ ys) (faults-other is faults)
-
-  with_faults : Rules → List FaultRule → Rules
-  with_faults rules faults = record { answers = rules.answers; faults = faults; indications = rules.indications }
-
-  pub rules-request : (rules : Rules) (kind : RequestKind) → kind_of modem message ≡ Some kind → counted_rules kind (rules_behind modem rules past) ≡ rules_behind modem rules (message ∷ past)
-  unfolding with_faults
-  rules-request rules kind is = ap (with_faults rules) (faults-request kind is rules.faults)
-
-  pub rules-other : (rules : Rules) → kind_of modem message ≡ None → rules_behind modem rules past ≡ rules_behind modem rules (message ∷ past)
-  unfolding with_faults
-  rules-other rules is = ap (with_faults rules) (faults-other is rules.faults)
+  pub behind-other : (faults : List FaultRule) (table : ByKind FaultRule) → kind_of modem message ≡ None → HasBehind modem past faults table → HasBehind modem (message ∷ past) faults table
+  behind-other faults table is has = λ other.
+      has other ∙ ap (λ (n : ℕ). map (nearer n) (own (λ (f : FaultRule). f.kind) other faults)) (sym (count-is other None is))
 
 -- ---- the fault for a request ----
 
@@ -86,27 +70,35 @@ found-changed change true x changed rest is = refl
 found-changed change false x changed rest is = is
 
 module _ (modem : Kind) (past : List (List ℕ)) (kind : RequestKind) where
-  is_due-for : (f : FaultRule) → is_due kind (fault_behind modem past f) ≡ is_for modem past kind f
-  is_due-for f = ap (λ b. is_same kind f.kind && b) (nth-due f.nth (count modem f.kind past))
+  due-own : List FaultRule → Option FaultRule
+  due-own faults = due (map (nearer (count modem kind past)) (own (λ f. f.kind) kind faults))
+
+  due-step : (f : FaultRule) (faults : List FaultRule) (same : Bool) → is_same kind f.kind ≡ same
+      → due (map (nearer (count modem kind past)) (if same then f ∷ own (λ f. f.kind) kind faults else own (λ f. f.kind) kind faults))
+      ≡ cond (same && f.nth == count modem kind past + 1) (Some (nearer (count modem kind past) f)) (due-own faults)
+  unfolding due-own
+  due-step f faults true is = ap (λ b. cond b (Some (nearer (count modem kind past) f)) (due-own faults)) (nth-due f.nth (count modem kind past))
+  due-step f faults false is = refl
 
   -- the fault that is due, counted down, is the one for this request
-  pub due-for : (faults : List FaultRule) → due kind (map (fault_behind modem past) faults) ≡ option_map (fault_behind modem past) (fault_for modem past kind faults)
+  pub due-for : (faults : List FaultRule) → due (map (nearer (count modem kind past)) (own (λ f. f.kind) kind faults)) ≡ option_map (nearer (count modem kind past)) (fault_for modem past kind faults)
+  unfolding due-own
   due-for [] = refl
   due-for (f ∷ faults) =
-      ap (λ b. cond b (Some (fault_behind modem past f)) (due kind (map (fault_behind modem past) faults))) (is_due-for f)
-      ∙ found-changed (fault_behind modem past) (is_for modem past kind f) f (due kind (map (fault_behind modem past) faults)) (fault_for modem past kind faults) (due-for faults)
+      due-step f faults (is_same kind f.kind) refl
+      ∙ found-changed (nearer (count modem kind past)) (is_for modem past kind f) f (due-own faults) (fault_for modem past kind faults) (due-for faults)
 
 -- ---- before any message ----
 
-fault-fresh : (modem : Kind) (f : FaultRule) → fault_behind modem [] f ≡ f
-fault-fresh modem f = ap (λ nth. record { kind = f.kind; nth = nth; error = f.error }) (omega arith)
+fault-fresh : (f : FaultRule) → nearer 0 f ≡ f
+fault-fresh f = ap (λ nth. record { kind = f.kind; nth = nth; error = f.error }) (omega arith)
 
-faults-fresh : (modem : Kind) (faults : List FaultRule) → map (fault_behind modem []) faults ≡ faults
-faults-fresh modem [] = refl
-faults-fresh modem (f ∷ faults) = ap (λ y. y ∷ map (fault_behind modem []) faults) (fault-fresh modem f) ∙ ap (λ ys. f ∷ ys) (faults-fresh modem faults)
+faults-fresh : (faults : List FaultRule) → map (nearer 0) faults ≡ faults
+faults-fresh [] = refl
+faults-fresh (f ∷ faults) = ap (λ y. y ∷ map (nearer 0) faults) (fault-fresh f) ∙ ap (λ ys. f ∷ ys) (faults-fresh faults)
 
-pub rules-fresh : (modem : Kind) (rules : Rules) → rules ≡ rules_behind modem rules []
-rules-fresh modem rules = sym (ap (λ faults. record { answers = rules.answers; faults = faults; indications = rules.indications }) (faults-fresh modem rules.faults))
+pub behind-none : (modem : Kind) (faults : List FaultRule) (table : ByKind FaultRule) → Has (λ f. f.kind) faults table → HasBehind modem [] faults table
+behind-none modem faults table has = λ kind. has kind ∙ sym (faults-fresh (own (λ f. f.kind) kind faults))
 
 -- ---- in a list, one after another ----
 

@@ -1,44 +1,69 @@
--- What a modem that goes by rules keeps: of each fault how many requests of its kind there are to come until it, this one counted too. 0 is over.
-use Rattle.std.specs.Prelude.{◌≡◌, ℕ, ◌-◌, Bool, true, false, ◌&&◌, ◌==◌, List, map, find, Option}
+-- What a modem that goes by rules keeps: its rules by the kind of request that they are for. Of each fault it keeps how many requests of its kind there are to come until it, this one counted too. 0 is over.
+use Rattle.std.specs.Prelude.{◌≡◌, ℕ, ◌-◌, ◌==◌, List, [], map, filter, find, Option, Some, None, Vec, if◌then◌else◌}
+use Rattle.std.specs.Global.{Global}
+use Rattle.std.specs.Map.{lookup}
 use Rattle.kit_bytes.specs.declared.Kind.{Kind}
 use Rattle.modem_rules.specs.declared.kind.RequestKind.{RequestKind}
+use Rattle.modem_rules.specs.declared.rules.AnswerRule.{AnswerRule}
 use Rattle.modem_rules.specs.declared.rules.FaultRule.{FaultRule}
+use Rattle.modem_rules.specs.declared.rules.IndicationRule.{IndicationRule}
 use Rattle.modem_rules.specs.Kinds.{is_same}
 use Rattle.modem_rules.specs.Rules.{Rules}
 use Rattle.sim_modem.specs.Sim.{Answering}
 use Rattle.ruled_modem.specs.Ruled.{count, reached, ruled}
 
+-- ---- rules by the kind of request ----
+
+abbrev pub ByKind : Type 0 → Type 0
+ByKind R = List (RequestKind × Vec R Global)
+
+abbrev pub items_in : {R : Type 0} → Option (Vec R Global) → List R
+items_in None = []
+items_in (Some rules) = rules.items
+
+-- the rules for a kind
+abbrev pub rules_for : {R : Type 0} → RequestKind → ByKind R → List R
+rules_for kind table = items_in (lookup (is_same kind) table)
+
+-- those of a list that are for a kind, in the list's order
+abbrev pub own : {R : Type 0} → (R → RequestKind) → RequestKind → List R → List R
+own kind_of kind rules = filter (λ rule. is_same kind (kind_of rule)) rules
+
+-- a table has the rules of a list
+abbrev pub Has : {R : Type 0} → (R → RequestKind) → List R → ByKind R → Type 0
+Has kind_of rules table = (kind : RequestKind) → rules_for kind table ≡ own kind_of kind rules
+
 -- ---- faults that are counted down ----
 
-abbrev pub is_due : RequestKind → FaultRule → Bool
-is_due kind fault = is_same kind fault.kind && fault.nth == 1
+abbrev pub nearer : (count : ℕ) → FaultRule → FaultRule
+nearer count fault = record { kind = fault.kind; nth = fault.nth - count; error = fault.error }
 
-abbrev pub due : RequestKind → List FaultRule → Option FaultRule
-due kind faults = find (is_due kind) faults
+-- the first whose turn it is
+abbrev pub due : List FaultRule → Option FaultRule
+due faults = find (λ fault. fault.nth == 1) faults
 
--- a fault of its kind is one request nearer
-abbrev pub counted_if : Bool → FaultRule → FaultRule
-counted_if true fault = record { kind = fault.kind; nth = fault.nth - 1; error = fault.error }
-counted_if false fault = fault
+-- one request of a kind came
+abbrev pub Counts : RequestKind → ByKind FaultRule → ByKind FaultRule → Type 0
+Counts kind before after = (other : RequestKind) → rules_for other after ≡ (if is_same kind other then map (nearer 1) (rules_for other before) else rules_for other before)
 
-abbrev pub counted : RequestKind → FaultRule → FaultRule
-counted kind fault = counted_if (is_same kind fault.kind) fault
+-- a table has the faults of a list, as they are behind these messages
+abbrev pub HasBehind : Kind → (past : List (List ℕ)) → List FaultRule → ByKind FaultRule → Type 0
+HasBehind modem past faults table = (kind : RequestKind) → rules_for kind table ≡ map (nearer (count modem kind past)) (own (λ fault. fault.kind) kind faults)
 
-abbrev pub counted_rules : RequestKind → Rules → Rules
-counted_rules kind rules = record { answers = rules.answers; faults = map (counted kind) rules.faults; indications = rules.indications }
-
--- ---- behind messages ----
-
-abbrev pub fault_behind : Kind → List (List ℕ) → FaultRule → FaultRule
-fault_behind modem past fault = record { kind = fault.kind; nth = fault.nth - count modem fault.kind past; error = fault.error }
-
-abbrev pub rules_behind : Kind → Rules → List (List ℕ) → Rules
-rules_behind modem rules past = record { answers = rules.answers; faults = map (fault_behind modem past) rules.faults; indications = rules.indications }
+-- ---- a modem ----
 
 pub record Ruled (S : Type 0) : Type 0 where
   pub kind : Kind
   pub sim : S
-  pub rules : Rules
+  pub answers : ByKind AnswerRule
+  pub faults : ByKind FaultRule
+  pub indications : ByKind IndicationRule
+
+-- by these rules, behind these messages
+pub record GoesBy {S : Type 0} (rules : Rules) (past : List (List ℕ)) (r : Ruled S) : Type 0 where
+  pub answers : Has (λ rule. rule.kind) rules.answers r.answers
+  pub faults : HasBehind r.kind past rules.faults r.faults
+  pub indications : Has (λ rule. rule.after) rules.indications r.indications
 
 -- a modem with these answers has met these messages
 pub record Keeps {S : Type 0} (keeps : Answering → List (List ℕ) → S → Type 0) (answering : Answering) (past : List (List ℕ)) (r : Ruled S) : Type 0 where
@@ -47,4 +72,4 @@ pub record Keeps {S : Type 0} (keeps : Answering → List (List ℕ) → S → T
   pub answers : Answering
   pub same : answering ≡ ruled r.kind given answers
   pub modem : keeps answers (reached r.kind given past) r.sim
-  pub rules : r.rules ≡ rules_behind r.kind given past
+  pub rules : GoesBy given past r

@@ -21,7 +21,7 @@ count modem kind past = length (filter (λ message. is_kind kind (kind_of modem 
 
 -- a fault is for the Nth request of its kind, which comes behind N - 1 others
 abbrev pub is_for : Kind → (past : List (List ℕ)) → RequestKind → FaultRule → Bool
-is_for modem past kind fault = is_same kind fault.kind && fault.nth == count modem fault.kind past + 1
+is_for modem past kind fault = is_same kind fault.kind && fault.nth == count modem kind past + 1
 
 -- the first fault for a request of the kind behind these messages
 abbrev pub fault_for : Kind → (past : List (List ℕ)) → RequestKind → List FaultRule → Option FaultRule

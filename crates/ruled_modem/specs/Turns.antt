@@ -15,9 +15,13 @@ use Rattle.ruled_modem.specs.Replies.{reply, indication}
 abbrev pub answer_to : RequestKind → List AnswerRule → Option AnswerRule
 answer_to kind answers = find (λ rule. is_same kind rule.kind) answers
 
--- the indications that requests of the kind bring, one behind the other
+-- one indication behind the other
+abbrev pub all_told : List IndicationRule → List ℕ
+all_told rules = flat_map (λ rule. indication rule.kind rule.«data») rules
+
+-- those that requests of the kind bring
 abbrev pub told : RequestKind → List IndicationRule → List ℕ
-told kind rules = flat_map (λ rule. indication rule.kind rule.«data») (filter (λ rule. is_same kind rule.after) rules)
+told kind rules = all_told (filter (λ rule. is_same kind rule.after) rules)
 
 -- a fault's error may be missing: nothing is said then
 abbrev pub failed : Kind → (message : List ℕ) → (error : Option ℕ) → List ℕ

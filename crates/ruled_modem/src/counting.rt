@@ -1,56 +1,53 @@
-ghost use Rattle.std.specs.Prelude.{◌≡◌, map, option_map};
-ghost use Rattle.ruled_modem.specs.Keeping.{counted, due, is_due};
-ghost use Rattle.ruled_modem.specs.Turns.{answer_to};
+ghost use Rattle.std.specs.Prelude.{◌≡◌, ◌==◌, map, option_map};
+ghost use Rattle.ruled_modem.specs.Keeping.{Counts, due, nearer};
 
-use modem_rules::{AnswerRule, FaultRule, RequestKind};
+use crate::by_kind::ByKind;
+use modem_rules::{FaultRule, RequestKind};
 
-/// The first fault whose turn it is at a request of this kind.
-pub(crate) fn due(faults: &[FaultRule], kind: &RequestKind) -> Option<FaultRule>
-    ensures { result ≡ due kind.now faults.now }
+/// The first of the faults whose turn it is.
+pub(crate) fn due(faults: &[FaultRule]) -> Option<FaultRule>
+    ensures { result ≡ due faults.now }
 {
-    let fault = first_due(faults, kind)?;
+    let fault = first_due(faults)?;
     Some(*fault)
 }
 
-fn first_due<'a>(faults: &'a [FaultRule], kind: &RequestKind) -> Option<&'a FaultRule>
-    ensures { option_map (λ fault. fault.now) result ≡ due kind.now faults.now }
+fn first_due(faults: &[FaultRule]) -> Option<&FaultRule>
+    ensures { option_map (λ fault. fault.now) result ≡ due faults.now }
 {
-    faults.iter().find(|fault| is_due(fault, kind))
+    faults.iter().find(|fault| is_due(fault))
 }
 
-fn is_due(fault: &FaultRule, kind: &RequestKind) -> bool
-    ensures { result ≡ is_due kind.now fault.now }
+fn is_due(fault: &FaultRule) -> bool
+    ensures { result ≡ (fault.now.nth == 1) }
 {
-    kind.is_same(&fault.kind) && fault.nth == 1
+    fault.nth == 1
 }
 
 /// Counts a request of this kind.
-pub(crate) fn count(faults: &mut Vec<FaultRule>, kind: &RequestKind)
-    ensures { faults.new.items ≡ map (counted kind.now) faults.old.items }
+pub(crate) fn count(faults: &mut ByKind<FaultRule>, kind: &RequestKind)
+    ensures { Counts kind.now faults.old.entries faults.new.entries }
+{
+    if let Some(faults) = faults.get_mut(kind) {
+        bring_nearer(faults);
+    }
+}
+
+// Each of the faults is one request nearer.
+fn bring_nearer(faults: &mut Vec<FaultRule>)
+    ensures { faults.new.items ≡ map (nearer 1) faults.old.items }
 {
     for fault in faults.iter_mut() {
-        *fault = counted(fault, kind);
+        *fault = nearer(fault);
     }
 }
 
-// A fault once a request of this kind came.
-fn counted(fault: &FaultRule, kind: &RequestKind) -> FaultRule
-    ensures { result ≡ counted kind.now fault.now }
+fn nearer(fault: &FaultRule) -> FaultRule
+    ensures { result ≡ nearer 1 fault.now }
 {
-    if kind.is_same(&fault.kind) {
-        FaultRule {
-            kind: fault.kind,
-            nth: fault.nth.saturating_sub(1),
-            error: fault.error,
-        }
-    } else {
-        *fault
+    FaultRule {
+        kind: fault.kind,
+        nth: fault.nth.saturating_sub(1),
+        error: fault.error,
     }
-}
-
-/// The first answer to requests of this kind.
-pub(crate) fn answer_to<'a>(answers: &'a [AnswerRule], kind: &RequestKind) -> Option<&'a AnswerRule>
-    ensures { option_map (λ rule. rule.now) result ≡ answer_to kind.now answers.now }
-{
-    answers.iter().find(|rule| kind.is_same(&rule.kind))
 }

@@ -2,6 +2,7 @@
 //! that it is without them.
 #![tactic(auto)]
 
+mod by_kind;
 mod counting;
 mod laws;
 mod replies;

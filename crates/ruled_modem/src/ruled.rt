@@ -1,12 +1,13 @@
-ghost use Rattle.std.specs.Prelude.{◌≡◌, ◌++◌, ◌∷◌, [], ℕ, List, IfOk, OnOk};
+ghost use Rattle.std.specs.Prelude.{◌≡◌, ◌++◌, ◌∷◌, [], ℕ, List, slice_get, IfOk, OnOk};
 ghost use Rattle.framing.specs.Framing.{IsMessage};
 ghost use Rattle.modem_rules.specs.Rules.{rules_view};
 ghost use Rattle.sim_modem.specs.Sim.{Answering};
-ghost use Rattle.ruled_modem.specs.Keeping.{Keeps, counted_rules, due};
+ghost use Rattle.ruled_modem.specs.Keeping.{Counts, Keeps, due, rules_for};
 ghost use Rattle.ruled_modem.specs.Ruled.{ruled};
-ghost use Rattle.ruled_modem.specs.Turns.{answer_text, answer_to, failed, meets, passed, reaches, told};
+ghost use Rattle.ruled_modem.specs.Turns.{all_told, answer_text, failed, passed};
 
-use crate::counting::{answer_to, count, due};
+use crate::by_kind::{ByKind, by_kind, rules_for};
+use crate::counting::{count, due};
 use crate::replies::{indication, reply};
 use crate::requests::kind_of;
 use kit_bytes::{Kind, Octets};
@@ -21,10 +22,10 @@ pub struct Ruled<S: Sim> {
     alloc: Global,
     kind: Kind,
     sim: S,
-    answers: Vec<AnswerRule>,
+    answers: ByKind<AnswerRule>,
     // of each how many requests of its kind there are to come until it, this one counted too; 0 is over
-    faults: Vec<FaultRule>,
-    indications: Vec<IndicationRule>,
+    faults: ByKind<FaultRule>,
+    indications: ByKind<IndicationRule>,
 }
 
 impl<S: Sim> Model for Ruled<S> {
@@ -32,63 +33,58 @@ impl<S: Sim> Model for Ruled<S> {
 
     ghost Value = { spec.Ruled S };
 
-    ghost view = { λ r. record { kind = r.kind; sim = r.sim; rules = record { answers = r.answers.items; faults = r.faults.items; indications = r.indications.items } } };
+    ghost view = { λ r. record { kind = r.kind; sim = r.sim; answers = r.answers.entries; faults = r.faults.entries; indications = r.indications.entries } };
 }
 
 impl<S: Sim> Ruled<S> {
     /// A modem that goes by these rules, and is this one without them.
-    pub fn open(alloc: Global, kind: Kind, rules: Rules, sim: S) -> Self
-        ensures { (answers : Answering) → S.keeps answers [] sim → Keeps S.keeps (ruled kind (rules_view rules) answers) [] result }
+    pub fn open(alloc: Global, kind: Kind, rules: Rules, sim: S) -> Result<Self, AllocError>
+        ensures { IfOk result (λ modem. (answers : Answering) → S.keeps answers [] sim → Keeps S.keeps (ruled kind (rules_view rules) answers) [] modem) }
     {
-        let Rules {
-            answers,
-            faults,
-            indications,
-        } = rules;
-        Ruled {
+        let answers = by_kind(alloc, rules.answers)?;
+        let faults = by_kind(alloc, rules.faults)?;
+        let indications = by_kind(alloc, rules.indications)?;
+        Ok(Ruled {
             alloc,
             kind,
             sim,
             answers,
             faults,
             indications,
-        }
+        })
     }
 
     // The messages that a request of this kind brings.
     fn meet(&mut self, kind: &RequestKind, message: &[u8]) -> Result<Octets, AllocError>
         requires { IsMessage S.Framing.size message.now }
         ensures answers { IfOk result (λ octets. (answers : Answering) (past : List (List ℕ)) → S.keeps answers past self.old.sim →
-            octets ≡ meets self.old.kind self.old.rules answers past kind.now (due kind.now self.old.rules.faults) message.now) }
+            octets ≡ answer_text self.old.kind answers past message.now (due (rules_for kind.now self.old.faults)) (slice_get (rules_for kind.now self.old.answers) 0)
+            ++ all_told (rules_for kind.now self.old.indications)) }
         ensures sim { OnOk result ((answers : Answering) (past : List (List ℕ)) → S.keeps answers past self.old.sim →
-            S.keeps answers (reaches self.old.rules past kind.now (due kind.now self.old.rules.faults) message.now) self.new.sim) }
-        ensures rest { OnOk result (self.new ≡ record { kind = self.old.kind; sim = self.new.sim; rules = counted_rules kind.now self.old.rules }) }
+            S.keeps answers (passed past message.now (due (rules_for kind.now self.old.faults)) (slice_get (rules_for kind.now self.old.answers) 0)) self.new.sim) }
+        ensures rest { OnOk result (self.new ≡ record self.old { sim = self.new.sim; faults = self.new.faults }) }
+        ensures counts { OnOk result (Counts kind.now self.old.faults self.new.faults) }
     {
-        let fault = due(&self.faults, kind);
-        let mut text = self.answer(fault, kind, message)?;
+        let mut text = self.answer(kind, message)?;
         count(&mut self.faults, kind);
-        add_indications(self.alloc, &self.indications, kind, &mut text)?;
+        let told = rules_for(&self.indications, kind);
+        add_indications(self.alloc, told, &mut text)?;
         Ok(text)
     }
 
-    // The answer to a request of this kind at which this fault is due, if any.
-    fn answer(
-        &mut self,
-        fault: Option<FaultRule>,
-        kind: &RequestKind,
-        message: &[u8],
-    ) -> Result<Octets, AllocError>
+    // The answer to a request of this kind: by the fault that is due, else by a rule, else the modem's own.
+    fn answer(&mut self, kind: &RequestKind, message: &[u8]) -> Result<Octets, AllocError>
         requires { IsMessage S.Framing.size message.now }
         ensures answers { IfOk result (λ octets. (answers : Answering) (past : List (List ℕ)) → S.keeps answers past self.old.sim →
-            octets ≡ answer_text self.old.kind answers past message.now fault (answer_to kind.now self.old.rules.answers)) }
+            octets ≡ answer_text self.old.kind answers past message.now (due (rules_for kind.now self.old.faults)) (slice_get (rules_for kind.now self.old.answers) 0)) }
         ensures sim { OnOk result ((answers : Answering) (past : List (List ℕ)) → S.keeps answers past self.old.sim →
-            S.keeps answers (passed past message.now fault (answer_to kind.now self.old.rules.answers)) self.new.sim) }
+            S.keeps answers (passed past message.now (due (rules_for kind.now self.old.faults)) (slice_get (rules_for kind.now self.old.answers) 0)) self.new.sim) }
         ensures rest { OnOk result (self.new ≡ record self.old { sim = self.new.sim }) }
     {
-        if let Some(fault) = fault {
+        if let Some(fault) = due(rules_for(&self.faults, kind)) {
             return Ok(failed(self.alloc, self.kind, message, fault.error)?);
         }
-        match answer_to(&self.answers, kind) {
+        match rules_for(&self.answers, kind).first() {
             Some(rule) => Ok(reply(self.alloc, self.kind, message, 0, rule.data.as_slice())?),
             None => Ok(self.sim.ask(message)?),
         }
@@ -110,20 +106,17 @@ fn failed(
     }
 }
 
-// Adds the indications that requests of this kind bring.
+// Adds these indications.
 fn add_indications(
     alloc: Global,
     rules: &[IndicationRule],
-    kind: &RequestKind,
     text: &mut Octets,
 ) -> Result<(), AllocError>
-    ensures { OnOk result (text.new ≡ text.old ++ told kind.now rules.now) }
+    ensures { OnOk result (text.new ≡ text.old ++ all_told rules.now) }
 {
     for rule in rules {
-        if kind.is_same(&rule.after) {
-            let told = indication(alloc, &rule.kind, &rule.data)?;
-            text.extend_from_slice(told.as_slice())?;
-        }
+        let told = indication(alloc, &rule.kind, &rule.data)?;
+        text.extend_from_slice(told.as_slice())?;
     }
     Ok(())
 }

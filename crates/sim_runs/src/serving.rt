@@ -64,10 +64,10 @@ fn serve_by<H: Hub, S: Sim>(
 {
     match rules {
         None => serve_at(alloc, socket, sim, turns, hub),
-        Some(rules) => {
-            let ruled = Ruled::open(alloc, kind, rules, sim);
-            serve_at(alloc, socket, ruled, turns, hub)
-        }
+        Some(rules) => match Ruled::open(alloc, kind, rules, sim) {
+            Ok(ruled) => serve_at(alloc, socket, ruled, turns, hub),
+            Err(AllocError) => SimEnd::OutOfMemory,
+        },
     }
 }
 

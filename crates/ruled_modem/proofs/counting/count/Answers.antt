@@ -1,30 +1,13 @@
-use Rattle.std.proofs.Common.{◌≡◌, ◌∙◌, ap, sym, length, set, get_or, List, arith}
-use Rattle.modem_rules.specs.declared.rules.FaultRule.{FaultRule}
-use Rattle.ruled_modem.specs.Keeping.{counted}
-use Rattle.ruled_modem.proofs.Nearer.{changed_to, changed_to-none, changed_to-next, changed_to-length, changed_to-all, written}
+use Rattle.std.proofs.Common.{◌∙◌, ap, map, Some, is_some, sym}
+use Rattle.ruled_modem.specs.Keeping.{nearer}
+use Rattle.ruled_modem.proofs.Tables.{changed-at, looked, updated}
 use Rattle.ruled_modem.proofs.counting.count.Goals as goal
 
-pub loop-fault-init : goal.loop-fault-init
-loop-fault-init c = c.deref_mut-fault-items.ensures.value ∙ changed_to-none (counted c.args.kind.now) c.args.faults.now.items
-
-pub loop-fault-preserved : goal.loop-fault-preserved
-loop-fault-preserved c =
-    let change = counted c.args.kind.now in
-    let items = c.args.faults.now.items in
-    let i = c.loop-fault.fault-index in
-    let x = c.fault-item.result in
-    let long = changed_to-length change i items in
-    ap (λ (l : List FaultRule). set l i c.counted.result) c.loop-fault.invariant
-    ∙ ap (λ (r : FaultRule). set (changed_to change i items) i r) (c.counted.ensures ∙ ap change (sym c.fault-item.is))
-    ∙ changed_to-next change i items x (omega (arith, c.loop-fault-test.true, ap (λ (l : List FaultRule). length l) c.loop-fault.invariant, long))
-    (c.fault-item.is ∙ ap (λ (l : List FaultRule). get_or l i x) c.loop-fault.invariant)
-
-pub returns : goal.returns
-returns c =
-    let change = counted c.args.kind.now in
-    let items = c.args.faults.now.items in
-    let i = c.loop-fault.fault-index in
-    let long : length c.loop-fault.fault-items ≡ length items = ap (λ (l : List FaultRule). length l) c.loop-fault.invariant ∙ changed_to-length change i items in
-    let room = ap (λ (l : List FaultRule). length l) c.deref_mut-fault-items.ensures.value in
-    written c.loop-fault.fault-items items c.args.faults.now.len long (omega (arith, long, room, c.deref_mut-fault-items.ensures.len))
-    ∙ c.loop-fault.invariant ∙ changed_to-all change i items (omega (arith, long, c.loop-fault-test.false))
+pub returns-in-Some : goal.returns-in-Some
+returns-in-Some c = λ other.
+    let kind = c.args.kind.now in
+    let before = c.args.faults.now.entries in
+    let after = (c.get_mut.follows.lender c.bring_nearer.new.faults).entries in
+    let found = c.in-Some.ensures.value in
+    updated kind other before after (Some c.bring_nearer.new.faults) (((c.get_mut.follows.holds c.bring_nearer.new.faults).3 (sym (ap is_some found))).0 other)
+    ∙ changed-at kind other before (map (nearer 1)) _ (c.bring_nearer.ensures ∙ ap (map (nearer 1)) (looked kind before (Some c.in-Some.faults.now) found))

@@ -8,11 +8,10 @@ use Rattle.modem_rules.specs.Kinds.{is_same}
 use Rattle.modem_rules.specs.Rules.{Rules}
 use Rattle.sim_modem.specs.Sim.{Answering}
 use Rattle.ruled_modem.specs.Requests.{kind_of}
-use Rattle.std.specs.List.{flat_map}
-use Rattle.ruled_modem.specs.Replies.{indication}
-use Rattle.ruled_modem.specs.Turns.{answer_to, answer_text, passed, told}
+use Rattle.ruled_modem.specs.Turns.{all_told, answer_to, answer_text, passed, told}
 use Rattle.ruled_modem.specs.Ruled.{count, fault_for, reached, reached_by, ruled_by}
 use Rattle.ruled_modem.specs.Laws.{IsFree}
+use Rattle.ruled_modem.proofs.Tables.{first-own}
 use Rattle.ruled_modem.proofs.laws.others_reach_the_modem.Goals as goal
 
 found-if : {A : Type 0} (also : A → Bool) (same : Bool) (x : A) (own : List A) → find also (if same then x ∷ own else own) ≡ cond (same && also x) (Some x) (find also own)
@@ -23,25 +22,14 @@ find-own : {A : Type 0} (test also : A → Bool) (xs : List A) → find also (fi
 find-own test also [] = refl
 find-own test also (x ∷ xs) = found-if also (test x) x (filter test xs) ∙ ap (λ rest. cond (test x && also x) (Some x) rest) (find-own test also xs)
 
-first-if : {A : Type 0} (same : Bool) (x : A) (own : List A) → slice_get (if same then x ∷ own else own) 0 ≡ cond same (Some x) (slice_get own 0)
-first-if true x own = refl
-first-if false x own = refl
-
-first-own : {A : Type 0} (test : A → Bool) (xs : List A) → slice_get (filter test xs) 0 ≡ find test xs
-first-own test [] = refl
-first-own test (x ∷ xs) = first-if (test x) x (filter test xs) ∙ ap (λ rest. cond (test x) (Some x) rest) (first-own test xs)
-
-find-none : {A : Type 0} (test : A → Bool) (xs : List A) → filter test xs ≡ [] → find test xs ≡ None
-find-none test xs none = sym (first-own test xs) ∙ ap (λ own. slice_get own 0) none
-
 module _ (modem : Kind) (rules : Rules) (past : List (List ℕ)) (message : List ℕ) (kind : RequestKind) (free : IsFree rules kind) where
   fault-none : fault_for modem past kind rules.faults ≡ None
   fault-none =
-      let also : FaultRule → Bool = λ fault. fault.nth == count modem fault.kind past + 1 in
+      let also : FaultRule → Bool = λ fault. fault.nth == count modem kind past + 1 in
       sym (find-own (λ (fault : FaultRule). is_same kind fault.kind) also rules.faults) ∙ ap (find also) free.faults
 
   answer-none : answer_to kind rules.answers ≡ None
-  answer-none = find-none (λ (rule : AnswerRule). is_same kind rule.kind) rules.answers free.answers
+  answer-none = sym (first-own (λ (rule : AnswerRule). is_same kind rule.kind) rules.answers) ∙ ap (λ (own : List AnswerRule). slice_get own 0) free.answers
 
   before : List (List ℕ)
   before = reached modem rules past
@@ -52,7 +40,7 @@ module _ (modem : Kind) (rules : Rules) (past : List (List ℕ)) (message : List
       ap (λ (found : Option RequestKind). ruled_by modem rules answers past before message found) is
       ∙ ap (λ (fault : Option FaultRule). answer_text modem answers before message fault (answer_to kind rules.answers) ++ told kind rules.indications) fault-none
       ∙ ap (λ (rule : Option AnswerRule). answer_text modem answers before message None rule ++ told kind rules.indications) answer-none
-      ∙ ap (λ (own : List IndicationRule). answers before message ++ flat_map (λ rule. indication rule.kind rule.«data») own) free.indications
+      ∙ ap (λ (own : List IndicationRule). answers before message ++ all_told own) free.indications
       ∙ append-nil (answers before message)
 
   pub goes : kind_of modem message ≡ Some kind → reached_by modem rules past (reached modem rules past) message (kind_of modem message) ≡ message ∷ reached modem rules past
