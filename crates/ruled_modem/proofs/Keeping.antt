@@ -11,34 +11,23 @@ use Rattle.modem_rules.specs.declared.rules.IndicationRule.{IndicationRule}
 use Rattle.modem_rules.specs.Kinds.{is_same}
 use Rattle.ruled_modem.specs.Turns.{all_told, answer_to, answer_text, passed, told}
 use Rattle.ruled_modem.specs.Ruled.{count, fault_for, reached, reached_by, ruled, ruled_by}
+use Rattle.ruled_modem.specs.Host.{Host, fresh, host_after, longest}
 use Rattle.ruled_modem.specs.Keeping.{ByKind, Counts, Has, due, nearer, own, rules_for, Ruled, Keeps}
 use Rattle.ruled_modem.proofs.Nearer.{behind-none, behind-request, behind-other, due-for}
 use Rattle.ruled_modem.proofs.Tables.{first-own}
 
 -- before any message
-pub keeps-fresh : {S : Type 0} (keeps : Answering → List (List ℕ) → S → Type 0) (rules : Rules) (answers : Answering) (r : Ruled S) → keeps answers [] r.sim
+pub keeps-fresh : {S : Type 0} (keeps : Answering → List (List ℕ) → S → Type 0) (rules : Rules) (answers : Answering) (r : Ruled S) → keeps answers [] r.sim → r.host ≡ fresh
     → Has (λ rule. rule.kind) rules.answers r.answers → Has (λ rule. rule.kind) rules.faults r.faults → Has (λ rule. rule.after) rules.indications r.indications
     → Keeps keeps (ruled r.kind rules answers) [] r
-keeps-fresh keeps rules answers r kept has_answers has_faults has_indications = record {
+keeps-fresh keeps rules answers r kept host has_answers has_faults has_indications = record {
   given = rules;
   answers = answers;
   same = refl;
   modem = kept;
+  host = host;
   rules = record { answers = has_answers; faults = behind-none r.kind rules.faults r.faults has_faults; indications = has_indications };
 }
-
--- ---- a fault does the same whatever its number ----
-
-module _ (modem : Kind) (n : ℕ) where
-  text-behind : (answers : Answering) (reached : List (List ℕ)) (message : List ℕ) (fault : Option FaultRule) (rule : Option AnswerRule)
-      → answer_text modem answers reached message (option_map (nearer n) fault) rule ≡ answer_text modem answers reached message fault rule
-  text-behind answers reached message None rule = refl
-  text-behind answers reached message (Some fault) rule = refl
-
-  passed-behind : (reached : List (List ℕ)) (message : List ℕ) (fault : Option FaultRule) (rule : Option AnswerRule)
-      → passed reached message (option_map (nearer n) fault) rule ≡ passed reached message fault rule
-  passed-behind reached message None rule = refl
-  passed-behind reached message (Some fault) rule = refl
 
 module _ {S : Type 0} (keeps : Answering → List (List ℕ) → S → Type 0) (answering : Answering) (past : List (List ℕ)) (r : Ruled S) (message : List ℕ)
     (K : Keeps keeps answering past r) where
@@ -57,14 +46,15 @@ module _ {S : Type 0} (keeps : Answering → List (List ℕ) → S → Type 0) (
   unfolding by before
   answers-other none = ap (λ answers. answers past message) K.same ∙ ap by none
 
-  pub keeps-other : (sim : S) → kind_of r.kind message ≡ None → keeps K.answers (message ∷ reached r.kind K.given past) sim
-      → Keeps keeps answering (message ∷ past) (record r { sim = sim })
+  pub keeps-other : (sim : S) (host : Host) → kind_of r.kind message ≡ None → keeps K.answers (message ∷ reached r.kind K.given past) sim
+      → host ≡ host_after r.kind K.answers (message ∷ reached r.kind K.given past) → Keeps keeps answering (message ∷ past) (record r { sim = sim; host = host })
   unfolding through before
-  keeps-other sim none kept = record {
+  keeps-other sim host none kept is = record {
     given = K.given;
     answers = K.answers;
     same = K.same;
     modem = subst (λ l. keeps K.answers l sim) (sym (ap through none)) kept;
+    host = is ∙ ap (host_after r.kind K.answers) (sym (ap through none));
     rules = record { answers = K.rules.answers; faults = behind-other r.kind past message K.given.faults r.faults none K.rules.faults; indications = K.rules.indications };
   }
 
@@ -78,18 +68,30 @@ module _ {S : Type 0} (keeps : Answering → List (List ℕ) → S → Type 0) (
 
   -- what is said, by the fault that is due and the rules for the kind
   said : Option FaultRule → Option AnswerRule → List IndicationRule → List ℕ
-  said fault rule indications = answer_text r.kind K.answers before message fault rule ++ all_told indications
+  said fault rule indications =
+      answer_text r.kind K.answers before (longest (host_after r.kind K.answers before)) message fault rule ++ all_told (host_after r.kind K.answers (passed before message fault rule)) indications
+
+  -- a fault does the same whatever its number
+  said-behind : (n : ℕ) (fault : Option FaultRule) (rule : Option AnswerRule) (indications : List IndicationRule) → said (option_map (nearer n) fault) rule indications ≡ said fault rule indications
+  unfolding said
+  said-behind n None rule indications = refl
+  said-behind n (Some fault) rule indications = refl
+
+  passed-behind : (n : ℕ) (fault : Option FaultRule) (rule : Option AnswerRule) → passed before message (option_map (nearer n) fault) rule ≡ passed before message fault rule
+  passed-behind n None rule = refl
+  passed-behind n (Some fault) rule = refl
 
   pub answers-request : (kind : RequestKind) → kind_of r.kind message ≡ Some kind
       → answering past message
-      ≡ answer_text r.kind K.answers (reached r.kind K.given past) message (due (rules_for kind r.faults)) (slice_get (rules_for kind r.answers) 0) ++ all_told (rules_for kind r.indications)
+      ≡ answer_text r.kind K.answers (reached r.kind K.given past) (longest (host_after r.kind K.answers (reached r.kind K.given past))) message (due (rules_for kind r.faults)) (slice_get (rules_for kind r.answers) 0)
+      ++ all_told (host_after r.kind K.answers (passed (reached r.kind K.given past) message (due (rules_for kind r.faults)) (slice_get (rules_for kind r.answers) 0))) (rules_for kind r.indications)
   unfolding by before said
   answers-request kind some =
-      let given = fault_for r.kind past kind K.given.faults in
+      let mine = own (λ (rule : IndicationRule). rule.after) kind K.given.indications in
       ap (λ (answers : Answering). answers past message) K.same ∙ ap by some
-      ∙ sym (ap (λ (l : List ℕ). l ++ told kind K.given.indications) (text-behind r.kind (count r.kind kind past) K.answers before message given (answer_to kind K.given.answers)))
-      ∙ sym (ap (λ (fault : Option FaultRule). said fault (answer_to kind K.given.answers) (own (λ (rule : IndicationRule). rule.after) kind K.given.indications)) (due-is kind))
-      ∙ sym (ap (λ (rule : Option AnswerRule). said (due (rules_for kind r.faults)) rule (own (λ (rule : IndicationRule). rule.after) kind K.given.indications)) (first-is kind))
+      ∙ sym (said-behind (count r.kind kind past) (fault_for r.kind past kind K.given.faults) (answer_to kind K.given.answers) mine)
+      ∙ sym (ap (λ (fault : Option FaultRule). said fault (answer_to kind K.given.answers) mine) (due-is kind))
+      ∙ sym (ap (λ (rule : Option AnswerRule). said (due (rules_for kind r.faults)) rule mine) (first-is kind))
       ∙ sym (ap (λ (rules : List IndicationRule). said (due (rules_for kind r.faults)) (slice_get (rules_for kind r.answers) 0) rules) (K.rules.indications kind))
 
   goes : Option FaultRule → Option AnswerRule → List (List ℕ)
@@ -100,18 +102,20 @@ module _ {S : Type 0} (keeps : Answering → List (List ℕ) → S → Type 0) (
   unfolding through before goes
   reaches-is kind some =
       ap through some
-      ∙ sym (passed-behind r.kind (count r.kind kind past) before message (fault_for r.kind past kind K.given.faults) (answer_to kind K.given.answers))
+      ∙ sym (passed-behind (count r.kind kind past) (fault_for r.kind past kind K.given.faults) (answer_to kind K.given.answers))
       ∙ sym (ap (λ (fault : Option FaultRule). goes fault (answer_to kind K.given.answers)) (due-is kind))
       ∙ sym (ap (λ (rule : Option AnswerRule). goes (due (rules_for kind r.faults)) rule) (first-is kind))
 
-  pub keeps-request : (sim : S) (faults : ByKind FaultRule) (kind : RequestKind) → kind_of r.kind message ≡ Some kind → Counts kind r.faults faults
+  pub keeps-request : (sim : S) (host : Host) (faults : ByKind FaultRule) (kind : RequestKind) → kind_of r.kind message ≡ Some kind → Counts kind r.faults faults
       → keeps K.answers (passed (reached r.kind K.given past) message (due (rules_for kind r.faults)) (slice_get (rules_for kind r.answers) 0)) sim
-      → Keeps keeps answering (message ∷ past) (record r { sim = sim; faults = faults })
+      → host ≡ host_after r.kind K.answers (passed (reached r.kind K.given past) message (due (rules_for kind r.faults)) (slice_get (rules_for kind r.answers) 0))
+      → Keeps keeps answering (message ∷ past) (record r { sim = sim; host = host; faults = faults })
   unfolding before
-  keeps-request sim faults kind some counts kept = record {
+  keeps-request sim host faults kind some counts kept is = record {
     given = K.given;
     answers = K.answers;
     same = K.same;
     modem = subst (λ l. keeps K.answers l sim) (sym (reaches-is kind some)) kept;
+    host = is ∙ ap (host_after r.kind K.answers) (sym (reaches-is kind some));
     rules = record { answers = K.rules.answers; faults = behind-request r.kind past message K.given.faults r.faults faults kind some K.rules.faults counts; indications = K.rules.indications };
   }

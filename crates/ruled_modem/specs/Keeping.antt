@@ -10,6 +10,7 @@ use Rattle.modem_rules.specs.declared.rules.IndicationRule.{IndicationRule}
 use Rattle.modem_rules.specs.Kinds.{is_same}
 use Rattle.modem_rules.specs.Rules.{Rules}
 use Rattle.sim_modem.specs.Sim.{Answering}
+use Rattle.ruled_modem.specs.Host.{Host, host_after}
 use Rattle.ruled_modem.specs.Ruled.{count, reached, ruled}
 
 -- ---- rules by the kind of request ----
@@ -55,6 +56,7 @@ HasBehind modem past faults table = (kind : RequestKind) → rules_for kind tabl
 pub record Ruled (S : Type 0) : Type 0 where
   pub kind : Kind
   pub sim : S
+  pub host : Host
   pub answers : ByKind AnswerRule
   pub faults : ByKind FaultRule
   pub indications : ByKind IndicationRule
@@ -72,4 +74,5 @@ pub record Keeps {S : Type 0} (keeps : Answering → List (List ℕ) → S → T
   pub answers : Answering
   pub same : answering ≡ ruled r.kind given answers
   pub modem : keeps answers (reached r.kind given past) r.sim
+  pub host : r.host ≡ host_after r.kind answers (reached r.kind given past)
   pub rules : GoesBy given past r

@@ -1,5 +1,6 @@
 pub mod Requests
 pub mod Replies
+pub mod Host
 pub mod Turns
 pub mod Ruled
 pub mod Keeping

@@ -21,22 +21,22 @@ use Rattle.ruled_modem.specs.Requests.{request_in, command_in}
 
 -- ---- replies ----
 
--- the reply to a command, in messages of at most 4,096 bytes
-abbrev pub done : (number : ℕ) → CommandHead → (status : ℕ) → (buffer : List ℕ) → List ℕ
-done number head status buffer = split (kind_number CommandDone) number 4096 (done_text (record { uuid = head.uuid; cid = head.cid; status = status }) buffer)
+-- the reply to a command, in messages of at most so many bytes
+abbrev pub done : (longest number : ℕ) → CommandHead → (status : ℕ) → (buffer : List ℕ) → List ℕ
+done longest number head status buffer = split (kind_number CommandDone) number longest (done_text (record { uuid = head.uuid; cid = head.cid; status = status }) buffer)
 
-abbrev pub done_if : (number : ℕ) → Option CommandHead → (status : ℕ) → (buffer : List ℕ) → List ℕ
-done_if number None status buffer = []
-done_if number (Some head) status buffer = done number head status buffer
+abbrev pub done_if : (longest number : ℕ) → Option CommandHead → (status : ℕ) → (buffer : List ℕ) → List ℕ
+done_if longest number None status buffer = []
+done_if longest number (Some head) status buffer = done longest number head status buffer
 
 abbrev pub response_if : Option Head → (error : ℕ) → (tlvs : List ℕ) → List ℕ
 response_if None error tlvs = []
 response_if (Some head) error tlvs = message_text (reply_to head) (result_tlv error ++ tlvs)
 
 -- with this error in the Result TLV, which has 16 bits, and these TLVs behind it, or with this status and buffer; 0 is a success
-abbrev pub reply : Kind → (message : List ℕ) → (error : ℕ) → (bytes : List ℕ) → List ℕ
-reply Qmi message error bytes = response_if (request_in message) (error % 2 ^ 16) bytes
-reply Mbim message error bytes = done_if (number_of message) (command_in message) error bytes
+abbrev pub reply : Kind → (longest : ℕ) → (message : List ℕ) → (error : ℕ) → (bytes : List ℕ) → List ℕ
+reply Qmi longest message error bytes = response_if (request_in message) (error % 2 ^ 16) bytes
+reply Mbim longest message error bytes = done_if longest (number_of message) (command_in message) error bytes
 
 -- ---- indications ----
 
@@ -44,9 +44,9 @@ reply Mbim message error bytes = done_if (number_of message) (command_in message
 abbrev pub message_told : (service message : ℕ) → (tlvs : List ℕ) → List ℕ
 message_told service message tlvs = message_text (record { sender = sender.Modem; service = service; client = 255; flags = flags_for service qmi.Indication; number = 0; message = message }) tlvs
 
-abbrev pub command_told : (service : List ℕ) → (command : ℕ) → (buffer : List ℕ) → List ℕ
-command_told service command buffer = split (kind_number IndicateStatus) 0 4096 (service ++ u32_bytes command ++ u32_bytes (length buffer) ++ buffer)
+abbrev pub command_told : (longest : ℕ) → (service : List ℕ) → (command : ℕ) → (buffer : List ℕ) → List ℕ
+command_told longest service command buffer = split (kind_number IndicateStatus) 0 longest (service ++ u32_bytes command ++ u32_bytes (length buffer) ++ buffer)
 
-abbrev pub indication : RequestKind → (bytes : List ℕ) → List ℕ
-indication (Message service message) bytes = message_told service message bytes
-indication (Command service command) bytes = command_told service command bytes
+abbrev pub indication : (longest : ℕ) → RequestKind → (bytes : List ℕ) → List ℕ
+indication longest (Message service message) bytes = message_told service message bytes
+indication longest (Command service command) bytes = command_told longest service command bytes

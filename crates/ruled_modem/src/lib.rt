@@ -4,6 +4,7 @@
 
 mod by_kind;
 mod counting;
+mod host;
 mod laws;
 mod replies;
 mod requests;

@@ -16,19 +16,20 @@ use uuid::Uuid;
 // The client id of what goes to every client.
 const EVERY_CLIENT: u8 = 255;
 
-// How many bytes a message of MBIM has at most.
-const LONGEST_MESSAGE: u32 = 4_096;
-
-/// The reply to a request with this error, where 0 is a success, and these bytes.
+/// The reply to a request with this error, where 0 is a success, and these bytes. A message of MBIM has
+/// at most so many.
 pub(crate) fn reply(
     alloc: Global,
     kind: Kind,
+    longest: u32,
     message: &[u8],
     error: u32,
     bytes: &[u8],
 ) -> Result<Octets, AllocError>
-    requires { length bytes.now ≤ LONGEST_DATA }
-    ensures { IfOk result (λ octets. octets ≡ spec.reply kind message.now error bytes.now) }
+    requires short { length bytes.now ≤ LONGEST_DATA }
+    requires least { 64 ≤ longest }
+    requires most { longest ≤ 4096 }
+    ensures { IfOk result (λ octets. octets ≡ spec.reply kind longest message.now error bytes.now) }
 {
     match kind {
         Kind::Qmi => match request_in(message) {
@@ -38,7 +39,7 @@ pub(crate) fn reply(
         Kind::Mbim => match command_in(message) {
             Some(head) => {
                 let number = MHead::read(message).number;
-                done(alloc, number, &head, error, bytes)
+                done(alloc, longest, number, &head, error, bytes)
             }
             None => Ok(Octets::new(alloc)),
         },
@@ -86,13 +87,16 @@ fn reply_to(head: &Head) -> NewMessage
 // The reply to a command with this status and buffer.
 fn done(
     alloc: Global,
+    longest: u32,
     number: u32,
     head: &CommandHead,
     status: u32,
     buffer: &[u8],
 ) -> Result<Octets, AllocError>
-    requires { length buffer.now ≤ LONGEST_DATA }
-    ensures { IfOk result (λ octets. octets ≡ spec.done number head.now status buffer.now) }
+    requires short { length buffer.now ≤ LONGEST_DATA }
+    requires least { 64 ≤ longest }
+    requires most { longest ≤ 4096 }
+    ensures { IfOk result (λ octets. octets ≡ spec.done longest number head.now status buffer.now) }
 {
     let done = DoneHead {
         uuid: head.uuid,
@@ -102,20 +106,26 @@ fn done(
     let mut body = Octets::from_slice(alloc, &done.bytes(buffer.len() as u32))?;
     body.extend_from_slice(buffer)?;
     let kind = mbim_frame::MessageKind::CommandDone.number();
-    split(alloc, kind, number, body.as_slice(), LONGEST_MESSAGE)
+    split(alloc, kind, number, body.as_slice(), longest)
 }
 
-/// The indication of this kind with this data, which goes to every client.
+/// The indication of this kind with this data, which goes to every client. A message of MBIM has at most
+/// so many bytes.
 pub(crate) fn indication(
     alloc: Global,
+    longest: u32,
     kind: &RequestKind,
     data: &RuleData,
 ) -> Result<Octets, AllocError>
-    ensures { IfOk result (λ octets. octets ≡ spec.indication kind.now «data».now) }
+    requires least { 64 ≤ longest }
+    requires most { longest ≤ 4096 }
+    ensures { IfOk result (λ octets. octets ≡ spec.indication longest kind.now «data».now) }
 {
     match kind {
         RequestKind::Message { service, message } => message_told(alloc, *service, *message, data),
-        RequestKind::Command { service, command } => command_told(alloc, *service, *command, data),
+        RequestKind::Command { service, command } => {
+            command_told(alloc, longest, *service, *command, data)
+        }
     }
 }
 
@@ -140,16 +150,19 @@ fn message_told(
 
 fn command_told(
     alloc: Global,
+    longest: u32,
     service: Uuid,
     command: u32,
     data: &RuleData,
 ) -> Result<Octets, AllocError>
-    ensures { IfOk result (λ octets. octets ≡ spec.command_told service command «data».now) }
+    requires least { 64 ≤ longest }
+    requires most { longest ≤ 4096 }
+    ensures { IfOk result (λ octets. octets ≡ spec.command_told longest service command «data».now) }
 {
     let buffer = data.as_slice();
     let mut body = Octets::from_slice(alloc, service.as_bytes())?;
     body.extend_from_slice(&u32_bytes(command))?;
     body.extend_from_slices(&u32_bytes(buffer.len() as u32), buffer)?;
     let kind = mbim_frame::MessageKind::IndicateStatus.number();
-    split(alloc, kind, 0, body.as_slice(), LONGEST_MESSAGE)
+    split(alloc, kind, 0, body.as_slice(), longest)
 }

@@ -1,4 +1,5 @@
 ghost use Rattle.std.specs.Prelude.{◌≡◌, ◌≤◌, length, IfSome};
+ghost use Rattle.mbim_frame.specs.Bodies.{read_command};
 ghost use Rattle.ruled_modem.specs.Requests.{command_in, kind_of, request_in};
 
 use kit_bytes::Kind;
@@ -24,7 +25,7 @@ pub(crate) fn request_in(message: &[u8]) -> Option<Head>
 /// The head of an MBIM command, where the message is a whole one.
 pub(crate) fn command_in(message: &[u8]) -> Option<CommandHead>
     ensures exact { result ≡ command_in message.now }
-    ensures whole { IfSome result (λ head. 20 ≤ length message.now) }
+    ensures whole { IfSome result (λ head. 48 ≤ length message.now) }
 {
     if message.len() < 20 {
         return None;
@@ -32,10 +33,20 @@ pub(crate) fn command_in(message: &[u8]) -> Option<CommandHead>
     let fragment = FragmentHead::read(message);
     let command = mbim_frame::MessageKind::Command.number();
     if MHead::read(message).kind == command && fragment.total == 1 && fragment.current == 0 {
-        CommandHead::read(body_in(message))
+        let head = head_of_body(body_in(message))?;
+        Some(head)
     } else {
         None
     }
+}
+
+// The head of a body, which then is as long.
+fn head_of_body(body: &[u8]) -> Option<CommandHead>
+    ensures exact { result ≡ read_command body.now }
+    ensures long { IfSome result (λ head. 28 ≤ length body.now) }
+{
+    let head = CommandHead::read(body)?;
+    Some(head)
 }
 
 /// What kind of request a message is, where it is a whole one.

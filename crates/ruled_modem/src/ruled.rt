@@ -1,13 +1,15 @@
-ghost use Rattle.std.specs.Prelude.{◌≡◌, ◌++◌, ◌∷◌, [], ℕ, List, slice_get, IfOk, OnOk};
+ghost use Rattle.std.specs.Prelude.{◌≡◌, ◌≤◌, ◌++◌, ◌∷◌, [], ℕ, List, slice_get, IfOk, OnOk};
 ghost use Rattle.framing.specs.Framing.{IsMessage};
 ghost use Rattle.modem_rules.specs.Rules.{rules_view};
 ghost use Rattle.sim_modem.specs.Sim.{Answering};
+ghost use Rattle.ruled_modem.specs.Host.{host_after, longest};
 ghost use Rattle.ruled_modem.specs.Keeping.{Counts, Keeps, due, rules_for};
 ghost use Rattle.ruled_modem.specs.Ruled.{ruled};
 ghost use Rattle.ruled_modem.specs.Turns.{all_told, answer_text, failed, passed};
 
 use crate::by_kind::{ByKind, by_kind, rules_for};
 use crate::counting::{count, due};
+use crate::host::Host;
 use crate::replies::{indication, reply};
 use crate::requests::kind_of;
 use kit_bytes::{Kind, Octets};
@@ -22,6 +24,7 @@ pub struct Ruled<S: Sim> {
     alloc: Global,
     kind: Kind,
     sim: S,
+    host: Host,
     answers: ByKind<AnswerRule>,
     // of each how many requests of its kind there are to come until it, this one counted too; 0 is over
     faults: ByKind<FaultRule>,
@@ -33,7 +36,7 @@ impl<S: Sim> Model for Ruled<S> {
 
     ghost Value = { spec.Ruled S };
 
-    ghost view = { λ r. record { kind = r.kind; sim = r.sim; answers = r.answers.entries; faults = r.faults.entries; indications = r.indications.entries } };
+    ghost view = { λ r. record { kind = r.kind; sim = r.sim; host = r.host; answers = r.answers.entries; faults = r.faults.entries; indications = r.indications.entries } };
 }
 
 impl<S: Sim> Ruled<S> {
@@ -48,6 +51,7 @@ impl<S: Sim> Ruled<S> {
             alloc,
             kind,
             sim,
+            host: Host::new(alloc),
             answers,
             faults,
             indications,
@@ -58,17 +62,19 @@ impl<S: Sim> Ruled<S> {
     fn meet(&mut self, kind: &RequestKind, message: &[u8]) -> Result<Octets, AllocError>
         requires { IsMessage S.Framing.size message.now }
         ensures answers { IfOk result (λ octets. (answers : Answering) (past : List (List ℕ)) → S.keeps answers past self.old.sim →
-            octets ≡ answer_text self.old.kind answers past message.now (due (rules_for kind.now self.old.faults)) (slice_get (rules_for kind.now self.old.answers) 0)
-            ++ all_told (rules_for kind.now self.old.indications)) }
+            octets ≡ answer_text self.old.kind answers past (longest self.old.host) message.now (due (rules_for kind.now self.old.faults)) (slice_get (rules_for kind.now self.old.answers) 0)
+                ++ all_told self.new.host (rules_for kind.now self.old.indications)) }
         ensures sim { OnOk result ((answers : Answering) (past : List (List ℕ)) → S.keeps answers past self.old.sim →
             S.keeps answers (passed past message.now (due (rules_for kind.now self.old.faults)) (slice_get (rules_for kind.now self.old.answers) 0)) self.new.sim) }
-        ensures rest { OnOk result (self.new ≡ record self.old { sim = self.new.sim; faults = self.new.faults }) }
+        ensures host { OnOk result ((answers : Answering) (past : List (List ℕ)) → S.keeps answers past self.old.sim → self.old.host ≡ host_after self.old.kind answers past →
+            self.new.host ≡ host_after self.old.kind answers (passed past message.now (due (rules_for kind.now self.old.faults)) (slice_get (rules_for kind.now self.old.answers) 0))) }
+        ensures rest { OnOk result (self.new ≡ record self.old { sim = self.new.sim; host = self.new.host; faults = self.new.faults }) }
         ensures counts { OnOk result (Counts kind.now self.old.faults self.new.faults) }
     {
         let mut text = self.answer(kind, message)?;
         count(&mut self.faults, kind);
         let told = rules_for(&self.indications, kind);
-        add_indications(self.alloc, told, &mut text)?;
+        add_indications(self.alloc, &self.host, told, &mut text)?;
         Ok(text)
     }
 
@@ -76,18 +82,38 @@ impl<S: Sim> Ruled<S> {
     fn answer(&mut self, kind: &RequestKind, message: &[u8]) -> Result<Octets, AllocError>
         requires { IsMessage S.Framing.size message.now }
         ensures answers { IfOk result (λ octets. (answers : Answering) (past : List (List ℕ)) → S.keeps answers past self.old.sim →
-            octets ≡ answer_text self.old.kind answers past message.now (due (rules_for kind.now self.old.faults)) (slice_get (rules_for kind.now self.old.answers) 0)) }
+            octets ≡ answer_text self.old.kind answers past (longest self.old.host) message.now (due (rules_for kind.now self.old.faults)) (slice_get (rules_for kind.now self.old.answers) 0)) }
         ensures sim { OnOk result ((answers : Answering) (past : List (List ℕ)) → S.keeps answers past self.old.sim →
             S.keeps answers (passed past message.now (due (rules_for kind.now self.old.faults)) (slice_get (rules_for kind.now self.old.answers) 0)) self.new.sim) }
-        ensures rest { OnOk result (self.new ≡ record self.old { sim = self.new.sim }) }
+        ensures host { OnOk result ((answers : Answering) (past : List (List ℕ)) → S.keeps answers past self.old.sim → self.old.host ≡ host_after self.old.kind answers past →
+            self.new.host ≡ host_after self.old.kind answers (passed past message.now (due (rules_for kind.now self.old.faults)) (slice_get (rules_for kind.now self.old.answers) 0))) }
+        ensures rest { OnOk result (self.new ≡ record self.old { sim = self.new.sim; host = self.new.host }) }
     {
+        let longest = self.host.longest();
         if let Some(fault) = due(rules_for(&self.faults, kind)) {
-            return Ok(failed(self.alloc, self.kind, message, fault.error)?);
+            return Ok(failed(self.alloc, self.kind, longest, message, fault.error)?);
         }
         match rules_for(&self.answers, kind).first() {
-            Some(rule) => Ok(reply(self.alloc, self.kind, message, 0, rule.data.as_slice())?),
-            None => Ok(self.sim.ask(message)?),
+            Some(rule) => {
+                let data = rule.data.as_slice();
+                Ok(reply(self.alloc, self.kind, longest, message, 0, data)?)
+            }
+            None => Ok(self.pass(message)?),
         }
+    }
+
+    // The modem's own answer.
+    fn pass(&mut self, message: &[u8]) -> Result<Octets, AllocError>
+        requires { IsMessage S.Framing.size message.now }
+        ensures answers { IfOk result (λ octets. (answers : Answering) (past : List (List ℕ)) → S.keeps answers past self.old.sim → octets ≡ answers past message.now) }
+        ensures sim { OnOk result ((answers : Answering) (past : List (List ℕ)) → S.keeps answers past self.old.sim → S.keeps answers (message.now ∷ past) self.new.sim) }
+        ensures host { OnOk result ((answers : Answering) (past : List (List ℕ)) → S.keeps answers past self.old.sim → self.old.host ≡ host_after self.old.kind answers past →
+            self.new.host ≡ host_after self.old.kind answers (message.now ∷ past)) }
+        ensures rest { OnOk result (self.new ≡ record self.old { sim = self.new.sim; host = self.new.host }) }
+    {
+        let text = self.sim.ask(message)?;
+        self.host.hear(self.alloc, self.kind, message, text.as_slice())?;
+        Ok(text)
     }
 }
 
@@ -95,28 +121,34 @@ impl<S: Sim> Ruled<S> {
 fn failed(
     alloc: Global,
     kind: Kind,
+    longest: u32,
     message: &[u8],
     error: Option<u32>,
 ) -> Result<Octets, AllocError>
-    ensures { IfOk result (λ octets. octets ≡ failed kind message.now error) }
+    requires least { 64 ≤ longest }
+    requires most { longest ≤ 4096 }
+    ensures { IfOk result (λ octets. octets ≡ failed kind longest message.now error) }
 {
     match error {
-        Some(error) => reply(alloc, kind, message, error, &[]),
+        Some(error) => reply(alloc, kind, longest, message, error, &[]),
         None => Ok(Octets::new(alloc)),
     }
 }
 
-// Adds these indications.
+// Adds those of these indications that the host hears.
 fn add_indications(
     alloc: Global,
+    host: &Host,
     rules: &[IndicationRule],
     text: &mut Octets,
 ) -> Result<(), AllocError>
-    ensures { OnOk result (text.new ≡ text.old ++ all_told rules.now) }
+    ensures { OnOk result (text.new ≡ text.old ++ all_told host.now rules.now) }
 {
     for rule in rules {
-        let told = indication(alloc, &rule.kind, &rule.data)?;
-        text.extend_from_slice(told.as_slice())?;
+        if host.hears(&rule.kind) {
+            let told = indication(alloc, host.longest(), &rule.kind, &rule.data)?;
+            text.extend_from_slice(told.as_slice())?;
+        }
     }
     Ok(())
 }
@@ -129,7 +161,7 @@ impl<S: Sim> Sim for Ruled<S> {
     fn ask(&mut self, message: &[u8]) -> Result<Octets, AllocError> {
         match kind_of(self.kind, message) {
             Some(kind) => Ok(self.meet(&kind, message)?),
-            None => Ok(self.sim.ask(message)?),
+            None => Ok(self.pass(message)?),
         }
     }
 }

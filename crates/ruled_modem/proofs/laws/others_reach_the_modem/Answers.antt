@@ -8,6 +8,7 @@ use Rattle.modem_rules.specs.Kinds.{is_same}
 use Rattle.modem_rules.specs.Rules.{Rules}
 use Rattle.sim_modem.specs.Sim.{Answering}
 use Rattle.ruled_modem.specs.Requests.{kind_of}
+use Rattle.ruled_modem.specs.Host.{host_after, longest}
 use Rattle.ruled_modem.specs.Turns.{all_told, answer_to, answer_text, passed, told}
 use Rattle.ruled_modem.specs.Ruled.{count, fault_for, reached, reached_by, ruled_by}
 use Rattle.ruled_modem.specs.Laws.{IsFree}
@@ -34,13 +35,17 @@ module _ (modem : Kind) (rules : Rules) (past : List (List ℕ)) (message : List
   before : List (List ℕ)
   before = reached modem rules past
 
+  said-by : Answering → Option FaultRule → Option AnswerRule → List IndicationRule → List ℕ
+  said-by answers fault rule own =
+      answer_text modem answers before (longest (host_after modem answers before)) message fault rule ++ all_told (host_after modem answers (passed before message fault rule)) own
+
   pub said : (answers : Answering) → kind_of modem message ≡ Some kind → ruled_by modem rules answers past (reached modem rules past) message (kind_of modem message) ≡ answers (reached modem rules past) message
-  unfolding before
+  unfolding before said-by
   said answers is =
       ap (λ (found : Option RequestKind). ruled_by modem rules answers past before message found) is
-      ∙ ap (λ (fault : Option FaultRule). answer_text modem answers before message fault (answer_to kind rules.answers) ++ told kind rules.indications) fault-none
-      ∙ ap (λ (rule : Option AnswerRule). answer_text modem answers before message None rule ++ told kind rules.indications) answer-none
-      ∙ ap (λ (own : List IndicationRule). answers before message ++ all_told own) free.indications
+      ∙ ap (λ (fault : Option FaultRule). said-by answers fault (answer_to kind rules.answers) (filter (λ rule. is_same kind rule.after) rules.indications)) fault-none
+      ∙ ap (λ (rule : Option AnswerRule). said-by answers None rule (filter (λ rule. is_same kind rule.after) rules.indications)) answer-none
+      ∙ ap (λ (own : List IndicationRule). said-by answers None None own) free.indications
       ∙ append-nil (answers before message)
 
   pub goes : kind_of modem message ≡ Some kind → reached_by modem rules past (reached modem rules past) message (kind_of modem message) ≡ message ∷ reached modem rules past

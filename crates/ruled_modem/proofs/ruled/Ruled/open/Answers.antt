@@ -3,4 +3,4 @@ use Rattle.ruled_modem.proofs.Keeping.{keeps-fresh}
 use Rattle.ruled_modem.proofs.ruled.Ruled.open.Goals as goal
 
 pub returns : goal.returns
-returns g c = λ answers kept. keeps-fresh g.S.Sim.keeps (rules_view c.args.rules) answers _ kept c.in_ok-answers.ensures c.in_ok-faults.ensures c.in_ok-indications.ensures
+returns g c = λ answers kept. keeps-fresh g.S.Sim.keeps (rules_view c.args.rules) answers _ kept c.new.ensures c.in_ok-answers.ensures c.in_ok-faults.ensures c.in_ok-indications.ensures
