@@ -1,6 +1,5 @@
 -- What a modem that goes by rules keeps from message to message.
 use Rattle.std.proofs.Common.{◌≡◌, ℕ, List, [], ◌∷◌, ◌++◌, Option, Some, None, option_map, slice_get, refl, sym, ap, ◌∙◌, subst}
-use Rattle.kit_bytes.specs.declared.Kind.{Kind}
 use Rattle.modem_rules.specs.declared.kind.RequestKind.{RequestKind}
 use Rattle.modem_rules.specs.Rules.{Rules}
 use Rattle.sim_modem.specs.Sim.{Answering}
@@ -9,7 +8,7 @@ use Rattle.modem_rules.specs.declared.rules.AnswerRule.{AnswerRule}
 use Rattle.modem_rules.specs.declared.rules.FaultRule.{FaultRule}
 use Rattle.modem_rules.specs.declared.rules.IndicationRule.{IndicationRule}
 use Rattle.modem_rules.specs.Kinds.{is_same}
-use Rattle.ruled_modem.specs.Turns.{all_told, answer_to, answer_text, passed, told}
+use Rattle.ruled_modem.specs.Turns.{all_told, answer_to, answer_text, passed}
 use Rattle.ruled_modem.specs.Ruled.{count, fault_for, reached, reached_by, ruled, ruled_by}
 use Rattle.ruled_modem.specs.Host.{Host, fresh, host_after, longest}
 use Rattle.ruled_modem.specs.Keeping.{ByKind, Counts, Has, due, nearer, own, rules_for, Ruled, Keeps}

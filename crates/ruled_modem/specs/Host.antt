@@ -1,6 +1,6 @@
 -- What is known of a modem's host by the messages that reached the modem, and by what it answered: what the modem's messages to it may be.
 -- Source: the USB-IF MBIM specification 1.0, sections 9.3.1 and 10.5.30; for QMI, client ids of CTL. Lists of messages have the newest first.
-use Rattle.std.specs.Prelude.{ℕ, ◌&&◌, ◌||◌, ◌==◌, Bool, bytes_eq, nat_lt, min, max, List, [], ◌∷◌, ◌++◌, length, position, remove, slice_index, Option, Some, None, is_some, option_and_then, unwrap_or, if◌then◌else◌}
+use Rattle.std.specs.Prelude.{ℕ, ◌&&◌, ◌||◌, ◌==◌, Bool, bytes_eq, nat_lt, min, max, List, [], ◌∷◌, ◌++◌, length, position, remove, slice_index, Option, Some, None, is_some, unwrap_or, if◌then◌else◌}
 use Rattle.std.specs.List.{list_any}
 use Rattle.kit_bytes.specs.Indications.{wants}
 use Rattle.kit_bytes.specs.Numbers.{number_at}

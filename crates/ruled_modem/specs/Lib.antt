@@ -5,3 +5,4 @@ pub mod Turns
 pub mod Ruled
 pub mod Keeping
 pub mod Laws
+pub mod Examples

@@ -4,6 +4,7 @@
 
 mod by_kind;
 mod counting;
+pub mod examples;
 mod host;
 mod laws;
 mod replies;

@@ -63,7 +63,7 @@ impl<S: Sim> Ruled<S> {
         requires { IsMessage S.Framing.size message.now }
         ensures answers { IfOk result (λ octets. (answers : Answering) (past : List (List ℕ)) → S.keeps answers past self.old.sim →
             octets ≡ answer_text self.old.kind answers past (longest self.old.host) message.now (due (rules_for kind.now self.old.faults)) (slice_get (rules_for kind.now self.old.answers) 0)
-                ++ all_told self.new.host (rules_for kind.now self.old.indications)) }
+            ++ all_told self.new.host (rules_for kind.now self.old.indications)) }
         ensures sim { OnOk result ((answers : Answering) (past : List (List ℕ)) → S.keeps answers past self.old.sim →
             S.keeps answers (passed past message.now (due (rules_for kind.now self.old.faults)) (slice_get (rules_for kind.now self.old.answers) 0)) self.new.sim) }
         ensures host { OnOk result ((answers : Answering) (past : List (List ℕ)) → S.keeps answers past self.old.sim → self.old.host ≡ host_after self.old.kind answers past →
@@ -112,7 +112,8 @@ impl<S: Sim> Ruled<S> {
         ensures rest { OnOk result (self.new ≡ record self.old { sim = self.new.sim; host = self.new.host }) }
     {
         let text = self.sim.ask(message)?;
-        self.host.hear(self.alloc, self.kind, message, text.as_slice())?;
+        self.host
+            .hear(self.alloc, self.kind, message, text.as_slice())?;
         Ok(text)
     }
 }

@@ -1,4 +1,4 @@
-use Rattle.std.proofs.Common.{List, Bool, ◌||◌, length, Option, sym, ap, ◌∙◌, arith}
+use Rattle.std.proofs.Common.{List, Bool, ◌||◌, length, sym, ap, ◌∙◌, arith}
 use Rattle.kit_bytes.specs.Indications.{wants}
 use Rattle.kit_bytes.specs.Subscriptions.{Pair}
 use Rattle.ruled_modem.proofs.host.list_wants.Goals as goal

@@ -9,7 +9,7 @@ use Rattle.modem_rules.specs.Rules.{Rules}
 use Rattle.sim_modem.specs.Sim.{Answering}
 use Rattle.ruled_modem.specs.Requests.{kind_of}
 use Rattle.ruled_modem.specs.Host.{host_after, longest}
-use Rattle.ruled_modem.specs.Turns.{all_told, answer_to, answer_text, passed, told}
+use Rattle.ruled_modem.specs.Turns.{all_told, answer_to, answer_text, passed}
 use Rattle.ruled_modem.specs.Ruled.{count, fault_for, reached, reached_by, ruled_by}
 use Rattle.ruled_modem.specs.Laws.{IsFree}
 use Rattle.ruled_modem.proofs.Tables.{first-own}

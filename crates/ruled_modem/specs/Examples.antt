@@ -1,0 +1,89 @@
+-- Worked examples of modems that go by rules, byte for byte. Past messages have the newest first.
+use Rattle.std.specs.Prelude.{◌≡◌, ℕ, List, [], ◌∷◌, ◌++◌, Some, None, codes}
+use Rattle.kit_bytes.specs.Hex.{hex}
+use Rattle.kit_bytes.specs.declared.Kind.TheVariants.{Qmi, Mbim}
+use Rattle.kit_bytes.specs.declared.services.TheConstants.{BASIC_CONNECT}
+use Rattle.modem_rules.specs.declared.kind.RequestKind.TheVariants.{Message, Command}
+use Rattle.modem_rules.specs.Rules.{Rules}
+use Rattle.sim_modem.specs.Sim.{Answering}
+use Rattle.ruled_modem.specs.Ruled.{reached, ruled}
+
+-- without rules it answers each message by that message
+abbrev pub echo : Answering
+echo past message = message
+
+-- ---- QMI ----
+
+-- DMS Get Model, of client id 1
+abbrev pub get_model : List ℕ
+get_model = hex (codes "01 0C 00 00 02 01 00 01 00 22 00 00 00")
+
+abbrev pub refused : List ℕ
+refused = hex (codes "01 13 00 80 02 01 02 01 00 22 00 07 00 02 04 00 01 00 03 00")
+
+-- an indication of CTL
+abbrev pub told : List ℕ
+told = hex (codes "01 0B 00 80 00 FF 02 00 28 00 00 00")
+
+-- the second such request is refused, the third isn't answered
+abbrev pub faulty : Rules
+faulty = record {
+  answers = [];
+  faults = record { kind = Message 2 34; nth = 2; error = Some 3 } ∷ record { kind = Message 2 34; nth = 3; error = None } ∷ [];
+  indications = record { after = Message 2 34; kind = Message 0 40; «data» = [] } ∷ record { after = Message 2 34; kind = Message 3 36; «data» = [] } ∷ [];
+}
+
+abbrev pub Answers : List (List ℕ) → (message answer : List ℕ) → Type 0
+Answers past message answer = ruled Qmi faulty echo past message ≡ answer
+
+pub record FaultsComeInTheirTurn : Type 0 where
+  pub first : Answers [] get_model (get_model ++ told)
+  pub second : Answers (get_model ∷ []) get_model (refused ++ told)
+  pub third : Answers (get_model ∷ get_model ∷ []) get_model told
+  pub fourth : Answers (get_model ∷ get_model ∷ get_model ∷ []) get_model (get_model ++ told)
+  -- only the first and the fourth reach the modem
+  pub reaches : reached Qmi faulty (get_model ∷ get_model ∷ get_model ∷ get_model ∷ []) ≡ get_model ∷ get_model ∷ []
+  -- a response is no request
+  pub response : Answers [] refused refused
+
+-- ---- MBIM ----
+
+-- for messages of at most 64 bytes
+abbrev pub open_64 : List ℕ
+open_64 = hex (codes "01 00 00 00 10 00 00 00 01 00 00 00 40 00 00 00")
+
+-- a query of the radio
+abbrev pub query : List ℕ
+query = hex (codes "03 00 00 00 30 00 00 00 02 00 00 00 01 00 00 00 00 00 00 00 A2 89 CC 33 BC BB 8B 4F B6 B0 13 3E C2 AA E6 DF 03 00 00 00 00 00 00 00 00 00 00 00")
+
+-- what is to be listened to: Packet Service (CID 10) alone
+abbrev pub listen : List ℕ
+listen = hex (codes "03 00 00 00 54 00 00 00 03 00 00 00 01 00 00 00 00 00 00 00 A2 89 CC 33 BC BB 8B 4F B6 B0 13 3E C2 AA E6 DF 13 00 00 00 01 00 00 00 24 00 00 00 01 00 00 00 0C 00 00 00 18 00 00 00 A2 89 CC 33 BC BB 8B 4F B6 B0 13 3E C2 AA E6 DF 01 00 00 00 0A 00 00 00")
+
+-- a query is answered by 20 bytes, and behind it comes an indication of Signal State (CID 11)
+abbrev pub telling : Rules
+telling = record {
+  answers = record { kind = Command BASIC_CONNECT 3; «data» = hex (codes "00 01 02 03 04 05 06 07 08 09 0A 0B 0C 0D 0E 0F 10 11 12 13") } ∷ [];
+  faults = [];
+  indications = record { after = Command BASIC_CONNECT 3; kind = Command BASIC_CONNECT 11; «data» = 9 ∷ [] } ∷ [];
+}
+
+abbrev pub done_whole : List ℕ
+done_whole = hex (codes "03 00 00 80 44 00 00 00 02 00 00 00 01 00 00 00 00 00 00 00 A2 89 CC 33 BC BB 8B 4F B6 B0 13 3E C2 AA E6 DF 03 00 00 00 00 00 00 00 14 00 00 00 00 01 02 03 04 05 06 07 08 09 0A 0B 0C 0D 0E 0F 10 11 12 13")
+
+abbrev pub done_64 : List ℕ
+done_64 = hex (codes "03 00 00 80 40 00 00 00 02 00 00 00 02 00 00 00 00 00 00 00 A2 89 CC 33 BC BB 8B 4F B6 B0 13 3E C2 AA E6 DF 03 00 00 00 00 00 00 00 14 00 00 00 00 01 02 03 04 05 06 07 08 09 0A 0B 0C 0D 0E 0F 03 00 00 80 18 00 00 00 02 00 00 00 02 00 00 00 01 00 00 00 10 11 12 13")
+
+abbrev pub told_64 : List ℕ
+told_64 = hex (codes "07 00 00 80 2D 00 00 00 00 00 00 00 01 00 00 00 00 00 00 00 A2 89 CC 33 BC BB 8B 4F B6 B0 13 3E C2 AA E6 DF 0B 00 00 00 01 00 00 00 09")
+
+abbrev pub Says : List (List ℕ) → (answer : List ℕ) → Type 0
+Says past answer = ruled Mbim telling echo past query ≡ answer
+
+pub record HostsAreHeeded : Type 0 where
+  -- before OPEN there is no indication
+  pub unopened : Says [] done_whole
+  pub opened : Says (open_64 ∷ []) (done_64 ++ told_64)
+  pub unheard : Says (listen ∷ open_64 ∷ []) done_64
+  -- a list before OPEN is none
+  pub early : Says (open_64 ∷ listen ∷ []) (done_64 ++ told_64)

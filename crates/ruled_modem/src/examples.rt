@@ -1,0 +1,13 @@
+//! Worked examples of modems that go by rules, byte for byte.
+
+ghost use Rattle.ruled_modem.specs.Examples.{FaultsComeInTheirTurn, HostsAreHeeded};
+
+/// The Nth request fails, and no other; indications of a service without a client id don't come.
+pub fn faults_come_in_their_turn()
+    ensures { FaultsComeInTheirTurn }
+{}
+
+/// Messages of MBIM are as long as OPEN asked for, and indications go to who listens.
+pub fn hosts_are_heeded()
+    ensures { HostsAreHeeded }
+{}
