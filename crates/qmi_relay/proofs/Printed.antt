@@ -111,7 +111,7 @@ module _ (body : QmiRequest) (a b : Placed) (same : ReadsAs a.bytes b.bytes) whe
   same_by kept (Err (fault.Broken place)) (Err why) direct through reads_p reads_q ends_p ends_q = absurd reads_q
   same_by kept (Err why) y direct through reads_p reads_q ends_p ends_q = absurd reads_p
 
-words_print : (w v : LastWord) (direct through : Result QmiEnd SessionFault) → Alike w v → EndsWith direct w → EndsWith through v → PrintsTheSame direct through
+pub words_print : (w v : LastWord) (direct through : Result QmiEnd SessionFault) → Alike w v → EndsWith direct w → EndsWith through v → PrintsTheSame direct through
 words_print (OfAnswer body kept a) (OfAnswer other kept' b) direct through (is_body, is_kept, same) (x, reads_x, ends_x) (y, reads_y, ends_y) =
     same_by body a b same kept x y direct through reads_x (subst (λ (r : QmiRequest). Reads r b y) (sym is_body) reads_y) ends_x (subst (λ (k : Option (ℕ × ℕ)). EndsAs y k through) (sym is_kept) ends_y)
 words_print w v direct through alike ends ends' = absurd alike

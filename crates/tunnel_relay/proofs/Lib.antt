@@ -1,4 +1,5 @@
 pub mod Carrying
 pub mod Steps
 pub mod Sessions
+pub mod Printed
 pub mod Computed
