@@ -2,6 +2,7 @@ ghost use Rattle.std.specs.Prelude.{◌≡◌, ◌<◌, ◌≤◌, ℕ, Bool, fa
 ghost use Rattle.std.specs.Option.{option_copied};
 ghost use Rattle.std.specs.Result.{result_ok};
 ghost use Rattle.kit_io.specs.Causes.{HasCause};
+ghost use Rattle.kit_io.specs.Counts.{one_more};
 
 use kit_io::Failed;
 use link_io::Target;
@@ -54,6 +55,12 @@ pub trait Hub {
     /// Whether a client is there: it joined, and since then it didn't leave and wasn't hung up.
     ghost is_connected: { Self → ℕ → Bool };
 
+    /// How many calls were made on it. At its type's end the count stands still.
+    ghost made: { Self → ℕ };
+
+    fn made(&self) -> u64
+        ensures { result ≡ made self.now };
+
     /// Listens on a socket, and opens the device where one is named. A bridge has to be paired then.
     fn open(&mut self, socket: &str, device: Option<&Target>) -> Result<(), Failed>
         ensures calls { Records (calls self.old) (opened_call result socket.now (option_copied device.entry)) (calls self.new) }
@@ -61,7 +68,8 @@ pub trait Hub {
         ensures conns { NoneFell (conn_faults self.old) (conn_faults self.new) }
         ensures modem { modem_faults self.old ≤ modem_faults self.new }
         ensures names { greatest self.new ≡ greatest self.old }
-        ensures clients { SameClients (is_connected self.old) (is_connected self.new) };
+        ensures clients { SameClients (is_connected self.old) (is_connected self.new) }
+        ensures made { made self.new ≡ one_more (made self.old) };
 
     /// Waits for both pumps of the device.
     fn pair(&mut self) -> Result<(), Failed>
@@ -70,7 +78,8 @@ pub trait Hub {
         ensures conns { NoneFell (conn_faults self.old) (conn_faults self.new) }
         ensures modem { modem_faults self.old ≤ modem_faults self.new }
         ensures names { greatest self.new ≡ greatest self.old }
-        ensures clients { SameClients (is_connected self.old) (is_connected self.new) };
+        ensures clients { SameClients (is_connected self.old) (is_connected self.new) }
+        ensures made { made self.new ≡ one_more (made self.old) };
 
     /// Waits for the next event.
     fn next(&mut self, buf: &mut [u8]) -> Result<HubEvent, Failed>
@@ -81,7 +90,8 @@ pub trait Hub {
         ensures conns { NoneFell (conn_faults self.old) (conn_faults self.new) }
         ensures modem { modem_faults self.old ≤ modem_faults self.new }
         ensures names { NamesRise (result_ok result) (greatest self.old) (greatest self.new) }
-        ensures clients { ToldOfThose (result_ok result) (is_connected self.old) (is_connected self.new) };
+        ensures clients { ToldOfThose (result_ok result) (is_connected self.old) (is_connected self.new) }
+        ensures made { made self.new ≡ one_more (made self.old) };
 
     /// Hands bytes to a client's socket, which takes a front of them: no byte where it takes none
     /// now.
@@ -94,7 +104,8 @@ pub trait Hub {
         ensures conns { NoneFell (conn_faults self.old) (conn_faults self.new) }
         ensures modem { modem_faults self.old ≤ modem_faults self.new }
         ensures names { greatest self.new ≡ greatest self.old }
-        ensures clients { SameClients (is_connected self.old) (is_connected self.new) };
+        ensures clients { SameClients (is_connected self.old) (is_connected self.new) }
+        ensures made { made self.new ≡ one_more (made self.old) };
 
     /// Hands bytes to the modem, which takes a front of them: no byte where it takes none now.
     fn send_modem(&mut self, bytes: &[u8]) -> Result<usize, Failed>
@@ -105,7 +116,8 @@ pub trait Hub {
         ensures own { faults self.old ≤ faults self.new }
         ensures conns { NoneFell (conn_faults self.old) (conn_faults self.new) }
         ensures names { greatest self.new ≡ greatest self.old }
-        ensures clients { SameClients (is_connected self.old) (is_connected self.new) };
+        ensures clients { SameClients (is_connected self.old) (is_connected self.new) }
+        ensures made { made self.new ≡ one_more (made self.old) };
 
     /// Opens the device of the opening again. One that is reached over a bridge stays away.
     fn reopen_modem(&mut self) -> Result<(), Failed>
@@ -114,7 +126,8 @@ pub trait Hub {
         ensures own { faults self.old ≤ faults self.new }
         ensures conns { NoneFell (conn_faults self.old) (conn_faults self.new) }
         ensures names { greatest self.new ≡ greatest self.old }
-        ensures clients { SameClients (is_connected self.old) (is_connected self.new) };
+        ensures clients { SameClients (is_connected self.old) (is_connected self.new) }
+        ensures made { made self.new ≡ one_more (made self.old) };
 
     /// Ends a client's connection. The client isn't there any more, so no event of it follows.
     fn hang_up(&mut self, conn: u64)
@@ -123,5 +136,6 @@ pub trait Hub {
         ensures conns { NoneFell (conn_faults self.old) (conn_faults self.new) }
         ensures modem { modem_faults self.old ≤ modem_faults self.new }
         ensures names { greatest self.new ≡ greatest self.old }
-        ensures clients { GoesAlone conn (is_connected self.old) (is_connected self.new) };
+        ensures clients { GoesAlone conn (is_connected self.old) (is_connected self.new) }
+        ensures made { made self.new ≡ one_more (made self.old) };
 }

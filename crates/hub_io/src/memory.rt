@@ -9,7 +9,7 @@ ghost use Rattle.hub_io.specs.Notes.{size_of, call_as, calls_of};
 
 use crate::clients::{ConnFaults, Names};
 use crate::{Hub, HubEvent};
-use kit_io::{Failed, Faults, Log};
+use kit_io::{CallCount, Failed, Faults, Log};
 use link_io::Target;
 use std::alloc::{AllocError, Global};
 
@@ -73,6 +73,7 @@ pub struct MemHub {
     conn_faults: ConnFaults,
     modem_faults: Faults,
     names: Names,
+    made: CallCount,
 }
 
 impl MemHub {
@@ -94,6 +95,7 @@ impl MemHub {
         ensures conn_faults { IfOk result (λ hub. hub.conn_faults ≡ no_faults) }
         ensures modem_faults { IfOk result (λ hub. hub.modem_faults ≡ 0) }
         ensures nobody { IfOk result (λ hub. hub.names ≡ nobody) }
+        ensures made { IfOk result (λ hub. hub.made ≡ 0) }
     {
         turns.reverse();
         answers.reverse();
@@ -105,6 +107,7 @@ impl MemHub {
             conn_faults: ConnFaults::none(alloc)?,
             modem_faults: Faults::none(),
             names: Names::none(alloc)?,
+            made: CallCount::none(),
         })
     }
 
@@ -220,7 +223,14 @@ impl Hub for MemHub {
 
     ghost is_connected = { λ s conn. is_there s.names conn };
 
+    ghost made = { λ s. s.made };
+
+    fn made(&self) -> u64 {
+        self.made.value()
+    }
+
     fn open(&mut self, socket: &str, device: Option<&Target>) -> Result<(), Failed> {
+        self.made.add();
         match next_answer(&mut self.answers) {
             HubAnswer::Takes(_) => {
                 note_opening(&mut self.log, socket, device, true);
@@ -234,6 +244,7 @@ impl Hub for MemHub {
     }
 
     fn pair(&mut self) -> Result<(), Failed> {
+        self.made.add();
         match next_answer(&mut self.answers) {
             HubAnswer::Takes(_) => {
                 note(&mut self.log, HubCall::Paired { ok: true }, &[]);
@@ -247,6 +258,7 @@ impl Hub for MemHub {
     }
 
     fn next(&mut self, buf: &mut [u8]) -> Result<HubEvent, Failed> {
+        self.made.add();
         let turn = self.turns.pop().unwrap_or(HubTurn::Tells(HubEvent::Stop));
         match take_turn(turn, &mut self.names, buf) {
             Some(event) => {
@@ -261,6 +273,7 @@ impl Hub for MemHub {
     }
 
     fn send(&mut self, conn: u64, bytes: &[u8]) -> Result<usize, Failed> {
+        self.made.add();
         match next_answer(&mut self.answers) {
             HubAnswer::Takes(most) => {
                 let taken = bytes.len().min(most);
@@ -275,6 +288,7 @@ impl Hub for MemHub {
     }
 
     fn send_modem(&mut self, bytes: &[u8]) -> Result<usize, Failed> {
+        self.made.add();
         match next_answer(&mut self.answers) {
             HubAnswer::Takes(most) => {
                 let taken = bytes.len().min(most);
@@ -289,6 +303,7 @@ impl Hub for MemHub {
     }
 
     fn reopen_modem(&mut self) -> Result<(), Failed> {
+        self.made.add();
         match next_answer(&mut self.answers) {
             HubAnswer::Takes(_) => {
                 note(&mut self.log, HubCall::Reopened, &[]);
@@ -302,6 +317,7 @@ impl Hub for MemHub {
     }
 
     fn hang_up(&mut self, conn: u64) {
+        self.made.add();
         self.names.leave(conn);
         note(&mut self.log, HubCall::HungUp { conn }, &[]);
     }

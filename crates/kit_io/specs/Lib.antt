@@ -1,4 +1,5 @@
 pub mod Causes
+pub mod Counts
 pub mod Told
 pub mod Sink
 pub mod Record

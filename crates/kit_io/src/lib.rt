@@ -4,6 +4,7 @@
 //! it, and an adapter over the real thing, which tells nothing.
 #![tactic(auto)]
 
+mod call_count;
 mod faults;
 mod log;
 mod memory;
@@ -12,6 +13,7 @@ mod sink;
 mod standard;
 mod write;
 
+pub use call_count::CallCount;
 pub use faults::{Failed, Faults};
 pub use log::{Log, Note};
 pub use memory::{MemSink, SinkAnswer};

@@ -1,7 +1,7 @@
 ghost use Rattle.std.specs.Prelude.{◌≡◌, ◌≤◌, [], Some, IfOk};
 ghost use Rattle.std.specs.Option.{option_copied};
 
-use crate::{Failed, Faults, Record, Sink};
+use crate::{CallCount, Failed, Faults, Record, Sink};
 use std::alloc::{AllocError, Global};
 
 /// What a sink in memory answers to one call.
@@ -20,6 +20,7 @@ pub struct MemSink {
     script: Vec<SinkAnswer>,
     taken: Record<u8>,
     faults: Faults,
+    made: CallCount,
 }
 
 impl MemSink {
@@ -33,6 +34,7 @@ impl MemSink {
             script,
             taken: Record::new(alloc, room)?,
             faults: Faults::none(),
+            made: CallCount::none(),
         })
     }
 
@@ -49,7 +51,14 @@ impl Sink for MemSink {
 
     ghost faults = { λ s. s.faults };
 
+    ghost made = { λ s. s.made };
+
+    fn made(&self) -> u64 {
+        self.made.value()
+    }
+
     fn write(&mut self, bytes: &[u8]) -> Result<usize, Failed> {
+        self.made.add();
         match self.script.pop().unwrap_or(SinkAnswer::Takes(usize::MAX)) {
             SinkAnswer::Takes(most) => {
                 let count = bytes.len().min(most.max(1));

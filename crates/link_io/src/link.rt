@@ -1,5 +1,6 @@
 ghost use Rattle.std.specs.Prelude.{◌≡◌, ◌≤◌, ℕ, Bool, true, List, [], ◌∷◌, Option, length, is_ok, IfOk};
 ghost use Rattle.kit_io.specs.Causes.{HasCause};
+ghost use Rattle.kit_io.specs.Counts.{one_more};
 ghost use Rattle.kit_io.specs.Told.{Grows};
 
 use kit_bytes::Text;
@@ -46,26 +47,35 @@ pub trait Link {
     /// How many other calls have failed.
     ghost faults: { Self → ℕ };
 
+    /// How many calls were made on it. At its type's end the count stands still.
+    ghost made: { Self → ℕ };
+
+    fn made(&self) -> u64
+        ensures { result ≡ made self.now };
+
     /// Opens the link. A bridge listens then, and has to be paired before anything is sent or taken.
     fn open(&mut self, target: &Target) -> Result<(), Failed>
         ensures calls { Grows (calls self.old) (Opened (address_of target.now) (is_ok result) ∷ []) (calls self.new) }
         ensures ended { ended self.old ≡ true → ended self.new ≡ true }
         ensures cause { HasCause (open_faults self.old) (open_faults self.new) result }
-        ensures later { faults self.old ≤ faults self.new };
+        ensures later { faults self.old ≤ faults self.new }
+        ensures made { made self.new ≡ one_more (made self.old) };
 
     /// Waits for both pumps of a bridge.
     fn pair(&mut self) -> Result<(), Failed>
         ensures calls { Grows (calls self.old) (Paired (is_ok result) ∷ []) (calls self.new) }
         ensures ended { ended self.old ≡ true → ended self.new ≡ true }
         ensures cause { HasCause (faults self.old) (faults self.new) result }
-        ensures later { open_faults self.old ≤ open_faults self.new };
+        ensures later { open_faults self.old ≤ open_faults self.new }
+        ensures made { made self.new ≡ one_more (made self.old) };
 
     /// Sends all the bytes, or a front of them where it fails.
     fn send(&mut self, bytes: &[u8]) -> Result<(), Failed>
         ensures calls { Sends (calls self.old) bytes.now result (calls self.new) }
         ensures ended { ended self.old ≡ true → ended self.new ≡ true }
         ensures cause { HasCause (faults self.old) (faults self.new) result }
-        ensures later { open_faults self.old ≤ open_faults self.new };
+        ensures later { open_faults self.old ≤ open_faults self.new }
+        ensures made { made self.new ≡ one_more (made self.old) };
 
     /// Waits for bytes, for at most one tick.
     fn take(&mut self, buffer: &mut [u8]) -> Result<Taken, Failed>
@@ -74,12 +84,14 @@ pub trait Link {
         ensures calls { Grows (calls self.old) (take_call result buffer.new ∷ []) (calls self.new) }
         ensures ended { EndsForGood (ended self.old) result (ended self.new) }
         ensures cause { HasCause (faults self.old) (faults self.new) result }
-        ensures later { open_faults self.old ≤ open_faults self.new };
+        ensures later { open_faults self.old ≤ open_faults self.new }
+        ensures made { made self.new ≡ one_more (made self.old) };
 
     /// Closes the link.
     fn close(&mut self)
         ensures calls { Grows (calls self.old) (Closed ∷ []) (calls self.new) }
         ensures ended { ended self.old ≡ true → ended self.new ≡ true }
         ensures later { faults self.old ≤ faults self.new }
-        ensures later_open { open_faults self.old ≤ open_faults self.new };
+        ensures later_open { open_faults self.old ≤ open_faults self.new }
+        ensures made { made self.new ≡ one_more (made self.old) };
 }

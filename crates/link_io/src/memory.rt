@@ -5,7 +5,7 @@ ghost use Rattle.link_io.specs.Target.{address_of};
 ghost use Rattle.link_io.specs.Made.{calls_of};
 
 use crate::{Link, Taken, Target};
-use kit_io::{Failed, Faults, Log};
+use kit_io::{CallCount, Failed, Faults, Log};
 use std::alloc::{AllocError, Global};
 
 /// What a link in memory answers to one call.
@@ -46,6 +46,7 @@ pub struct MemLink {
     ended: bool,
     open_faults: Faults,
     faults: Faults,
+    made: CallCount,
 }
 
 impl MemLink {
@@ -64,6 +65,7 @@ impl MemLink {
         ensures not_ended { IfOk result (λ link. link.ended ≡ false) }
         ensures open_faults { IfOk result (λ link. link.open_faults ≡ 0) }
         ensures faults { IfOk result (λ link. link.faults ≡ 0) }
+        ensures made { IfOk result (λ link. link.made ≡ 0) }
     {
         script.reverse();
         Ok(MemLink {
@@ -72,6 +74,7 @@ impl MemLink {
             ended: false,
             open_faults: Faults::none(),
             faults: Faults::none(),
+            made: CallCount::none(),
         })
     }
 
@@ -103,8 +106,15 @@ impl Link for MemLink {
 
     ghost faults = { λ s. s.faults };
 
+    ghost made = { λ s. s.made };
+
+    fn made(&self) -> u64 {
+        self.made.value()
+    }
+
     #[tactic(auto, using(kit_io::proofs::Told::growing))]
     fn open(&mut self, target: &Target) -> Result<(), Failed> {
+        self.made.add();
         if let Some(LinkAnswer::Fails) = self.script.pop() {
             note_opening(&mut self.log, target, false);
             return Err(self.open_faults.fail());
@@ -115,6 +125,7 @@ impl Link for MemLink {
 
     #[tactic(auto, using(kit_io::proofs::Told::growing))]
     fn pair(&mut self) -> Result<(), Failed> {
+        self.made.add();
         if let Some(LinkAnswer::Fails) = self.script.pop() {
             self.log.note(Made::Paired { ok: false }, &[]);
             return Err(self.faults.fail());
@@ -125,6 +136,7 @@ impl Link for MemLink {
 
     #[tactic(auto, using(kit_io::proofs::Told::growing))]
     fn send(&mut self, bytes: &[u8]) -> Result<(), Failed> {
+        self.made.add();
         if let Some(LinkAnswer::Fails) = self.script.pop() {
             let half = &bytes[..bytes.len() / 2];
             self.log.note(Made::Sent { ok: false }, half);
@@ -136,6 +148,7 @@ impl Link for MemLink {
 
     #[tactic(auto, using(kit_io::proofs::Told::growing))]
     fn take(&mut self, buffer: &mut [u8]) -> Result<Taken, Failed> {
+        self.made.add();
         if self.ended {
             self.log.note(Made::WasEnd, &[]);
             return Ok(Taken::End);
@@ -165,6 +178,7 @@ impl Link for MemLink {
 
     #[tactic(auto, using(kit_io::proofs::Told::growing))]
     fn close(&mut self) {
+        self.made.add();
         self.log.note(Made::Closed, &[]);
     }
 }

@@ -1,13 +1,14 @@
 ghost use Rattle.std.specs.Prelude.{◌≡◌, ◌≤◌, true, false, None, length, is_ok, IsSome, IfOk, OnOk};
 ghost use Rattle.std.specs.Option.{option_copied};
 ghost use Rattle.kit_io.specs.Causes.{HasCause};
+ghost use Rattle.kit_io.specs.Counts.{one_more};
 ghost use Rattle.hub_io.specs.Clients.{fault_of, is_there};
 ghost use Rattle.hub_io.specs.Hub.{NoneFell, SameClients, opened_call, reopen_call, send_call, send_modem_call};
 ghost use Rattle.hub_io.specs.Record.{Paired, Records};
 
 use crate::sockets::Sockets;
 use hub_io::{ConnFaults, Hub, HubEvent};
-use kit_io::{Failed, Faults};
+use kit_io::{CallCount, Failed, Faults};
 use link_io::Target;
 use std::alloc::Global;
 use std::fs::{File, Files};
@@ -34,6 +35,7 @@ pub struct MioHub<'a, R: Files> {
     faults: Faults,
     conn_faults: ConnFaults,
     modem_faults: Faults,
+    made: CallCount,
 }
 
 impl<'a, R: Net + Clock + Files<File = File>> MioHub<'a, R> {
@@ -44,6 +46,7 @@ impl<'a, R: Net + Clock + Files<File = File>> MioHub<'a, R> {
             faults: Faults::none(),
             conn_faults: ConnFaults::none(alloc)?,
             modem_faults: Faults::none(),
+            made: CallCount::none(),
         })
     }
 }
@@ -61,6 +64,12 @@ impl<R: Net + Clock + Files<File = File>> Hub for MioHub<'_, R> {
 
     ghost is_connected = { λ s conn. is_there s.sockets.names conn };
 
+    ghost made = { λ s. s.made };
+
+    fn made(&self) -> u64 {
+        self.made.value()
+    }
+
     fn open(&mut self, socket: &str, device: Option<&Target>) -> Result<(), Failed>
         ensures calls { Records None (opened_call result socket.now (option_copied device.entry)) None }
         ensures cause { HasCause self.old.faults self.new.faults result }
@@ -68,8 +77,10 @@ impl<R: Net + Clock + Files<File = File>> Hub for MioHub<'_, R> {
         ensures modem { self.old.modem_faults ≤ self.new.modem_faults }
         ensures names { self.new.sockets.names.greatest ≡ self.old.sockets.names.greatest }
         ensures clients { SameClients (is_there self.old.sockets.names) (is_there self.new.sockets.names) }
+        ensures made { self.new.made ≡ one_more self.old.made }
         ensures listens { OnOk result (IsSome self.new.sockets.listening) }
     {
+        self.made.add();
         match self.sockets.open(socket, device) {
             Ok(()) => Ok(()),
             Err(_) => Err(self.faults.fail()),
@@ -83,8 +94,10 @@ impl<R: Net + Clock + Files<File = File>> Hub for MioHub<'_, R> {
         ensures modem { self.old.modem_faults ≤ self.new.modem_faults }
         ensures names { self.new.sockets.names.greatest ≡ self.old.sockets.names.greatest }
         ensures clients { SameClients (is_there self.old.sockets.names) (is_there self.new.sockets.names) }
+        ensures made { self.new.made ≡ one_more self.old.made }
         ensures reached { OnOk result (IsSome self.new.sockets.modem) }
     {
+        self.made.add();
         match self.sockets.pair() {
             Ok(()) => Ok(()),
             Err(_) => Err(self.faults.fail()),
@@ -92,6 +105,7 @@ impl<R: Net + Clock + Files<File = File>> Hub for MioHub<'_, R> {
     }
 
     fn next(&mut self, buf: &mut [u8]) -> Result<HubEvent, Failed> {
+        self.made.add();
         match self.sockets.next(buf) {
             Ok(event) => Ok(event),
             Err(_) => Err(self.faults.fail()),
@@ -107,8 +121,10 @@ impl<R: Net + Clock + Files<File = File>> Hub for MioHub<'_, R> {
         ensures modem { self.old.modem_faults ≤ self.new.modem_faults }
         ensures names { self.new.sockets.names.greatest ≡ self.old.sockets.names.greatest }
         ensures clients { SameClients (is_there self.old.sockets.names) (is_there self.new.sockets.names) }
+        ensures made { self.new.made ≡ one_more self.old.made }
         ensures there { OnOk result (is_there self.old.sockets.names conn ≡ true) }
     {
+        self.made.add();
         match self.sockets.send(conn, bytes) {
             Ok(count) => Ok(count),
             Err(_) => Err(self.conn_faults.fail(conn)),
@@ -123,9 +139,11 @@ impl<R: Net + Clock + Files<File = File>> Hub for MioHub<'_, R> {
         ensures conns { NoneFell (fault_of self.old.conn_faults) (fault_of self.new.conn_faults) }
         ensures names { self.new.sockets.names.greatest ≡ self.old.sockets.names.greatest }
         ensures clients { SameClients (is_there self.old.sockets.names) (is_there self.new.sockets.names) }
+        ensures made { self.new.made ≡ one_more self.old.made }
         ensures reached { OnOk result (IsSome self.old.sockets.modem) }
         ensures lost { is_ok result ≡ false → self.new.sockets.modem ≡ None }
     {
+        self.made.add();
         match self.sockets.send_modem(bytes) {
             Ok(count) => Ok(count),
             Err(_) => Err(self.modem_faults.fail()),
@@ -139,9 +157,11 @@ impl<R: Net + Clock + Files<File = File>> Hub for MioHub<'_, R> {
         ensures conns { NoneFell (fault_of self.old.conn_faults) (fault_of self.new.conn_faults) }
         ensures names { self.new.sockets.names.greatest ≡ self.old.sockets.names.greatest }
         ensures clients { SameClients (is_there self.old.sockets.names) (is_there self.new.sockets.names) }
+        ensures made { self.new.made ≡ one_more self.old.made }
         ensures reached { OnOk result (IsSome self.new.sockets.modem) }
         ensures closed { is_ok result ≡ false → self.new.sockets.modem ≡ None }
     {
+        self.made.add();
         match self.sockets.open_device() {
             Ok(()) => Ok(()),
             Err(_) => Err(self.modem_faults.fail()),
@@ -149,6 +169,7 @@ impl<R: Net + Clock + Files<File = File>> Hub for MioHub<'_, R> {
     }
 
     fn hang_up(&mut self, conn: u64) {
+        self.made.add();
         self.sockets.hang_up(conn);
     }
 }

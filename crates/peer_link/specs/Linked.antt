@@ -12,6 +12,8 @@ pub record Linked (A : Type 0) : Type 0 where
   pub told : Option (List Call)
   -- how many calls have failed
   pub faults : ℕ
+  -- how many calls were made
+  pub count : ℕ
 
 -- the texts of the calls have come to the peer, which said these bytes to them, and so many of these were taken
 pub record IsAtPeer {A : Type 0} (peer : A → Peer) (has_met : List (List ℕ) → A → Type 0) (answerer : A) (calls : List Call) (bytes : List ℕ) (taken : ℕ) : Type 0 where

@@ -5,7 +5,7 @@ ghost use Rattle.peer_link.specs.Made.{call_of};
 
 use crate::Answerer;
 use kit_bytes::Octets;
-use kit_io::{Failed, Faults};
+use kit_io::{CallCount, Failed, Faults};
 use link_io::{Link, Taken, Target};
 use std::alloc::{AllocError, Global};
 use std::marker::Model;
@@ -33,6 +33,7 @@ pub struct PeerLink<A: Answerer> {
     said: Vec<u8>,
     taken: usize,
     faults: Faults,
+    count: CallCount,
 }
 
 impl<A: Answerer> Model for PeerLink<A> {
@@ -46,6 +47,7 @@ impl<A: Answerer> Model for PeerLink<A> {
       answerer = l.answerer;
       told = (if l.tells then Some (map call_of l.made.items) else None);
       faults = l.faults;
+      count = l.count;
     } };
 
     ghost invariant = { λ l. (l.taken ≤ vec_len l.said) × (l.tells ≡ true → IsAtPeer A.peer A.has_met l.answerer (map call_of l.made.items) l.said.items l.taken) };
@@ -70,6 +72,7 @@ impl<A: Answerer> PeerLink<A> {
             said: Vec::new(alloc),
             taken: 0,
             faults: Faults::none(),
+            count: CallCount::none(),
         }
     }
 
@@ -126,6 +129,7 @@ impl<A: Answerer> PeerLink<A> {
         ensures named { OnOk result ((calls : List Call) → A.named self.new.answerer calls ≡ A.named self.old.answerer calls) }
         ensures err { OnErr result (self.new.told ≡ None) }
         ensures faults { self.new.faults ≡ self.old.faults }
+        ensures count { self.new.count ≡ self.old.count }
     {
         let tells = self.tells;
         self.tells = false;
@@ -145,6 +149,7 @@ impl<A: Answerer> PeerLink<A> {
         ensures same { self.new.answerer ≡ self.old.answerer }
         ensures err { OnErr result (self.new.told ≡ None) }
         ensures faults { self.new.faults ≡ self.old.faults }
+        ensures count { self.new.count ≡ self.old.count }
     {
         let tells = self.tells;
         self.tells = false;
@@ -176,17 +181,26 @@ impl<A: Answerer> Link for PeerLink<A> {
 
     ghost faults = { λ s. s.faults };
 
+    ghost made = { λ s. s.count };
+
+    fn made(&self) -> u64 {
+        self.count.value()
+    }
+
     fn open(&mut self, _target: &Target) -> Result<(), Failed> {
+        self.count.add();
         self.tells = false;
         Ok(())
     }
 
     fn pair(&mut self) -> Result<(), Failed> {
+        self.count.add();
         self.tells = false;
         Ok(())
     }
 
     fn send(&mut self, bytes: &[u8]) -> Result<(), Failed> {
+        self.count.add();
         match self.ask(bytes) {
             Ok(()) => Ok(()),
             Err(AllocError) => Err(self.faults.fail()),
@@ -194,6 +208,7 @@ impl<A: Answerer> Link for PeerLink<A> {
     }
 
     fn take(&mut self, buffer: &mut [u8]) -> Result<Taken, Failed> {
+        self.count.add();
         match self.bring(buffer) {
             Ok(taken) => Ok(taken),
             Err(AllocError) => Err(self.faults.fail()),
@@ -201,6 +216,7 @@ impl<A: Answerer> Link for PeerLink<A> {
     }
 
     fn close(&mut self) {
+        self.count.add();
         self.tells = false;
     }
 }

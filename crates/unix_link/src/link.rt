@@ -1,5 +1,6 @@
 ghost use Rattle.std.specs.Prelude.{◌≡◌, ◌≤◌, true, false, [], ◌∷◌, None, is_ok, length, IfOk, OnOk, IsSome};
 ghost use Rattle.kit_io.specs.Causes.{HasCause};
+ghost use Rattle.kit_io.specs.Counts.{one_more};
 ghost use Rattle.kit_io.specs.Told.{Grows};
 ghost use Rattle.link_io.specs.Calls.{Opened, Paired, Closed, Sends};
 ghost use Rattle.link_io.specs.Target.{address_of};
@@ -7,7 +8,7 @@ ghost use Rattle.unix_link.specs.Reached.{IsReached};
 
 use crate::bridge::{Bridge, Pumps};
 use crate::message_stream::MessageStream;
-use kit_io::{Failed, Faults};
+use kit_io::{CallCount, Failed, Faults};
 use link_io::{Link, Taken, Target};
 use std::alloc::Global;
 use std::cell::Cell;
@@ -62,6 +63,7 @@ pub struct UnixLink<'a, R: Files> {
     ended: bool,
     open_faults: Faults,
     faults: Faults,
+    made: CallCount,
 }
 
 impl<'a, R: Net + Clock + Files<File = File>> UnixLink<'a, R> {
@@ -73,6 +75,7 @@ impl<'a, R: Net + Clock + Files<File = File>> UnixLink<'a, R> {
         ensures ended { result.ended ≡ false }
         ensures open_faults { result.open_faults ≡ 0 }
         ensures faults { result.faults ≡ 0 }
+        ensures made { result.made ≡ 0 }
     {
         UnixLink {
             rt,
@@ -83,6 +86,7 @@ impl<'a, R: Net + Clock + Files<File = File>> UnixLink<'a, R> {
             ended: false,
             open_faults: Faults::none(),
             faults: Faults::none(),
+            made: CallCount::none(),
         }
     }
 
@@ -91,6 +95,7 @@ impl<'a, R: Net + Clock + Files<File = File>> UnixLink<'a, R> {
         ensures ended { self.new.ended ≡ self.old.ended }
         ensures open_faults { self.new.open_faults ≡ self.old.open_faults }
         ensures faults { self.new.faults ≡ self.old.faults }
+        ensures made { self.new.made ≡ self.old.made }
     {
         match target {
             Target::Socket(path) => {
@@ -112,6 +117,7 @@ impl<'a, R: Net + Clock + Files<File = File>> UnixLink<'a, R> {
         ensures ended { self.new.ended ≡ self.old.ended }
         ensures open_faults { self.new.open_faults ≡ self.old.open_faults }
         ensures faults { self.new.faults ≡ self.old.faults }
+        ensures made { self.new.made ≡ self.old.made }
     {
         let Some(bridge) = &self.bridge else {
             return Err(ErrorKind::NotConnected.into());
@@ -134,13 +140,21 @@ impl<R: Net + Clock + Files<File = File>> Link for UnixLink<'_, R> {
 
     ghost faults = { λ s. s.faults };
 
+    ghost made = { λ s. s.made };
+
+    fn made(&self) -> u64 {
+        self.made.value()
+    }
+
     fn open(&mut self, target: &Target) -> Result<(), Failed>
         ensures calls { Grows None (Opened (address_of target.now) (is_ok result) ∷ []) None }
         ensures ended { self.old.ended ≡ true → self.new.ended ≡ true }
         ensures cause { HasCause self.old.open_faults self.new.open_faults result }
         ensures later { self.old.faults ≤ self.new.faults }
+        ensures made { self.new.made ≡ one_more self.old.made }
         ensures reached { OnOk result (IsReached target.now self.new.streams self.new.bridge) }
     {
+        self.made.add();
         if self.reach(target).is_ok() {
             return Ok(());
         }
@@ -153,8 +167,10 @@ impl<R: Net + Clock + Files<File = File>> Link for UnixLink<'_, R> {
         ensures ended { self.old.ended ≡ true → self.new.ended ≡ true }
         ensures cause { HasCause self.old.faults self.new.faults result }
         ensures later { self.old.open_faults ≤ self.new.open_faults }
+        ensures made { self.new.made ≡ one_more self.old.made }
         ensures met { OnOk result (IsSome self.new.streams) }
     {
+        self.made.add();
         match self.meet() {
             Ok(()) => Ok(()),
             Err(_) => Err(self.faults.fail()),
@@ -166,8 +182,10 @@ impl<R: Net + Clock + Files<File = File>> Link for UnixLink<'_, R> {
         ensures ended { self.old.ended ≡ true → self.new.ended ≡ true }
         ensures cause { HasCause self.old.faults self.new.faults result }
         ensures later { self.old.open_faults ≤ self.new.open_faults }
+        ensures made { self.new.made ≡ one_more self.old.made }
         ensures open { OnOk result (IsSome self.old.streams) }
     {
+        self.made.add();
         if let Some(streams) = &mut self.streams
             && streams.write_all(bytes).is_ok()
         {
@@ -177,6 +195,7 @@ impl<R: Net + Clock + Files<File = File>> Link for UnixLink<'_, R> {
     }
 
     fn take(&mut self, buffer: &mut [u8]) -> Result<Taken, Failed> {
+        self.made.add();
         if self.ended {
             return Ok(Taken::End);
         }
@@ -203,9 +222,11 @@ impl<R: Net + Clock + Files<File = File>> Link for UnixLink<'_, R> {
         ensures ended { self.old.ended ≡ true → self.new.ended ≡ true }
         ensures later { self.old.faults ≤ self.new.faults }
         ensures later_open { self.old.open_faults ≤ self.new.open_faults }
+        ensures made { self.new.made ≡ one_more self.old.made }
         ensures no_streams { self.new.streams ≡ None }
         ensures no_bridge { self.new.bridge ≡ None }
     {
+        self.made.add();
         self.descriptor.set(-1);
         self.streams = None;
         self.bridge = None;
