@@ -69,8 +69,8 @@ module _ {old new : Option (List (Noted Made))} where
   pub Grows-end_failed : {bytes : List ℕ} (child : ℕ) → Grows old (record { kind = made.EndFailed child; bytes = bytes } ∷ []) new → Grows (calls_of old) (EndFailed child ∷ []) (calls_of new)
   Grows-end_failed {bytes = bytes} child grows = Grows-calls (record { kind = made.EndFailed child; bytes = bytes } ∷ []) (EndFailed child ∷ []) (λ gathered. refl) grows
 
-  pub Grows-stopped : {bytes : List ℕ} (child : ℕ) (ok : Bool) → Grows old (record { kind = made.Stopped child ok; bytes = bytes } ∷ []) new → Grows (calls_of old) (Stopped child ok ∷ []) (calls_of new)
-  Grows-stopped {bytes = bytes} child ok grows = Grows-calls (record { kind = made.Stopped child ok; bytes = bytes } ∷ []) (Stopped child ok ∷ []) (λ gathered. refl) grows
+  pub Grows-stopped : {bytes : List ℕ} (child : ℕ) (ok : Bool) (after : ℕ) → Grows old (record { kind = made.Stopped child ok after; bytes = bytes } ∷ []) new → Grows (calls_of old) (Stopped child ok after ∷ []) (calls_of new)
+  Grows-stopped {bytes = bytes} child ok after grows = Grows-calls (record { kind = made.Stopped child ok after; bytes = bytes } ∷ []) (Stopped child ok after ∷ []) (λ gathered. refl) grows
 
 -- how the calls grow
 pub ruleset noting = (Grows-started, Grows-start_failed, Grows-ended, Grows-end_failed, Grows-stopped)

@@ -36,7 +36,7 @@ named_first (Started words named) later child at =
 named_first (StartFailed words) later child at = absurd (Contains-nil child at)
 named_first (Ended other status) later child at = absurd (Contains-nil child at)
 named_first (EndFailed other) later child at = absurd (Contains-nil child at)
-named_first (Stopped other ok) later child at = absurd (Contains-nil child at)
+named_first (Stopped other ok after) later child at = absurd (Contains-nil child at)
 
 started_later : (call : Call) (later : List Call) (child : ℕ) → IsStartedAndNotEnded child later → IsStartedAndNotEnded child (call ∷ later)
 started_later call later child was = record { earlier = call ∷ was.earlier; words = was.words; later = was.later; whole = ap (λ l. call ∷ l) was.whole; none = was.none }

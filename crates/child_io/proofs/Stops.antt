@@ -17,27 +17,32 @@ use Rattle.child_io.specs.Alive.{sees_end_of, left_after, alive}
 use Rattle.child_io.specs.Kids.{Try, stops, LeavesFailedAlone, StopsEach}
 use Rattle.child_io.proofs.Alive.{alive-append, right_false}
 
-just_tried : (child : ℕ) (ok : Bool) (later : List Call) → list_any (sees_end_of child) (Stopped child ok ∷ later) ≡ false → Contains (Stopped child ok ∷ later) (Stopped child false)
-just_tried child true later is =
+-- a try of this child that failed
+abbrev failed_try : ℕ → Try
+failed_try child = record { child = child; ok = false }
+
+just_tried : (child after : ℕ) (ok : Bool) (later : List Call) (tries : List Try) → list_any (sees_end_of child) (Stopped child ok after ∷ later) ≡ false
+    → Contains (record { child = child; ok = ok } ∷ tries) (failed_try child)
+just_tried child after true later tries is =
     let itself = (Decides-eqb child child).1 refl in
     let seen = ap (λ b. b || list_any (sees_end_of child) later) itself in absurd (cc)
-just_tried child false later is = (zero, omega arith, refl)
+just_tried child after false later tries is = (zero, omega arith, refl)
 
-each_was_tried : (tries : List Try) → AllByRecursion (λ child. list_any (sees_end_of child) (stops tries) ≡ false → Contains (stops tries) (Stopped child false)) (map (λ try. try.child) tries)
-each_was_tried [] = tt
-each_was_tried (try ∷ tries) =
-    let call = Stopped try.child try.ok in (
-      just_tried try.child try.ok (stops tries),
-      all_weaker (λ child. list_any (sees_end_of child) (stops tries) ≡ false → Contains (stops tries) (Stopped child false))
-          (λ child. list_any (sees_end_of child) (call ∷ stops tries) ≡ false → Contains (call ∷ stops tries) (Stopped child false))
-          (λ child tried is. Contains-cons (Stopped child false) call (stops tries) (tried (right_false (sees_end_of child call) (list_any (sees_end_of child) (stops tries)) is)))
-          (map (λ try. try.child) tries) (each_was_tried tries),
+each_was_tried : (after : ℕ) (tries : List Try) → AllByRecursion (λ child. list_any (sees_end_of child) (stops after tries) ≡ false → Contains tries (failed_try child)) (map (λ try. try.child) tries)
+each_was_tried after [] = tt
+each_was_tried after (try ∷ tries) =
+    let call = Stopped try.child try.ok after in (
+      just_tried try.child after try.ok (stops after tries) tries,
+      all_weaker (λ child. list_any (sees_end_of child) (stops after tries) ≡ false → Contains tries (failed_try child))
+          (λ child. list_any (sees_end_of child) (call ∷ stops after tries) ≡ false → Contains (try ∷ tries) (failed_try child))
+          (λ child tried is. Contains-cons (failed_try child) try tries (tried (right_false (sees_end_of child call) (list_any (sees_end_of child) (stops after tries)) is)))
+          (map (λ try. try.child) tries) (each_was_tried after tries),
     )
 
 -- a stop names no new child
-alive-stops : (tries : List Try) → alive (stops tries) ≡ []
-alive-stops [] = refl
-alive-stops (try ∷ tries) = alive-stops tries
+alive-stops : (after : ℕ) (tries : List Try) → alive (stops after tries) ≡ []
+alive-stops after [] = refl
+alive-stops after (try ∷ tries) = alive-stops after tries
 
 left_true : (a b : Bool) → (a && b) ≡ true → a ≡ true
 left_true true b is = refl
@@ -47,32 +52,32 @@ right_true : (a b : Bool) → (a && b) ≡ true → b ≡ true
 right_true true b is = is
 right_true false b is = absurd (cc)
 
-none_failed : (tries : List Try) (child : ℕ) → list_all (λ try. try.ok) tries ≡ true → Contains (stops tries) (Stopped child false) → ⊥
-none_failed [] child all at = Contains-nil (Stopped child false) at
+none_failed : (tries : List Try) (child : ℕ) → list_all (λ try. try.ok) tries ≡ true → Contains tries (failed_try child) → ⊥
+none_failed [] child all at = Contains-nil (failed_try child) at
 none_failed (try ∷ tries) child all at =
     let first = left_true try.ok (list_all (λ try. try.ok) tries) all in
     let later = right_true try.ok (list_all (λ try. try.ok) tries) all in
-    ⊎_elim (λ (is : Stopped try.child try.ok ≡ Stopped child false). (cc)) (λ (rest : Contains (stops tries) (Stopped child false)). none_failed tries child later rest)
-    (Contains-cons_cases (Stopped child false) (Stopped try.child try.ok) (stops tries) at)
+    ⊎_elim (λ (is : try ≡ failed_try child). let failed : try.ok ≡ false = ap (λ (t : Try). t.ok) is in (cc)) (λ (rest : Contains tries (failed_try child)). none_failed tries child later rest)
+    (Contains-cons_cases (failed_try child) try tries at)
 
 nothing_is_in : (left : List ℕ) → ((child : ℕ) → Contains left child → ⊥) → left ≡ []
 nothing_is_in [] none = refl
 nothing_is_in (child ∷ left) none = absurd (none child (zero, omega arith, refl))
 
-pub leaves_failed_alone : (calls : List Call) (tries : List Try) → map (λ try. try.child) tries ≡ alive calls → LeavesFailedAlone tries (alive (calls ++ stops tries))
-leaves_failed_alone calls tries each =
+pub leaves_failed_alone : (calls : List Call) (after : ℕ) (tries : List Try) → map (λ try. try.child) tries ≡ alive calls → LeavesFailedAlone tries (alive (calls ++ stops after tries))
+leaves_failed_alone calls after tries each =
     let children = map (λ (try : Try). try.child) tries in
-    let left = left_after (stops tries) children in
-    let Failed : ℕ → Type 0 = λ child. Contains (stops tries) (Stopped child false) in
-    let is : alive (calls ++ stops tries) ≡ left =
-    alive-append calls (stops tries)
-    ∙ ap (λ l. left_after (stops tries) (alive calls) ++ l) (alive-stops tries)
-    ∙ append-nil (left_after (stops tries) (alive calls))
-    ∙ ap (left_after (stops tries)) (sym each) in
+    let left = left_after (stops after tries) children in
+    let Failed : ℕ → Type 0 = λ child. Contains tries (failed_try child) in
+    let is : alive (calls ++ stops after tries) ≡ left =
+    alive-append calls (stops after tries)
+    ∙ ap (λ l. left_after (stops after tries) (alive calls) ++ l) (alive-stops after tries)
+    ∙ append-nil (left_after (stops after tries) (alive calls))
+    ∙ ap (left_after (stops after tries)) (sym each) in
     let failed : All Failed left =
     All-from_recursion Failed left
-    (all_passing (λ child. not (list_any (sees_end_of child) (stops tries))) (λ child. list_any (sees_end_of child) (stops tries) ≡ false → Failed child) Failed
-    (λ child keeps tried. tried (sym (not-not (list_any (sees_end_of child) (stops tries))) ∙ ap not keeps)) children (each_was_tried tries)) in
+    (all_passing (λ child. not (list_any (sees_end_of child) (stops after tries))) (λ child. list_any (sees_end_of child) (stops after tries) ≡ false → Failed child) Failed
+    (λ child keeps tried. tried (sym (not-not (list_any (sees_end_of child) (stops after tries))) ∙ ap not keeps)) children (each_was_tried after tries)) in
     record {
       failed = subst (All Failed) (sym is) failed;
       none = λ all. is ∙ nothing_is_in left (λ child at. none_failed tries child all (All-contains Failed left child failed at));
@@ -81,21 +86,21 @@ leaves_failed_alone calls tries each =
 -- ---- one stop after another ----
 
 -- these children were tried so far, each once
-pub record Tried {T E : Type 0} (children : List ℕ) (old : Option (List Call)) (result : Result T E) (now : Option (List Call)) : Type 0 where
+pub record Tried {T E : Type 0} (children : List ℕ) (after : ℕ) (old : Option (List Call)) (result : Result T E) (now : Option (List Call)) : Type 0 where
   pub tries : List Try
   pub each : map (λ try. try.child) tries ≡ children
   pub all : is_ok result ≡ list_all (λ try. try.ok) tries
-  pub grows : Grows old (stops tries) now
+  pub grows : Grows old (stops after tries) now
 
-pub Tried-none : {E : Type 0} (old : Option (List Call)) → Tried {T = Unit {0}} {E = E} [] old (Ok tt) old
-Tried-none old = record { tries = []; each = refl; all = refl; grows = Grows-none old }
+pub Tried-none : {E : Type 0} (after : ℕ) (old : Option (List Call)) → Tried {T = Unit {0}} {E = E} [] after old (Ok tt) old
+Tried-none after old = record { tries = []; each = refl; all = refl; grows = Grows-none old }
 
 is_ok-and : {T E : Type 0} (first : Result T E) (second : Result T E) → is_ok (result_and first second) ≡ (is_ok first && is_ok second)
 is_ok-and (Ok t) second = refl
 is_ok-and (Err e) second = refl
 
-module _ {T E : Type 0} {children : List ℕ} {old mid new : Option (List Call)} {result : Result T E} (so_far : Tried children old result mid) where
-  pub Tried-more : (child : ℕ) (answer : Result T E) → Grows mid (Stopped child (is_ok answer) ∷ []) new → Tried (children ++ child ∷ []) old (result_and result answer) new
+module _ {T E : Type 0} {children : List ℕ} {after : ℕ} {old mid new : Option (List Call)} {result : Result T E} (so_far : Tried children after old result mid) where
+  pub Tried-more : (child : ℕ) (answer : Result T E) → Grows mid (Stopped child (is_ok answer) after ∷ []) new → Tried (children ++ child ∷ []) after old (result_and result answer) new
   Tried-more child answer grows =
       let last : Try = record { child = child; ok = is_ok answer } in
       record {
@@ -106,17 +111,17 @@ module _ {T E : Type 0} {children : List ℕ} {old mid new : Option (List Call)}
             ∙ ap (λ (b : Bool). b && is_ok answer) so_far.all
             ∙ ap (λ (b : Bool). list_all (λ (try : Try). try.ok) so_far.tries && b) (sym (and-true (is_ok answer)))
             ∙ sym (list_all-append (λ (try : Try). try.ok) so_far.tries (last ∷ []));
-        grows = rw (map_push (λ (try : Try). Stopped try.child try.ok) so_far.tries last) (Grows-append so_far.grows grows);
+        grows = rw (map_push (λ (try : Try). Stopped try.child try.ok after) so_far.tries last) (Grows-append so_far.grows grows);
       }
 
 -- each was tried
-pub Tried-all : {T E : Type 0} {children all : List ℕ} {old new : Option (List Call)} {result : Result T E} → Tried children old result new → children ≡ all → StopsEach all old result new
-Tried-all tried are = record {
+pub Tried-all : {T E : Type 0} {children all : List ℕ} {after : ℕ} {old new : Option (List Call)} {result : Result T E} → Tried children after old result new → children ≡ all → StopsEach all after old result new
+Tried-all {after = after} tried are = record {
   tries = tried.tries;
   each = tried.each ∙ are;
   all = tried.all;
   grows = tried.grows;
-  leaves = λ calls stands. leaves_failed_alone calls tried.tries (tried.each ∙ are ∙ stands);
+  leaves = λ calls stands. leaves_failed_alone calls after tried.tries (tried.each ∙ are ∙ stands);
 }
 
 -- one answer after another, each with its cause

@@ -6,7 +6,7 @@ use Rattle.child_io.specs.Calls.{Call, Started, Ended, Stopped}
 -- the call answered that this child has ended
 abbrev pub sees_end_of : ℕ → Call → Bool
 sees_end_of child (Ended other status) = other == child
-sees_end_of child (Stopped other true) = other == child
+sees_end_of child (Stopped other true after) = other == child
 sees_end_of child _ = false
 
 -- of these children, those whose end none of the calls saw

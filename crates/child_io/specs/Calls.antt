@@ -8,8 +8,8 @@ pub data Call : Type 0 where
   -- `ended`, with the child and its status
   Ended : (child : ℕ) (status : ℤ) → Call
   EndFailed : (child : ℕ) → Call
-  -- `stop`, with the child and whether it answered Ok
-  Stopped : (child : ℕ) (ok : Bool) → Call
+  -- `stop`, with the child, whether it answered Ok, and how many calls it was told had been made before it on what the children serve
+  Stopped : (child : ℕ) (ok : Bool) (after : ℕ) → Call
 
 -- a `start` with these words and this answer
 abbrev pub start_call : {E : Type 0} → List (List ℕ) → Result ℕ E → Call

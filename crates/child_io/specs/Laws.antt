@@ -18,5 +18,5 @@ AliveUntilTheEnd = (calls : List Call) (child : ℕ) → Contains (alive calls) 
 
 -- one `stop` of each child that is alive
 abbrev pub FailedStopsAloneLeaveChildren : Type 0
-FailedStopsAloneLeaveChildren = (calls : List Call) (tries : List Try) → map (λ try. try.child) tries ≡ alive calls
-    → LeavesFailedAlone tries (alive (calls ++ stops tries))
+FailedStopsAloneLeaveChildren = (calls : List Call) (after : ℕ) (tries : List Try) → map (λ try. try.child) tries ≡ alive calls
+    → LeavesFailedAlone tries (alive (calls ++ stops after tries))

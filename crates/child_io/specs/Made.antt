@@ -21,7 +21,7 @@ with_made (made.Started child) bytes gathered = with_call (Started gathered.word
 with_made made.StartFailed bytes gathered = with_call (StartFailed gathered.words) gathered
 with_made (made.Ended child status) bytes gathered = with_call (Ended child status) gathered
 with_made (made.EndFailed child) bytes gathered = with_call (EndFailed child) gathered
-with_made (made.Stopped child ok) bytes gathered = with_call (Stopped child ok) gathered
+with_made (made.Stopped child ok after) bytes gathered = with_call (Stopped child ok after) gathered
 
 abbrev pub with_note : Gathered → Noted Made → Gathered
 with_note gathered note = with_made note.kind note.bytes gathered

@@ -69,16 +69,16 @@ impl Kids {
         Ok(status)
     }
 
-    /// Stops each child that is kept, in the order of their starts. `Failed` comes exactly where a
-    /// stop failed.
-    pub fn stop_all<P: Spawner>(self, spawner: &mut P) -> Result<(), Failed>
-        ensures stops { StopsEach self (P.calls spawner.old) result (P.calls spawner.new) }
+    /// Stops each child that is kept, in the order of their starts. So many calls were made before on
+    /// what the children serve. `Failed` comes exactly where a stop failed.
+    pub fn stop_all<P: Spawner>(self, spawner: &mut P, after: u64) -> Result<(), Failed>
+        ensures stops { StopsEach self after (P.calls spawner.old) result (P.calls spawner.new) }
         ensures cause { HasCause (P.faults spawner.old) (P.faults spawner.new) result }
     {
         let Kids { children } = self;
         let mut result = Ok(());
         for child in children.as_slice() {
-            result = result.and(spawner.stop(*child));
+            result = result.and(spawner.stop(*child, after));
         }
         result
     }

@@ -28,7 +28,7 @@ pub enum Made {
     StartFailed,
     Ended { child: u32, status: i32 },
     EndFailed { child: u32 },
-    Stopped { child: u32, ok: bool },
+    Stopped { child: u32, ok: bool, after: u64 },
 }
 
 /// A spawner in memory. It answers by its script, and behind the script's end each call does what
@@ -120,12 +120,12 @@ impl Spawner for MemSpawner {
     }
 
     #[tactic(auto, using(crate::proofs::Notes::noting))]
-    fn stop(&mut self, child: u32) -> Result<(), Failed> {
-        if let Some(SpawnerAnswer::Fails) = self.script.pop() {
-            self.log.note(Made::Stopped { child, ok: false }, &[]);
+    fn stop(&mut self, child: u32, after: u64) -> Result<(), Failed> {
+        let ok = self.script.pop() != Some(SpawnerAnswer::Fails);
+        self.log.note(Made::Stopped { child, ok, after }, &[]);
+        if !ok {
             return Err(self.faults.fail());
         }
-        self.log.note(Made::Stopped { child, ok: true }, &[]);
         Ok(())
     }
 }

@@ -25,8 +25,9 @@ pub trait Spawner {
         ensures calls { Grows (calls self.old) (end_call child result ∷ []) (calls self.new) }
         ensures cause { HasCause (faults self.old) (faults self.new) result };
 
-    /// Stops a child, and waits for its end.
-    fn stop(&mut self, child: u32) -> Result<(), Failed>
-        ensures calls { Grows (calls self.old) (Stopped child (is_ok result) ∷ []) (calls self.new) }
+    /// Stops a child, and waits for its end. So many calls were made before on what the child serves,
+    /// which is only recorded.
+    fn stop(&mut self, child: u32, after: u64) -> Result<(), Failed>
+        ensures calls { Grows (calls self.old) (Stopped child (is_ok result) after ∷ []) (calls self.new) }
         ensures cause { HasCause (faults self.old) (faults self.new) result };
 }

@@ -164,8 +164,8 @@ impl<R: Processes> Spawner for StdSpawner<'_, R> {
         }
     }
 
-    fn stop(&mut self, child: u32) -> Result<(), Failed>
-        ensures calls { Grows None (Stopped child (is_ok result) ∷ []) None }
+    fn stop(&mut self, child: u32, _after: u64) -> Result<(), Failed>
+        ensures calls { Grows None (Stopped child (is_ok result) _after ∷ []) None }
         ensures cause { HasCause self.old.faults self.new.faults result }
         ensures seen { OnOk result (vec_len self.new.children + 1 ≡ vec_len self.old.children) }
         ensures failed { OnErr result (vec_len self.new.children ≡ vec_len self.old.children) }

@@ -1,5 +1,5 @@
 -- Children that were started are stopped.
-use Rattle.std.proofs.Common.{◌≡◌, ℕ, Bool, List, Option, Result, ◌∙◌, is_ok}
+use Rattle.std.proofs.Common.{◌≡◌, ℕ, Bool, List, Option, Result, ◌∙◌, is_ok, subst}
 use Rattle.kit_io.specs.Told.{Grows}
 use Rattle.kit_io.proofs.Told.{Grows-append}
 use Rattle.child_io.specs.Calls.{Call}
@@ -7,12 +7,14 @@ use Rattle.child_io.specs.Alive.{StandsFor}
 use Rattle.child_io.specs.Kids.{StopsEach}
 use Rattle.modem_ways.specs.Reaching.{StartsAndStops}
 
-pub each_is_stopped : {T E : Type 0} {starts : List Call} {kept : List ℕ} {old mid new : Option (List Call)} {result : Result T E} {stopped : Bool}
-    → Grows old starts mid → StandsFor starts kept → StopsEach kept mid result new → stopped ≡ is_ok result → StartsAndStops starts stopped old new
-each_is_stopped {starts = starts} grows stands stops is = record {
-  tries = stops.tries;
-  each = stops.each ∙ stands;
-  all = is ∙ stops.all;
-  grows = Grows-append grows stops.grows;
-  left = stops.leaves starts stands;
-}
+pub each_is_stopped : {T E : Type 0} {starts : List Call} {kept : List ℕ} {after made : ℕ} {old mid new : Option (List Call)} {result : Result T E} {stopped : Bool}
+    → Grows old starts mid → StandsFor starts kept → StopsEach kept after mid result new → stopped ≡ is_ok result → after ≡ made → StartsAndStops starts stopped made old new
+each_is_stopped {starts = starts} {old = old} {new = new} {stopped = stopped} grows stands stops is behind =
+    subst (λ (n : ℕ). StartsAndStops starts stopped n old new) behind
+    (record {
+      tries = stops.tries;
+      each = stops.each ∙ stands;
+      all = is ∙ stops.all;
+      grows = Grows-append grows stops.grows;
+      left = stops.leaves starts stands;
+    })

@@ -27,13 +27,13 @@ pub record StartsBy (Like : List child.Call → Type 0) (old : Option (List chil
   pub grows : Grows old starts new
   pub stands : StandsFor starts kept
 
--- after these starts each child that they named was stopped, and `stopped` says whether each stop went well; none is left but by a stop that failed
-pub record StartsAndStops (starts : List child.Call) (stopped : Bool) (old new : Option (List child.Call)) : Type 0 where
+-- after these starts each child that they named was stopped, each behind so many calls on what the children serve, and `stopped` says whether each stop went well; none is left but by a stop that failed
+pub record StartsAndStops (starts : List child.Call) (stopped : Bool) (after : ℕ) (old new : Option (List child.Call)) : Type 0 where
   pub tries : List Try
   pub each : map (λ try. try.child) tries ≡ alive starts
   pub all : stopped ≡ list_all (λ try. try.ok) tries
-  pub grows : Grows old (starts ++ stops tries) new
-  pub left : LeavesFailedAlone tries (alive (starts ++ stops tries))
+  pub grows : Grows old (starts ++ stops after tries) new
+  pub left : LeavesFailedAlone tries (alive (starts ++ stops after tries))
 
 -- ---- reaching a modem ----
 

@@ -34,9 +34,9 @@ fn script_ends<P: Spawner, R: Abort>(
 fn stops<P: Spawner>(spawner: &mut P, words: &[String]) -> Result<bool, Failed> {
     let first = spawner.start(words)?;
     let second = spawner.start(words)?;
-    spawner.stop(first)?;
-    spawner.stop(second)?;
-    Ok(first != second && spawner.ended(first).is_err() && spawner.stop(second).is_err())
+    spawner.stop(first, 0)?;
+    spawner.stop(second, 0)?;
+    Ok(first != second && spawner.ended(first).is_err() && spawner.stop(second, 0).is_err())
 }
 
 #[test]

@@ -44,8 +44,8 @@ opened_at_once {socket = socket} {address = address} {spawner = spawner} (Err wh
 }
 
 -- without memory nothing was done
-pub without_memory : {kind : Kind} {asked : Asked} {place : Place} (hub : Option (List Call)) (spawner : Option (List child.Call)) → ServesProxy kind asked place hub spawner status.OutOfMemory hub spawner
-without_memory hub spawner = record {
+pub without_memory : {kind : Kind} {asked : Asked} {place : Place} (hub : Option (List Call)) (made : ℕ) (spawner : Option (List child.Call)) → ServesProxy kind asked place hub spawner status.OutOfMemory hub made spawner
+without_memory hub made spawner = record {
   starts = [];
   ends = status.OutOfMemory;
   serves = no_memory (none_since hub) refl refl;

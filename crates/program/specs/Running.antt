@@ -11,6 +11,7 @@ use Rattle.link_io.specs.Target.{AtSocket}
 use Rattle.modem_ways.specs.Ways.{Path, Direct, ByProxy, place_of, proxy_words}
 use Rattle.modem_ways.specs.Reaching.{LinkFails}
 use Rattle.kit_io.specs.Causes.{Rose}
+use Rattle.kit_io.specs.Counts.{together}
 use Rattle.kit_bytes.specs.declared.Kind.{Kind}
 use Rattle.kit_bytes.specs.declared.Kind.TheVariants as kind
 use Rattle.qmi_requests.specs.declared.QmiRequest.{QmiRequest}
@@ -51,6 +52,10 @@ pub record Told : Type 0 where
   pub out : Option (List ℕ)
   -- the newest first
   pub bench : Option (List Run)
+  -- how many calls were made on the link, the hub and the output
+  pub link_made : ℕ
+  pub hub_made : ℕ
+  pub out_made : ℕ
 
 -- nothing was done
 pub record Untouched (before after : Told) : Type 0 where
@@ -70,7 +75,7 @@ way_to kind false device socket bridge = Direct (place_of (encode_utf8_all devic
 
 -- what a tool does is told by its link, its children and its output
 abbrev pub of_tool : Told → asking.Told
-of_tool told = record { link = told.link; spawner = told.spawner; out = told.out }
+of_tool told = record { link = told.link; spawner = told.spawner; out = told.out; made = together told.link_made told.out_made }
 
 -- it asked a modem so, or had no memory to begin
 abbrev pub Asks : {End : Type 0} → Path → Asked End → asking.Told → asking.Told → Status → Type 0
@@ -100,7 +105,7 @@ RunsCommand (Mbimcli device proxied close timeout request decode socket bridge) 
 RunsCommand (PduSubmit number text reference) before after result = EndsAs status_of result (λ ends. PrintsText (hex_lines (messages number text reference)) before.out ends after.out)
 RunsCommand (Describe path) before after result = EndsAs status_of result (λ ends. Describes (encode_utf8_all path) before.files after.files before.out ends after.out)
 RunsCommand (Proxy kind device socket bridge empty exit_when_lost time release turns) before after result =
-    ServesProxy kind (asked_in device socket (record { empty = empty; lost = exit_when_lost }) time release turns) (place_of (encode_utf8_all device) (encode_utf8_all bridge)) before.hub before.spawner result after.hub after.spawner
+    ServesProxy kind (asked_in device socket (record { empty = empty; lost = exit_when_lost }) time release turns) (place_of (encode_utf8_all device) (encode_utf8_all bridge)) before.hub before.spawner result after.hub after.hub_made after.spawner
 RunsCommand (Simulator kind socket profile None turns None) before after result =
     EndsAs status_of_sim result (λ ends. sim.Simulates profile (sim.asked_in kind socket turns) (record { files = before.files; hub = before.hub }) (record { files = after.files; hub = after.hub }) ends)
 RunsCommand (Simulator kind socket profile (Some rules) turns None) before after result =

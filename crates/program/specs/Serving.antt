@@ -91,11 +91,11 @@ pub data Serves (kind : Kind) (asked : Asked) (place : Place) (old new : Option 
   not_opened : (why : OpenFault) → OpensHub (encode_utf8_all asked.socket) place old new (Err why) starts → ends ≡ status_of_opening why → Serves kind asked place old new ends starts
   no_memory : Since old new (λ calls. calls ≡ []) → starts ≡ [] → ends ≡ status.OutOfMemory → Serves kind asked place old new ends starts
 
--- that was done, and then each child that was started was stopped; none is left but by a stop that failed
-pub record ServesProxy (kind : Kind) (asked : Asked) (place : Place) (hub_old : Option (List Call)) (spawner_old : Option (List child.Call)) (result : Status) (hub_new : Option (List Call)) (spawner_new : Option (List child.Call)) : Type 0 where
+-- that was done, and then each child that was started was stopped, behind the last call on the hub; none is left but by a stop that failed
+pub record ServesProxy (kind : Kind) (asked : Asked) (place : Place) (hub_old : Option (List Call)) (spawner_old : Option (List child.Call)) (result : Status) (hub_new : Option (List Call)) (hub_made : ℕ) (spawner_new : Option (List child.Call)) : Type 0 where
   pub starts : List child.Call
   pub ends : Status
   pub serves : Serves kind asked place hub_old hub_new ends starts
   pub stopped : Bool
-  pub children : StartsAndStops starts stopped spawner_old spawner_new
+  pub children : StartsAndStops starts stopped hub_made spawner_old spawner_new
   pub is : result ≡ with_stops stopped ends

@@ -38,8 +38,8 @@ pub fn run<O: Sink, E: Sink, L: Link, H: Hub, P: Spawner, F: Files, B: Bench>(
 ) -> Status
     // What the words ask for is done, or they are refused.
     ensures runs { Runs (command_in (map string_bytes words.now))
-        (record { link = L.calls link.old; hub = H.calls hub.old; spawner = P.calls spawner.old; files = F.calls files.old; out = O.taken out.old; bench = B.runs bench.old })
-        (record { link = L.calls link.new; hub = H.calls hub.new; spawner = P.calls spawner.new; files = F.calls files.new; out = O.taken out.new; bench = B.runs bench.new })
+        (record { link = L.calls link.old; hub = H.calls hub.old; spawner = P.calls spawner.old; files = F.calls files.old; out = O.taken out.old; bench = B.runs bench.old; link_made = L.made link.old; hub_made = H.made hub.old; out_made = O.made out.old })
+        (record { link = L.calls link.new; hub = H.calls hub.new; spawner = P.calls spawner.new; files = F.calls files.new; out = O.taken out.new; bench = B.runs bench.new; link_made = L.made link.new; hub_made = H.made hub.new; out_made = O.made out.new })
         result }
     ensures apart { LeavesAlone (command_in (map string_bytes words.now))
         (record { link = link.old; hub = hub.old; spawner = spawner.old; files = files.old; out = out.old; bench = bench.old })
@@ -77,8 +77,8 @@ fn run_command<O: Sink, L: Link, H: Hub, P: Spawner, F: Files, B: Bench>(
 ) -> Status
     requires { IsWithinLimits command }
     ensures runs { RunsCommand command
-        (record { link = L.calls link.old; hub = H.calls hub.old; spawner = P.calls spawner.old; files = F.calls files.old; out = O.taken out.old; bench = B.runs bench.old })
-        (record { link = L.calls link.new; hub = H.calls hub.new; spawner = P.calls spawner.new; files = F.calls files.new; out = O.taken out.new; bench = B.runs bench.new })
+        (record { link = L.calls link.old; hub = H.calls hub.old; spawner = P.calls spawner.old; files = F.calls files.old; out = O.taken out.old; bench = B.runs bench.old; link_made = L.made link.old; hub_made = H.made hub.old; out_made = O.made out.old })
+        (record { link = L.calls link.new; hub = H.calls hub.new; spawner = P.calls spawner.new; files = F.calls files.new; out = O.taken out.new; bench = B.runs bench.new; link_made = L.made link.new; hub_made = H.made hub.new; out_made = O.made out.new })
         result }
     ensures apart { CommandLeavesAlone command
         (record { link = link.old; hub = hub.old; spawner = spawner.old; files = files.old; out = out.old; bench = bench.old })

@@ -54,7 +54,7 @@ pub fn proxy_modem<H: Hub, P: Spawner>(
     hub: &mut H,
     spawner: &mut P,
 ) -> Status
-    ensures serves { ServesProxy kind (asked_in device.now socket.now until time release turns) (place_of (encode_utf8_all device.now) (encode_utf8_all bridge.now)) (H.calls hub.old) (P.calls spawner.old) result (H.calls hub.new) (P.calls spawner.new) }
+    ensures serves { ServesProxy kind (asked_in device.now socket.now until time release turns) (place_of (encode_utf8_all device.now) (encode_utf8_all bridge.now)) (H.calls hub.old) (P.calls spawner.old) result (H.calls hub.new) (H.made hub.new) (P.calls spawner.new) }
     ensures own { IsOfProxy result }
     ensures hub_fault { result ≡ Status.HubFault → Rose (H.faults hub.old) (H.faults hub.new) }
     ensures start_fault { result ≡ Status.StartFault → Rose (P.faults spawner.old) (P.faults spawner.new) }
@@ -76,7 +76,7 @@ fn serve<H: Hub, P: Spawner>(
     hub: &mut H,
     spawner: &mut P,
 ) -> Status
-    ensures serves { ServesProxy kind (asked_with socket.now settings.now) (place_of (encode_utf8_all settings.now.device) (encode_utf8_all bridge.now)) (H.calls hub.old) (P.calls spawner.old) result (H.calls hub.new) (P.calls spawner.new) }
+    ensures serves { ServesProxy kind (asked_with socket.now settings.now) (place_of (encode_utf8_all settings.now.device) (encode_utf8_all bridge.now)) (H.calls hub.old) (P.calls spawner.old) result (H.calls hub.new) (H.made hub.new) (P.calls spawner.new) }
     ensures own { IsOfProxy result }
     ensures hub_fault { result ≡ Status.HubFault → Rose (H.faults hub.old) (H.faults hub.new) }
     ensures start_fault { result ≡ Status.StartFault → Rose (P.faults spawner.old) (P.faults spawner.new) }
@@ -97,7 +97,7 @@ fn serve_device<H: Hub, P: Spawner>(
     hub: &mut H,
     spawner: &mut P,
 ) -> Status
-    ensures serves { ServesProxy kind (asked_with socket.now settings.now) (place_in device.now) (H.calls hub.old) (P.calls spawner.old) result (H.calls hub.new) (P.calls spawner.new) }
+    ensures serves { ServesProxy kind (asked_with socket.now settings.now) (place_in device.now) (H.calls hub.old) (P.calls spawner.old) result (H.calls hub.new) (H.made hub.new) (P.calls spawner.new) }
     ensures own { IsOfProxy result }
     ensures hub_fault { result ≡ Status.HubFault → Rose (H.faults hub.old) (H.faults hub.new) }
     ensures start_fault { result ≡ Status.StartFault → Rose (P.faults spawner.old) (P.faults spawner.new) }
@@ -106,7 +106,7 @@ fn serve_device<H: Hub, P: Spawner>(
     let end = serve_kept(
         alloc, kind, socket, device, settings, hub, spawner, &mut kids,
     );
-    let stopped = kids.stop_all(spawner).is_ok();
+    let stopped = kids.stop_all(spawner, hub.made()).is_ok();
     end.with_stops(stopped)
 }
 

@@ -1,6 +1,7 @@
 ghost use Rattle.std.specs.Prelude.{◌≡◌, IfOk, IsTrue};
 ghost use Rattle.std.specs.Str.{encode_utf8_all};
 ghost use Rattle.kit_io.specs.Causes.{Rose};
+ghost use Rattle.kit_io.specs.Counts.{together};
 ghost use Rattle.kit_bytes.specs.declared.Kind.TheVariants as kinds;
 ghost use Rattle.modem_ways.specs.Reaching.{LinkFails};
 ghost use Rattle.modem_ways.specs.Ways.{path_in};
@@ -68,8 +69,8 @@ pub fn ask_qmi<O: Sink, L: Link, P: Spawner>(
     spawner: &mut P,
 ) -> Status
     ensures asks { AsksQmi kind decode (qmi_plan device proxied cid keep timeout request) (way_to kind proxied device socket.now bridge.now)
-        (record { link = L.calls link.old; spawner = P.calls spawner.old; out = O.taken out.old })
-        (record { link = L.calls link.new; spawner = P.calls spawner.new; out = O.taken out.new })
+        (record { link = L.calls link.old; spawner = P.calls spawner.old; out = O.taken out.old; made = together (L.made link.old) (O.made out.old) })
+        (record { link = L.calls link.new; spawner = P.calls spawner.new; out = O.taken out.new; made = together (L.made link.new) (O.made out.new) })
         result }
     ensures own { IsOfTool result }
     ensures link_fault { result ≡ Status.LinkFault → LinkFails (way_to kind proxied device socket.now bridge.now) L.faults L.open_faults link.old link.new }
@@ -102,8 +103,8 @@ fn ask_of_kind<O: Sink, L: Link, P: Spawner>(
     spawner: &mut P,
 ) -> Status
     ensures asks { AsksQmi kind decode plan (way_to kind plan.proxied plan.device socket.now bridge.now)
-        (record { link = L.calls link.old; spawner = P.calls spawner.old; out = O.taken out.old })
-        (record { link = L.calls link.new; spawner = P.calls spawner.new; out = O.taken out.new })
+        (record { link = L.calls link.old; spawner = P.calls spawner.old; out = O.taken out.old; made = together (L.made link.old) (O.made out.old) })
+        (record { link = L.calls link.new; spawner = P.calls spawner.new; out = O.taken out.new; made = together (L.made link.new) (O.made out.new) })
         result }
     ensures own { IsOfTool result }
     ensures link_fault { result ≡ Status.LinkFault → LinkFails (way_to kind plan.proxied plan.device socket.now bridge.now) L.faults L.open_faults link.old link.new }
@@ -148,8 +149,8 @@ pub fn ask_mbim<O: Sink, L: Link, P: Spawner>(
     spawner: &mut P,
 ) -> Status
     ensures asks { Asks (way_to kinds.Mbim proxied device socket.now bridge.now) (mbim_asked decode (mbim_plan device proxied close timeout request))
-        (record { link = L.calls link.old; spawner = P.calls spawner.old; out = O.taken out.old })
-        (record { link = L.calls link.new; spawner = P.calls spawner.new; out = O.taken out.new })
+        (record { link = L.calls link.old; spawner = P.calls spawner.old; out = O.taken out.old; made = together (L.made link.old) (O.made out.old) })
+        (record { link = L.calls link.new; spawner = P.calls spawner.new; out = O.taken out.new; made = together (L.made link.new) (O.made out.new) })
         result }
     ensures own { IsOfTool result }
     ensures link_fault { result ≡ Status.LinkFault → LinkFails (way_to kinds.Mbim proxied device socket.now bridge.now) L.faults L.open_faults link.old link.new }
@@ -196,8 +197,8 @@ fn ask_device<S: Session, O: Sink, L: Link, P: Spawner>(
     spawner: &mut P,
 ) -> Status
     ensures asks { Asks (way_to kind proxied device.now socket.now bridge.now) (asked_of S.session S.refused (shown decoding S.printed S.bodies) plan.now)
-        (record { link = L.calls link.old; spawner = P.calls spawner.old; out = O.taken out.old })
-        (record { link = L.calls link.new; spawner = P.calls spawner.new; out = O.taken out.new })
+        (record { link = L.calls link.old; spawner = P.calls spawner.old; out = O.taken out.old; made = together (L.made link.old) (O.made out.old) })
+        (record { link = L.calls link.new; spawner = P.calls spawner.new; out = O.taken out.new; made = together (L.made link.new) (O.made out.new) })
         result }
     ensures own { IsOfTool result }
     ensures link_fault { result ≡ Status.LinkFault → LinkFails (way_to kind proxied device.now socket.now bridge.now) L.faults L.open_faults link.old link.new }
@@ -221,8 +222,8 @@ fn ask_modem<S: Session, O: Sink, L: Link, P: Spawner>(
     spawner: &mut P,
 ) -> Status
     ensures asks { EndsAs status_of result (λ ends. AsksModem (path_in way.now) (asked_of S.session S.refused (shown decoding S.printed S.bodies) plan.now)
-        (record { link = L.calls link.old; spawner = P.calls spawner.old; out = O.taken out.old })
-        (record { link = L.calls link.new; spawner = P.calls spawner.new; out = O.taken out.new })
+        (record { link = L.calls link.old; spawner = P.calls spawner.old; out = O.taken out.old; made = together (L.made link.old) (O.made out.old) })
+        (record { link = L.calls link.new; spawner = P.calls spawner.new; out = O.taken out.new; made = together (L.made link.new) (O.made out.new) })
         ends) }
     ensures own { IsOfTool result }
     ensures link_fault { result ≡ Status.LinkFault → LinkFails (path_in way.now) L.faults L.open_faults link.old link.new }

@@ -40,8 +40,8 @@ pub fn run_tool<O: Sink, E: Sink, L: Link, P: Spawner, F: Files>(
     files: &mut F,
 ) -> Status
     ensures runs { Runs (words_for is_of_tool (command_in (map string_bytes words.now)))
-        (record { link = L.calls link.old; hub = None; spawner = P.calls spawner.old; files = F.calls files.old; out = O.taken out.old; bench = None })
-        (record { link = L.calls link.new; hub = None; spawner = P.calls spawner.new; files = F.calls files.new; out = O.taken out.new; bench = None })
+        (record { link = L.calls link.old; hub = None; spawner = P.calls spawner.old; files = F.calls files.old; out = O.taken out.old; bench = None; link_made = L.made link.old; hub_made = 0; out_made = O.made out.old })
+        (record { link = L.calls link.new; hub = None; spawner = P.calls spawner.new; files = F.calls files.new; out = O.taken out.new; bench = None; link_made = L.made link.new; hub_made = 0; out_made = O.made out.new })
         result }
     ensures apart { LeavesAlone (words_for is_of_tool (command_in (map string_bytes words.now)))
         (record { link = link.old; hub = Absent; spawner = spawner.old; files = files.old; out = out.old; bench = Absent })
@@ -72,8 +72,8 @@ pub fn run_command_of_tool<O: Sink, L: Link, P: Spawner, F: Files>(
 ) -> Status
     requires { IsWithinLimits command }
     ensures runs { RunsWords (words_for is_of_tool (Ok command))
-        (record { link = L.calls link.old; hub = None; spawner = P.calls spawner.old; files = F.calls files.old; out = O.taken out.old; bench = None })
-        (record { link = L.calls link.new; hub = None; spawner = P.calls spawner.new; files = F.calls files.new; out = O.taken out.new; bench = None })
+        (record { link = L.calls link.old; hub = None; spawner = P.calls spawner.old; files = F.calls files.old; out = O.taken out.old; bench = None; link_made = L.made link.old; hub_made = 0; out_made = O.made out.old })
+        (record { link = L.calls link.new; hub = None; spawner = P.calls spawner.new; files = F.calls files.new; out = O.taken out.new; bench = None; link_made = L.made link.new; hub_made = 0; out_made = O.made out.new })
         result }
     ensures apart { LeavesAlone (words_for is_of_tool (Ok command))
         (record { link = link.old; hub = Absent; spawner = spawner.old; files = files.old; out = out.old; bench = Absent })
@@ -136,8 +136,8 @@ pub fn run_proxy<E: Sink, H: Hub, P: Spawner>(
     spawner: &mut P,
 ) -> Status
     ensures runs { Runs (words_for is_of_proxy (command_in (map string_bytes words.now)))
-        (record { link = None; hub = H.calls hub.old; spawner = P.calls spawner.old; files = None; out = None; bench = None })
-        (record { link = None; hub = H.calls hub.new; spawner = P.calls spawner.new; files = None; out = None; bench = None })
+        (record { link = None; hub = H.calls hub.old; spawner = P.calls spawner.old; files = None; out = None; bench = None; link_made = 0; hub_made = H.made hub.old; out_made = 0 })
+        (record { link = None; hub = H.calls hub.new; spawner = P.calls spawner.new; files = None; out = None; bench = None; link_made = 0; hub_made = H.made hub.new; out_made = 0 })
         result }
     ensures apart { LeavesAlone (words_for is_of_proxy (command_in (map string_bytes words.now)))
         (record { link = Absent; hub = hub.old; spawner = spawner.old; files = Absent; out = Absent; bench = Absent })
@@ -163,8 +163,8 @@ pub fn run_command_of_proxy<H: Hub, P: Spawner>(
     spawner: &mut P,
 ) -> Status
     ensures runs { RunsWords (words_for is_of_proxy (Ok command))
-        (record { link = None; hub = H.calls hub.old; spawner = P.calls spawner.old; files = None; out = None; bench = None })
-        (record { link = None; hub = H.calls hub.new; spawner = P.calls spawner.new; files = None; out = None; bench = None })
+        (record { link = None; hub = H.calls hub.old; spawner = P.calls spawner.old; files = None; out = None; bench = None; link_made = 0; hub_made = H.made hub.old; out_made = 0 })
+        (record { link = None; hub = H.calls hub.new; spawner = P.calls spawner.new; files = None; out = None; bench = None; link_made = 0; hub_made = H.made hub.new; out_made = 0 })
         result }
     ensures apart { LeavesAlone (words_for is_of_proxy (Ok command))
         (record { link = Absent; hub = hub.old; spawner = spawner.old; files = Absent; out = Absent; bench = Absent })
@@ -212,8 +212,8 @@ pub fn run_simulator<E: Sink, H: Hub, P: Spawner, F: Files>(
     files: &mut F,
 ) -> Status
     ensures runs { Runs (words_for is_of_simulator (command_in (map string_bytes words.now)))
-        (record { link = None; hub = H.calls hub.old; spawner = P.calls spawner.old; files = F.calls files.old; out = None; bench = None })
-        (record { link = None; hub = H.calls hub.new; spawner = P.calls spawner.new; files = F.calls files.new; out = None; bench = None })
+        (record { link = None; hub = H.calls hub.old; spawner = P.calls spawner.old; files = F.calls files.old; out = None; bench = None; link_made = 0; hub_made = H.made hub.old; out_made = 0 })
+        (record { link = None; hub = H.calls hub.new; spawner = P.calls spawner.new; files = F.calls files.new; out = None; bench = None; link_made = 0; hub_made = H.made hub.new; out_made = 0 })
         result }
     ensures apart { LeavesAlone (words_for is_of_simulator (command_in (map string_bytes words.now)))
         (record { link = Absent; hub = hub.old; spawner = spawner.old; files = files.old; out = Absent; bench = Absent })
@@ -241,8 +241,8 @@ pub fn run_command_of_simulator<H: Hub, P: Spawner, F: Files>(
     files: &mut F,
 ) -> Status
     ensures runs { RunsWords (words_for is_of_simulator (Ok command))
-        (record { link = None; hub = H.calls hub.old; spawner = P.calls spawner.old; files = F.calls files.old; out = None; bench = None })
-        (record { link = None; hub = H.calls hub.new; spawner = P.calls spawner.new; files = F.calls files.new; out = None; bench = None })
+        (record { link = None; hub = H.calls hub.old; spawner = P.calls spawner.old; files = F.calls files.old; out = None; bench = None; link_made = 0; hub_made = H.made hub.old; out_made = 0 })
+        (record { link = None; hub = H.calls hub.new; spawner = P.calls spawner.new; files = F.calls files.new; out = None; bench = None; link_made = 0; hub_made = H.made hub.new; out_made = 0 })
         result }
     ensures apart { LeavesAlone (words_for is_of_simulator (Ok command))
         (record { link = Absent; hub = hub.old; spawner = spawner.old; files = files.old; out = Absent; bench = Absent })
@@ -302,8 +302,8 @@ pub fn run_pump<E: Sink, L: Link, F: Files>(
     files: &mut F,
 ) -> Status
     ensures runs { Runs (words_for is_of_pump (command_in (map string_bytes words.now)))
-        (record { link = L.calls link.old; hub = None; spawner = None; files = F.calls files.old; out = None; bench = None })
-        (record { link = L.calls link.new; hub = None; spawner = None; files = F.calls files.new; out = None; bench = None })
+        (record { link = L.calls link.old; hub = None; spawner = None; files = F.calls files.old; out = None; bench = None; link_made = L.made link.old; hub_made = 0; out_made = 0 })
+        (record { link = L.calls link.new; hub = None; spawner = None; files = F.calls files.new; out = None; bench = None; link_made = L.made link.new; hub_made = 0; out_made = 0 })
         result }
     ensures apart { LeavesAlone (words_for is_of_pump (command_in (map string_bytes words.now)))
         (record { link = link.old; hub = Absent; spawner = Absent; files = files.old; out = Absent; bench = Absent })
@@ -330,8 +330,8 @@ pub fn run_command_of_pump<L: Link, F: Files>(
     files: &mut F,
 ) -> Status
     ensures runs { RunsWords (words_for is_of_pump (Ok command))
-        (record { link = L.calls link.old; hub = None; spawner = None; files = F.calls files.old; out = None; bench = None })
-        (record { link = L.calls link.new; hub = None; spawner = None; files = F.calls files.new; out = None; bench = None })
+        (record { link = L.calls link.old; hub = None; spawner = None; files = F.calls files.old; out = None; bench = None; link_made = L.made link.old; hub_made = 0; out_made = 0 })
+        (record { link = L.calls link.new; hub = None; spawner = None; files = F.calls files.new; out = None; bench = None; link_made = L.made link.new; hub_made = 0; out_made = 0 })
         result }
     ensures apart { LeavesAlone (words_for is_of_pump (Ok command))
         (record { link = link.old; hub = Absent; spawner = Absent; files = files.old; out = Absent; bench = Absent })
@@ -362,8 +362,8 @@ pub fn run_rig<O: Sink, E: Sink, B: Bench>(
     bench: &mut B,
 ) -> Status
     ensures runs { Runs (words_for is_of_rig (command_in (map string_bytes words.now)))
-        (record { link = None; hub = None; spawner = None; files = None; out = O.taken out.old; bench = B.runs bench.old })
-        (record { link = None; hub = None; spawner = None; files = None; out = O.taken out.new; bench = B.runs bench.new })
+        (record { link = None; hub = None; spawner = None; files = None; out = O.taken out.old; bench = B.runs bench.old; link_made = 0; hub_made = 0; out_made = O.made out.old })
+        (record { link = None; hub = None; spawner = None; files = None; out = O.taken out.new; bench = B.runs bench.new; link_made = 0; hub_made = 0; out_made = O.made out.new })
         result }
     ensures apart { LeavesAlone (words_for is_of_rig (command_in (map string_bytes words.now)))
         (record { link = Absent; hub = Absent; spawner = Absent; files = Absent; out = out.old; bench = bench.old })
@@ -389,8 +389,8 @@ pub fn run_command_of_rig<O: Sink, B: Bench>(
 ) -> Status
     requires { IsWithinLimits command }
     ensures runs { RunsWords (words_for is_of_rig (Ok command))
-        (record { link = None; hub = None; spawner = None; files = None; out = O.taken out.old; bench = B.runs bench.old })
-        (record { link = None; hub = None; spawner = None; files = None; out = O.taken out.new; bench = B.runs bench.new })
+        (record { link = None; hub = None; spawner = None; files = None; out = O.taken out.old; bench = B.runs bench.old; link_made = 0; hub_made = 0; out_made = O.made out.old })
+        (record { link = None; hub = None; spawner = None; files = None; out = O.taken out.new; bench = B.runs bench.new; link_made = 0; hub_made = 0; out_made = O.made out.new })
         result }
     ensures apart { LeavesAlone (words_for is_of_rig (Ok command))
         (record { link = Absent; hub = Absent; spawner = Absent; files = Absent; out = out.old; bench = bench.old })

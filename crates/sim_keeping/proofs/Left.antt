@@ -29,18 +29,18 @@ alive-runs words (run ∷ runs) later =
 
 -- a stop of each of these failed, among these calls
 abbrev HasFailedStop : List Call → ℕ → Type 0
-HasFailedStop calls child = Contains calls (Stopped child false)
+HasFailedStop calls child = Contains calls (Stopped child false 0)
 
 left_by_stop : (words : List (List ℕ)) (child : ℕ) (stopped : Bool)
-    → All (HasFailedStop (Started words child ∷ EndFailed child ∷ Stopped child stopped ∷ [])) (alive (Started words child ∷ EndFailed child ∷ Stopped child stopped ∷ []))
+    → All (HasFailedStop (Started words child ∷ EndFailed child ∷ Stopped child stopped 0 ∷ [])) (alive (Started words child ∷ EndFailed child ∷ Stopped child stopped 0 ∷ []))
 left_by_stop words child true =
-    let calls = Started words child ∷ EndFailed child ∷ Stopped child true ∷ [] in
+    let calls = Started words child ∷ EndFailed child ∷ Stopped child true 0 ∷ [] in
     subst (λ seen. All (HasFailedStop calls) (cond (not (false || (seen || false))) (child ∷ []) [] ++ [])) (sym ((Decides-eqb child child).1 refl)) (All-nil (HasFailedStop calls))
 left_by_stop words child false =
-    let calls = Started words child ∷ EndFailed child ∷ Stopped child false ∷ [] in
+    let calls = Started words child ∷ EndFailed child ∷ Stopped child false 0 ∷ [] in
     All-cons (HasFailedStop calls) child []
-    (Contains-cons (Stopped child false) (Started words child) (EndFailed child ∷ Stopped child false ∷ [])
-    (Contains-cons (Stopped child false) (EndFailed child) (Stopped child false ∷ []) (zero, omega arith, refl)))
+    (Contains-cons (Stopped child false 0) (Started words child) (EndFailed child ∷ Stopped child false 0 ∷ [])
+    (Contains-cons (Stopped child false 0) (EndFailed child) (Stopped child false 0 ∷ []) (zero, omega arith, refl)))
     (All-nil (HasFailedStop calls))
 
 left_by_failed : (words : List (List ℕ)) (calls : List Call) → FailsToRun words calls → All (HasFailedStop calls) (alive calls)

@@ -16,10 +16,10 @@ pub record Run : Type 0 where
 abbrev pub run_calls : List (List ℕ) → Run → List call.Call
 run_calls words run = call.Started words run.child ∷ call.Ended run.child run.status ∷ []
 
--- it couldn't be started, or its end couldn't be waited for, so that it was stopped
+-- it couldn't be started, or its end couldn't be waited for, so that it was stopped; no call is made on what it serves
 pub data FailsToRun (words : List (List ℕ)) (calls : List call.Call) : Type 0 where
   not_started : calls ≡ call.StartFailed words ∷ [] → FailsToRun words calls
-  not_ended : (child : ℕ) (stopped : Bool) → calls ≡ call.Started words child ∷ call.EndFailed child ∷ call.Stopped child stopped ∷ [] → FailsToRun words calls
+  not_ended : (child : ℕ) (stopped : Bool) → calls ≡ call.Started words child ∷ call.EndFailed child ∷ call.Stopped child stopped 0 ∷ [] → FailsToRun words calls
 
 -- ---- child after child ----
 

@@ -8,4 +8,4 @@ use Rattle.sim_keeping.specs.declared.keeping.KeepEnd.{KeepEnd}
 -- each child that is left was named by a `stop` that failed
 abbrev pub FailedStopsAloneLeaveModems : Type 0
 FailedStopsAloneLeaveModems = (words : List (List ℕ)) (most : ℕ) (end : KeepEnd) (calls : List Call) → Keeps words most end calls
-    → All (λ child. Contains calls (Stopped child false)) (alive calls)
+    → All (λ child. Contains calls (Stopped child false 0)) (alive calls)

@@ -7,7 +7,7 @@ use Rattle.sim_keeping.specs.Keeping.{FailsToRun, run_calls}
 -- a child that was started ended with this status, or was stopped
 abbrev pub IsEnd : {E : Type 0} → ℕ → Result ℤ E → List Call → Type 0
 IsEnd child (Ok status) calls = calls ≡ Ended child status ∷ []
-IsEnd child (Err e) calls = (stopped : Bool) × (calls ≡ EndFailed child ∷ Stopped child stopped ∷ [])
+IsEnd child (Err e) calls = (stopped : Bool) × (calls ≡ EndFailed child ∷ Stopped child stopped 0 ∷ [])
 
 -- a child was started and ended with this status, or it failed to run
 abbrev pub IsRun : {E : Type 0} → List (List ℕ) → Result ℤ E → List Call → Type 0

@@ -77,13 +77,13 @@ fn run_once<P: Spawner>(words: &[String], spawner: &mut P) -> Result<i32, Failed
     match kids.start(spawner, words) {
         Ok(child) => end_of(kids, child, spawner),
         Err(Failed) => {
-            let _ = kids.stop_all(spawner);
+            let _ = kids.stop_all(spawner, 0);
             Err(Failed)
         }
     }
 }
 
-// Waits for the end of the one child that is kept, or stops it.
+// Waits for the end of the one child that is kept, or stops it. No call is made on what it serves.
 fn end_of<P: Spawner>(kids: Kids, child: u32, spawner: &mut P) -> Result<i32, Failed>
     requires { kids ≡ child ∷ [] }
     ensures ended { GrowsLike (IsEnd child result) (P.calls spawner.old) (P.calls spawner.new) }
@@ -91,6 +91,6 @@ fn end_of<P: Spawner>(kids: Kids, child: u32, spawner: &mut P) -> Result<i32, Fa
 {
     let mut kids = kids;
     let ended = kids.ended(spawner, child);
-    let _ = kids.stop_all(spawner);
+    let _ = kids.stop_all(spawner, 0);
     ended
 }

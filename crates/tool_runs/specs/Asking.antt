@@ -98,8 +98,10 @@ pub record Told : Type 0 where
   pub link : Option (List Call)
   pub spawner : Option (List child.Call)
   pub out : Option (List ℕ)
+  -- how many calls were made on the link and the output together
+  pub made : ℕ
 
--- that came, and then each child that was started was stopped; none is left but by a stop that failed
+-- that came, and then each child that was started was stopped, behind the last call on the link and the output; none is left but by a stop that failed
 pub record AsksModem {End : Type 0} (path : Path) (asked : Asked End) (before after : Told) (result : RunEnd) : Type 0 where
   pub on_link : List Call
   pub starts : List child.Call
@@ -107,5 +109,5 @@ pub record AsksModem {End : Type 0} (path : Path) (asked : Asked End) (before af
   pub comes : Comes path asked before.out ends after.out on_link starts
   pub link_grows : Grows before.link on_link after.link
   pub stopped : Bool
-  pub children : StartsAndStops starts stopped before.spawner after.spawner
+  pub children : StartsAndStops starts stopped after.made before.spawner after.spawner
   pub is : result ≡ with_stops stopped ends

@@ -1,5 +1,6 @@
 ghost use Rattle.std.specs.Prelude.{◌≡◌, ◌≤◌, [], Err, IfOk};
 ghost use Rattle.kit_io.specs.Causes.{Rose};
+ghost use Rattle.kit_io.specs.Counts.{together};
 ghost use Rattle.modem_ways.specs.Reaching.{LinkFails, ReachesBy};
 ghost use Rattle.modem_ways.specs.Ways.{path_in};
 ghost use Rattle.tool_runs.specs.Asking.{AsksModem, asked_of, Comes, Prints, PrintsText, shown, Visits};
@@ -26,8 +27,8 @@ pub fn ask<S: Session, O: Sink, L: Link, P: Spawner>(
     spawner: &mut P,
 ) -> RunEnd
     ensures asks { AsksModem (path_in way.now) (asked_of S.session S.refused (shown decoding S.printed S.bodies) plan.now)
-        (record { link = L.calls link.old; spawner = P.calls spawner.old; out = O.taken out.old })
-        (record { link = L.calls link.new; spawner = P.calls spawner.new; out = O.taken out.new })
+        (record { link = L.calls link.old; spawner = P.calls spawner.old; out = O.taken out.old; made = together (L.made link.old) (O.made out.old) })
+        (record { link = L.calls link.new; spawner = P.calls spawner.new; out = O.taken out.new; made = together (L.made link.new) (O.made out.new) })
         result }
     // It doesn't give up by itself.
     ensures link_fault { result ≡ RunEnd.LinkFault → LinkFails (path_in way.now) L.faults L.open_faults link.old link.new }
@@ -36,7 +37,8 @@ pub fn ask<S: Session, O: Sink, L: Link, P: Spawner>(
 {
     let mut kids = Kids::none();
     let end = ask_on_the_way(alloc, way, plan, decoding, out, link, spawner, &mut kids);
-    let stopped = kids.stop_all(spawner).is_ok();
+    let made = link.made().saturating_add(out.made());
+    let stopped = kids.stop_all(spawner, made).is_ok();
     end.with_stops(stopped)
 }
 

@@ -20,6 +20,14 @@ fn does(ok: bool) -> SpawnerAnswer {
     }
 }
 
+// The same part of a call, behind so many calls where it is a stop.
+fn behind(made: Made, after: u64) -> Made {
+    match made {
+        Made::Stopped { child, ok, .. } => Made::Stopped { child, ok, after },
+        other => other,
+    }
+}
+
 impl KidCalls {
     /// No child is started.
     pub fn none(alloc: Global) -> Self {
@@ -67,7 +75,7 @@ impl KidCalls {
 
     fn add_stop(&mut self, alloc: Global, child: &str, ok: bool) -> Result<(), RowFault> {
         let child = child.parse::<u32>()?;
-        self.answer(alloc, Made::Stopped { child, ok }, does(ok))
+        self.answer(alloc, Made::Stopped { child, ok, after: 0 }, does(ok))
     }
 
     fn add_end(&mut self, alloc: Global, value: &str) -> Result<(), RowFault> {
@@ -105,8 +113,19 @@ impl KidCalls {
         MemSpawner::new(alloc, answers, 100, 10_000)
     }
 
-    /// Which note of the spawner's log isn't as it is told, if one isn't.
-    pub fn differs_at(&self, spawner: &MemSpawner) -> Option<usize> {
-        differs_at(spawner.log(), &self.notes)
+    /// Which note of the spawner's log isn't as it is told, if one isn't. Each stop is to come behind so
+    /// many calls on what the children serve.
+    pub fn differs_at(
+        &self,
+        alloc: Global,
+        spawner: &MemSpawner,
+        after: u64,
+    ) -> Result<Option<usize>, AllocError> {
+        let mut notes = Vec::new(alloc);
+        for (made, bytes) in &self.notes {
+            let bytes = Vec::from_slice(alloc, bytes)?;
+            notes.push((behind(*made, after), bytes))?;
+        }
+        Ok(differs_at(spawner.log(), &notes))
     }
 }

@@ -3,9 +3,9 @@ use crate::tool::ToolRow;
 use child_io::MemSpawner;
 use core_bench::MemBench;
 use file_io::MemFiles;
-use hub_io::MemHub;
-use kit_io::MemSink;
-use link_io::MemLink;
+use hub_io::{Hub, MemHub};
+use kit_io::{MemSink, Sink};
+use link_io::{Link, MemLink};
 use program::{Status, refuse, run, run_proxy, run_pump, run_rig, run_simulator, run_tool};
 use std::alloc::{AllocError, Global};
 
@@ -60,6 +60,12 @@ fn outside_of(alloc: Global, row: &ToolRow<'_>, whole: bool) -> Result<Ran, Allo
 }
 
 impl Ran {
+    /// How many calls were made on what children serve, and on the output.
+    pub fn made(&self) -> u64 {
+        let used = self.link.made().saturating_add(self.hub.made());
+        used.saturating_add(self.out.made())
+    }
+
     fn run(&mut self, alloc: Global, words: &[String], bench: &mut MemBench) -> Status {
         run(
             alloc,

@@ -302,7 +302,7 @@ fn calls_as_told<R: Print>(
     whole: bool,
 ) -> Result<bool, RowFault> {
     let files = told.files.differs_at(&ran.files);
-    let kids = told.kids.differs_at(&ran.kids);
+    let kids = told.kids.differs_at(alloc, &ran.kids, ran.made())?;
     let hub = told.hub.differs_at(&ran.hub);
     let same = is(rt, place, "the file call that differs", None, files)
         && is(rt, place, "the child call that differs", None, kids)

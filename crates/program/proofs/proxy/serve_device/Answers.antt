@@ -1,4 +1,4 @@
-use Rattle.std.proofs.Common.{Bool, ◌∙◌, ap, sym}
+use Rattle.std.proofs.Common.{Bool, ◌∙◌, ap, sym, rules}
 use Rattle.modem_ways.proofs.Stopping.{each_is_stopped}
 use Rattle.program.specs.Status.{with_stops}
 use Rattle.program.proofs.Ends.{start_fault_comes}
@@ -12,7 +12,7 @@ returns-clause-serves g c =
       ends = c.serve_kept-end.result;
       serves = kept.are;
       stopped = c.is_ok-stopped.result;
-      children = each_is_stopped kept.grows kept.stands c.stop_all.ensures.stops c.is_ok-stopped.ensures.value;
+      children = each_is_stopped kept.grows kept.stands c.stop_all.ensures.stops c.is_ok-stopped.ensures.value (search rules);
       is = c.with_stops.ensures;
     }
 

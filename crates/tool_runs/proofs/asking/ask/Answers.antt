@@ -1,4 +1,4 @@
-use Rattle.std.proofs.Common.{Bool, ◌∙◌, ap, sym}
+use Rattle.std.proofs.Common.{Bool, ◌∙◌, ap, sym, rules}
 use Rattle.modem_ways.proofs.Stopping.{each_is_stopped}
 use Rattle.tool_runs.specs.Asking.{with_stops}
 use Rattle.tool_runs.proofs.Ends.{start_fault_comes}
@@ -14,7 +14,7 @@ returns-clause-asks g c =
       comes = came.are;
       link_grows = came.link_grows;
       stopped = c.is_ok-stopped.result;
-      children = each_is_stopped came.spawner_grows came.stands c.stop_all.ensures.stops c.is_ok-stopped.ensures.value;
+      children = each_is_stopped came.spawner_grows came.stands c.stop_all.ensures.stops c.is_ok-stopped.ensures.value (search rules);
       is = c.with_stops.ensures;
     }
 
