@@ -4,6 +4,7 @@ ghost use Rattle.framing.specs.Framing.{IsPartial, is_invalid};
 ghost use Rattle.outbox.specs.Queue.{has_room};
 ghost use Rattle.connections.specs.Table.{joined, puts, took, has_waiting};
 ghost use Rattle.connections.specs.Hearing.{hearing_of, goes_on, heard, hears_all};
+ghost use Rattle.outbox.specs.Fronts.{IsFrontOf};
 
 use crate::hears::Hears;
 use crate::place::Place;
@@ -98,11 +99,18 @@ impl<F: Framing, T> Connection<F, T> {
         self.place.outbox.taken(count);
     }
 
-    /// The bytes that wait for it.
+    /// The first of the bytes that wait for it; none only where none wait.
     pub fn queued(&self) -> &[u8]
-        ensures { result.now ≡ self.now.outbox.bytes }
+        ensures { IsFrontOf result.now self.now.outbox.bytes }
     {
         self.place.outbox.front()
+    }
+
+    /// All the bytes that wait for it, in two parts.
+    pub fn parts(&self) -> (&[u8], &[u8])
+        ensures { result.0.now ++ result.1.now ≡ self.now.outbox.bytes }
+    {
+        self.place.outbox.parts()
     }
 
     /// Whether bytes wait for it.

@@ -3,6 +3,7 @@ ghost use Rattle.std.specs.List.{AllByRecursion};
 ghost use Rattle.connections.specs.Table.{Connection as TableConnection, IsRegular, AreRising, opened, connection_in, joins, leaves, tells, finds_room, collects, asked, first_dropped, queue_of, has_waiting, first_waiting};
 ghost use Rattle.connections.specs.Places.{drops_at};
 ghost use Rattle.connections.specs.Hearing.{brings};
+ghost use Rattle.outbox.specs.Fronts.{IsFrontOf};
 
 use crate::connection::Connection;
 use crate::dropped::{self, Dropped};
@@ -204,10 +205,10 @@ impl<F: Framing, T> Connections<F, T> {
         index_of(&self.present, name)
     }
 
-    /// The bytes that wait for a connection that is there, or that was dropped and wasn't asked for
-    /// yet; none for any other name.
+    /// The first of the bytes that wait for a connection that is there, or that was dropped and wasn't
+    /// asked for yet; none only where none wait, and for any other name.
     pub fn queued(&self, name: u64) -> &[u8]
-        ensures { result.now ≡ queue_of name self.now }
+        ensures { IsFrontOf result.now (queue_of name self.now) }
     {
         match index_of(&self.present, name) {
             Some(place) => {
@@ -215,6 +216,20 @@ impl<F: Framing, T> Connections<F, T> {
                 connection.queued()
             }
             None => dropped::queued(&self.dropped, name),
+        }
+    }
+
+    /// All the bytes that wait for a connection that is there, or that was dropped and wasn't asked for
+    /// yet, in two parts; none for any other name.
+    pub fn parts(&self, name: u64) -> (&[u8], &[u8])
+        ensures { result.0.now ++ result.1.now ≡ queue_of name self.now }
+    {
+        match index_of(&self.present, name) {
+            Some(place) => {
+                let connection = &self.present[place];
+                connection.parts()
+            }
+            None => dropped::parts(&self.dropped, name),
         }
     }
 

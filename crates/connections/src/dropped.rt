@@ -1,6 +1,7 @@
-ghost use Rattle.std.specs.Prelude.{◌≡◌, None, Some};
+ghost use Rattle.std.specs.Prelude.{◌≡◌, ◌++◌, None, Some};
 ghost use Rattle.std.specs.Option.{option_map};
 ghost use Rattle.connections.specs.Table.{left_in, left_for};
+ghost use Rattle.outbox.specs.Fronts.{IsFrontOf};
 
 use crate::place::Place;
 use framing::Framing;
@@ -46,13 +47,23 @@ impl<F: Framing, T> Dropped<F, T> {
         self.name
     }
 
-    /// The bytes that waited for it.
+    /// The first of the bytes that waited for it; none only where none did.
     pub fn queued(&self) -> &[u8]
-        ensures { result.now ≡ left_in self.now.outbox }
+        ensures { IsFrontOf result.now (left_in self.now.outbox) }
     {
         match &self.place {
             Some(place) => place.outbox.front(),
             None => &[],
+        }
+    }
+
+    /// All the bytes that waited for it, in two parts.
+    pub fn parts(&self) -> (&[u8], &[u8])
+        ensures { result.0.now ++ result.1.now ≡ left_in self.now.outbox }
+    {
+        match &self.place {
+            Some(place) => place.outbox.parts(),
+            None => (&[], &[]),
         }
     }
 
@@ -64,9 +75,10 @@ impl<F: Framing, T> Dropped<F, T> {
     }
 }
 
-/// The bytes that waited for the connection of this name, where the list has it.
+/// The first of the bytes that waited for the connection of this name, where the list has it; none
+/// only where none did.
 pub fn queued<F: Framing, T>(list: &[Dropped<F, T>], name: u64) -> &[u8]
-    ensures { result.now ≡ left_for name list.now }
+    ensures { IsFrontOf result.now (left_for name list.now) }
 {
     for dropped in list {
         if name == dropped.name() {
@@ -74,4 +86,16 @@ pub fn queued<F: Framing, T>(list: &[Dropped<F, T>], name: u64) -> &[u8]
         }
     }
     &[]
+}
+
+/// All the bytes that waited for the connection of this name, where the list has it, in two parts.
+pub fn parts<F: Framing, T>(list: &[Dropped<F, T>], name: u64) -> (&[u8], &[u8])
+    ensures { result.0.now ++ result.1.now ≡ left_for name list.now }
+{
+    for dropped in list {
+        if name == dropped.name() {
+            return dropped.parts();
+        }
+    }
+    (&[], &[])
 }

@@ -1,5 +1,4 @@
-ghost use Rattle.std.specs.Prelude.{◌≡◌, ℕ, Bool, true, false, List, [], ◌∷◌, Option, IfOk, OnOk, OnErr};
-ghost use Rattle.std.specs.Borrow.{sem};
+ghost use Rattle.std.specs.Prelude.{◌≡◌, ◌++◌, ℕ, Bool, true, false, List, [], ◌∷◌, Option, IfOk, OnOk, OnErr};
 ghost use Rattle.proxy_history.specs.Events as history;
 ghost use Rattle.proxy_history.specs.Events.{greatest_after};
 ghost use Rattle.proxy_history.specs.Connections.{contains};
@@ -7,7 +6,7 @@ ghost use Rattle.proxy_history.specs.Proxy.{Proxy};
 ghost use Rattle.hub_io.specs.Events.{event_of};
 ghost use Rattle.proxy_serving.specs.Cores.{Shows};
 ghost use Rattle.proxy_serving.specs.Face.{Face, CanMeet, NextDropped};
-ghost use Rattle.proxy_serving.specs.Lending.{LeavesAsIs};
+ghost use Rattle.outbox.specs.Fronts.{IsFrontOf};
 ghost use Rattle.core_bench.specs.Runs.{Run, proxy_for, AddsRun, AddsEvent};
 
 use hub_io::{Event, Limits};
@@ -56,17 +55,25 @@ pub trait Bench: Drop {
         ensures greatest { (face self.new).greatest ≡ greatest_after (event_of event.entry) (face self.old).greatest }
         ensures runs { AddsEvent (runs self.old) (event_of event.entry) (runs self.new) };
 
-    /// The bytes that wait for a connection that is there.
-    fn queued(&mut self, conn: u64) -> &[u8]
-        requires held { is_held self.old ≡ true }
-        ensures* after { sem 𝓛 (LeavesAsIs Self.row self.entry) }
-        ensures queue { result.now ≡ (face self.old).queue conn };
+    /// The first of the bytes that wait for a connection that is there; none only where none wait.
+    fn queued(&self, conn: u64) -> &[u8]
+        requires held { is_held self.now ≡ true }
+        ensures { IsFrontOf result.now ((face self.now).queue conn) };
 
-    /// The bytes that wait for the modem.
-    fn queued_modem(&mut self) -> &[u8]
-        requires held { is_held self.old ≡ true }
-        ensures* after { sem 𝓛 (LeavesAsIs Self.row self.entry) }
-        ensures queue { result.now ≡ (face self.old).modem_queue };
+    /// The first of the bytes that wait for the modem; none only where none wait.
+    fn queued_modem(&self) -> &[u8]
+        requires held { is_held self.now ≡ true }
+        ensures { IsFrontOf result.now (face self.now).modem_queue };
+
+    /// All the bytes that wait for a connection that is there, in two parts.
+    fn parts(&self, conn: u64) -> (&[u8], &[u8])
+        requires held { is_held self.now ≡ true }
+        ensures { result.0.now ++ result.1.now ≡ (face self.now).queue conn };
+
+    /// All the bytes that wait for the modem, in two parts.
+    fn modem_parts(&self) -> (&[u8], &[u8])
+        requires held { is_held self.now ≡ true }
+        ensures { result.0.now ++ result.1.now ≡ (face self.now).modem_queue };
 
     /// The next connection to hang up, each once.
     fn next_dropped(&mut self) -> Option<u64>

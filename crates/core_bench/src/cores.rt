@@ -53,19 +53,35 @@ impl Bench for Cores {
         }
     }
 
-    fn queued(&mut self, conn: u64) -> &[u8] {
-        match &mut self.held {
+    fn queued(&self, conn: u64) -> &[u8] {
+        match &self.held {
             Held::None => &[],
-            Held::Qmi(core) => ProxyCore::queued(core, conn),
-            Held::Mbim(core) => ProxyCore::queued(core, conn),
+            Held::Qmi(core) => core.queued(conn),
+            Held::Mbim(core) => core.queued(conn),
         }
     }
 
-    fn queued_modem(&mut self) -> &[u8] {
-        match &mut self.held {
+    fn queued_modem(&self) -> &[u8] {
+        match &self.held {
             Held::None => &[],
-            Held::Qmi(core) => ProxyCore::queued_modem(core),
-            Held::Mbim(core) => ProxyCore::queued_modem(core),
+            Held::Qmi(core) => core.queued_modem(),
+            Held::Mbim(core) => core.queued_modem(),
+        }
+    }
+
+    fn parts(&self, conn: u64) -> (&[u8], &[u8]) {
+        match &self.held {
+            Held::None => (&[], &[]),
+            Held::Qmi(core) => core.parts(conn),
+            Held::Mbim(core) => core.parts(conn),
+        }
+    }
+
+    fn modem_parts(&self) -> (&[u8], &[u8]) {
+        match &self.held {
+            Held::None => (&[], &[]),
+            Held::Qmi(core) => core.modem_parts(),
+            Held::Mbim(core) => core.modem_parts(),
         }
     }
 

@@ -123,12 +123,20 @@ impl Bench for MemBench {
         self.cores.step(event);
     }
 
-    fn queued(&mut self, conn: u64) -> &[u8] {
+    fn queued(&self, conn: u64) -> &[u8] {
         self.cores.queued(conn)
     }
 
-    fn queued_modem(&mut self) -> &[u8] {
+    fn queued_modem(&self) -> &[u8] {
         self.cores.queued_modem()
+    }
+
+    fn parts(&self, conn: u64) -> (&[u8], &[u8]) {
+        self.cores.parts(conn)
+    }
+
+    fn modem_parts(&self) -> (&[u8], &[u8]) {
+        self.cores.modem_parts()
     }
 
     fn next_dropped(&mut self) -> Option<u64> {

@@ -16,7 +16,7 @@ use framing::LONGEST_PIECE;
 use hub_io::{Event, Limits};
 use kit_bytes::{Kind, Octets};
 use modem_profile::Profile;
-use rig_stage::{meet, modem_takes};
+use rig_stage::{count_waiting, joined, meet, modem_takes};
 use sim_modem::Sim;
 use std::alloc::{AllocError, Global};
 
@@ -64,10 +64,13 @@ pub(crate) fn relay<S: Sim, B: Bench>(
         return Err(AllocError);
     }
     meet(bench, Event::Piece(CLIENT, text));
-    let messages = ask_all(alloc, sim, bench.queued_modem())?;
+    let (first, second) = bench.modem_parts();
+    let queue = joined(alloc, first, second)?;
+    let messages = ask_all(alloc, sim, queue.as_slice())?;
     modem_takes(bench);
     arrive(bench, &messages)?;
-    let reply = Octets::from_slice(alloc, bench.queued(CLIENT))?;
+    let (first, second) = bench.parts(CLIENT);
+    let reply = joined(alloc, first, second)?;
     client_takes(bench);
     Ok(reply)
 }
@@ -94,8 +97,7 @@ fn client_takes<B: Bench>(bench: &mut B)
     ensures ready { IsReady (B.is_held bench.new) (B.face bench.new) }
     ensures met { Moves B.keeps B.runs (λ p past. taking (λ count. history.Took 1 count) (queued_for p 1 past) past) bench.old bench.new }
 {
-    let queue = bench.queued(CLIENT);
-    let count = queue.len();
+    let count = count_waiting(bench, CLIENT);
     if count == 0 {
         return;
     }

@@ -1,4 +1,4 @@
-ghost use Rattle.std.specs.Prelude.{◌≡◌, ◌≤◌, false, [], max, length, option_map, IfOk};
+ghost use Rattle.std.specs.Prelude.{◌≡◌, ◌++◌, ◌≤◌, false, [], max, length, option_map, IfOk};
 ghost use Rattle.number_space.specs.declared.space.Row.{Row};
 ghost use Rattle.number_space.specs.Table.{row_of, first_due, answers, expires};
 ghost use Rattle.mbim_fragments.specs.declared.assembly.TheConstants.{LONGEST_BODY};
@@ -9,6 +9,7 @@ ghost use Rattle.mbim_state.specs.declared.asked.Asked.{Asked as TableAsked};
 ghost use Rattle.mbim_state.specs.Core.{side_of, setup_of};
 ghost use Rattle.mbim_state.specs.Transitions as transitions;
 ghost use Rattle.mbim_clients.specs.Side.{is_whole};
+ghost use Rattle.outbox.specs.Fronts.{IsFrontOf};
 
 use crate::device::Device;
 use crate::modem::Modem;
@@ -102,11 +103,18 @@ impl ModemSide {
         self.away
     }
 
-    /// The bytes that wait for the modem.
+    /// The first of the bytes that wait for the modem; none only where none wait.
     pub fn queued(&self) -> &[u8]
-        ensures { result.now ≡ self.now.outbox.bytes }
+        ensures { IsFrontOf result.now self.now.outbox.bytes }
     {
         self.traffic.queued()
+    }
+
+    /// All the bytes that wait for the modem, in two parts.
+    pub fn parts(&self) -> (&[u8], &[u8])
+        ensures { result.0.now ++ result.1.now ≡ self.now.outbox.bytes }
+    {
+        self.traffic.parts()
     }
 
     /// The modem took the first so many of the bytes that wait for it.

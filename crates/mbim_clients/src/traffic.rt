@@ -7,6 +7,7 @@ ghost use Rattle.number_space.specs.Table.{row_of, gives_number, answers, first_
 ghost use Rattle.number_space.specs.Table as numbers;
 ghost use Rattle.mbim_state.specs.declared.asked.Asked.{Asked as NotedAsked};
 ghost use Rattle.mbim_clients.specs.Traffic.{has_share, number_for, queues};
+ghost use Rattle.outbox.specs.Fronts.{IsFrontOf};
 
 use mbim_state::Asked;
 use number_space::Space;
@@ -68,27 +69,38 @@ impl Traffic {
         self.numbers.give(name, asked, deadline)
     }
 
-    /// These bytes wait for the modem, behind the others.
+    /// These bytes wait for the modem, behind the others, and all in one slice, since a pump is to be
+    /// handed whole messages.
     pub fn queue(&mut self, bytes: &[u8])
         requires { length self.old.outbox.bytes + length bytes.now ≤ OUTBOX_LIMIT }
         ensures { self.new ≡ queues bytes.now self.old }
     {
         self.outbox.queue(bytes);
+        self.outbox.straighten();
     }
 
-    /// The bytes of both runs wait for the modem, one run behind the other, behind the others.
+    /// The bytes of both runs wait for the modem, one run behind the other, behind the others, and all
+    /// in one slice.
     pub fn queue_both(&mut self, head: &[u8], rest: &[u8])
         requires { length self.old.outbox.bytes + length head.now + length rest.now ≤ OUTBOX_LIMIT }
         ensures { self.new ≡ queues (head.now ++ rest.now) self.old }
     {
         self.outbox.queue_both(head, rest);
+        self.outbox.straighten();
     }
 
-    /// The bytes that wait for the modem.
+    /// The first of the bytes that wait for the modem; none only where none wait.
     pub fn queued(&self) -> &[u8]
-        ensures { result.now ≡ self.now.outbox.bytes }
+        ensures { IsFrontOf result.now self.now.outbox.bytes }
     {
         self.outbox.front()
+    }
+
+    /// All the bytes that wait for the modem, in two parts.
+    pub fn parts(&self) -> (&[u8], &[u8])
+        ensures { result.0.now ++ result.1.now ≡ self.now.outbox.bytes }
+    {
+        self.outbox.parts()
     }
 
     /// The modem took the first so many of the bytes that wait for it.

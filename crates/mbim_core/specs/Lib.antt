@@ -2,6 +2,5 @@ pub mod Answer
 pub mod State
 pub mod Core
 pub mod Bound
-pub mod Lending
 pub mod Face
 pub mod Shows

@@ -1,4 +1,4 @@
-ghost use Rattle.std.specs.Prelude.{◌≡◌, ◌<◌, ◌≤◌, length, not, true, slice_get, Some, List, [], ◌∷◌, IfOk, IfSome, IsNone, IsTrue};
+ghost use Rattle.std.specs.Prelude.{◌≡◌, ◌++◌, ◌<◌, ◌≤◌, length, not, true, slice_get, Some, List, [], ◌∷◌, IfOk, IfSome, IsNone, IsTrue};
 ghost use Rattle.framing.specs.Cutting.{cut};
 ghost use Rattle.framing.specs.Framing.{IsPartial};
 ghost use Rattle.hub_io.specs.Events.{event_of};
@@ -14,6 +14,7 @@ ghost use Rattle.mbim_state.specs.Core.{setup_of};
 ghost use Rattle.mbim_state.specs.Transitions.{mbim_handlers};
 ghost use Rattle.mbim_core.specs.Bound.{IsBounded};
 ghost use Rattle.mbim_core.specs.Core.{MbimState, Stands, StandsAfter, CanStep, greatest_after, setup_in, step, meet, waiting_for, first_waiting, is_owed, names_of, opening_setup, opened_core, NextDropped};
+ghost use Rattle.outbox.specs.Fronts.{IsFrontOf};
 
 use crate::state::State;
 use framing::LONGEST_PIECE;
@@ -47,9 +48,6 @@ impl Model for MbimCore {
 }
 
 impl MbimCore {
-    ghost use Rattle.mbim_core.specs.Lending.{LeavesAsIs};
-    ghost use Rattle.std.specs.Borrow.{sem};
-
     /// A proxy that nothing has happened to yet, for the device of this path. The modem is there. This
     /// takes all the memory that it will ever need.
     pub fn open(alloc: Global, limits: &Limits, device: Text) -> Result<Self, AllocError>
@@ -137,25 +135,42 @@ impl MbimCore {
         self.cutter.restart();
     }
 
-    /// The bytes that wait for a connection that is there, or that was dropped and wasn't asked
-    /// for yet; none for any other name.
-    pub fn queued(&mut self, conn: u64) -> &[u8]
-        ensures* after { sem 𝓛 (LeavesAsIs self.entry) }
-        ensures queue { result.now ≡ waiting_for conn self.old }
+    /// The first of the bytes that wait for a connection that is there, or that was dropped and wasn't
+    /// asked for yet; none only where none wait, and for any other name.
+    pub fn queued(&self, conn: u64) -> &[u8]
+        ensures queue { IsFrontOf result.now (waiting_for conn self.now) }
         ensures text { (setup : Setup) (events : List history_events.Event) →
-            Stands setup events self.old → IsTrue (is_owed conn self.old) → result.now ≡ (text_for setup conn events).waiting }
+            Stands setup events self.now → IsTrue (is_owed conn self.now) → IsFrontOf result.now (text_for setup conn events).waiting }
     {
         self.state.queued(conn)
     }
 
-    /// The bytes that wait for the modem.
-    pub fn queued_modem(&mut self) -> &[u8]
-        ensures* after { sem 𝓛 (LeavesAsIs self.entry) }
-        ensures queue { result.now ≡ self.old.state.beside.outbox.bytes }
+    /// The first of the bytes that wait for the modem; none only where none wait.
+    pub fn queued_modem(&self) -> &[u8]
+        ensures queue { IsFrontOf result.now self.now.state.beside.outbox.bytes }
         ensures text { (setup : Setup) (events : List history_events.Event) →
-            Stands setup events self.old → result.now ≡ modem_queue (wire setup) (history setup events) }
+            Stands setup events self.now → IsFrontOf result.now (modem_queue (wire setup) (history setup events)) }
     {
         self.state.queued_modem()
+    }
+
+    /// All the bytes that wait for a connection that is there, or that was dropped and wasn't asked for
+    /// yet, in two parts; none for any other name.
+    pub fn parts(&self, conn: u64) -> (&[u8], &[u8])
+        ensures queue { result.0.now ++ result.1.now ≡ waiting_for conn self.now }
+        ensures text { (setup : Setup) (events : List history_events.Event) →
+            Stands setup events self.now → IsTrue (is_owed conn self.now) → result.0.now ++ result.1.now ≡ (text_for setup conn events).waiting }
+    {
+        self.state.parts(conn)
+    }
+
+    /// All the bytes that wait for the modem, in two parts.
+    pub fn modem_parts(&self) -> (&[u8], &[u8])
+        ensures queue { result.0.now ++ result.1.now ≡ self.now.state.beside.outbox.bytes }
+        ensures text { (setup : Setup) (events : List history_events.Event) →
+            Stands setup events self.now → result.0.now ++ result.1.now ≡ modem_queue (wire setup) (history setup events) }
+    {
+        self.state.modem_parts()
     }
 
     /// The place of the first connection, from this place on in the order of joining, for which bytes

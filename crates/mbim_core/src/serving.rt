@@ -18,12 +18,20 @@ impl ProxyCore for MbimCore {
         Ok(())
     }
 
-    fn queued(&mut self, conn: u64) -> &[u8] {
+    fn queued(&self, conn: u64) -> &[u8] {
         MbimCore::queued(self, conn)
     }
 
-    fn queued_modem(&mut self) -> &[u8] {
+    fn queued_modem(&self) -> &[u8] {
         MbimCore::queued_modem(self)
+    }
+
+    fn parts(&self, conn: u64) -> (&[u8], &[u8]) {
+        MbimCore::parts(self, conn)
+    }
+
+    fn modem_parts(&self) -> (&[u8], &[u8]) {
+        MbimCore::modem_parts(self)
     }
 
     fn next_dropped(&mut self) -> Option<u64> {

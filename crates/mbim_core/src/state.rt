@@ -16,6 +16,7 @@ ghost use Rattle.mbim_state.specs.Core.{setup_of, opened_core};
 ghost use Rattle.mbim_state.specs.Transitions.{give_up, mbim_handlers, tell_answer, tell_refusal, ends_opening, hear_as, hear_modem, refuse_as, expire, shut_all, lose, regain, take_modem, tick, merged_in, finish};
 ghost use Rattle.mbim_core.specs.Answer.{heard_of};
 ghost use Rattle.mbim_core.specs.State.{state_of, opened_from, indicated_from, gathered, noted, wish_of, Settles, IsDoneWith, IsIndicationWith};
+ghost use Rattle.outbox.specs.Fronts.{IsFrontOf};
 
 use crate::answer::Answer;
 use connections::Connections;
@@ -475,19 +476,34 @@ impl State {
         self.connections.waiting_from(from)
     }
 
-    /// The bytes that wait for a connection that is there, or that was dropped and wasn't asked
-    /// for yet; none for any other name.
+    /// The first of the bytes that wait for a connection that is there, or that was dropped and wasn't
+    /// asked for yet; none only where none wait, and for any other name.
     pub fn queued(&self, name: u64) -> &[u8]
-        ensures { result.now ≡ queue_of name self.now.table }
+        ensures { IsFrontOf result.now (queue_of name self.now.table) }
     {
         self.connections.queued(name)
     }
 
-    /// The bytes that wait for the modem.
+    /// The first of the bytes that wait for the modem; none only where none wait.
     pub fn queued_modem(&self) -> &[u8]
-        ensures { result.now ≡ self.now.beside.outbox.bytes }
+        ensures { IsFrontOf result.now self.now.beside.outbox.bytes }
     {
         self.side.queued()
+    }
+
+    /// All the bytes that wait for a connection that is there, or that was dropped and wasn't asked for
+    /// yet, in two parts; none for any other name.
+    pub fn parts(&self, name: u64) -> (&[u8], &[u8])
+        ensures { result.0.now ++ result.1.now ≡ queue_of name self.now.table }
+    {
+        self.connections.parts(name)
+    }
+
+    /// All the bytes that wait for the modem, in two parts.
+    pub fn modem_parts(&self) -> (&[u8], &[u8])
+        ensures { result.0.now ++ result.1.now ≡ self.now.beside.outbox.bytes }
+    {
+        self.side.parts()
     }
 
     /// The next connection to hang up, each once.

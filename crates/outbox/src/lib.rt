@@ -1,38 +1,28 @@
 //! The bytes that wait until a connection takes them.
 #![tactic(auto)]
 
-ghost use Rattle.std.specs.Prelude.{◌≡◌, ◌+◌, ◌-◌, ◌≤◌, ◌==◌, ℕ, List, ◌∷◌, ◌++◌, length, drop, vec_len, vec_capacity, IfOk};
+ghost use Rattle.std.specs.Prelude.{◌≡◌, ◌+◌, ◌≤◌, ◌==◌, ℕ, List, ◌∷◌, ◌++◌, length, drop, IfOk};
 ghost use Rattle.outbox.specs.Queue.{opened, room, has_room, queues, takes, clears};
+ghost use Rattle.circular_buffer.specs.Buffer.{buffer};
+ghost use Rattle.outbox.specs.Fronts.{IsFrontOf};
 ghost use Rattle.outbox.specs.Calls.{Call, Queues, Takes, Clears, StandsFor};
 
-use kit_bytes::append;
+use circular_buffer::HeapCircularBuffer;
 use std::alloc::{AllocError, Global};
 use std::marker::Model;
 
-/// Bytes that wait to be taken, in one piece, and no more of them than a capacity.
-///
-/// The bytes that wait stand behind `start`, in memory that is taken at the opening. Where they
-/// are all taken, the next ones begin at the front again.
+/// Bytes that wait to be taken, and no more of them than a capacity, in a ring of that capacity.
 #[derive(Drop)]
 pub struct Outbox {
-    bytes: Vec<u8>,
-    start: usize,
-    capacity: usize,
+    ring: HeapCircularBuffer<u8>,
 }
 
 impl Model for Outbox {
-    ghost use Rattle.std.specs.Prelude.{◌+◌, ◌≤◌, drop, vec_len, vec_capacity};
     ghost use Rattle.outbox.specs.Queue.{Queue};
 
     ghost Value = { Queue };
 
-    ghost view = { λ o. record { bytes = drop o.start o.bytes.items; capacity = o.capacity } };
-
-    ghost invariant = { λ o. record {
-      start : o.start ≤ vec_len o.bytes;
-      within : vec_len o.bytes ≤ o.start + o.capacity;
-      room : o.capacity ≤ vec_capacity o.bytes;
-    } };
+    ghost view = { λ o. record { bytes = o.ring.items; capacity = o.ring.capacity } };
 }
 
 impl Outbox {
@@ -40,18 +30,15 @@ impl Outbox {
     pub fn open(alloc: Global, capacity: usize) -> Result<Self, AllocError>
         ensures { IfOk result (λ outbox. outbox ≡ opened capacity) }
     {
-        Ok(Outbox {
-            bytes: Vec::with_capacity(alloc, capacity)?,
-            start: 0,
-            capacity,
-        })
+        let ring = HeapCircularBuffer::with_capacity(alloc, capacity)?;
+        Ok(Outbox { ring })
     }
 
     /// How many bytes wait.
     pub fn len(&self) -> usize
         ensures { result ≡ length self.now.bytes }
     {
-        self.bytes.len() - self.start
+        self.ring.len()
     }
 
     /// Whether no bytes wait.
@@ -66,7 +53,7 @@ impl Outbox {
         ensures room { result ≡ room self.now }
         ensures within { length self.now.bytes ≤ self.now.capacity }
     {
-        self.capacity - self.len()
+        self.ring.capacity() - self.ring.len()
     }
 
     /// Adds all of these bytes, or none where they find no room.
@@ -78,13 +65,11 @@ impl Outbox {
         if bytes.len() > self.room() {
             return false;
         }
-        self.start = make_room(&mut self.bytes, self.start, bytes.len());
-        append(&mut self.bytes, bytes);
+        add(&mut self.ring, bytes);
         true
     }
 
     /// Adds all bytes of both runs, one run behind the other, or none where they find no room.
-    #[inline(always)]
     pub fn queue_both(&mut self, head: &[u8], rest: &[u8]) -> bool
         ensures fits { result ≡ has_room (head.now ++ rest.now) self.old }
         ensures queue { self.new ≡ queues (head.now ++ rest.now) self.old }
@@ -93,16 +78,32 @@ impl Outbox {
         if head.len() + rest.len() > self.room() {
             return false;
         }
-        self.start = make_room(&mut self.bytes, self.start, head.len() + rest.len());
-        append_both(&mut self.bytes, head, rest);
+        add_both(&mut self.ring, head, rest);
         true
     }
 
-    /// All the bytes that wait, the first to go first.
+    /// Bytes that wait, the first to go first: all of them, or those up to the end of the ring's
+    /// block. There are none only where none wait.
     pub fn front(&self) -> &[u8]
-        ensures { result.now ≡ self.now.bytes }
+        ensures { IsFrontOf result.now self.now.bytes }
     {
-        &self.bytes[self.start..]
+        let (first, wrapped) = self.ring.as_slices();
+        if first.is_empty() { wrapped } else { first }
+    }
+
+    /// All the bytes that wait, in two parts, the second behind the first.
+    pub fn parts(&self) -> (&[u8], &[u8])
+        ensures { result.0.now ++ result.1.now ≡ self.now.bytes }
+    {
+        self.ring.as_slices()
+    }
+
+    /// Brings all the bytes that wait into one slice. No contract says so, since where a ring's slices
+    /// part is the ring's own affair.
+    pub fn straighten(&mut self)
+        ensures { self.new ≡ self.old }
+    {
+        let _all = self.ring.make_contiguous();
     }
 
     /// The first so many bytes were taken, and wait no more.
@@ -111,11 +112,7 @@ impl Outbox {
         ensures queue { self.new ≡ takes count self.old }
         ensures stands { (capacity : ℕ) (calls : List Call) → StandsFor capacity calls self.old → StandsFor capacity (Takes count ∷ calls) self.new }
     {
-        self.start += count;
-        if self.start == self.bytes.len() {
-            self.bytes.clear();
-            self.start = 0;
-        }
+        drop_front(&mut self.ring, count);
     }
 
     /// No bytes wait any more.
@@ -123,49 +120,32 @@ impl Outbox {
         ensures queue { self.new ≡ clears self.old }
         ensures stands { (capacity : ℕ) (calls : List Call) → StandsFor capacity calls self.old → StandsFor capacity (Clears ∷ calls) self.new }
     {
-        self.bytes.clear();
-        self.start = 0;
+        self.ring.clear();
     }
 }
 
-// Appends both runs of bytes, one behind the other.
-#[inline(always)]
-fn append_both(bytes: &mut Vec<u8>, head: &[u8], rest: &[u8])
-    requires { vec_len bytes.old + (length head.now + length rest.now) ≤ vec_capacity bytes.old }
-    ensures items { bytes.new.items ≡ bytes.old.items ++ (head.now ++ rest.now) }
-    ensures capacity { vec_capacity bytes.old ≤ vec_capacity bytes.new }
+// Adds bytes for which there is room.
+fn add(ring: &mut HeapCircularBuffer<u8>, bytes: &[u8])
+    requires { length ring.old.items + length bytes.now ≤ ring.old.capacity }
+    ensures { ring.new ≡ buffer (ring.old.items ++ bytes.now) ring.old.capacity }
 {
-    append(bytes, head);
-    append(bytes, rest);
+    let _all = ring.fill_from_slice(bytes);
 }
 
-// Makes room for so many bytes behind the others, which may move to the front. They then begin at
-// the place that is given back.
-fn make_room(bytes: &mut Vec<u8>, start: usize, count: usize) -> usize
-    requires start { start ≤ vec_len bytes.old }
-    requires room { (vec_len bytes.old - start) + count ≤ vec_capacity bytes.old }
-    ensures start { result ≤ vec_len bytes.new }
-    ensures items { drop result bytes.new.items ≡ drop start bytes.old.items }
-    ensures room { vec_len bytes.new + count ≤ vec_capacity bytes.new }
-    ensures capacity { vec_capacity bytes.new ≡ vec_capacity bytes.old }
+// Adds both runs of bytes, one behind the other.
+fn add_both(ring: &mut HeapCircularBuffer<u8>, head: &[u8], rest: &[u8])
+    requires { length ring.old.items + (length head.now + length rest.now) ≤ ring.old.capacity }
+    ensures { ring.new ≡ buffer (ring.old.items ++ (head.now ++ rest.now)) ring.old.capacity }
 {
-    if count <= bytes.capacity() - bytes.len() {
-        return start;
-    }
-    drop_front(bytes, start);
-    0
+    add(ring, head);
+    add(ring, rest);
 }
 
 // Drops the first so many bytes.
-#[cold]
-#[inline(never)]
-fn drop_front(bytes: &mut Vec<u8>, count: usize)
-    requires { count ≤ vec_len bytes.old }
-    ensures items { bytes.new.items ≡ drop count bytes.old.items }
-    ensures len { vec_len bytes.new ≡ vec_len bytes.old - count }
-    ensures capacity { vec_capacity bytes.new ≡ vec_capacity bytes.old }
+fn drop_front(ring: &mut HeapCircularBuffer<u8>, count: usize)
+    requires { count ≤ length ring.old.items }
+    ensures { ring.new ≡ buffer (drop count ring.old.items) ring.old.capacity }
 {
-    let left = bytes.len() - count;
-    bytes.copy_within(count.., 0);
-    bytes.truncate(left);
+    let left = ring.len() - count;
+    ring.truncate_front(left);
 }

@@ -1,9 +1,9 @@
 -- One connection in turn is offered what waits for it. Lists of calls and of events have the newest first.
 use Rattle.std.proofs.Common.{◌≡◌, inl, inr, ℕ, zero, suc, ◌+◌, ◌<◌, true, false, ◌==◌, List, [], ◌∷◌, ◌++◌, length, slice_get, refl, sym, ◌∙◌, ap, subst, arith, append_assoc, length-append, Option, Some, None, ◌≤◌}
-use Rattle.std.proofs.lemmas.List.{append-nil}
 use Rattle.std.specs.List.{AllByRecursion, IsDistinct}
 use Rattle.std.proofs.lemmas.Bool.Decides.{nat_tests}
 use Rattle.kit_bytes.proofs.Lists.{all_weaker}
+use Rattle.outbox.specs.Fronts.{IsFrontOf}
 use Rattle.proxy_history.specs.Events.{Event, Took, Left}
 use Rattle.proxy_history.specs.Connections.{contains, without}
 use Rattle.hub_io.specs.Record.{Call, Sent, SendFailed, HungUp, events}
@@ -20,9 +20,9 @@ use Rattle.proxy_serving.proofs.Going.{serving-sent_none, serving-sent, serving-
 use Rattle.proxy_serving.proofs.Faces.{contains-middle, slice_get-at, emptied_is, first_is, none_is}
 use Rattle.hub_io.specs.declared.settings.Until.{Until}
 
--- a whole queue is a front of itself
-pub whole_front : (queue : List ℕ) → 0 < length queue → IsFront queue queue
-whole_front queue some = record { some = some; rest = []; whole = sym (append-nil queue) }
+-- what is lent of a queue, where that is anything, is a front of it
+pub lent_front : {bytes queue : List ℕ} → 0 < length bytes → IsFrontOf bytes queue → IsFront bytes queue
+lent_front some lent = record { some = some; rest = lent.rest; whole = lent.whole }
 
 module _ {C : Type 0} {keeps : Proxy → List Event → C → Type 0} {face : C → Face} {p : Proxy} {until : Until} {turns count c : ℕ} {server : Server C} {calls : List Call} (at : IsAt keeps face p until turns count c server calls) where
   there : contains c (p.present (events calls)) ≡ true
@@ -37,9 +37,9 @@ module _ {C : Type 0} {keeps : Proxy → List Event → C → Type 0} {face : C 
   queue : (face server.core).queue c ≡ (p.waiting c (events calls))
   queue = at.serving.stands.shows.queue c there
 
-  -- the whole queue is a front of what waits
-  front_of_waiting : (bytes : List ℕ) → 0 < length bytes → bytes ≡ (face server.core).queue c → IsFront bytes (p.waiting c (events calls))
-  front_of_waiting bytes waits whole = let P : List ℕ → Type 0 = IsFront bytes in subst P (whole ∙ queue) (whole_front bytes waits)
+  -- what is lent of the queue is a front of what waits
+  front_of_waiting : (bytes : List ℕ) → 0 < length bytes → IsFrontOf bytes ((face server.core).queue c) → IsFront bytes (p.waiting c (events calls))
+  front_of_waiting bytes waits lent = let P : List ℕ → Type 0 = IsFront bytes in subst P queue (lent_front waits lent)
 
   -- it was offered all
   offered_here : IsOffered p calls c → HasOffered keeps face p until turns (count + 1) server calls
@@ -60,11 +60,11 @@ module _ {C : Type 0} {keeps : Proxy → List Event → C → Type 0} {face : C 
   pub at-empty : (face server.core).queue c ≡ [] → HasOffered keeps face p until turns (count + 1) server calls
   at-empty none = offered_here (inl (sym queue ∙ none))
 
-  pub at-sent_none : (bytes : List ℕ) (now : Server C) → 0 < length bytes → bytes ≡ (face server.core).queue c → now.core ≡ server.core → now.blocked ≡ remembering c server.blocked → now.modem_blocked ≡ server.modem_blocked → now.emptied ≡ server.emptied
+  pub at-sent_none : (bytes : List ℕ) (now : Server C) → 0 < length bytes → IsFrontOf bytes ((face server.core).queue c) → now.core ≡ server.core → now.blocked ≡ remembering c server.blocked → now.modem_blocked ≡ server.modem_blocked → now.emptied ≡ server.emptied
       → HasOffered keeps face p until turns (count + 1) now (Sent c bytes 0 ∷ calls)
   unfolding reopenings due_reopenings
-  at-sent_none bytes now waits whole core blocked modem emptied = record {
-    serving = serving-sent_none at.serving c bytes now (front_of_waiting bytes waits whole) core blocked modem emptied;
+  at-sent_none bytes now waits lent core blocked modem emptied = record {
+    serving = serving-sent_none at.serving c bytes now (front_of_waiting bytes waits lent) core blocked modem emptied;
     awake = at.awake;
     in_time = at.in_time;
     done = at.done ++ c ∷ [];
@@ -80,13 +80,13 @@ module _ {C : Type 0} {keeps : Proxy → List Event → C → Type 0} {face : C 
         (inr (blocked-sent_none c bytes calls), tt);
   }
 
-  pub at-sent : (bytes : List ℕ) (taken : ℕ) (now : Server C) → (taken == 0) ≡ false → taken ≤ length bytes → 0 < length bytes → bytes ≡ (face server.core).queue c → contains c server.blocked ≡ false → (face server.core).dropped ≡ []
+  pub at-sent : (bytes : List ℕ) (taken : ℕ) (now : Server C) → (taken == 0) ≡ false → taken ≤ length bytes → 0 < length bytes → IsFrontOf bytes ((face server.core).queue c) → contains c server.blocked ≡ false → (face server.core).dropped ≡ []
       → StandsAfter keeps face p (Took c taken ∷ events calls) now.core → now.blocked ≡ server.blocked → now.modem_blocked ≡ server.modem_blocked → now.emptied ≡ emptied_after (face server.core) server.emptied (face now.core)
       → IsAt keeps face p until turns count c now (Sent c bytes taken ∷ calls)
   unfolding reopenings due_reopenings
-  at-sent bytes taken now some within waits whole free none after blocked modem emptied = record {
+  at-sent bytes taken now some within waits lent free none after blocked modem emptied = record {
     serving =
-        serving-sent at.serving c bytes taken now some within there (front_of_waiting bytes waits whole) free none (after.stands.shows.dropped (after.stands.shows.lawful.took_dropped c taken (events calls))) after.stands blocked modem
+        serving-sent at.serving c bytes taken now some within there (front_of_waiting bytes waits lent) free none (after.stands.shows.dropped (after.stands.shows.lawful.took_dropped c taken (events calls))) after.stands blocked modem
         (emptied ∙ emptied_is (Took c taken) server.emptied at.serving.stands after.stands at.serving.emptied);
     awake = at.awake;
     in_time = at.in_time;
@@ -97,13 +97,13 @@ module _ {C : Type 0} {keeps : Proxy → List Event → C → Type 0} {face : C 
     offered = both_on at.done (λ d other is. offered-sent at.serving.stands.shows.lawful c d bytes taken calls some other is) differ at.offered;
   }
 
-  pub at-failed : (bytes : List ℕ) (now : Server C) → 0 < length bytes → bytes ≡ (face server.core).queue c → (face server.core).dropped ≡ []
+  pub at-failed : (bytes : List ℕ) (now : Server C) → 0 < length bytes → IsFrontOf bytes ((face server.core).queue c) → (face server.core).dropped ≡ []
       → StandsAfter keeps face p (Left c ∷ events calls) now.core → AreBlocked calls now.blocked → now.modem_blocked ≡ server.modem_blocked → now.emptied ≡ emptied_after (face server.core) server.emptied (face now.core)
       → HasOffered keeps face p until turns count now (HungUp c ∷ SendFailed c bytes ∷ calls)
   unfolding reopenings due_reopenings
-  at-failed bytes now waits whole none after blocked modem emptied = record {
+  at-failed bytes now waits lent none after blocked modem emptied = record {
     serving =
-        serving-failed at.serving c bytes now (front_of_waiting bytes waits whole) none (after.stands.shows.dropped (after.stands.shows.lawful.left_dropped c (events calls))) after.stands blocked modem
+        serving-failed at.serving c bytes now (front_of_waiting bytes waits lent) none (after.stands.shows.dropped (after.stands.shows.lawful.left_dropped c (events calls))) after.stands blocked modem
         (emptied ∙ emptied_is (Left c) server.emptied at.serving.stands after.stands at.serving.emptied);
     awake = at.awake;
     in_time = at.in_time;

@@ -1,7 +1,6 @@
 pub mod Serving
 pub mod Ends
 pub mod Carrying
-pub mod Lending
 pub mod Face
 pub mod Cores
 pub mod Server

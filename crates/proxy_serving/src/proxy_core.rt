@@ -1,12 +1,11 @@
-ghost use Rattle.std.specs.Prelude.{◌≡◌, ◌<◌, ◌≤◌, ◌∷◌, ℕ, List, length, slice_get, Some, OnOk, OnErr, IfSome};
-ghost use Rattle.std.specs.Borrow.{sem};
+ghost use Rattle.std.specs.Prelude.{◌≡◌, ◌<◌, ◌≤◌, ◌∷◌, ◌++◌, ℕ, List, length, slice_get, Some, OnOk, OnErr, IfSome};
+ghost use Rattle.outbox.specs.Fronts.{IsFrontOf};
 ghost use Rattle.proxy_history.specs.Events as history;
 ghost use Rattle.proxy_history.specs.Events.{greatest_after};
 ghost use Rattle.hub_io.specs.Events.{event_of};
 ghost use Rattle.proxy_history.specs.Proxy.{Proxy};
 ghost use Rattle.proxy_serving.specs.Face.{Face, CanMeet, BringsIn, NextDropped, first_waiting};
 ghost use Rattle.proxy_serving.specs.Cores.{Shows};
-ghost use Rattle.proxy_serving.specs.Lending.{LeavesAsIs};
 
 use hub_io::Event;
 use std::alloc::AllocError;
@@ -33,15 +32,21 @@ pub trait ProxyCore: Drop {
         ensures memory { OnErr result (lacks_memory (event_of event.entry)) }
         ensures brings { OnErr result (BringsIn (event_of event.entry)) };
 
-    /// The bytes that wait for a connection that is there.
-    fn queued(&mut self, conn: u64) -> &[u8]
-        ensures* after { sem 𝓛 (LeavesAsIs Self.row self.entry) }
-        ensures queue { result.now ≡ (face self.old).queue conn };
+    /// The first of the bytes that wait for a connection that is there; none only where none wait.
+    fn queued(&self, conn: u64) -> &[u8]
+        ensures { IsFrontOf result.now ((face self.now).queue conn) };
 
-    /// The bytes that wait for the modem.
-    fn queued_modem(&mut self) -> &[u8]
-        ensures* after { sem 𝓛 (LeavesAsIs Self.row self.entry) }
-        ensures queue { result.now ≡ (face self.old).modem_queue };
+    /// The first of the bytes that wait for the modem; none only where none wait.
+    fn queued_modem(&self) -> &[u8]
+        ensures { IsFrontOf result.now (face self.now).modem_queue };
+
+    /// All the bytes that wait for a connection that is there, in two parts.
+    fn parts(&self, conn: u64) -> (&[u8], &[u8])
+        ensures { result.0.now ++ result.1.now ≡ (face self.now).queue conn };
+
+    /// All the bytes that wait for the modem, in two parts.
+    fn modem_parts(&self) -> (&[u8], &[u8])
+        ensures { result.0.now ++ result.1.now ≡ (face self.now).modem_queue };
 
     /// The next connection to hang up, each once.
     fn next_dropped(&mut self) -> Option<u64>

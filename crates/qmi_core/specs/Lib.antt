@@ -3,6 +3,5 @@ pub mod Hearing
 pub mod State
 pub mod Core
 pub mod Bound
-pub mod Lending
 pub mod Face
 pub mod Shows

@@ -18,12 +18,20 @@ impl ProxyCore for QmiCore {
         Ok(())
     }
 
-    fn queued(&mut self, conn: u64) -> &[u8] {
+    fn queued(&self, conn: u64) -> &[u8] {
         QmiCore::queued(self, conn)
     }
 
-    fn queued_modem(&mut self) -> &[u8] {
+    fn queued_modem(&self) -> &[u8] {
         QmiCore::queued_modem(self)
+    }
+
+    fn parts(&self, conn: u64) -> (&[u8], &[u8]) {
+        QmiCore::parts(self, conn)
+    }
+
+    fn modem_parts(&self) -> (&[u8], &[u8]) {
+        QmiCore::modem_parts(self)
     }
 
     fn next_dropped(&mut self) -> Option<u64> {

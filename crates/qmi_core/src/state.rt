@@ -9,6 +9,7 @@ ghost use Rattle.qmi_state.specs.Core as core;
 ghost use Rattle.qmi_state.specs.Transitions.{give_up, tell, names_in, expires_space, expires, aborts, forgets_all, responds, indicates, hears_indication, hears_modem, releases_due, shows, tick, lose, regain, take_modem, qmi_handlers};
 ghost use Rattle.proxy_state.specs.Chosen.{StandsAt};
 ghost use Rattle.qmi_core.specs.State.{NextReleased, is_chosen, tell_from, answers_from, answers_noted, allocates, refuses_from};
+ghost use Rattle.outbox.specs.Fronts.{IsFrontOf};
 
 use crate::errors::{ABORTED, CLIENT_IDS_EXHAUSTED};
 use crate::message::Message;
@@ -425,19 +426,34 @@ impl State {
         self.connections.waiting_from(from)
     }
 
-    /// The bytes that wait for a connection that is there, or that was dropped and wasn't asked
-    /// for yet; none for any other name.
+    /// The first of the bytes that wait for a connection that is there, or that was dropped and wasn't
+    /// asked for yet; none only where none wait, and for any other name.
     pub fn queued(&self, name: u64) -> &[u8]
-        ensures { result.now ≡ queue_of name self.now.table }
+        ensures { IsFrontOf result.now (queue_of name self.now.table) }
     {
         self.connections.queued(name)
     }
 
-    /// The bytes that wait for the modem.
+    /// The first of the bytes that wait for the modem; none only where none wait.
     pub fn queued_modem(&self) -> &[u8]
-        ensures { result.now ≡ self.now.beside.traffic.waiting }
+        ensures { IsFrontOf result.now self.now.beside.traffic.waiting }
     {
         self.side.traffic.queued()
+    }
+
+    /// All the bytes that wait for a connection that is there, or that was dropped and wasn't asked for
+    /// yet, in two parts; none for any other name.
+    pub fn parts(&self, name: u64) -> (&[u8], &[u8])
+        ensures { result.0.now ++ result.1.now ≡ queue_of name self.now.table }
+    {
+        self.connections.parts(name)
+    }
+
+    /// All the bytes that wait for the modem, in two parts.
+    pub fn modem_parts(&self) -> (&[u8], &[u8])
+        ensures { result.0.now ++ result.1.now ≡ self.now.beside.traffic.waiting }
+    {
+        self.side.traffic.parts()
     }
 
     /// The next connection to hang up, each once.

@@ -9,6 +9,7 @@ ghost use Rattle.holders.specs.Kept.{FirstDue};
 ghost use Rattle.qmi_core.specs.State.{id_of, asks_under, grants_unless};
 ghost use Rattle.qmi_state.specs.Traffic.{Row, traffic_of, of_control, with_numbers, row_numbered, number_at, gives_next, adopts_unless, frees, frees_id, gives_up, forgets, number_for_own};
 ghost use Rattle.qmi_state.specs.Transitions.{share_of, shared_of, refusal_of, forwards_as, holder_at};
+ghost use Rattle.outbox.specs.Fronts.{IsFrontOf};
 
 use crate::errors::{DEVICE_IN_USE, INTERNAL, INVALID_CLIENT_ID, SHARE_PASSED};
 use crate::message::{Message, release_message};
@@ -153,7 +154,8 @@ impl Traffic {
         }
     }
 
-    // The message waits for the modem under this number.
+    // The message waits for the modem under this number, in one slice, since a pump is to be handed
+    // whole messages.
     fn queue(&mut self, message: &Message<'_>, number: u16)
         requires fits { is_control message.now ≡ true → number ≤ 255 }
         requires room { has_room (length self.old.waiting) message.now ≡ true }
@@ -161,6 +163,7 @@ impl Traffic {
     {
         let head = message.numbered(number);
         self.outbox.queue_both(&head, message.rest());
+        self.outbox.straighten();
     }
 
     // Gives the message the next number of its space.
@@ -303,11 +306,18 @@ impl Traffic {
         self.outbox.taken(count);
     }
 
-    /// The bytes that wait for the modem.
+    /// The first of the bytes that wait for the modem; none only where none wait.
     pub fn queued(&self) -> &[u8]
-        ensures { result.now ≡ self.now.waiting }
+        ensures { IsFrontOf result.now self.now.waiting }
     {
         self.outbox.front()
+    }
+
+    /// All the bytes that wait for the modem, in two parts.
+    pub fn parts(&self) -> (&[u8], &[u8])
+        ensures { result.0.now ++ result.1.now ≡ self.now.waiting }
+    {
+        self.outbox.parts()
     }
 }
 

@@ -3,3 +3,4 @@ pub mod Meeting
 pub mod Noted
 pub mod Sound
 pub mod Stopping
+pub mod Fronts

@@ -9,11 +9,12 @@ ghost use Rattle.rig_story.specs.Alone.{meets, hears, own_number, meet_met};
 ghost use Rattle.rig_notes.specs.Noting.{Keeps};
 ghost use Rattle.rig_notes.specs.Alone.{is_met, is_short, is_fit, queue_for, GoesOn, RunsAlone, StopsAlone};
 
+use crate::slices::begin_with;
 use crate::{Noting, Reading, SHORTEST};
 use core_bench::Bench;
 use framing::LONGEST_PIECE;
 use hub_io::Event;
-use rig_stage::{meet, modem_takes};
+use rig_stage::{count_waiting, meet, modem_takes};
 use rig_story::Met;
 use std::alloc::{AllocError, Global};
 
@@ -165,22 +166,21 @@ fn collect<B: Bench>(bench: &mut B, conn: u64, bytes: &[u8]) -> bool
 }
 
 // Whether what waits for the client begins with these bytes.
-fn waits<B: Bench>(bench: &mut B, conn: u64, bytes: &[u8]) -> bool
-    requires { B.is_held bench.old ≡ true }
-    ensures waits { result ≡ starts_with nat_eq ((B.face bench.old).queue conn) bytes.now }
-    ensures within { result ≡ true → length bytes.now ≤ length ((B.face bench.old).queue conn) }
-    ensures bench { bench.new ≡ bench.old }
+fn waits<B: Bench>(bench: &B, conn: u64, bytes: &[u8]) -> bool
+    requires { B.is_held bench.now ≡ true }
+    ensures waits { result ≡ starts_with nat_eq ((B.face bench.now).queue conn) bytes.now }
+    ensures within { result ≡ true → length bytes.now ≤ length ((B.face bench.now).queue conn) }
 {
-    bench.queued(conn).starts_with(bytes)
+    let (first, second) = bench.parts(conn);
+    begin_with(first, second, bytes)
 }
 
 // Whether nothing waits for the client.
-fn nothing_waits<B: Bench>(bench: &mut B, conn: u64) -> bool
-    requires { B.is_held bench.old ≡ true }
-    ensures waits { result ≡ (length ((B.face bench.old).queue conn) == 0) }
-    ensures bench { bench.new ≡ bench.old }
+fn nothing_waits<B: Bench>(bench: &B, conn: u64) -> bool
+    requires { B.is_held bench.now ≡ true }
+    ensures { result ≡ (length ((B.face bench.now).queue conn) == 0) }
 {
-    bench.queued(conn).is_empty()
+    count_waiting(bench, conn) == 0
 }
 
 // The core meets an event, and then the modem takes all that waits for it.

@@ -1,12 +1,14 @@
-ghost use Rattle.std.specs.Prelude.{◌≡◌, ℕ, List, OnOk};
+ghost use Rattle.std.specs.Prelude.{◌≡◌, drop, take, length, [], ◌++◌, ◌≤◌, ℕ, List, OnOk};
 ghost use Rattle.proxy_history.specs.Events as history;
 ghost use Rattle.hub_io.specs.Events.{event_of};
 ghost use Rattle.rig_notes.specs.Notes.{NotesEvent, nothing, told, with_event};
 
 use crate::ledger::Ledger;
+use crate::slices::behind;
 use crate::{Reading, SHORTEST};
 use hub_io::Event;
 use kit_bytes::Octets;
+use rig_stage::joined;
 use rig_story::{Counts, Met};
 use std::alloc::{AllocError, Global};
 use std::marker::Model;
@@ -76,6 +78,28 @@ impl<R: Reading> Notes<R> {
     {
         if self.try_note(event, asked, taken).is_err() {
             self.failed = true;
+        }
+    }
+
+    /// Notes that a client takes so many of the bytes of these two parts.
+    pub(crate) fn note_taking(&mut self, conn: u64, count: usize, first: &[u8], second: &[u8])
+        requires { count ≤ length (first.now ++ second.now) }
+        ensures { NotesEvent R.reading (history.Took conn count) [] (take count (first.now ++ second.now)) self.old self.new }
+    {
+        match joined(self.alloc, first, second) {
+            Ok(queue) => self.note(Event::Took(conn, count), &[], &queue.as_slice()[..count]),
+            Err(_) => self.failed = true,
+        }
+    }
+
+    /// Notes an event after which the bytes of these two parts wait for the modem, so many of them as
+    /// before.
+    pub(crate) fn note_met(&mut self, event: Event<'_>, before: usize, first: &[u8], second: &[u8])
+        ensures { NotesEvent R.reading (event_of event.entry) (drop before (first.now ++ second.now)) [] self.old self.new }
+    {
+        match joined(self.alloc, first, second) {
+            Ok(queue) => self.note(event, behind(queue.as_slice(), before), &[]),
+            Err(_) => self.failed = true,
         }
     }
 

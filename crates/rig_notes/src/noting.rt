@@ -9,10 +9,10 @@ ghost use Rattle.rig_notes.specs.Noting.{Keeps};
 
 use crate::Reading;
 use crate::notes::Notes;
-use crate::slices::behind;
 use core_bench::Bench;
 use hub_io::{Event, Limits};
 use kit_bytes::Kind;
+use rig_stage::count_modem_waiting;
 use rig_story::{Counts, Met};
 use std::alloc::{AllocError, Global};
 use std::mem::replace;
@@ -81,38 +81,22 @@ impl<R: Reading, B: Bench> Noting<R, B> {
 }
 
 // Notes that a client takes so many of the bytes that wait for it.
-fn note_taking<R: Reading, B: Bench>(bench: &mut B, notes: &mut Notes<R>, conn: u64, count: usize)
-    requires held { B.is_held bench.old ≡ true }
-    requires within { count ≤ length ((B.face bench.old).queue conn) }
-    ensures bench { bench.new ≡ bench.old }
-    ensures notes { NotesEvent R.reading (history.Took conn count) [] (take count ((B.face bench.old).queue conn)) notes.old notes.new }
+fn note_taking<R: Reading, B: Bench>(bench: &B, notes: &mut Notes<R>, conn: u64, count: usize)
+    requires held { B.is_held bench.now ≡ true }
+    requires within { count ≤ length ((B.face bench.now).queue conn) }
+    ensures { NotesEvent R.reading (history.Took conn count) [] (take count ((B.face bench.now).queue conn)) notes.old notes.new }
 {
-    let queue = bench.queued(conn);
-    notes.note(Event::Took(conn, count), &[], &queue[..count]);
-}
-
-// How many bytes wait for the modem.
-fn count_queued<B: Bench>(bench: &mut B) -> usize
-    requires { B.is_held bench.old ≡ true }
-    ensures count { result ≡ length (B.face bench.old).modem_queue }
-    ensures bench { bench.new ≡ bench.old }
-{
-    bench.queued_modem().len()
+    let (first, second) = bench.parts(conn);
+    notes.note_taking(conn, count, first, second);
 }
 
 // Notes an event before which so many bytes waited for the modem.
-fn note_met<R: Reading, B: Bench>(
-    bench: &mut B,
-    notes: &mut Notes<R>,
-    event: Event<'_>,
-    before: usize,
-)
-    requires { B.is_held bench.old ≡ true }
-    ensures bench { bench.new ≡ bench.old }
-    ensures notes { NotesEvent R.reading (event_of event.entry) (drop before (B.face bench.old).modem_queue) [] notes.old notes.new }
+fn note_met<R: Reading, B: Bench>(bench: &B, notes: &mut Notes<R>, event: Event<'_>, before: usize)
+    requires { B.is_held bench.now ≡ true }
+    ensures { NotesEvent R.reading (event_of event.entry) (drop before (B.face bench.now).modem_queue) [] notes.old notes.new }
 {
-    let asked = behind(bench.queued_modem(), before);
-    notes.note(event, asked, &[]);
+    let (first, second) = bench.modem_parts();
+    notes.note_met(event, before, first, second);
 }
 
 impl<R: Reading, B: Bench> Bench for Noting<R, B> {
@@ -138,21 +122,29 @@ impl<R: Reading, B: Bench> Bench for Noting<R, B> {
 
     fn step(&mut self, event: Event<'_>) {
         if let Event::Took(conn, count) = event {
-            note_taking(&mut self.bench, &mut self.notes, conn, count);
+            note_taking(&self.bench, &mut self.notes, conn, count);
             self.bench.step(event);
             return;
         }
-        let before = count_queued(&mut self.bench);
+        let before = count_modem_waiting(&self.bench);
         self.bench.step(event);
-        note_met(&mut self.bench, &mut self.notes, event, before);
+        note_met(&self.bench, &mut self.notes, event, before);
     }
 
-    fn queued(&mut self, conn: u64) -> &[u8] {
+    fn queued(&self, conn: u64) -> &[u8] {
         self.bench.queued(conn)
     }
 
-    fn queued_modem(&mut self) -> &[u8] {
+    fn queued_modem(&self) -> &[u8] {
         self.bench.queued_modem()
+    }
+
+    fn parts(&self, conn: u64) -> (&[u8], &[u8]) {
+        self.bench.parts(conn)
+    }
+
+    fn modem_parts(&self) -> (&[u8], &[u8]) {
+        self.bench.modem_parts()
     }
 
     fn next_dropped(&mut self) -> Option<u64> {

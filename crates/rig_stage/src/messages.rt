@@ -1,8 +1,10 @@
-ghost use Rattle.std.specs.Prelude.{◌≡◌, ◌≤◌, [], length, MatchOption};
+ghost use Rattle.std.specs.Prelude.{◌≡◌, IfOk, ◌++◌, ◌≤◌, [], length, MatchOption};
 ghost use Rattle.framing.specs.Cutting.{cut};
 ghost use Rattle.rig_stage.specs.Messages.{Splits};
 
 use framing::{Framing, Size};
+use kit_bytes::Octets;
+use std::alloc::{AllocError, Global};
 
 /// The length of the first message of some bytes, if they begin with a whole one.
 pub(crate) fn first_message<F: Framing>(bytes: &[u8]) -> Option<usize>
@@ -19,4 +21,13 @@ pub(crate) fn first_message<F: Framing>(bytes: &[u8]) -> Option<usize>
         Size::Unknown => None,
         Size::Invalid => None,
     }
+}
+
+/// A copy of all bytes of these two parts.
+pub fn joined(alloc: Global, first: &[u8], second: &[u8]) -> Result<Octets, AllocError>
+    ensures { IfOk result (λ all. all ≡ first.now ++ second.now) }
+{
+    let mut all = Octets::new(alloc);
+    all.extend_from_slices(first, second)?;
+    Ok(all)
 }

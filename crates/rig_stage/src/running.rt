@@ -1,4 +1,4 @@
-ghost use Rattle.std.specs.Prelude.{◌≡◌, ◌∷◌, true};
+ghost use Rattle.std.specs.Prelude.{◌≡◌, length, ◌∷◌, true};
 ghost use Rattle.std.specs.List.{range_with_len};
 ghost use Rattle.hub_io.specs.Events.{event_of};
 ghost use Rattle.hub_io.specs.Record.{taking};
@@ -40,8 +40,7 @@ pub(crate) fn client_takes<B: Bench>(bench: &mut B, conn: u64)
     ensures ready { StaysReady (B.is_held bench.new) (B.face bench.old) (B.face bench.new) }
     ensures met { Moves B.keeps B.runs (λ p past. taking (λ count. history.Took conn count) (queued_for p conn past) past) bench.old bench.new }
 {
-    let queue = bench.queued(conn);
-    let count = queue.len();
+    let count = count_waiting(bench, conn);
     if count == 0 {
         return;
     }
@@ -65,10 +64,27 @@ pub fn modem_takes<B: Bench>(bench: &mut B)
     ensures ready { StaysReady (B.is_held bench.new) (B.face bench.old) (B.face bench.new) }
     ensures met { Moves B.keeps B.runs rig.modem_takes bench.old bench.new }
 {
-    let queue = bench.queued_modem();
-    let count = queue.len();
+    let count = count_modem_waiting(bench);
     if count == 0 {
         return;
     }
     meet(bench, Event::ModemTook(count));
+}
+
+/// How many bytes wait for a client.
+pub fn count_waiting<B: Bench>(bench: &B, conn: u64) -> usize
+    requires { B.is_held bench.now ≡ true }
+    ensures { result ≡ length ((B.face bench.now).queue conn) }
+{
+    let (first, second) = bench.parts(conn);
+    first.len() + second.len()
+}
+
+/// How many bytes wait for the modem.
+pub fn count_modem_waiting<B: Bench>(bench: &B) -> usize
+    requires { B.is_held bench.now ≡ true }
+    ensures { result ≡ length (B.face bench.now).modem_queue }
+{
+    let (first, second) = bench.modem_parts();
+    first.len() + second.len()
 }

@@ -10,7 +10,7 @@ ghost use Rattle.rig_runs.specs.Stage as rig;
 ghost use Rattle.rig_stage.specs.Ready.{IsReady, StaysReady};
 ghost use Rattle.rig_stage.specs.Stage.{Acts, Asks, Stops};
 
-use crate::messages::first_message;
+use crate::messages::{first_message, joined};
 use crate::running::{clients_take, meet, modem_takes};
 use core_bench::Bench;
 use framing::LONGEST_PIECE;
@@ -211,7 +211,9 @@ impl<S: Sim> Stage<S> {
         ensures acts { OnOk result (Acts B.keeps B.runs S.keeps S.Framing.size rig.modem_served self.old bench.old self.new bench.new) }
         ensures stops { OnErr result (Stops B.keeps B.runs S.keeps S.Framing.size rig.modem_served self.old bench.old bench.new) }
     {
-        self.ask_all(bench.queued_modem())?;
+        let (first, second) = bench.modem_parts();
+        let queue = joined(self.alloc, first, second)?;
+        self.ask_all(queue.as_slice())?;
         modem_takes(bench);
         Ok(())
     }

@@ -26,12 +26,20 @@ impl<S: Sim> ProxyCore for SimCore<S> {
         Ok(())
     }
 
-    fn queued(&mut self, conn: u64) -> &[u8] {
+    fn queued(&self, conn: u64) -> &[u8] {
         SimCore::queued(self, conn)
     }
 
-    fn queued_modem(&mut self) -> &[u8] {
+    fn queued_modem(&self) -> &[u8] {
         &[]
+    }
+
+    fn parts(&self, conn: u64) -> (&[u8], &[u8]) {
+        (SimCore::queued(self, conn), &[])
+    }
+
+    fn modem_parts(&self) -> (&[u8], &[u8]) {
+        (&[], &[])
     }
 
     fn next_dropped(&mut self) -> Option<u64> {

@@ -194,15 +194,21 @@ impl Run {
     fn take<C: ProxyCore>(
         &mut self,
         alloc: Global,
-        proxy: &mut Proxy<C>,
+        proxy: &Proxy<C>,
         event: Event<'_>,
     ) -> Result<(), RowFault> {
         match event {
             Event::Joined(name) => self.join(alloc, name),
-            Event::Took(name, count) => self.take_as(name, first(proxy.waiting(name), count)),
+            Event::Took(name, count) => {
+                let waiting = proxy.waiting(alloc, name)?;
+                self.take_as(name, first(waiting.as_slice(), count))
+            }
             Event::ModemTook(count) => {
-                let bytes = first(proxy.modem_waiting(), count);
-                Ok(self.asked.extend_from_slice(bytes)?)
+                let waiting = proxy.modem_waiting(alloc)?;
+                Ok(
+                    self.asked
+                        .extend_from_slice(first(waiting.as_slice(), count))?,
+                )
             }
             _ => Ok(()),
         }

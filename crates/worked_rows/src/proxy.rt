@@ -1,14 +1,15 @@
-ghost use Rattle.std.specs.Prelude.{◌≡◌, true, IsTrue};
+ghost use Rattle.std.specs.Prelude.{◌≡◌, length, true, IsTrue};
 ghost use Rattle.hub_io.specs.Events.{event_of};
 ghost use Rattle.proxy_history.specs.Events.{greatest_after};
 ghost use Rattle.proxy_serving.specs.Face.{MayCome};
 
 use framing::LONGEST_PIECE;
 use hub_io::{Event, Limits};
-use kit_bytes::Text;
+use kit_bytes::{Octets, Text};
 use mbim_core::MbimCore;
 use proxy_serving::ProxyCore;
 use qmi_core::QmiCore;
+use rig_stage::joined;
 use row_text::RowFault;
 use std::alloc::{AllocError, Global};
 
@@ -77,31 +78,46 @@ impl<C: ProxyCore> Proxy<C> {
     }
 
     // Whether the event may come now: names rise, and no more is taken than waits.
-    fn may_come(&mut self, event: Event<'_>) -> bool
-        requires { self.old.sound ≡ true }
-        ensures may { IsTrue result → MayCome (event_of event.entry) (C.face self.new.core) }
-        ensures core { self.new.core ≡ self.old.core }
-        ensures greatest { self.new.greatest ≡ self.old.greatest }
-        ensures sound { self.new.sound ≡ self.old.sound }
+    fn may_come(&self, event: Event<'_>) -> bool
+        requires { self.now.sound ≡ true }
+        ensures { IsTrue result → MayCome (event_of event.entry) (C.face self.now.core) }
     {
         match event {
             Event::Joined(name) => self.greatest < name,
             Event::Piece(_, piece) => piece.len() <= LONGEST_PIECE,
             Event::ModemPiece(piece) => piece.len() <= LONGEST_PIECE,
-            Event::Took(name, count) => count <= self.core.queued(name).len(),
-            Event::ModemTook(count) => count <= self.core.queued_modem().len(),
+            Event::Took(name, count) => count <= self.count_waiting(name),
+            Event::ModemTook(count) => count <= self.count_modem_waiting(),
             Event::Left(_) | Event::ModemGone | Event::ModemBack | Event::Now(_) => true,
         }
     }
 
+    /// How many bytes wait for a client.
+    pub fn count_waiting(&self, name: u64) -> usize
+        ensures { result ≡ length ((C.face self.now.core).queue name) }
+    {
+        let (first, second) = self.core.parts(name);
+        first.len() + second.len()
+    }
+
+    /// How many bytes wait for the modem.
+    pub fn count_modem_waiting(&self) -> usize
+        ensures { result ≡ length (C.face self.now.core).modem_queue }
+    {
+        let (first, second) = self.core.modem_parts();
+        first.len() + second.len()
+    }
+
     /// The bytes that wait for a client.
-    pub fn waiting(&mut self, name: u64) -> &[u8] {
-        self.core.queued(name)
+    pub fn waiting(&self, alloc: Global, name: u64) -> Result<Octets, AllocError> {
+        let (first, second) = self.core.parts(name);
+        joined(alloc, first, second)
     }
 
     /// The bytes that wait for the modem.
-    pub fn modem_waiting(&mut self) -> &[u8] {
-        self.core.queued_modem()
+    pub fn modem_waiting(&self, alloc: Global) -> Result<Octets, AllocError> {
+        let (first, second) = self.core.modem_parts();
+        joined(alloc, first, second)
     }
 
     /// Whether the modem is away.

@@ -2,6 +2,7 @@ use crate::found::{Place, are_bytes, is};
 use crate::proxy::Proxy;
 use framing::LONGEST_PIECE;
 use hub_io::Event;
+use kit_bytes::Octets;
 use proxy_serving::ProxyCore;
 use row_text::{Line, Row, RowFault, Rows};
 use std::alloc::{AllocError, Global};
@@ -78,11 +79,12 @@ impl<C: ProxyCore> Story<'_, C> {
             "to" => {
                 let whom = whom_of(whom)?;
                 let told = rows.bytes_of(value)?;
-                return Ok(are_bytes(rt, place, line.key, &told, self.waiting(whom)));
+                let waiting = self.waiting(alloc, whom)?;
+                return Ok(are_bytes(rt, place, line.key, &told, waiting.as_slice()));
             }
             "waits" => {
                 let told = value.parse::<usize>()?;
-                let found = self.waiting(whom_of(whom)?).len();
+                let found = self.count_waiting(whom_of(whom)?);
                 return Ok(is(rt, place, line.key, told, found));
             }
             "there" | "away" | "dropped" => return self.is_so(rt, alloc, place, verb, value),
@@ -143,10 +145,17 @@ impl<C: ProxyCore> Story<'_, C> {
         Ok(text)
     }
 
-    fn waiting(&mut self, whom: Whom) -> &[u8] {
+    fn waiting(&self, alloc: Global, whom: Whom) -> Result<Octets, AllocError> {
         match whom {
-            Whom::Modem => self.proxy.modem_waiting(),
-            Whom::Client(name) => self.proxy.waiting(name),
+            Whom::Modem => self.proxy.modem_waiting(alloc),
+            Whom::Client(name) => self.proxy.waiting(alloc, name),
+        }
+    }
+
+    fn count_waiting(&self, whom: Whom) -> usize {
+        match whom {
+            Whom::Modem => self.proxy.count_modem_waiting(),
+            Whom::Client(name) => self.proxy.count_waiting(name),
         }
     }
 
@@ -188,7 +197,7 @@ impl<C: ProxyCore> Story<'_, C> {
 
     fn hand_over(&mut self, whom: Whom, value: &str) -> Result<(), RowFault> {
         let count = match value {
-            "all" => self.waiting(whom).len(),
+            "all" => self.count_waiting(whom),
             _ => value.parse::<usize>()?,
         };
         self.proxy.meet(match whom {

@@ -2,7 +2,7 @@ use Rattle.std.proofs.Common.{◌≡◌, ℕ, ◌+◌, ◌<◌, Bool, true, fals
 use Rattle.std.proofs.lemmas.Bool.{false≢true}
 use Rattle.std.proofs.lemmas.List.{drop_all}
 use Rattle.rig_stage.specs.Ready.{IsReady}
-use Rattle.rig_stage.specs.Running.{Runs, IsCutShort}
+use Rattle.rig_stage.specs.Running.{IsCutShort}
 use Rattle.rig_stage.proofs.Stopping.{also_on_err}
 use Rattle.rig_story.specs.declared.Met.{Met}
 use Rattle.rig_story.specs.Alone.{met_alone}
@@ -83,13 +83,11 @@ returns-clause-same g c =
     record {
       told = λ p opened earlier runs.
           let has = c.loop-met.invariant.met p opened earlier runs in
-          c.nothing_waits.ensures.waits
+          c.nothing_waits.ensures
           ∙ fits_in_the_end reading c.args.conn story c.loop-met.fresh p opened earlier c.loop-met.bench (drop c.loop-met.met-index story) none has (g.B.Bench.face inner) (g.met.B.Bench.shows p has.own inner has.runs.kept.kept).1
           (λ absent. g.met.B.Bench.nobody inner c.args.conn absent c.loop-met.invariant.ready.asked);
       runs = λ p opened earlier runs is.
-          let Ran : Noting g.row.R.Denot g.row.B.Denot → Type 0 = λ noting. Runs (Keeps reading g.B.Bench.keeps) (λ s. g.B.Bench.runs s.bench) p opened earlier (met_alone reading p c.args.conn story) noting in
-          subst Ran (sym c.nothing_waits.ensures.bench)
-          (all_met reading c.args.conn story c.loop-met.fresh p opened earlier c.loop-met.bench (drop c.loop-met.met-index story) none (c.loop-met.invariant.met p opened earlier runs));
+          all_met reading c.args.conn story c.loop-met.fresh p opened earlier c.loop-met.bench (drop c.loop-met.met-index story) none (c.loop-met.invariant.met p opened earlier runs);
     }
 
 pub returns-in_err-meet_own-clause-stops : goal.returns-in_err-meet_own-clause-stops

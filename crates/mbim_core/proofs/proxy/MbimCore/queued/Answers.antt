@@ -1,4 +1,5 @@
-use Rattle.std.proofs.Common.{◌≡◌, ap, refl, ◌∙◌}
+use Rattle.std.proofs.Common.{subst}
+use Rattle.outbox.specs.Fronts.{IsFrontOf}
 use Rattle.proxy_state.proofs.Waiting.{waiting_is}
 use Rattle.mbim_proxy.specs.History.{mbim_protocol}
 use Rattle.mbim_state.specs.Core.{MbimCore, kept_of}
@@ -7,7 +8,6 @@ use Rattle.mbim_core.proofs.proxy.MbimCore.queued.Goals as goal
 
 pub returns : goal.returns
 returns c =
-    let queue : c.queued.result.now ≡ waiting_for c.args.conn c.args.self.now = c.queued.ensures ∙ ap (λ (v : MbimCore). waiting_for c.args.conn v) c.self.view_is in (
-      (refl, λ _. tt, c.self.view_is),
-      record { after = tt; queue = queue; text = λ s events S owed. queue ∙ waiting_is (mbim_protocol s) (kept_of s) events c.args.self.now S c.args.conn owed },
-    )
+    let queue : IsFrontOf c.queued.result.now (waiting_for c.args.conn c.args.self.now) =
+    subst (λ (v : MbimCore). IsFrontOf c.queued.result.now (waiting_for c.args.conn v)) c.self.view_is c.queued.ensures in
+    record { queue = queue; text = λ s events S owed. subst (IsFrontOf c.queued.result.now) (waiting_is (mbim_protocol s) (kept_of s) events c.args.self.now S c.args.conn owed) queue }
