@@ -7,10 +7,9 @@ use Rattle.std.specs.List.{concat}
 use Rattle.kit_bytes.proofs.Lists.{concat-push}
 use Rattle.kit_io.specs.Told.{Grows}
 use Rattle.kit_io.proofs.Told.{Grows-none, Grows-append}
-use Rattle.file_io.specs.declared.reading.TheConstants.{FILE_LIMIT}
 use Rattle.file_io.specs.declared.reading.FileFault.{FileFault}
 use Rattle.file_io.specs.Calls.{Call, Gave}
-use Rattle.file_io.specs.Reading.{Decides, GrowsByReads}
+use Rattle.file_io.specs.Reading.{longest_file, Decides, GrowsByReads}
 
 -- pieces were read that make these bytes
 pub record HasRead (before now : Option (List Call)) (bytes : List ℕ) : Type 0 where
@@ -33,7 +32,7 @@ module _ {before now : Option (List Call)} {bytes : List ℕ} (so_far : HasRead 
   }
 
   -- the read that decides
-  pub GrowsByReads-last : (last : Call) (result : Result (List ℕ) FileFault) {after : Option (List Call)} → length bytes ≤ FILE_LIMIT → Decides bytes last result → Grows now (last ∷ []) after → GrowsByReads before result after
+  pub GrowsByReads-last : (last : Call) (result : Result (List ℕ) FileFault) {after : Option (List Call)} → length bytes ≤ longest_file → Decides bytes last result → Grows now (last ∷ []) after → GrowsByReads before result after
   GrowsByReads-last last result short decided grows = record {
     calls = map Gave so_far.pieces ++ last ∷ [];
     reads = record { pieces = so_far.pieces; last = last; are = refl; each = so_far.each; short = rw so_far.whole short; decided = rw so_far.whole decided };

@@ -2,18 +2,21 @@
 use Rattle.std.specs.Prelude.{◌≡◌, ℕ, ◌<◌, ◌≤◌, true, false, List, [], ◌∷◌, ◌++◌, length, map, All, Option, Result, Ok, Err}
 use Rattle.std.specs.List.{concat}
 use Rattle.kit_io.specs.Told.{Grows}
-use Rattle.file_io.specs.declared.reading.TheConstants.{FILE_LIMIT}
 use Rattle.file_io.specs.declared.files.Side.TheVariants.{Read}
 use Rattle.file_io.specs.declared.reading.FileFault.{FileFault}
 use Rattle.file_io.specs.declared.reading.FileFault.TheVariants.{ReadFault, Long, OutOfMemory}
 use Rattle.file_io.specs.Calls.{Call, Opened, Gave, ReadFailed, Closed}
 
+-- a file that is read has at most so many bytes
+abbrev pub longest_file : ℕ
+longest_file = 16777216
+
 -- which read decides, where these bytes were read before it
 abbrev pub Decides : List ℕ → Call → Result (List ℕ) FileFault → Type 0
 Decides before last (Ok bytes) = (last ≡ Gave []) × (bytes ≡ before)
 Decides before last (Err ReadFault) = last ≡ ReadFailed
-Decides before last (Err Long) = (piece : List ℕ) × (last ≡ Gave piece) × (FILE_LIMIT < length (before ++ piece))
-Decides before last (Err OutOfMemory) = (piece : List ℕ) × (last ≡ Gave piece) × (0 < length piece) × (length (before ++ piece) ≤ FILE_LIMIT)
+Decides before last (Err Long) = (piece : List ℕ) × (last ≡ Gave piece) × (longest_file < length (before ++ piece))
+Decides before last (Err OutOfMemory) = (piece : List ℕ) × (last ≡ Gave piece) × (0 < length piece) × (length (before ++ piece) ≤ longest_file)
 
 -- reads with this result: they gave pieces, together no more than the limit, and the last one decided
 pub record Reads (calls : List Call) (result : Result (List ℕ) FileFault) : Type 0 where
@@ -21,7 +24,7 @@ pub record Reads (calls : List Call) (result : Result (List ℕ) FileFault) : Ty
   pub last : Call
   pub are : calls ≡ map Gave pieces ++ last ∷ []
   pub each : All (λ piece. 0 < length piece) pieces
-  pub short : length (concat pieces) ≤ FILE_LIMIT
+  pub short : length (concat pieces) ≤ longest_file
   pub decided : Decides (concat pieces) last result
 
 -- the reading of a file: one that opened is read and then closed

@@ -9,12 +9,15 @@ use Rattle.pump.specs.Beginning.{GrowByEnd, Pumps}
 use Rattle.pump.specs.Reading.{SendsReads}
 use Rattle.pump.specs.Writing.{WritesTakes}
 use Rattle.pump.specs.declared.ending.PumpEnd.{PumpEnd}
-use Rattle.pump.specs.declared.node.TheConstants.{PUMP_TURNS}
+
+-- a pump makes at most so many turns, in each of which it takes and hands on one piece
+abbrev pub most_turns : ℕ
+most_turns = 1000000000000
 
 -- the calls of a pump that ends so: of one that reads its node, or of one that writes to it
 abbrev pub IsPump : (read : Bool) → (bridge : Address) → (node : List ℕ) → PumpEnd → List link.Call → List file.Call → Type 0
-IsPump true bridge node end = Pumps bridge node Read (codes "r") (SendsReads PUMP_TURNS end) end
-IsPump false bridge node end = Pumps bridge node Write (codes "w") (WritesTakes PUMP_TURNS end) end
+IsPump true bridge node end = Pumps bridge node Read (codes "r") (SendsReads most_turns end) end
+IsPump false bridge node end = Pumps bridge node Write (codes "w") (WritesTakes most_turns end) end
 
 -- the calls have grown by those of a pump between these paths, unless no memory was there
 abbrev pub PumpsNode : {E : Type 0} → (read : Bool) → (bridge node : List ℕ) → Option (List link.Call) → Option (List file.Call) → Result PumpEnd E → Option (List link.Call) → Option (List file.Call) → Type 0
