@@ -4,9 +4,9 @@ ghost use Rattle.framing.specs.Cutting.{cut};
 ghost use Rattle.sim_modem.specs.Sim.{Answering};
 ghost use Rattle.lone_peers.specs.Asking.{Hears};
 
-use crate::messages::first_message;
 use framing::Framing;
 use kit_bytes::Octets;
+use rig_stage::first_message;
 use sim_modem::Sim;
 use std::alloc::{AllocError, Global};
 

@@ -3,7 +3,6 @@
 #![tactic(auto)]
 
 mod asking;
-mod messages;
 mod modem;
 mod proxy;
 mod relaying;

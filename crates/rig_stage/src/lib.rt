@@ -6,6 +6,6 @@ mod messages;
 mod running;
 mod stage;
 
-pub use messages::joined;
+pub use messages::{first_message, joined};
 pub use running::{count_modem_waiting, count_waiting, meet, modem_takes};
 pub use stage::Stage;

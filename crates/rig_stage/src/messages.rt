@@ -7,7 +7,7 @@ use kit_bytes::Octets;
 use std::alloc::{AllocError, Global};
 
 /// The length of the first message of some bytes, if they begin with a whole one.
-pub(crate) fn first_message<F: Framing>(bytes: &[u8]) -> Option<usize>
+pub fn first_message<F: Framing>(bytes: &[u8]) -> Option<usize>
     ensures { MatchOption result ((cut F.size bytes.now).messages ≡ []) (λ count. Splits F.size bytes.now count) }
 {
     match F::size(bytes) {
