@@ -75,7 +75,15 @@ impl KidCalls {
 
     fn add_stop(&mut self, alloc: Global, child: &str, ok: bool) -> Result<(), RowFault> {
         let child = child.parse::<u32>()?;
-        self.answer(alloc, Made::Stopped { child, ok, after: 0 }, does(ok))
+        self.answer(
+            alloc,
+            Made::Stopped {
+                child,
+                ok,
+                after: 0,
+            },
+            does(ok),
+        )
     }
 
     fn add_end(&mut self, alloc: Global, value: &str) -> Result<(), RowFault> {
