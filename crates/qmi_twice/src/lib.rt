@@ -6,7 +6,5 @@ mod printed;
 mod session;
 mod twice;
 
-pub use printed::print_end;
 pub use printed_ends::{Printed, Twice};
-pub use session::hold;
-pub use twice::{have_room, qmi_twice};
+pub use twice::qmi_twice;

@@ -8,8 +8,6 @@ use Rattle.qmi_relay.specs.Law as law
 use Rattle.qmi_relay.specs.Runs.{direct_run, through_run}
 use Rattle.qmi_twice.specs.Printed.{Prints}
 use Rattle.qmi_twice.specs.Twice as twice
-use Rattle.tunnel_relay.specs.Runs.{tunnel_run}
-use Rattle.qmi_tunnelled.specs.Printed as tunnelled
 use Rattle.transparency.specs.Trial.{Trial}
 
 -- how it is planned
@@ -19,8 +17,7 @@ plan_of asked = record { device = device; proxied = false; cid = None; keep = fa
 abbrev pub qmi_trial : Trial QmiRequest
 qmi_trial = record {
   PrintsDirect = λ asked. Prints (direct_run default_profile (plan_of asked)).end;
-  -- through a proxy where the tool is alone, and carried by an MBIM modem
-  PrintsElsewhere = λ asked printed. Prints (through_run default_profile (plan_of asked)).end printed × tunnelled.Prints (plan_of asked) (tunnel_run default_profile (plan_of asked)).end printed;
+  PrintsThrough = λ asked. Prints (through_run default_profile (plan_of asked)).end;
   IsCommand = law.IsCommand;
   run_of = λ asked. twice.run_of default_profile (plan_of asked);
 }

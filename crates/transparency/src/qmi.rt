@@ -1,13 +1,12 @@
-ghost use Rattle.std.specs.Prelude.{◌≡◌, ◌×◌, IfOk};
+ghost use Rattle.std.specs.Prelude.{◌≡◌, IfOk};
 ghost use Rattle.transparency.specs.Qmi.{plan_of};
 
 use crate::runs_twice::{PATIENCE, RunsTwice, device};
 use core_bench::Bench;
 use device_core::QmiPlan;
 use modem_profile::Profile;
-use printed_ends::{Printed, Twice};
+use printed_ends::Twice;
 use qmi_requests::QmiRequest;
-use qmi_tunnelled::qmi_tunnelled;
 use qmi_twice::qmi_twice;
 use std::alloc::{AllocError, Global};
 
@@ -36,25 +35,8 @@ impl RunsTwice for QmiRequest {
         bench: &mut B,
         profile: &Profile,
     ) -> Result<Twice, AllocError> {
-        let mut plan = plan_of(alloc, self)?;
-        let carried = qmi_tunnelled(alloc, profile, &mut plan)?;
+        let plan = plan_of(alloc, self)?;
         let twice = qmi_twice(alloc, bench, profile, plan)?;
-        Ok(unlike(twice, carried.through))
-    }
-}
-
-// What is printed at the modem itself, and what differs from it, if anything does.
-fn unlike(twice: Twice, carried: Printed) -> Twice
-    ensures direct { result.direct ≡ twice.direct }
-    ensures alike { result.direct ≡ result.through → (result.through ≡ twice.through) × (result.through ≡ carried) }
-    ensures same { twice.direct ≡ twice.through → twice.direct ≡ carried → result.direct ≡ result.through }
-{
-    if twice.direct.is(&carried) {
-        twice
-    } else {
-        Twice {
-            direct: twice.direct,
-            through: carried,
-        }
+        Ok(twice)
     }
 }
