@@ -1,4 +1,4 @@
-use Rattle.std.proofs.Common.{◌≡◌, ◌<◌, ◌∷◌, sym, ◌∙◌, rules}
+use Rattle.std.proofs.Common.{◌≡◌, ◌<◌, sym, ◌∙◌, rules}
 use Rattle.rig_stage.proofs.Going.{stays, moved_as, client_takes_none, client_takes_some}
 use Rattle.lone_peers.proofs.relaying.client_takes.Goals as goal
 

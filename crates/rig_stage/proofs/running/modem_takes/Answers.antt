@@ -1,4 +1,4 @@
-use Rattle.std.proofs.Common.{◌≡◌, ◌<◌, ◌∷◌, sym, ◌∙◌, rules}
+use Rattle.std.proofs.Common.{◌≡◌, ◌<◌, sym, ◌∙◌, rules}
 use Rattle.rig_stage.proofs.Going.{stays, moved_as, modem_takes_none, modem_takes_some}
 use Rattle.rig_stage.proofs.running.modem_takes.Goals as goal
 
