@@ -42,7 +42,7 @@ use std::alloc::Global;
 ///     unread:                                  the words can't be read
 ///     uncut:                                   what the link gives can't come byte by byte
 ///
-/// A row may tell all calls on the hub:
+/// A row tells all calls on the hub:
 ///
 ///     hub opens, hub open fails: PATH         its socket, with that of its device, or of its bridge,
 ///     device: PATH        bridge: PATH        in the next line
