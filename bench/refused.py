@@ -82,9 +82,12 @@ class Server:
         self.stop(process)
 
     def serve(self, process):
-        """Whether it stands at its socket and waits, as against ending."""
+        """Whether it stands at its socket and waits, as against ending. Its socket is there before all its memory is."""
         wait_for(lambda: process.poll() is not None or os.path.exists(self.at))
-        time.sleep(0.05)
+        before = -1
+        while process.poll() is None and before != requests():
+            before = requests()
+            time.sleep(0.1)
         return process.poll() is None
 
     def asked(self):
