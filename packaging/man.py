@@ -12,11 +12,13 @@ PAGES = {
     "modemkit-qmicli": (1, "QMICLI", "asks a QMI modem", "modemkit qmicli SETTING.. COMMAND"),
     "modemkit-mbimcli": (1, "MBIMCLI", "asks an MBIM modem", "modemkit mbimcli SETTING.. COMMAND"),
     "modemkit-modem-sim": (1, "MODEM-SIM", "a simulated modem for tests", "modemkit modem-sim [SETTING..]"),
+    "modemkit-dissect": (1, "DISSECT", "shows a captured stream in lines", "modemkit dissect [SETTING..] CAPTURE"),
     "modemkit-rig": (1, "RIG", "runs a proxy's core with many clients and with each alone", "modemkit rig [SETTING..]"),
     "modemkit-qmi-proxy": (8, "QMI-PROXY", "lets programs share a QMI modem", "modemkit qmi-proxy -d PATH [SETTING..]"),
     "modemkit-mbim-proxy": (8, "MBIM-PROXY", "lets programs share an MBIM modem", "modemkit mbim-proxy -d PATH [SETTING..]"),
     "modemkit-devices": (7, "DEVICES", "device nodes and the installation of modemkit", ""),
     "modemkit-errors": (7, "ERRORS", "what the numbers of errors mean", ""),
+    "modemkit-sms": (7, "SMS", "short messages as text", ""),
 }
 # the headings of columns that say what a row is about, and of those with the line that a tool prints
 MAIN = ("Meaning", "What it says", "When", "At a node it means", "Request", "Command", "Answer", "Unit", "Name")
@@ -33,6 +35,14 @@ def escape(text):
     return "".join(char if ord(char) < 128 else f"\\[u{ord(char):04X}]" for char in text)
 
 
+def reference(manual):
+    """A manual by its page; a document that has none by its place in the repository."""
+    if manual not in OF_MANUAL:
+        return escape(f"docs/{manual}.md")
+    page, section = OF_MANUAL[manual]
+    return f"\\fB{escape(page)}\\fR({section})"
+
+
 def inline(text):
     """A paragraph's text, with code in bold, stress in italics and links as references."""
     parts = re.split(r"(`[^`]+`|\*\*[^*]+\*\*|\*[^*]+\*|\[[^\]]*\]\([^)]*\))", text)
@@ -44,8 +54,7 @@ def inline(text):
             out.append(f"\\fI{escape(part.strip('*').replace('`', ''))}\\fR")
         elif part.startswith("["):
             name = re.fullmatch(r"\[[^\]]*\]\((?:docs/)?([A-Z-]+)\.md\)", part)
-            page, section = OF_MANUAL[name[1]]
-            out.append(f"\\fB{escape(page)}\\fR({section})")
+            out.append(reference(name[1]))
         else:
             out.append(escape(part))
     text = "".join(out).strip()
