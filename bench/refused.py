@@ -26,14 +26,6 @@ def requests():
     return struct.unpack("=Q", open(f"{folder}/count", "rb").read())[0]
 
 
-def children(process):
-    """The processes that this one started."""
-    try:
-        return open(f"/proc/{process}/task/{process}/children").read().split()
-    except OSError:
-        return []
-
-
 def wait_for(is_so, seconds=5):
     """Whether it is so within this time."""
     end = time.monotonic() + seconds
@@ -44,8 +36,8 @@ def wait_for(is_so, seconds=5):
     return True
 
 
-def start(words, first=0, last=0, **more):
-    return subprocess.Popen([program, *words], env=preload(first, last), stdout=subprocess.PIPE, stderr=subprocess.PIPE, **more)
+def start(words, first=0, last=0):
+    return subprocess.Popen([program, *words], env=preload(first, last), stdout=subprocess.PIPE, stderr=subprocess.PIPE)
 
 
 class Tool:
