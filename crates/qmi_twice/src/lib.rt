@@ -6,5 +6,7 @@ mod printed;
 mod session;
 mod twice;
 
+pub use printed::print_end;
 pub use printed_ends::{Printed, Twice};
-pub use twice::qmi_twice;
+pub use session::hold;
+pub use twice::{have_room, qmi_twice};

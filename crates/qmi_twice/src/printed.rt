@@ -20,7 +20,8 @@ pub(crate) fn print(alloc: Global, end: Result<QmiEnd, SessionFault>) -> Result<
     }
 }
 
-fn print_end(alloc: Global, end: &QmiEnd) -> Result<Printed, AllocError>
+/// What is printed where a session ended with this.
+pub fn print_end(alloc: Global, end: &QmiEnd) -> Result<Printed, AllocError>
     ensures { IfOk result (IsOf (Ok end.now)) }
 {
     Ok(Printed {

@@ -47,8 +47,8 @@ pub fn qmi_twice<B: Bench>(
     })
 }
 
-// A message has room for the texts of a plan, since their types keep them short.
-fn have_room(alloc: Global, plan: &QmiPlan) -> Result<(), AllocError>
+/// A message has room for the texts of a plan, since their types keep them short. Else memory ran out.
+pub fn have_room(alloc: Global, plan: &QmiPlan) -> Result<(), AllocError>
     ensures { OnOk result (AreShort plan.now) }
 {
     let _inputs = request(alloc, &plan.request)?;

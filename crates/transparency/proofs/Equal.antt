@@ -23,7 +23,7 @@ line_is_equal : {R : Type 0} (trial : Trial R) (named : Named R) (line : List �
 line_is_equal trial named line command is = record {
   printed = is.direct;
   prints_direct = is.prints_direct;
-  prints_through = subst (trial.PrintsThrough named.asked) (sym (is.same command)) is.prints_through;
+  prints_elsewhere = subst (trial.PrintsElsewhere named.asked) (sym (is.same command)) (is.prints_elsewhere (is.same command));
   line_is = is.line_is ∙ ap (λ (word : List ℕ). line_of named.option word is.direct.status) (word_is is.compares (is.same command));
 }
 

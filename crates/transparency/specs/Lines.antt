@@ -21,18 +21,19 @@ named_view named = record { option = named.option.now; asked = named.request }
 unfoldable pub line_of : (option compared : List ℕ) → (status : ℕ) → List ℕ
 line_of option compared status = codes "--" ++ option ++ codes ": " ++ compared ++ codes ", status " ++ decimal status ++ codes "\n"
 
--- the word for how what is printed at a modem itself compares with what is printed through a proxy
+-- the word for how what is printed at a modem itself compares with what is printed elsewhere
 pub data Compares (direct through : Printed) (word : List ℕ) : Type 0 where
   equal : direct ≡ through → word ≡ codes "equal" → Compares direct through word
   different : (direct ≡ through → ⊥) → word ≡ codes "different" → Compares direct through word
 
--- the line compares what the request prints at a simulated modem itself with what it prints through a proxy where the tool is alone, and it prints the same where it is a command of the tool
+-- the line compares what the request prints at a simulated modem itself with what it prints in one of the other ways; where that is the same, it is what it prints in each of them, and it is the same where it is a command of the tool
 pub record IsLine {R : Type 0} (trial : Trial R) (named : Named R) (line : List ℕ) : Type 0 where
   pub direct : Printed
   pub through : Printed
   pub word : List ℕ
   pub prints_direct : trial.PrintsDirect named.asked direct
-  pub prints_through : trial.PrintsThrough named.asked through
+  pub prints_somewhere : trial.PrintsSomewhere named.asked through
+  pub prints_elsewhere : direct ≡ through → trial.PrintsElsewhere named.asked through
   pub same : trial.IsCommand named.asked → direct ≡ through
   pub compares : Compares direct through word
   pub line_is : line ≡ line_of named.option word direct.status

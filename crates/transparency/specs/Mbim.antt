@@ -17,7 +17,8 @@ plan_of asked = record { device = device; proxied = false; close = true; timeout
 abbrev pub mbim_trial : Trial MbimRequest
 mbim_trial = record {
   PrintsDirect = λ asked. Prints (direct_run default_profile (plan_of asked)).end;
-  PrintsThrough = λ asked. Prints (through_run default_profile (plan_of asked)).end;
+  PrintsSomewhere = λ asked. Prints (through_run default_profile (plan_of asked)).end;
+  PrintsElsewhere = λ asked. Prints (through_run default_profile (plan_of asked)).end;
   IsCommand = law.IsCommand;
   run_of = λ asked. twice.run_of default_profile (plan_of asked);
 }

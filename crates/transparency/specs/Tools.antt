@@ -19,11 +19,11 @@ plain_request line command = option_map (λ asked. record { option = (line comma
 unfoldable pub plain_requests : {C R : Type 0} → (C → CommandLine R) → List C → List (Named R)
 plain_requests line commands = filter_map (plain_request line) commands
 
--- the request prints this at a simulated modem itself and through a proxy where the tool is alone, and the line says so, with its status
+-- the request prints this at a simulated modem itself and in each of the other ways, and the line says so, with its status
 pub record IsEqualLine {R : Type 0} (trial : Trial R) (named : Named R) (line : List ℕ) : Type 0 where
   pub printed : Printed
   pub prints_direct : trial.PrintsDirect named.asked printed
-  pub prints_through : trial.PrintsThrough named.asked printed
+  pub prints_elsewhere : trial.PrintsElsewhere named.asked printed
   pub line_is : line ≡ line_of named.option (codes "equal") printed.status
 
 -- such are the lines of the requests, and each was run

@@ -1,4 +1,4 @@
-//! Commands of a tool, each run at a simulated modem itself and through a proxy where the tool is alone,
+//! Commands of a tool, each run at a simulated modem itself and in each of the other ways that there are,
 //! and the lines that tell how they compare.
 #![tactic(auto)]
 

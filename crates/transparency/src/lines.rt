@@ -16,7 +16,7 @@ pub struct NamedRequest<R> {
     pub request: R,
 }
 
-/// Runs each request at a simulated modem itself, and through a proxy where the tool is alone. Gives a
+/// Runs each request at a simulated modem itself, and in each of the other ways that there are. Gives a
 /// line for each, in the same order. What the proxies met is run on the bench too.
 pub fn transparency_lines<R: RunsTwice, B: Bench>(
     alloc: Global,

@@ -1,12 +1,13 @@
-ghost use Rattle.std.specs.Prelude.{◌≡◌, IfOk};
+ghost use Rattle.std.specs.Prelude.{◌≡◌, ◌⊎◌, IfOk};
 ghost use Rattle.transparency.specs.Qmi.{plan_of};
 
 use crate::runs_twice::{PATIENCE, RunsTwice, device};
 use core_bench::Bench;
 use device_core::QmiPlan;
 use modem_profile::Profile;
-use printed_ends::Twice;
+use printed_ends::{Printed, Twice};
 use qmi_requests::QmiRequest;
+use qmi_tunnelled::qmi_tunnelled;
 use qmi_twice::qmi_twice;
 use std::alloc::{AllocError, Global};
 
@@ -35,8 +36,26 @@ impl RunsTwice for QmiRequest {
         bench: &mut B,
         profile: &Profile,
     ) -> Result<Twice, AllocError> {
-        let plan = plan_of(alloc, self)?;
+        let mut plan = plan_of(alloc, self)?;
+        let carried = qmi_tunnelled(alloc, profile, &mut plan)?;
         let twice = qmi_twice(alloc, bench, profile, plan)?;
-        Ok(twice)
+        Ok(unlike(twice, carried.through))
+    }
+}
+
+// What is printed at the modem itself, and what differs from it, if anything does.
+fn unlike(twice: Twice, carried: Printed) -> Twice
+    ensures direct { result.direct ≡ twice.direct }
+    ensures one { (result.through ≡ twice.through) ⊎ (result.through ≡ carried) }
+    ensures alike { result.direct ≡ result.through → (result.through ≡ twice.through) × (result.through ≡ carried) }
+    ensures same { twice.direct ≡ twice.through → twice.direct ≡ carried → result.direct ≡ result.through }
+{
+    if twice.direct.is(&carried) {
+        twice
+    } else {
+        Twice {
+            direct: twice.direct,
+            through: carried,
+        }
     }
 }

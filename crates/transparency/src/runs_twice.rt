@@ -19,8 +19,10 @@ pub trait RunsTwice: Sized + Drop {
     /// What it prints, and what is run for it.
     ghost trial: { Trial Self };
 
-    /// Runs it on a simulated modem of the default profile itself, and on another one through a proxy
-    /// where the tool is alone. What the proxy met is run on the bench too.
+    /// Runs it on a simulated modem of the default profile itself, and on others in each of the other
+    /// ways that there are: through a proxy where the tool is alone, and to a QMI modem also carried by
+    /// an MBIM modem. Gives what it prints in one of these that prints another thing, if one does.
+    /// What the proxy met is run on the bench too.
     fn run_twice<B: Bench>(
         self,
         alloc: Global,
@@ -29,7 +31,8 @@ pub trait RunsTwice: Sized + Drop {
     ) -> Result<Twice, AllocError>
         requires { profile.now ≡ default_profile }
         ensures direct { IfOk result (λ twice. trial.PrintsDirect self twice.direct) }
-        ensures through { IfOk result (λ twice. trial.PrintsThrough self twice.through) }
+        ensures somewhere { IfOk result (λ twice. trial.PrintsSomewhere self twice.through) }
+        ensures elsewhere { IfOk result (λ twice. twice.direct ≡ twice.through → trial.PrintsElsewhere self twice.through) }
         ensures same { IfOk result (λ twice. trial.IsCommand self → twice.direct ≡ twice.through) }
         ensures runs { OnOk result ((earlier : List Run) → AreTold (B.runs bench.old) earlier → AreTold (B.runs bench.new) (trial.run_of self ∷ earlier)) };
 }

@@ -9,8 +9,8 @@ use kit_bytes::{Kind, Octets};
 use std::alloc::{AllocError, Global};
 use tool_words::{PlainCommand, mbimcli_commands, qmicli_commands};
 
-/// Runs each command that has no value, of the tool of a kind, at a simulated modem itself and through a
-/// proxy where the tool is alone. Gives a line for each, in the order of the manual: it prints the same.
+/// Runs each command that has no value, of the tool of a kind, at a simulated modem itself and in each of
+/// the other ways that there are. Gives a line for each, in the order of the manual: it prints the same.
 pub fn tool_lines<B: Bench>(alloc: Global, bench: &mut B, kind: Kind) -> Result<Octets, AllocError>
     ensures { IfOk result (λ lines. ShownOf kind lines (B.runs bench.old) (B.runs bench.new)) }
 {

@@ -15,7 +15,10 @@ returns-clause-direct g c =
     held (λ (plan : MbimPlan). Prints (direct_run default_profile plan).end c.in_ok-twice.twice.direct) c.in_ok-plan.plan (plan_of c.args.self) c.in_ok-plan.ensures
     (held (λ (profile : Profile). Prints (direct_run profile c.in_ok-plan.plan).end c.in_ok-twice.twice.direct) c.args.profile.now default_profile c.requires c.in_ok-twice.ensures.direct)
 
-pub returns-clause-through : goal.returns-clause-through
-returns-clause-through g c =
+pub returns-clause-somewhere : goal.returns-clause-somewhere
+returns-clause-somewhere g c =
     held (λ (plan : MbimPlan). Prints (through_run default_profile plan).end c.in_ok-twice.twice.through) c.in_ok-plan.plan (plan_of c.args.self) c.in_ok-plan.ensures
     (held (λ (profile : Profile). Prints (through_run profile c.in_ok-plan.plan).end c.in_ok-twice.twice.through) c.args.profile.now default_profile c.requires c.in_ok-twice.ensures.through)
+
+pub returns-clause-elsewhere : goal.returns-clause-elsewhere
+returns-clause-elsewhere g c = λ same. returns-clause-somewhere g c

@@ -1,0 +1,70 @@
+ghost use Rattle.std.specs.Prelude.{◌≡◌, false, OnOk, IfOk};
+ghost use Rattle.qmux_frame.specs.Frame as qmux;
+ghost use Rattle.mbim_frame.specs.Frame as mbim;
+ghost use Rattle.device_core.specs.Peer.{session_at};
+ghost use Rattle.tunnel_session.specs.Peer.{tunnel_at};
+ghost use Rattle.modem_profile.specs.Limits.{IsWithin};
+ghost use Rattle.sim_modem.specs.Sim.{answers};
+ghost use Rattle.sim_qmi.specs.Modem.{machine};
+ghost use Rattle.lone_peers.specs.Peers.{at_modem};
+ghost use Rattle.printed_ends.specs.Held.{IsHeld};
+ghost use Rattle.printed_ends.specs.declared.printed.Printed.{Printed};
+ghost use Rattle.qmi_relay.specs.Runs.{direct_run};
+ghost use Rattle.qmi_twice.specs.Printed as direct;
+ghost use Rattle.qmi_twice.specs.Twice.{IsTold};
+ghost use Rattle.tunnel_relay.specs.Runs.{carrying_modem, tunnel_run};
+ghost use Rattle.qmi_tunnelled.specs.Printed.{Prints};
+
+use crate::carrier::Carrier;
+use crate::session::hold;
+use device_core::QmiPlan;
+use lone_peers::ModemPeer;
+use modem_profile::Profile;
+use printed_ends::{Held, Twice};
+use qmi_twice::have_room;
+use sim_qmi::QmiSim;
+use std::alloc::{AllocError, Global};
+
+/// Runs the command of a plan on a simulated modem of this profile itself, and on another one that a
+/// simulated MBIM modem carries the messages to. It prints the same.
+///
+/// Whether the plan is proxied isn't read, and it is not then.
+pub fn qmi_tunnelled(
+    alloc: Global,
+    profile: &Profile,
+    plan: &mut QmiPlan,
+) -> Result<Twice, AllocError>
+    ensures direct { IfOk result (λ twice. direct.Prints (direct_run profile.now plan.old).end twice.direct) }
+    ensures through { IfOk result (λ twice. Prints plan.old (tunnel_run profile.now plan.old).end twice.through) }
+    ensures same { IfOk result (λ twice. IsTold profile.now plan.old → twice.direct ≡ twice.through) }
+    ensures alike { IfOk result (λ twice. IsTold profile.now plan.old → (printed : Printed) → direct.Prints (direct_run profile.now plan.old).end printed → printed ≡ twice.through) }
+    ensures plan { plan.new ≡ record plan.old { proxied = false } }
+{
+    plan.proxied = false;
+    have_room(alloc, plan)?;
+    let direct = directly(alloc, profile, plan)?;
+    let through = carried(alloc, profile, plan)?;
+    Ok(Twice {
+        direct: direct.printed,
+        through: through.printed,
+    })
+}
+
+// The session of a plan with a modem of this profile itself.
+fn directly(alloc: Global, profile: &Profile, plan: &QmiPlan) -> Result<Held, AllocError>
+    ensures limits { OnOk result (IsWithin profile.now) }
+    ensures held { IfOk result (IsHeld direct.Prints (session_at (at_modem qmux.size_of (answers (machine profile.now))) plan.now)) }
+{
+    let modem: ModemPeer<QmiSim> = ModemPeer::open(alloc, profile)?;
+    let held = qmi_twice::hold(alloc, modem, plan)?;
+    Ok(held)
+}
+
+// The session of a plan with a modem of this profile that an MBIM modem carries the messages to.
+fn carried(alloc: Global, profile: &Profile, plan: &QmiPlan) -> Result<Held, AllocError>
+    ensures { IfOk result (IsHeld (Prints plan.now) (tunnel_at (at_modem mbim.size_of (carrying_modem profile.now)) plan.now)) }
+{
+    let carrier: ModemPeer<Carrier> = ModemPeer::open(alloc, profile)?;
+    let held = hold(alloc, carrier, plan)?;
+    Ok(held)
+}
