@@ -38,12 +38,14 @@ mbim() { timeout 2 "$program" mbimcli -d "$folder/mbim" "$@" 2>&1; }
 basic=a289cc33-bcbb-8b4f-b6b0-133ec2aae6df
 cat >"$folder/qmi.json" <<END
 {"answers": [{"service": 2, "message": 35, "data": "01010039"}],
- "faults": [{"service": 3, "message": 32, "nth": 1, "error": 3}, {"service": 2, "message": 34, "nth": 2, "error": null}],
+ "faults": [{"service": 3, "message": 32, "nth": 1, "error": 3}, {"service": 2, "message": 34, "nth": 2, "error": null},
+            {"service": 2, "message": 33, "nth": 1, "hangs_up": true}],
  "indications": [{"service": 3, "message": 2, "data": "", "after": {"service": 3, "message": 32}}]}
 END
 cat >"$folder/mbim.json" <<END
 {"answers": [{"service": "$basic", "command": 11, "data": "1f00000000000000000000000000000000000000"}],
- "faults": [{"service": "$basic", "command": 3, "nth": 1, "error": 14}, {"service": "$basic", "command": 1, "nth": 1, "error": null}],
+ "faults": [{"service": "$basic", "command": 3, "nth": 1, "error": 14}, {"service": "$basic", "command": 1, "nth": 1, "error": null},
+            {"service": "$basic", "command": 2, "nth": 1, "hangs_up": true}],
  "indications": [{"service": "$basic", "command": 11, "data": "", "after": {"service": "$basic", "command": 11}}]}
 END
 starts qmi --rules="$folder/qmi.json"
@@ -52,12 +54,16 @@ expects "Revision: 9" "$(qmi --dms-get-revision)"
 expects "Model: Sim-1" "$(qmi --dms-get-model)"
 expects 124 "$(qmi --dms-get-model; echo $?)"
 expects "Model: Sim-1" "$(qmi --dms-get-model)"
+expects "error: link ended" "$(qmi --dms-get-manufacturer)"
+expects "Manufacturer: Example" "$(qmi --dms-get-manufacturer)"
 expects "error: denied 3" "$(qmi --nas-get-signal-strength)"
 expects "Signal:" "$(qmi --nas-get-signal-strength | head -n 1)"
 expects "error: denied 14" "$(mbim --query-radio-state)"
 expects 0 "$(mbim --query-radio-state >"$folder/out"; echo $?)"
 expects 124 "$(mbim --query-device-caps; echo $?)"
 expects 0 "$(mbim --query-device-caps >"$folder/out"; echo $?)"
+expects "error: link ended" "$(mbim --query-subscriber-ready-status)"
+expects 0 "$(mbim --query-subscriber-ready-status >"$folder/out"; echo $?)"
 expects 31 "$(mbim --query-signal-state | grep -o 31)"
 stop
 

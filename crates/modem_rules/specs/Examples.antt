@@ -1,8 +1,9 @@
 -- Worked examples of values that are rules, and of some that are none. Members stand in the order of their names.
-use Rattle.std.specs.Prelude.{◌≡◌, ℕ, List, [], ◌∷◌, Some, None, codes}
-use Rattle.serde_json.specs.Data.{Data, null, number, string, object, unsigned, Members, no_members, member}
+use Rattle.std.specs.Prelude.{◌≡◌, ℕ, false, true, List, [], ◌∷◌, Some, None, codes}
+use Rattle.serde_json.specs.Data.{Data, null, boolean, number, string, object, unsigned, Members, no_members, member}
 use Rattle.kit_bytes.specs.declared.Kind.TheVariants.{Qmi, Mbim}
 use Rattle.modem_rules.specs.declared.kind.RequestKind.TheVariants.{Message, Command}
+use Rattle.modem_rules.specs.declared.rules.Failure.TheVariants.{Refused, Silent, HungUp}
 use Rattle.modem_rules.specs.Values.{answer_rule, fault_rule, indication_rule}
 
 abbrev pub integer : ℕ → Data
@@ -38,18 +39,31 @@ pub record RulesHaveNoOtherMembers : Type 0 where
   pub after_more : indication_rule Qmi (telling (answering [])) ≡ None
 
 pub record SilenceIsSpelledOut : Type 0 where
-  pub refused : fault_rule Qmi (failing (codes "error") (integer 3) 2) ≡ Some (record { kind = Message 2 34; nth = 2; error = Some 3 })
-  pub silent : fault_rule Qmi (failing (codes "error") null 2) ≡ Some (record { kind = Message 2 34; nth = 2; error = None })
+  pub refused : fault_rule Qmi (failing (codes "error") (integer 3) 2) ≡ Some (record { kind = Message 2 34; nth = 2; failure = Refused 3 })
+  pub silent : fault_rule Qmi (failing (codes "error") null 2) ≡ Some (record { kind = Message 2 34; nth = 2; failure = Silent })
   pub misspelled : fault_rule Qmi (failing (codes "eror") (integer 3) 2) ≡ None
   pub another : fault_rule Qmi (failing (codes "late") (integer 5) 2) ≡ None
   pub none : fault_rule Qmi (failing (codes "error") (integer 0) 2) ≡ None
 
+-- {"error": 3, "hangs_up": true, "message": 34, "nth": 2, "service": 2}
+abbrev pub failing_twice : Data
+failing_twice = object (member (codes "error") (integer 3) (member (codes "hangs_up") (boolean true)
+    (member (codes "message") (integer 34) (member (codes "nth") (integer 2) (member (codes "service") (integer 2) no_members)))))
+
+pub record HangingUpIsSpelledOut : Type 0 where
+  pub ended : fault_rule Qmi (failing (codes "hangs_up") (boolean true) 2) ≡ Some (record { kind = Message 2 34; nth = 2; failure = HungUp })
+  pub denied : fault_rule Qmi (failing (codes "hangs_up") (boolean false) 2) ≡ None
+  pub counted : fault_rule Qmi (failing (codes "hangs_up") (integer 1) 2) ≡ None
+  pub missing : fault_rule Qmi (failing (codes "hangs_up") null 2) ≡ None
+  -- one request fails in one way
+  pub both : fault_rule Qmi failing_twice ≡ None
+
 pub record ErrorsHaveTheirSize : Type 0 where
-  pub most : fault_rule Qmi (failing (codes "error") (integer 65535) 1) ≡ Some (record { kind = Message 2 34; nth = 1; error = Some 65535 })
+  pub most : fault_rule Qmi (failing (codes "error") (integer 65535) 1) ≡ Some (record { kind = Message 2 34; nth = 1; failure = Refused 65535 })
   pub more : fault_rule Qmi (failing (codes "error") (integer 65536) 1) ≡ None
   pub status : fault_rule Mbim (mbim_failing 65536) ≡ Some (record {
     kind = Command (0xa2 ∷ 0x89 ∷ 0xcc ∷ 0x33 ∷ 0xbc ∷ 0xbb ∷ 0x8b ∷ 0x4f ∷ 0xb6 ∷ 0xb0 ∷ 0x13 ∷ 0x3e ∷ 0xc2 ∷ 0xaa ∷ 0xe6 ∷ 0xdf ∷ []) 3;
     nth = 1;
-    error = Some 65536;
+    failure = Refused 65536;
   })
   pub most_status : fault_rule Mbim (mbim_failing 4294967296) ≡ None

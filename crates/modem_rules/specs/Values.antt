@@ -1,16 +1,18 @@
 -- The values that rules are in JSON.
-use Rattle.std.specs.Prelude.{ℕ, ◌-◌, ◌^◌, Bool, ◌&&◌, ◌==◌, nat_le, List, length, codes, Option, Some, None, is_some, if◌then◌else◌, option_and_then, option_map}
+use Rattle.std.specs.Prelude.{ℕ, ◌-◌, ◌^◌, Bool, false, true, ◌&&◌, ◌==◌, nat_le, List, length, codes, Option, Some, None, is_some, if◌then◌else◌, option_and_then, option_map}
 use Rattle.std.specs.Result.{result_ok}
 use Rattle.hex.specs.Hex.{decode_of}
 use Rattle.uuid.specs.Text.{parsed}
 use Rattle.serde_json.specs.Data.{Data, Members}
 use Rattle.serde_json.specs.Events.{members_len}
-use Rattle.serde_json.specs.Find.{get, as_null, as_str, as_number, as_object, as_u64}
+use Rattle.serde_json.specs.Find.{get, as_null, as_bool, as_str, as_number, as_object, as_u64}
 use Rattle.kit_bytes.specs.declared.Kind.{Kind}
 use Rattle.kit_bytes.specs.declared.Kind.TheVariants.{Qmi, Mbim}
 use Rattle.modem_rules.specs.declared.kind.RequestKind.{RequestKind}
 use Rattle.modem_rules.specs.declared.kind.RequestKind.TheVariants.{Message, Command}
 use Rattle.modem_rules.specs.declared.rules.AnswerRule.{AnswerRule}
+use Rattle.modem_rules.specs.declared.rules.Failure.{Failure}
+use Rattle.modem_rules.specs.declared.rules.Failure.TheVariants.{Refused, Silent, HungUp}
 use Rattle.modem_rules.specs.declared.rules.FaultRule.{FaultRule}
 use Rattle.modem_rules.specs.declared.rules.IndicationRule.{IndicationRule}
 
@@ -93,18 +95,32 @@ most_error Qmi = 0xffff
 most_error Mbim = 0xffff_ffff
 
 -- null says that the request isn't answered
-abbrev pub error_of : Kind → Data → Option (Option ℕ)
-error_of kind value = if is_some (as_null value) then Some None else option_map Some (number_within 1 (most_error kind) value)
+abbrev pub failure_of : Kind → Data → Option Failure
+failure_of kind value = if is_some (as_null value) then Some Silent else option_map Refused (number_within 1 (most_error kind) value)
 
-unfoldable pub error_in : Kind → Data → Option (Option ℕ)
-error_in kind members = option_and_then (error_of kind) (get (codes "error") members)
+abbrev pub hang_up_if : Option Bool → Option Failure
+hang_up_if (Some true) = Some HungUp
+hang_up_if (Some false) = None
+hang_up_if None = None
+
+-- true alone says that the connection ends
+abbrev pub hang_up_in : Data → Option Failure
+hang_up_in members = hang_up_if (option_and_then as_bool (get (codes "hangs_up") members))
+
+abbrev pub failure_by : Kind → (error : Option Data) → (members : Data) → Option Failure
+failure_by kind None members = hang_up_in members
+failure_by kind (Some value) members = failure_of kind value
+
+-- by its error, or that it hangs up where it has no error
+unfoldable pub failure_in : Kind → Data → Option Failure
+failure_in kind members = failure_by kind (get (codes "error") members) members
 
 unfoldable pub fault_rule : Kind → Data → Option FaultRule
 fault_rule kind members = do
   request ← kind_in kind members
   nth ← number_in (codes "nth") 1 (2 ^ 64 - 1) members
-  error ← error_in kind members
-  if_members 4 members (record { kind = request; nth = nth; error = error })
+  failure ← failure_in kind members
+  if_members 4 members (record { kind = request; nth = nth; failure = failure })
 
 unfoldable pub indication_rule : Kind → Data → Option IndicationRule
 indication_rule kind members = do

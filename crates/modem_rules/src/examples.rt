@@ -1,6 +1,6 @@
 //! Worked examples of values that are rules, and of some that are none.
 
-ghost use Rattle.modem_rules.specs.Examples.{ErrorsHaveTheirSize, RulesHaveNoOtherMembers, SilenceIsSpelledOut};
+ghost use Rattle.modem_rules.specs.Examples.{ErrorsHaveTheirSize, HangingUpIsSpelledOut, RulesHaveNoOtherMembers, SilenceIsSpelledOut};
 
 /// A rule has the members that its list asks for, and no others.
 pub fn rules_have_no_other_members()
@@ -10,6 +10,11 @@ pub fn rules_have_no_other_members()
 /// A fault that isn't answered says so; one that lacks its error is no rule.
 pub fn silence_is_spelled_out()
     ensures { SilenceIsSpelledOut }
+{}
+
+/// A fault that ends its connection says so by true alone, and then has no error.
+pub fn hanging_up_is_spelled_out()
+    ensures { HangingUpIsSpelledOut }
 {}
 
 /// An error of QMI has 16 bits, and a status of MBIM 32.

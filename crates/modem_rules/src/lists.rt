@@ -3,10 +3,12 @@ ghost use Rattle.serde_json.specs.Data.{Data};
 ghost use Rattle.serde_json.specs.View.{view};
 ghost use Rattle.modem_rules.specs.Answers.{Gives};
 ghost use Rattle.modem_rules.specs.Lists.{list_in, rules_in_list};
-ghost use Rattle.modem_rules.specs.Values.{answer_rule, data_in, error_in, fault_rule, indication_rule, most_error};
+ghost use Rattle.modem_rules.specs.Values.{answer_rule, data_in, failure_in, fault_rule, hang_up_in, indication_rule, most_error};
 
 use crate::members::{has_members, number_in, number_within};
-use crate::{AnswerRule, FaultRule, IndicationRule, RequestKind, RuleData, RuleList, RulesFault};
+use crate::{
+    AnswerRule, Failure, FaultRule, IndicationRule, RequestKind, RuleData, RuleList, RulesFault,
+};
 use hex::FromHexError;
 use kit_bytes::{Kind, Octets};
 use serde_json::Value;
@@ -87,28 +89,41 @@ fn fault_rule(kind: Kind, value: &Value) -> Option<FaultRule>
 {
     let request = RequestKind::read(kind, value)?;
     let nth = number_in(value, "nth", 1, u64::MAX)?;
-    let error = error_in(kind, value)?;
+    let failure = failure_in(kind, value)?;
     if !has_members(value, 4) {
         return None;
     }
     Some(FaultRule {
         kind: request,
         nth,
-        error,
+        failure,
     })
 }
 
-// The error that an object names, or that it names none on purpose.
-#[tactic(auto, unfolding(crate::specs::Values::error_in))]
-fn error_in(kind: Kind, object: &Value) -> Option<Option<u32>>
-    ensures { result ≡ error_in kind (view object.now) }
+// How an object says that a request fails: by an error, by null in its place, or by hanging up.
+#[tactic(auto, unfolding(crate::specs::Values::failure_in))]
+fn failure_in(kind: Kind, object: &Value) -> Option<Failure>
+    ensures { result ≡ failure_in kind (view object.now) }
 {
-    let value = object.get("error")?;
+    let Some(value) = object.get("error") else {
+        return hang_up_in(object);
+    };
     if value.is_null() {
-        return Some(None);
+        return Some(Failure::Silent);
     }
     let error = number_within(1, most_error(kind), value)?;
-    Some(Some(error as u32))
+    Some(Failure::Refused(error as u32))
+}
+
+// Whether an object says that a request ends its connection.
+fn hang_up_in(object: &Value) -> Option<Failure>
+    ensures { result ≡ hang_up_in (view object.now) }
+{
+    if object.get("hangs_up")?.as_bool()? {
+        Some(Failure::HungUp)
+    } else {
+        None
+    }
 }
 
 fn most_error(kind: Kind) -> u64

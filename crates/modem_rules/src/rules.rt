@@ -7,14 +7,24 @@ pub struct AnswerRule {
     pub data: RuleData,
 }
 
+/// How a request fails.
+#[derive(Clone, Copy, Debug, PartialEq, Eq)]
+pub enum Failure {
+    /// It is refused by this error of QMI or this status of MBIM.
+    Refused(u32),
+    /// It isn't answered.
+    Silent,
+    /// The connection on which it came is ended.
+    HungUp,
+}
+
 /// One request of a kind fails.
 #[derive(Clone, Copy, Debug, PartialEq, Eq)]
 pub struct FaultRule {
     pub kind: RequestKind,
     /// Which of the requests of the kind it is, counted from 1.
     pub nth: u64,
-    /// The error of QMI or the status of MBIM by which it is refused, or None where it isn't answered.
-    pub error: Option<u32>,
+    pub failure: Failure,
 }
 
 /// Each request of a kind brings an indication.

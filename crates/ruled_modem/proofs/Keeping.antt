@@ -1,15 +1,16 @@
 -- What a modem that goes by rules keeps from message to message.
-use Rattle.std.proofs.Common.{◌≡◌, ℕ, List, [], ◌∷◌, ◌++◌, Option, Some, None, option_map, slice_get, refl, sym, ap, ◌∙◌, subst}
+use Rattle.std.proofs.Common.{◌≡◌, ℕ, Bool, false, List, [], ◌∷◌, ◌++◌, Option, Some, None, option_map, slice_get, refl, sym, ap, ◌∙◌, subst}
 use Rattle.modem_rules.specs.declared.kind.RequestKind.{RequestKind}
 use Rattle.modem_rules.specs.Rules.{Rules}
 use Rattle.sim_modem.specs.Sim.{Answering}
+use Rattle.served_sim.specs.Conduct.{Conduct}
 use Rattle.ruled_modem.specs.Requests.{kind_of}
 use Rattle.modem_rules.specs.declared.rules.AnswerRule.{AnswerRule}
 use Rattle.modem_rules.specs.declared.rules.FaultRule.{FaultRule}
 use Rattle.modem_rules.specs.declared.rules.IndicationRule.{IndicationRule}
 use Rattle.modem_rules.specs.Kinds.{is_same}
-use Rattle.ruled_modem.specs.Turns.{all_told, answer_to, answer_text, passed}
-use Rattle.ruled_modem.specs.Ruled.{count, fault_for, reached, reached_by, ruled, ruled_by}
+use Rattle.ruled_modem.specs.Turns.{all_told, answer_to, answer_text, hangs_up, passed}
+use Rattle.ruled_modem.specs.Ruled.{conduct_by, count, fault_for, hangs_up_by, reached, reached_by, ruled_by}
 use Rattle.ruled_modem.specs.Host.{Host, fresh, host_after, longest}
 use Rattle.ruled_modem.specs.Keeping.{ByKind, Counts, Has, due, nearer, own, rules_for, Ruled, Keeps}
 use Rattle.ruled_modem.proofs.Nearer.{behind-none, behind-request, behind-other, due-for}
@@ -18,7 +19,7 @@ use Rattle.ruled_modem.proofs.Tables.{first-own}
 -- before any message
 pub keeps-fresh : {S : Type 0} (keeps : Answering → List (List ℕ) → S → Type 0) (rules : Rules) (answers : Answering) (r : Ruled S) → keeps answers [] r.sim → r.host ≡ fresh
     → Has (λ rule. rule.kind) rules.answers r.answers → Has (λ rule. rule.kind) rules.faults r.faults → Has (λ rule. rule.after) rules.indications r.indications
-    → Keeps keeps (ruled r.kind rules answers) [] r
+    → Keeps keeps (conduct_by r.kind rules answers) [] r
 keeps-fresh keeps rules answers r kept host has_answers has_faults has_indications = record {
   given = rules;
   answers = answers;
@@ -28,8 +29,8 @@ keeps-fresh keeps rules answers r kept host has_answers has_faults has_indicatio
   rules = record { answers = has_answers; faults = behind-none r.kind rules.faults r.faults has_faults; indications = has_indications };
 }
 
-module _ {S : Type 0} (keeps : Answering → List (List ℕ) → S → Type 0) (answering : Answering) (past : List (List ℕ)) (r : Ruled S) (message : List ℕ)
-    (K : Keeps keeps answering past r) where
+module _ {S : Type 0} (keeps : Answering → List (List ℕ) → S → Type 0) (conduct : Conduct) (past : List (List ℕ)) (r : Ruled S) (message : List ℕ)
+    (K : Keeps keeps conduct past r) where
   before : List (List ℕ)
   before = reached r.kind K.given past
 
@@ -41,12 +42,12 @@ module _ {S : Type 0} (keeps : Answering → List (List ℕ) → S → Type 0) (
 
   -- ---- a message that is no request reaches the modem itself ----
 
-  pub answers-other : kind_of r.kind message ≡ None → answering past message ≡ K.answers (reached r.kind K.given past) message
+  pub answers-other : kind_of r.kind message ≡ None → conduct.answers past message ≡ K.answers (reached r.kind K.given past) message
   unfolding by before
-  answers-other none = ap (λ answers. answers past message) K.same ∙ ap by none
+  answers-other none = ap (λ (c : Conduct). c.answers past message) K.same ∙ ap by none
 
   pub keeps-other : (sim : S) (host : Host) → kind_of r.kind message ≡ None → keeps K.answers (message ∷ reached r.kind K.given past) sim
-      → host ≡ host_after r.kind K.answers (message ∷ reached r.kind K.given past) → Keeps keeps answering (message ∷ past) (record r { sim = sim; host = host })
+      → host ≡ host_after r.kind K.answers (message ∷ reached r.kind K.given past) → Keeps keeps conduct (message ∷ past) (record r { sim = sim; host = host })
   unfolding through before
   keeps-other sim host none kept is = record {
     given = K.given;
@@ -81,17 +82,30 @@ module _ {S : Type 0} (keeps : Answering → List (List ℕ) → S → Type 0) (
   passed-behind n (Some fault) rule = refl
 
   pub answers-request : (kind : RequestKind) → kind_of r.kind message ≡ Some kind
-      → answering past message
+      → conduct.answers past message
       ≡ answer_text r.kind K.answers (reached r.kind K.given past) (longest (host_after r.kind K.answers (reached r.kind K.given past))) message (due (rules_for kind r.faults)) (slice_get (rules_for kind r.answers) 0)
       ++ all_told (host_after r.kind K.answers (passed (reached r.kind K.given past) message (due (rules_for kind r.faults)) (slice_get (rules_for kind r.answers) 0))) (rules_for kind r.indications)
   unfolding by before said
   answers-request kind some =
       let mine = own (λ (rule : IndicationRule). rule.after) kind K.given.indications in
-      ap (λ (answers : Answering). answers past message) K.same ∙ ap by some
+      ap (λ (c : Conduct). c.answers past message) K.same ∙ ap by some
       ∙ sym (said-behind (count r.kind kind past) (fault_for r.kind past kind K.given.faults) (answer_to kind K.given.answers) mine)
       ∙ sym (ap (λ (fault : Option FaultRule). said fault (answer_to kind K.given.answers) mine) (due-is kind))
       ∙ sym (ap (λ (rule : Option AnswerRule). said (due (rules_for kind r.faults)) rule mine) (first-is kind))
       ∙ sym (ap (λ (rules : List IndicationRule). said (due (rules_for kind r.faults)) (slice_get (rules_for kind r.answers) 0) rules) (K.rules.indications kind))
+
+  pub stays-other : kind_of r.kind message ≡ None → conduct.hangs_up past message ≡ false
+  stays-other none = ap (λ (c : Conduct). c.hangs_up past message) K.same ∙ ap (hangs_up_by r.kind K.given past) none
+
+  hangs-behind : (n : ℕ) (fault : Option FaultRule) → hangs_up (option_map (nearer n) fault) ≡ hangs_up fault
+  hangs-behind n None = refl
+  hangs-behind n (Some fault) = refl
+
+  pub hangs-request : (kind : RequestKind) → kind_of r.kind message ≡ Some kind → conduct.hangs_up past message ≡ hangs_up (due (rules_for kind r.faults))
+  hangs-request kind some =
+      ap (λ (c : Conduct). c.hangs_up past message) K.same ∙ ap (hangs_up_by r.kind K.given past) some
+      ∙ sym (hangs-behind (count r.kind kind past) (fault_for r.kind past kind K.given.faults))
+      ∙ sym (ap hangs_up (due-is kind))
 
   goes : Option FaultRule → Option AnswerRule → List (List ℕ)
   goes fault rule = passed before message fault rule
@@ -108,7 +122,7 @@ module _ {S : Type 0} (keeps : Answering → List (List ℕ) → S → Type 0) (
   pub keeps-request : (sim : S) (host : Host) (faults : ByKind FaultRule) (kind : RequestKind) → kind_of r.kind message ≡ Some kind → Counts kind r.faults faults
       → keeps K.answers (passed (reached r.kind K.given past) message (due (rules_for kind r.faults)) (slice_get (rules_for kind r.answers) 0)) sim
       → host ≡ host_after r.kind K.answers (passed (reached r.kind K.given past) message (due (rules_for kind r.faults)) (slice_get (rules_for kind r.answers) 0))
-      → Keeps keeps answering (message ∷ past) (record r { sim = sim; host = host; faults = faults })
+      → Keeps keeps conduct (message ∷ past) (record r { sim = sim; host = host; faults = faults })
   unfolding before
   keeps-request sim host faults kind some counts kept is = record {
     given = K.given;

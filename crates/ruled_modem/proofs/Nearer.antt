@@ -13,7 +13,7 @@ use Rattle.ruled_modem.specs.Keeping.{ByKind, Counts, Has, HasBehind, due, neare
 -- ---- behind one message more ----
 
 nearer-more : (n : ℕ) (f : FaultRule) → nearer 1 (nearer n f) ≡ nearer (n + 1) f
-nearer-more n f = ap (λ nth. record { kind = f.kind; nth = nth; error = f.error }) (omega arith)
+nearer-more n f = ap (λ nth. record { kind = f.kind; nth = nth; failure = f.failure }) (omega arith)
 
 nearer-all : (n : ℕ) (faults : List FaultRule) → map (nearer 1) (map (nearer n) faults) ≡ map (nearer (n + 1)) faults
 nearer-all n [] = refl
@@ -91,7 +91,7 @@ module _ (modem : Kind) (past : List (List ℕ)) (kind : RequestKind) where
 -- ---- before any message ----
 
 fault-fresh : (f : FaultRule) → nearer 0 f ≡ f
-fault-fresh f = ap (λ nth. record { kind = f.kind; nth = nth; error = f.error }) (omega arith)
+fault-fresh f = ap (λ nth. record { kind = f.kind; nth = nth; failure = f.failure }) (omega arith)
 
 faults-fresh : (faults : List FaultRule) → map (nearer 0) faults ≡ faults
 faults-fresh [] = refl

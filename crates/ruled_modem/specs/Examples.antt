@@ -1,12 +1,13 @@
 -- Worked examples of modems that go by rules, byte for byte. Past messages have the newest first.
-use Rattle.std.specs.Prelude.{◌≡◌, ℕ, List, [], ◌∷◌, ◌++◌, Some, None, codes}
+use Rattle.std.specs.Prelude.{◌≡◌, ℕ, Bool, false, true, List, [], ◌∷◌, ◌++◌, Some, None, codes}
 use Rattle.kit_bytes.specs.Hex.{hex}
 use Rattle.kit_bytes.specs.declared.Kind.TheVariants.{Qmi, Mbim}
 use Rattle.kit_bytes.specs.declared.services.TheConstants.{BASIC_CONNECT}
 use Rattle.modem_rules.specs.declared.kind.RequestKind.TheVariants.{Message, Command}
+use Rattle.modem_rules.specs.declared.rules.Failure.TheVariants.{Refused, Silent, HungUp}
 use Rattle.modem_rules.specs.Rules.{Rules}
 use Rattle.sim_modem.specs.Sim.{Answering}
-use Rattle.ruled_modem.specs.Ruled.{reached, ruled}
+use Rattle.ruled_modem.specs.Ruled.{conduct_by, reached, ruled}
 
 -- without rules it answers each message by that message
 abbrev pub echo : Answering
@@ -29,7 +30,7 @@ told = hex (codes "01 0B 00 80 00 FF 02 00 28 00 00 00")
 abbrev pub faulty : Rules
 faulty = record {
   answers = [];
-  faults = record { kind = Message 2 34; nth = 2; error = Some 3 } ∷ record { kind = Message 2 34; nth = 3; error = None } ∷ [];
+  faults = record { kind = Message 2 34; nth = 2; failure = Refused 3 } ∷ record { kind = Message 2 34; nth = 3; failure = Silent } ∷ [];
   indications = record { after = Message 2 34; kind = Message 0 40; «data» = [] } ∷ record { after = Message 2 34; kind = Message 3 36; «data» = [] } ∷ [];
 }
 
@@ -45,6 +46,26 @@ pub record FaultsComeInTheirTurn : Type 0 where
   pub reaches : reached Qmi faulty (get_model ∷ get_model ∷ get_model ∷ get_model ∷ []) ≡ get_model ∷ get_model ∷ []
   -- a response is no request
   pub response : Answers [] refused refused
+
+-- the second such request ends its connection
+abbrev pub ending : Rules
+ending = record { answers = []; faults = record { kind = Message 2 34; nth = 2; failure = HungUp } ∷ []; indications = [] }
+
+abbrev pub HangsUp : Rules → List (List ℕ) → (message : List ℕ) → Bool → Type 0
+HangsUp rules past message hung_up = (conduct_by Qmi rules echo).hangs_up past message ≡ hung_up
+
+pub record ConnectionsEndInTheirTurn : Type 0 where
+  pub first : HangsUp ending [] get_model false
+  pub second : HangsUp ending (get_model ∷ []) get_model true
+  pub third : HangsUp ending (get_model ∷ get_model ∷ []) get_model false
+  -- it isn't answered, and doesn't reach the modem
+  pub silent : ruled Qmi ending echo (get_model ∷ []) get_model ≡ []
+  pub reaches : reached Qmi ending (get_model ∷ get_model ∷ []) ≡ get_model ∷ []
+  -- a response is no request
+  pub response : HangsUp ending (get_model ∷ []) refused false
+  -- a request that is refused or isn't answered ends nothing
+  pub refuses : HangsUp faulty (get_model ∷ []) get_model false
+  pub silence : HangsUp faulty (get_model ∷ get_model ∷ []) get_model false
 
 -- ---- MBIM ----
 

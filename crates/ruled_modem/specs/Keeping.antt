@@ -10,8 +10,9 @@ use Rattle.modem_rules.specs.declared.rules.IndicationRule.{IndicationRule}
 use Rattle.modem_rules.specs.Kinds.{is_same}
 use Rattle.modem_rules.specs.Rules.{Rules}
 use Rattle.sim_modem.specs.Sim.{Answering}
+use Rattle.served_sim.specs.Conduct.{Conduct}
 use Rattle.ruled_modem.specs.Host.{Host, host_after}
-use Rattle.ruled_modem.specs.Ruled.{count, reached, ruled}
+use Rattle.ruled_modem.specs.Ruled.{conduct_by, count, reached}
 
 -- ---- rules by the kind of request ----
 
@@ -37,7 +38,7 @@ Has kind_of rules table = (kind : RequestKind) → rules_for kind table ≡ own 
 -- ---- faults that are counted down ----
 
 abbrev pub nearer : (count : ℕ) → FaultRule → FaultRule
-nearer count fault = record { kind = fault.kind; nth = fault.nth - count; error = fault.error }
+nearer count fault = record { kind = fault.kind; nth = fault.nth - count; failure = fault.failure }
 
 -- the first whose turn it is
 abbrev pub due : List FaultRule → Option FaultRule
@@ -67,12 +68,12 @@ pub record GoesBy {S : Type 0} (rules : Rules) (past : List (List ℕ)) (r : Rul
   pub faults : HasBehind r.kind past rules.faults r.faults
   pub indications : Has (λ rule. rule.after) rules.indications r.indications
 
--- a modem with these answers has met these messages
-pub record Keeps {S : Type 0} (keeps : Answering → List (List ℕ) → S → Type 0) (answering : Answering) (past : List (List ℕ)) (r : Ruled S) : Type 0 where
+-- a modem that behaves so has met these messages
+pub record Keeps {S : Type 0} (keeps : Answering → List (List ℕ) → S → Type 0) (conduct : Conduct) (past : List (List ℕ)) (r : Ruled S) : Type 0 where
   pub given : Rules
   -- without rules
   pub answers : Answering
-  pub same : answering ≡ ruled r.kind given answers
+  pub same : conduct ≡ conduct_by r.kind given answers
   pub modem : keeps answers (reached r.kind given past) r.sim
   pub host : r.host ≡ host_after r.kind answers (reached r.kind given past)
   pub rules : GoesBy given past r

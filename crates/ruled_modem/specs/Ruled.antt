@@ -1,4 +1,4 @@
--- A modem that goes by rules: what it answers, by what it answers without them. Lists of messages have the newest first.
+-- A modem that goes by rules: what it answers and where it hangs up, by what it answers without them. Lists of messages have the newest first.
 use Rattle.std.specs.Prelude.{ℕ, ◌+◌, Bool, false, ◌&&◌, ◌==◌, List, [], ◌∷◌, filter, find, length, Option, Some, None}
 use Rattle.kit_bytes.specs.declared.Kind.{Kind}
 use Rattle.modem_rules.specs.declared.kind.RequestKind.{RequestKind}
@@ -6,8 +6,9 @@ use Rattle.modem_rules.specs.declared.rules.FaultRule.{FaultRule}
 use Rattle.modem_rules.specs.Kinds.{is_same}
 use Rattle.modem_rules.specs.Rules.{Rules}
 use Rattle.sim_modem.specs.Sim.{Answering}
+use Rattle.served_sim.specs.Conduct.{Conduct}
 use Rattle.ruled_modem.specs.Requests.{kind_of}
-use Rattle.ruled_modem.specs.Turns.{meets, reaches}
+use Rattle.ruled_modem.specs.Turns.{hangs_up, meets, reaches}
 
 -- ---- which request it is ----
 
@@ -45,3 +46,13 @@ ruled_by modem rules answers past reached message (Some kind) = meets modem rule
 -- by these rules, where it has these answers without them
 abbrev pub ruled : Kind → Rules → Answering → Answering
 ruled modem rules answers past message = ruled_by modem rules answers past (reached modem rules past) message (kind_of modem message)
+
+-- ---- where it hangs up ----
+
+abbrev pub hangs_up_by : Kind → Rules → (past : List (List ℕ)) → Option RequestKind → Bool
+hangs_up_by modem rules past None = false
+hangs_up_by modem rules past (Some kind) = hangs_up (fault_for modem past kind rules.faults)
+
+-- how it behaves by these rules, where it has these answers without them and hangs nobody up
+abbrev pub conduct_by : Kind → Rules → Answering → Conduct
+conduct_by modem rules answers = record { answers = ruled modem rules answers; hangs_up = λ past message. hangs_up_by modem rules past (kind_of modem message) }

@@ -48,6 +48,6 @@ fn nearer(fault: &FaultRule) -> FaultRule
     FaultRule {
         kind: fault.kind,
         nth: fault.nth.saturating_sub(1),
-        error: fault.error,
+        failure: fault.failure,
     }
 }

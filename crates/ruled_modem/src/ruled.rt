@@ -4,8 +4,8 @@ ghost use Rattle.modem_rules.specs.Rules.{rules_view};
 ghost use Rattle.sim_modem.specs.Sim.{Answering};
 ghost use Rattle.ruled_modem.specs.Host.{host_after, longest};
 ghost use Rattle.ruled_modem.specs.Keeping.{Counts, Keeps, due, rules_for};
-ghost use Rattle.ruled_modem.specs.Ruled.{ruled};
-ghost use Rattle.ruled_modem.specs.Turns.{all_told, answer_text, failed, passed};
+ghost use Rattle.ruled_modem.specs.Ruled.{conduct_by};
+ghost use Rattle.ruled_modem.specs.Turns.{all_told, answer_text, failed, hangs_up, passed};
 
 use crate::by_kind::{ByKind, by_kind, rules_for};
 use crate::counting::{count, due};
@@ -13,7 +13,8 @@ use crate::host::Host;
 use crate::replies::{indication, reply};
 use crate::requests::kind_of;
 use kit_bytes::{Kind, Octets};
-use modem_rules::{AnswerRule, FaultRule, IndicationRule, RequestKind, Rules};
+use modem_rules::{AnswerRule, Failure, FaultRule, IndicationRule, RequestKind, Rules};
+use served_sim::{Reply, ServedSim};
 use sim_modem::Sim;
 use std::alloc::{AllocError, Global};
 use std::marker::Model;
@@ -42,7 +43,7 @@ impl<S: Sim> Model for Ruled<S> {
 impl<S: Sim> Ruled<S> {
     /// A modem that goes by these rules, and is this one without them.
     pub fn open(alloc: Global, kind: Kind, rules: Rules, sim: S) -> Result<Self, AllocError>
-        ensures { IfOk result (λ modem. (answers : Answering) → S.keeps answers [] sim → Keeps S.keeps (ruled kind (rules_view rules) answers) [] modem) }
+        ensures { IfOk result (λ modem. (answers : Answering) → S.keeps answers [] sim → Keeps S.keeps (conduct_by kind (rules_view rules) answers) [] modem) }
     {
         let answers = by_kind(alloc, rules.answers)?;
         let faults = by_kind(alloc, rules.faults)?;
@@ -78,6 +79,16 @@ impl<S: Sim> Ruled<S> {
         Ok(text)
     }
 
+    // Whether a request of this kind ends its connection.
+    fn hangs_up(&self, kind: &RequestKind) -> bool
+        ensures { result ≡ hangs_up (due (rules_for kind.now self.now.faults)) }
+    {
+        match due(rules_for(&self.faults, kind)) {
+            Some(fault) => matches!(fault.failure, Failure::HungUp),
+            None => false,
+        }
+    }
+
     // The answer to a request of this kind: by the fault that is due, else by a rule, else the modem's own.
     fn answer(&mut self, kind: &RequestKind, message: &[u8]) -> Result<Octets, AllocError>
         requires { IsMessage S.Framing.size message.now }
@@ -91,7 +102,7 @@ impl<S: Sim> Ruled<S> {
     {
         let longest = self.host.longest();
         if let Some(fault) = due(rules_for(&self.faults, kind)) {
-            return Ok(failed(self.alloc, self.kind, longest, message, fault.error)?);
+            return Ok(failed(self.alloc, self.kind, longest, message, fault.failure)?);
         }
         match rules_for(&self.answers, kind).first() {
             Some(rule) => {
@@ -118,21 +129,21 @@ impl<S: Sim> Ruled<S> {
     }
 }
 
-// What is said to a request that fails: it is refused by an error, or not answered.
+// What is said to a request that fails: it is refused by an error, or nothing is said.
 fn failed(
     alloc: Global,
     kind: Kind,
     longest: u32,
     message: &[u8],
-    error: Option<u32>,
+    failure: Failure,
 ) -> Result<Octets, AllocError>
     requires least { 64 ≤ longest }
     requires most { longest ≤ 4096 }
-    ensures { IfOk result (λ octets. octets ≡ failed kind longest message.now error) }
+    ensures { IfOk result (λ octets. octets ≡ failed kind longest message.now failure) }
 {
-    match error {
-        Some(error) => reply(alloc, kind, longest, message, error, &[]),
-        None => Ok(Octets::new(alloc)),
+    match failure {
+        Failure::Refused(error) => reply(alloc, kind, longest, message, error, &[]),
+        Failure::Silent | Failure::HungUp => Ok(Octets::new(alloc)),
     }
 }
 
@@ -154,15 +165,21 @@ fn add_indications(
     Ok(())
 }
 
-impl<S: Sim> Sim for Ruled<S> {
+impl<S: Sim> ServedSim for Ruled<S> {
     type Framing = S::Framing;
 
-    ghost keeps = { λ answers past ruled. Keeps S.keeps answers past ruled };
+    ghost keeps = { λ conduct past ruled. Keeps S.keeps conduct past ruled };
 
-    fn ask(&mut self, message: &[u8]) -> Result<Octets, AllocError> {
-        match kind_of(self.kind, message) {
-            Some(kind) => Ok(self.meet(&kind, message)?),
-            None => Ok(self.pass(message)?),
-        }
+    fn ask(&mut self, message: &[u8]) -> Result<Reply, AllocError> {
+        let Some(kind) = kind_of(self.kind, message) else {
+            let messages = self.pass(message)?;
+            return Ok(Reply {
+                messages,
+                hangs_up: false,
+            });
+        };
+        let hangs_up = self.hangs_up(&kind);
+        let messages = self.meet(&kind, message)?;
+        Ok(Reply { messages, hangs_up })
     }
 }

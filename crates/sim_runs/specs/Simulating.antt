@@ -12,6 +12,7 @@ use Rattle.hub_io.specs.Record as hub
 use Rattle.hub_io.specs.declared.settings.ServeEnd.{ServeEnd}
 use Rattle.hub_io.specs.declared.settings.ServeEnd.TheVariants as serving
 use Rattle.proxy_history.specs.Proxy.{Proxy}
+use Rattle.proxy_history.specs.Streams.{Framing}
 use Rattle.proxy_serving.specs.Ends.{EndsFor}
 use Rattle.proxy_serving.specs.Serving.{never}
 use Rattle.qmux_frame.specs.Frame as qmux
@@ -24,10 +25,10 @@ use Rattle.modem_rules.specs.Reading.{rules_in}
 use Rattle.modem_rules.specs.Rules.{Rules, rules_view}
 use Rattle.modem_rules.specs.declared.fault.RulesFault.{RulesFault}
 use Rattle.modem_rules.specs.declared.fault.RulesFault.TheVariants as rules_fault
-use Rattle.ruled_modem.specs.Ruled.{ruled}
+use Rattle.ruled_modem.specs.Ruled.{conduct_by}
 use Rattle.sim_modem.specs.Sim.{Answering, answers}
 use Rattle.sim_serving.specs.Core.{TakesMemory}
-use Rattle.sim_serving.specs.Proxy.{proxy_of}
+use Rattle.sim_serving.specs.Proxy.{proxy_of, served}
 use Rattle.sim_qmi.specs.Modem as qmi
 use Rattle.sim_tunnel.specs.Carrying as mbim
 use Rattle.sim_runs.specs.declared.manner.Manner.{Manner}
@@ -56,15 +57,15 @@ asked_by rules kind socket turns = record { kind = kind; socket = socket; rules 
 
 -- ---- the modem ----
 
--- what a modem with these answers answers by the rules, if any were given
-abbrev pub answers_by : Kind → Option Rules → Answering → Answering
-answers_by kind None answering = answering
-answers_by kind (Some rules) answering = ruled kind rules answering
+-- serving a modem with these answers, which goes by the rules if any were given
+abbrev pub served_by : Kind → Framing → Option Rules → Answering → Proxy
+served_by kind size None answering = proxy_of size answering
+served_by kind size (Some rules) answering = served size (conduct_by kind rules answering)
 
 -- serving a simulated modem of this kind and profile, as serving a proxy
 abbrev pub modem_of : Kind → Option Rules → Profile → Proxy
-modem_of kind.Qmi rules profile = proxy_of qmux.size_of (answers_by kind.Qmi rules (answers (qmi.machine profile)))
-modem_of kind.Mbim rules profile = proxy_of mbim_frame.size_of (answers_by kind.Mbim rules (answers (mbim.machine profile)))
+modem_of kind.Qmi rules profile = served_by kind.Qmi qmux.size_of rules (answers (qmi.machine profile))
+modem_of kind.Mbim rules profile = served_by kind.Mbim mbim_frame.size_of rules (answers (mbim.machine profile))
 
 -- ---- the hub ----
 

@@ -3,8 +3,9 @@ ghost use Rattle.kit_io.specs.Causes.{Rose};
 ghost use Rattle.hub_io.specs.Record.{Since};
 ghost use Rattle.modem_rules.specs.Rules.{rules_view};
 ghost use Rattle.sim_modem.specs.Sim.{Answering};
-ghost use Rattle.sim_serving.specs.Proxy.{proxy_of};
-ghost use Rattle.sim_runs.specs.Simulating.{IsHubFault, Serves, ServesProfile, answers_by, asked_of};
+ghost use Rattle.served_sim.specs.Conduct.{Conduct};
+ghost use Rattle.sim_serving.specs.Proxy.{proxy_of, served};
+ghost use Rattle.sim_runs.specs.Simulating.{IsHubFault, Serves, ServesProfile, asked_of, served_by};
 
 use crate::{Manner, SimEnd};
 use hub_io::{Hub, ServeEnd};
@@ -13,9 +14,10 @@ use kit_io::Failed;
 use modem_profile::Profile;
 use modem_rules::Rules;
 use ruled_modem::Ruled;
+use served_sim::ServedSim;
 use sim_modem::Sim;
 use sim_qmi::QmiSim;
-use sim_serving::serve_sim;
+use sim_serving::{serve_sim, serve_so};
 use sim_tunnel::TunnelSim;
 use std::alloc::{AllocError, Global};
 
@@ -57,7 +59,7 @@ fn serve_by<H: Hub, S: Sim>(
 ) -> SimEnd
     requires { (answers : Answering) × S.keeps answers [] sim }
     ensures serves { (answers : Answering) → S.keeps answers [] sim →
-        Since (H.calls hub.old) (H.calls hub.new) (Serves (proxy_of S.Framing.size (answers_by kind (option_map rules_view rules) answers)) socket.now turns result) }
+        Since (H.calls hub.old) (H.calls hub.new) (Serves (served_by kind S.Framing.size (option_map rules_view rules) answers) socket.now turns result) }
     ensures own { ¬ (result ≡ SimEnd.ReadFault) }
     ensures never_lost { ¬ (result ≡ SimEnd.Served ServeEnd.Lost) }
     ensures hub_fault { IsHubFault result → Rose (H.faults hub.old) (H.faults hub.new) }
@@ -65,7 +67,7 @@ fn serve_by<H: Hub, S: Sim>(
     match rules {
         None => serve_at(alloc, socket, sim, turns, hub),
         Some(rules) => match Ruled::open(alloc, kind, rules, sim) {
-            Ok(ruled) => serve_at(alloc, socket, ruled, turns, hub),
+            Ok(ruled) => serve_so_at(alloc, socket, ruled, turns, hub),
             Err(AllocError) => SimEnd::OutOfMemory,
         },
     }
@@ -88,6 +90,27 @@ fn serve_at<H: Hub, S: Sim>(
 {
     match hub.open(socket.value().as_str(), None) {
         Ok(()) => SimEnd::Served(serve_sim(alloc, hub, sim, turns)),
+        Err(Failed) => SimEnd::HubFault,
+    }
+}
+
+// The same of one that may hang its clients up.
+fn serve_so_at<H: Hub, S: ServedSim>(
+    alloc: Global,
+    socket: &PathText,
+    sim: S,
+    turns: u64,
+    hub: &mut H,
+) -> SimEnd
+    requires { (conduct : Conduct) × S.keeps conduct [] sim }
+    ensures serves { (conduct : Conduct) → S.keeps conduct [] sim →
+        Since (H.calls hub.old) (H.calls hub.new) (Serves (served S.Framing.size conduct) socket.now turns result) }
+    ensures own { ¬ (result ≡ SimEnd.ReadFault) }
+    ensures never_lost { ¬ (result ≡ SimEnd.Served ServeEnd.Lost) }
+    ensures hub_fault { IsHubFault result → Rose (H.faults hub.old) (H.faults hub.new) }
+{
+    match hub.open(socket.value().as_str(), None) {
+        Ok(()) => SimEnd::Served(serve_so(alloc, hub, sim, turns)),
         Err(Failed) => SimEnd::HubFault,
     }
 }

@@ -7,7 +7,8 @@ use Rattle.proxy_history.specs.Events.{Event, Joined, Piece, Left, ModemPiece, M
 use Rattle.proxy_history.specs.Streams.{Framing, stream, messages_of_piece}
 use Rattle.proxy_history.specs.Connections.{contains, without}
 use Rattle.sim_modem.specs.Sim.{Answering}
-use Rattle.sim_serving.specs.Clients.{Request, goes_bad, present, brought, asks, requests, messages_of, answers_to, added, joins, text}
+use Rattle.served_sim.specs.Conduct.{Conduct}
+use Rattle.sim_serving.specs.Clients.{Request, heeded, session, is_ended, present, brought, asks, requests, messages_of, answers_to, added, joins, text}
 use Rattle.sim_serving.specs.Laws.{own_answers, JoinsOnce}
 use Rattle.sim_serving.proofs.Asking.{asks-first}
 use Rattle.sim_serving.proofs.Names.{not_added, still_absent}
@@ -57,73 +58,73 @@ module _ (answers : Answering) (c : ℕ) where
       ]
       in step (d == c) refl
 
-  module _ (size : Framing) where
-    abbrev Never : List Event → Type 0
-    Never past = AllByRecursion (λ event. joins c event ≡ false) past
+module _ (size : Framing) (conduct : Conduct) (c : ℕ) where
+  abbrev Never : List Event → Type 0
+  Never past = AllByRecursion (λ event. joins c event ≡ false) past
 
-    -- who never joined isn't there
-    never_there : (past : List Event) → Never past → contains c (present size past) ≡ false
-    unfolding present
-    never_there [] never = refl
-    never_there (Joined d ∷ past) never = not_added c d (present size past) never.0 (never_there past never.1)
-    never_there (Piece d piece ∷ past) never =
-        let step : (b : Bool) → contains c (if b then without d (present size past) else present size past) ≡ false =
-        elim [ true ↦ still_absent c d (present size past) (never_there past never.1) | false ↦ never_there past never.1 ]
-        in step (goes_bad size d piece past)
-    never_there (Left d ∷ past) never = still_absent c d (present size past) (never_there past never.1)
-    never_there (ModemPiece piece ∷ past) never = never_there past never.1
-    never_there (ModemGone ∷ past) never = never_there past never.1
-    never_there (ModemBack ∷ past) never = never_there past never.1
-    never_there (Now time ∷ past) never = never_there past never.1
-    never_there (Took d count ∷ past) never = never_there past never.1
-    never_there (ModemTook count ∷ past) never = never_there past never.1
+  -- who never joined isn't there
+  never_there : (past : List Event) → Never past → contains c (present size conduct past) ≡ false
+  unfolding session
+  never_there [] never = refl
+  never_there (Joined d ∷ past) never = not_added c d (present size conduct past) never.0 (never_there past never.1)
+  never_there (Piece d piece ∷ past) never =
+      let step : (b : Bool) → contains c (if b then without d (present size conduct past) else present size conduct past) ≡ false =
+      elim [ true ↦ still_absent c d (present size conduct past) (never_there past never.1) | false ↦ never_there past never.1 ]
+      in step (is_ended size conduct d piece past)
+  never_there (Left d ∷ past) never = still_absent c d (present size conduct past) (never_there past never.1)
+  never_there (ModemPiece piece ∷ past) never = never_there past never.1
+  never_there (ModemGone ∷ past) never = never_there past never.1
+  never_there (ModemBack ∷ past) never = never_there past never.1
+  never_there (Now time ∷ past) never = never_there past never.1
+  never_there (Took d count ∷ past) never = never_there past never.1
+  never_there (ModemTook count ∷ past) never = never_there past never.1
 
-    -- who isn't there asks nothing
-    asked_nothing : (d : ℕ) (piece : List ℕ) (past : List Event) → d ≡ c → contains c (present size past) ≡ false
-        → own_answers answers c (asks (map (asked_by d) (brought size d piece past)) (requests size past)) ≡ own_answers answers c (requests size past)
-    unfolding asks
-    asked_nothing d piece past is absent =
-        ap (λ (b : Bool). own_answers answers c (asks (map (asked_by d) (if b then messages_of_piece size (stream d past) piece else [])) (requests size past))) (ap (λ (x : ℕ). contains x (present size past)) is ∙ absent)
+  -- who isn't there asks nothing
+  asked_nothing : (d : ℕ) (piece : List ℕ) (past : List Event) → d ≡ c → contains c (present size conduct past) ≡ false
+      → own_answers conduct.answers c (asks (map (asked_by d) (brought size conduct d piece past)) (requests size conduct past)) ≡ own_answers conduct.answers c (requests size conduct past)
+  unfolding asks
+  asked_nothing d piece past is absent =
+      ap (λ (b : Bool). own_answers conduct.answers c (asks (map (asked_by d) (if b then heeded conduct (messages_of_piece size (stream d past) piece) (messages_of (requests size conduct past)) else [])) (requests size conduct past))) (ap (λ (x : ℕ). contains x (present size conduct past)) is ∙ absent)
 
-    -- and asked nothing
-    never_asked : (past : List Event) → Never past → own_answers answers c (requests size past) ≡ []
-    unfolding requests own_answers
-    never_asked [] never = refl
-    never_asked (Joined d ∷ past) never = never_asked past never.1
-    never_asked (Piece d piece ∷ past) never =
-        let before : List Request = requests size past in
-        let step : (b : Bool) → (d == c) ≡ b → own_answers answers c (asks (map (asked_by d) (brought size d piece past)) before) ≡ [] =
-        λ b. elim b as (λ b. (d == c) ≡ b → own_answers answers c (asks (map (asked_by d) (brought size d piece past)) before) ≡ []) [
-          | true ↦ λ e. asked_nothing d piece past (eqb-true d c e) (never_there past never.1) ∙ never_asked past never.1
-          | false ↦ λ e. own_of_other d e (brought size d piece past) before ∙ never_asked past never.1
-        ]
-        in step (d == c) refl
-    never_asked (Left d ∷ past) never = never_asked past never.1
-    never_asked (ModemPiece piece ∷ past) never = never_asked past never.1
-    never_asked (ModemGone ∷ past) never = never_asked past never.1
-    never_asked (ModemBack ∷ past) never = never_asked past never.1
-    never_asked (Now time ∷ past) never = never_asked past never.1
-    never_asked (Took d count ∷ past) never = never_asked past never.1
-    never_asked (ModemTook count ∷ past) never = never_asked past never.1
+  -- and asked nothing
+  never_asked : (past : List Event) → Never past → own_answers conduct.answers c (requests size conduct past) ≡ []
+  unfolding session own_answers
+  never_asked [] never = refl
+  never_asked (Joined d ∷ past) never = never_asked past never.1
+  never_asked (Piece d piece ∷ past) never =
+      let before : List Request = requests size conduct past in
+      let step : (b : Bool) → (d == c) ≡ b → own_answers conduct.answers c (asks (map (asked_by d) (brought size conduct d piece past)) before) ≡ [] =
+      λ b. elim b as (λ b. (d == c) ≡ b → own_answers conduct.answers c (asks (map (asked_by d) (brought size conduct d piece past)) before) ≡ []) [
+        | true ↦ λ e. asked_nothing d piece past (eqb-true d c e) (never_there past never.1) ∙ never_asked past never.1
+        | false ↦ λ e. own_of_other conduct.answers c d e (brought size conduct d piece past) before ∙ never_asked past never.1
+      ]
+      in step (d == c) refl
+  never_asked (Left d ∷ past) never = never_asked past never.1
+  never_asked (ModemPiece piece ∷ past) never = never_asked past never.1
+  never_asked (ModemGone ∷ past) never = never_asked past never.1
+  never_asked (ModemBack ∷ past) never = never_asked past never.1
+  never_asked (Now time ∷ past) never = never_asked past never.1
+  never_asked (Took d count ∷ past) never = never_asked past never.1
+  never_asked (ModemTook count ∷ past) never = never_asked past never.1
 
-    pub own_text : (past : List Event) → JoinsOnce c past → text size answers c past ≡ own_answers answers c (requests size past)
-    unfolding text requests own_answers
-    own_text [] once = refl
-    own_text (Joined d ∷ past) once =
-        let own : List ℕ = own_answers answers c (requests size past) in
-        let joined : List Event = filter (joins c) past in
-        let step : (b : Bool) → length (if b then Joined d ∷ joined else joined) ≤ 1 → (if b then [] else text size answers c past ++ []) ≡ own =
-        λ b. elim b as (λ b. length (if b then Joined d ∷ joined else joined) ≤ 1 → (if b then [] else text size answers c past ++ []) ≡ own) [
-          | true ↦ λ one. sym (never_asked past (none_passes (joins c) past (omega (arith, one))))
-          | false ↦ λ one. append-nil (text size answers c past) ∙ own_text past one
-        ]
-        in step (d == c) once
-    own_text (Piece d piece ∷ past) once =
-        ap (λ (l : List ℕ). l ++ added size answers c (Piece d piece) past) (own_text past once) ∙ sym (own_of d (brought size d piece past) (requests size past))
-    own_text (Left d ∷ past) once = append-nil (text size answers c past) ∙ own_text past once
-    own_text (ModemPiece piece ∷ past) once = append-nil (text size answers c past) ∙ own_text past once
-    own_text (ModemGone ∷ past) once = append-nil (text size answers c past) ∙ own_text past once
-    own_text (ModemBack ∷ past) once = append-nil (text size answers c past) ∙ own_text past once
-    own_text (Now time ∷ past) once = append-nil (text size answers c past) ∙ own_text past once
-    own_text (Took d count ∷ past) once = append-nil (text size answers c past) ∙ own_text past once
-    own_text (ModemTook count ∷ past) once = append-nil (text size answers c past) ∙ own_text past once
+  pub own_text : (past : List Event) → JoinsOnce c past → text size conduct c past ≡ own_answers conduct.answers c (requests size conduct past)
+  unfolding text session own_answers
+  own_text [] once = refl
+  own_text (Joined d ∷ past) once =
+      let own : List ℕ = own_answers conduct.answers c (requests size conduct past) in
+      let joined : List Event = filter (joins c) past in
+      let step : (b : Bool) → length (if b then Joined d ∷ joined else joined) ≤ 1 → (if b then [] else text size conduct c past ++ []) ≡ own =
+      λ b. elim b as (λ b. length (if b then Joined d ∷ joined else joined) ≤ 1 → (if b then [] else text size conduct c past ++ []) ≡ own) [
+        | true ↦ λ one. sym (never_asked past (none_passes (joins c) past (omega (arith, one))))
+        | false ↦ λ one. append-nil (text size conduct c past) ∙ own_text past one
+      ]
+      in step (d == c) once
+  own_text (Piece d piece ∷ past) once =
+      ap (λ (l : List ℕ). l ++ added size conduct c (Piece d piece) past) (own_text past once) ∙ sym (own_of conduct.answers c d (brought size conduct d piece past) (requests size conduct past))
+  own_text (Left d ∷ past) once = append-nil (text size conduct c past) ∙ own_text past once
+  own_text (ModemPiece piece ∷ past) once = append-nil (text size conduct c past) ∙ own_text past once
+  own_text (ModemGone ∷ past) once = append-nil (text size conduct c past) ∙ own_text past once
+  own_text (ModemBack ∷ past) once = append-nil (text size conduct c past) ∙ own_text past once
+  own_text (Now time ∷ past) once = append-nil (text size conduct c past) ∙ own_text past once
+  own_text (Took d count ∷ past) once = append-nil (text size conduct c past) ∙ own_text past once
+  own_text (ModemTook count ∷ past) once = append-nil (text size conduct c past) ∙ own_text past once

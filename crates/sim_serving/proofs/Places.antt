@@ -5,7 +5,7 @@ use Rattle.std.proofs.lemmas.Bool.{eqb-true}
 use Rattle.std.proofs.lemmas.List.Quantifiers.{position-Some}
 use Rattle.kit_bytes.proofs.Lists.{find_first, find_none}
 use Rattle.proxy_history.specs.Streams.{Framing}
-use Rattle.sim_modem.specs.Sim.{Answering}
+use Rattle.served_sim.specs.Conduct.{Conduct}
 use Rattle.sim_serving.specs.Core.{Client, Core, names_of, named, waiting_in, waiting_for}
 use Rattle.sim_serving.specs.Hearing.{Answers, cut_of, goes_on, heard, changed, gone, took, Hears, Brings}
 
@@ -125,20 +125,20 @@ module _ {S : Type 0} {t old : Core S} (was : t ≡ old) (name : ℕ) where
         ∙ ap (λ (c : Core S). with_clients (changed name (took count) c.clients) c) was
 
     -- a piece of its stream
-    module _ (size : Framing) (keeps : Answering → List (List ℕ) → S → Type 0) (answers : Answering) (before : List (List ℕ)) (piece : List ℕ) (next : S) (now : Client) (A : Answers keeps answers before (cut_of size piece k).messages next k.waiting now.waiting) where
-      hears_here : (new : Core S) → Hears size keeps answers before k piece t new → Brings size keeps answers before (named name old.clients) piece old new
+    module _ (size : Framing) (keeps : Conduct → List (List ℕ) → S → Type 0) (conduct : Conduct) (before : List (List ℕ)) (piece : List ℕ) (next : S) (now : Client) (A : Answers keeps conduct before (cut_of size piece k).messages next k.waiting now.waiting) where
+      hears_here : (new : Core S) → Hears size keeps conduct before k piece t new → Brings size keeps conduct before (named name old.clients) piece old new
       hears_here new H =
-          subst (λ (c : Core S). Brings size keeps answers before (named name c.clients) piece c new) was
-          (subst (λ (o : Option Client). Brings size keeps answers before o piece t new) (sym (found name t.clients place is k at)) H)
+          subst (λ (c : Core S). Brings size keeps conduct before (named name c.clients) piece c new) was
+          (subst (λ (o : Option Client). Brings size keeps conduct before o piece t new) (sym (found name t.clients place is k at)) H)
 
-      pub hears_good : now.name ≡ k.name → now.rest ≡ (cut_of size piece k).rest → goes_on size piece k ≡ true
-          → Brings size keeps answers before (named name old.clients) piece old (core_of next (set t.clients place now) t.dropped t.greatest)
+      pub hears_good : now.name ≡ k.name → now.rest ≡ (cut_of size piece k).rest → goes_on size conduct before piece k ≡ true
+          → Brings size keeps conduct before (named name old.clients) piece old (core_of next (set t.clients place now) t.dropped t.greatest)
       hears_good named_so rest good =
           let make : ℕ → List ℕ → List ℕ → Client = λ name rest waiting. let m : Client = record { name = name; rest = rest; waiting = waiting } in m in
-          let now_is : now ≡ heard size answers before piece k =
+          let now_is : now ≡ heard size conduct before piece k =
           ap (λ (n : ℕ). make n now.rest now.waiting) named_so ∙ ap (λ (r : List ℕ). make k.name r now.waiting) rest ∙ ap (make k.name (cut_of size piece k).rest) A.answered
           in
-          let change : Client → Client = heard size answers before piece in
+          let change : Client → Client = heard size conduct before piece in
           let list : set t.clients place now ≡ changed k.name change t.clients =
           ap (set t.clients place) now_is ∙ sym (changed_at name t.clients place is k at change) ∙ ap (λ (n : ℕ). changed n change t.clients) (name_is name t.clients place is k at)
           in
@@ -149,10 +149,10 @@ module _ {S : Type 0} {t old : Core S} (was : t ≡ old) (name : ℕ) where
             greatest = refl;
           })
 
-      pub hears_bad : goes_on size piece k ≡ false → (after : List Client) → after ≡ remove (set t.clients place now) place
-          → Brings size keeps answers before (named name old.clients) piece old (core_of next after (Some name) t.greatest)
+      pub hears_bad : goes_on size conduct before piece k ≡ false → (after : List Client) → after ≡ remove (set t.clients place now) place
+          → Brings size keeps conduct before (named name old.clients) piece old (core_of next after (Some name) t.greatest)
       hears_bad bad after after_is =
-          let change : Client → Client = heard size answers before piece in
+          let change : Client → Client = heard size conduct before piece in
           let list : after ≡ gone k.name t.clients =
           after_is ∙ remove_set t.clients place now ∙ sym (gone_at name t.clients place is k at) ∙ ap (λ (n : ℕ). gone n t.clients) (name_is name t.clients place is k at)
           in
@@ -176,5 +176,5 @@ module _ {S : Type 0} {t old : Core S} (was : t ≡ old) (name : ℕ) where
     pub took_none : (count : ℕ) → old ≡ with_clients (changed name (took count) old.clients) old
     took_none count = ap (λ (l : List Client). with_clients l old) (sym (changed_none name (took count) old.clients nobody))
 
-    pub brought_none : (size : Framing) (keeps : Answering → List (List ℕ) → S → Type 0) (answers : Answering) (before : List (List ℕ)) (piece : List ℕ) → Brings size keeps answers before (named name old.clients) piece old old
-    brought_none size keeps answers before piece = subst (λ (o : Option Client). Brings size keeps answers before o piece old old) (sym nobody) refl
+    pub brought_none : (size : Framing) (keeps : Conduct → List (List ℕ) → S → Type 0) (conduct : Conduct) (before : List (List ℕ)) (piece : List ℕ) → Brings size keeps conduct before (named name old.clients) piece old old
+    brought_none size keeps conduct before piece = subst (λ (o : Option Client). Brings size keeps conduct before o piece old old) (sym nobody) refl

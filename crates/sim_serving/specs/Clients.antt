@@ -1,53 +1,81 @@
 -- The clients of a simulated modem, what they ask and what they get, read off the events. Lists of events and of requests have the newest first.
--- `size` is the framing of the clients' streams, and `answers` is what the modem answers.
-use Rattle.std.specs.Prelude.{ℕ, Bool, false, ◌&&◌, ◌==◌, if◌then◌else◌, List, [], ◌∷◌, ◌++◌, map, drop, reverse}
+-- `size` is the framing of the clients' streams, and `conduct` is how the modem behaves.
+use Rattle.std.specs.Prelude.{ℕ, Bool, false, ◌&&◌, ◌||◌, ◌==◌, if◌then◌else◌, List, [], ◌∷◌, ◌++◌, map, drop, reverse}
 use Rattle.proxy_history.specs.Events.{Event, Joined, Piece, Left, Took}
 use Rattle.proxy_history.specs.Streams.{Framing, stream, messages_of_piece, is_bad}
 use Rattle.proxy_history.specs.Connections.{contains, without}
 use Rattle.sim_modem.specs.Sim.{Answering}
+use Rattle.served_sim.specs.Conduct.{Conduct}
 
--- ---- who is there ----
+-- ---- at which message a modem hangs up ----
 
--- the stream is bad once the piece has come
-abbrev pub goes_bad : Framing → ℕ → List ℕ → List Event → Bool
-goes_bad size c piece past = is_bad size (stream c past ++ piece)
+-- of these messages those up to the first at which it hangs up
+unfoldable pub heeded : Conduct → List (List ℕ) → (before : List (List ℕ)) → List (List ℕ)
+heeded conduct [] before = []
+heeded conduct (message ∷ messages) before = message ∷ (if conduct.hangs_up before message then [] else heeded conduct messages (message ∷ before))
 
--- the connections that joined, didn't leave and whose stream isn't bad, in order of joining
-unfoldable pub present : Framing → List Event → List ℕ
-present size [] = []
-present size (Joined c ∷ past) = present size past ++ c ∷ []
-present size (Left c ∷ past) = without c (present size past)
-present size (Piece c piece ∷ past) = if goes_bad size c piece past then without c (present size past) else present size past
-present size (_ ∷ past) = present size past
+-- whether it hangs up at one of them
+unfoldable pub hangs_up : Conduct → List (List ℕ) → (before : List (List ℕ)) → Bool
+hangs_up conduct [] before = false
+hangs_up conduct (message ∷ messages) before = conduct.hangs_up before message || hangs_up conduct messages (message ∷ before)
 
--- the connection that was there and whose stream went bad by the last event
-abbrev pub dropped : Framing → List Event → List ℕ
-dropped size (Piece c piece ∷ past) = if contains c (present size past) && goes_bad size c piece past then c ∷ [] else []
-dropped size _ = []
-
--- ---- what is asked ----
-
--- the messages that are whole with the piece and weren't without it, also those in front of a bad place; none of a connection that isn't there
-abbrev pub brought : Framing → ℕ → List ℕ → List Event → List (List ℕ)
-brought size c piece past = if contains c (present size past) then messages_of_piece size (stream c past) piece else []
+-- ---- who is there, and what is asked ----
 
 -- a connection's message, which the modem is asked
 pub record Request : Type 0 where
   pub conn : ℕ
   pub message : List ℕ
 
+abbrev pub messages_of : List Request → List (List ℕ)
+messages_of requests = map (λ r. r.message) requests
+
 -- these are asked one after another, behind those before
 unfoldable pub asks : {X : Type 0} → List X → (before : List X) → List X
 asks others before = reverse others ++ before
 
--- all requests, in the order in which they became whole
-unfoldable pub requests : Framing → List Event → List Request
-requests size [] = []
-requests size (Piece c piece ∷ past) = asks (map (λ message. record { conn = c; message = message }) (brought size c piece past)) (requests size past)
-requests size (_ ∷ past) = requests size past
+pub record Session : Type 0 where
+  -- the connections that joined, didn't leave, whose stream isn't bad and which the modem didn't hang up, in order of joining
+  pub present : List ℕ
+  -- all requests, in the order in which they became whole
+  pub requests : List Request
 
-abbrev pub messages_of : List Request → List (List ℕ)
-messages_of requests = map (λ r. r.message) requests
+-- the stream is bad once the piece has come, or the modem hangs up at a message that is whole with it
+abbrev pub ends_then : Framing → Conduct → ℕ → List ℕ → List Event → Session → Bool
+ends_then size conduct c piece past before = is_bad size (stream c past ++ piece) || hangs_up conduct (messages_of_piece size (stream c past) piece) (messages_of before.requests)
+
+-- the messages that are whole with the piece and weren't without it, up to the first at which the modem hangs up, also those in front of a bad place; none of a connection that isn't there
+abbrev pub brought_then : Framing → Conduct → ℕ → List ℕ → List Event → Session → List (List ℕ)
+brought_then size conduct c piece past before = if contains c before.present then heeded conduct (messages_of_piece size (stream c past) piece) (messages_of before.requests) else []
+
+abbrev pub goes_on_by : Framing → Conduct → Event → List Event → Session → Session
+goes_on_by size conduct (Joined c) past before = record before { present = before.present ++ c ∷ [] }
+goes_on_by size conduct (Left c) past before = record before { present = without c before.present }
+goes_on_by size conduct (Piece c piece) past before = record {
+  present = if ends_then size conduct c piece past before then without c before.present else before.present;
+  requests = asks (map (λ message. record { conn = c; message = message }) (brought_then size conduct c piece past before)) before.requests;
+}
+goes_on_by size conduct _ past before = before
+
+unfoldable pub session : Framing → Conduct → List Event → Session
+session size conduct [] = record { present = []; requests = [] }
+session size conduct (event ∷ past) = goes_on_by size conduct event past (session size conduct past)
+
+abbrev pub present : Framing → Conduct → List Event → List ℕ
+present size conduct past = (session size conduct past).present
+
+abbrev pub requests : Framing → Conduct → List Event → List Request
+requests size conduct past = (session size conduct past).requests
+
+abbrev pub is_ended : Framing → Conduct → ℕ → List ℕ → List Event → Bool
+is_ended size conduct c piece past = ends_then size conduct c piece past (session size conduct past)
+
+abbrev pub brought : Framing → Conduct → ℕ → List ℕ → List Event → List (List ℕ)
+brought size conduct c piece past = brought_then size conduct c piece past (session size conduct past)
+
+-- the connection that was there, and whose stream went bad or which the modem hung up by the last event
+abbrev pub dropped : Framing → Conduct → List Event → List ℕ
+dropped size conduct (Piece c piece ∷ past) = if contains c (present size conduct past) && is_ended size conduct c piece past then c ∷ [] else []
+dropped size conduct _ = []
 
 -- ---- what a client gets ----
 
@@ -57,9 +85,9 @@ answers_to answers [] before = []
 answers_to answers (message ∷ messages) before = answers before message ++ answers_to answers messages (message ∷ before)
 
 -- the answers that an event brings a client: those to the requests that it makes whole
-abbrev pub added : Framing → Answering → ℕ → Event → List Event → List ℕ
-added size answers c (Piece d piece) past = if d == c then answers_to answers (brought size d piece past) (messages_of (requests size past)) else []
-added size answers c _ past = []
+abbrev pub added : Framing → Conduct → ℕ → Event → List Event → List ℕ
+added size conduct c (Piece d piece) past = if d == c then answers_to conduct.answers (brought size conduct d piece past) (messages_of (requests size conduct past)) else []
+added size conduct c _ past = []
 
 abbrev pub joins : ℕ → Event → Bool
 joins c (Joined d) = d == c
@@ -71,11 +99,11 @@ taken c (Took d count) = if d == c then count else 0
 taken c _ = 0
 
 -- the answers to all requests of the client since it joined
-unfoldable pub text : Framing → Answering → ℕ → List Event → List ℕ
-text size answers c [] = []
-text size answers c (event ∷ past) = if joins c event then [] else text size answers c past ++ added size answers c event past
+unfoldable pub text : Framing → Conduct → ℕ → List Event → List ℕ
+text size conduct c [] = []
+text size conduct c (event ∷ past) = if joins c event then [] else text size conduct c past ++ added size conduct c event past
 
 -- those that its socket didn't take yet
-unfoldable pub waiting : Framing → Answering → ℕ → List Event → List ℕ
-waiting size answers c [] = []
-waiting size answers c (event ∷ past) = if joins c event then [] else drop (taken c event) (waiting size answers c past) ++ added size answers c event past
+unfoldable pub waiting : Framing → Conduct → ℕ → List Event → List ℕ
+waiting size conduct c [] = []
+waiting size conduct c (event ∷ past) = if joins c event then [] else drop (taken c event) (waiting size conduct c past) ++ added size conduct c event past

@@ -6,9 +6,9 @@ use Rattle.proxy_history.specs.Events.{Event, Joined, Piece}
 use Rattle.proxy_history.specs.Streams.{Framing, stream}
 use Rattle.proxy_history.specs.Proxy.{Proxy}
 use Rattle.proxy_serving.specs.Face.{Face}
-use Rattle.sim_modem.specs.Sim.{Answering}
+use Rattle.served_sim.specs.Conduct.{Conduct}
 use Rattle.sim_serving.specs.Clients.{present, dropped, requests, messages_of, waiting}
-use Rattle.sim_serving.specs.Proxy.{proxy_of}
+use Rattle.sim_serving.specs.Proxy.{served}
 
 pub record Client : Type 0 where
   pub name : ℕ
@@ -21,7 +21,7 @@ pub record Core (S : Type 0) : Type 0 where
   pub sim : S
   -- in order of joining
   pub clients : List Client
-  -- whose stream went bad, until it is asked for
+  -- whose stream went bad or whom the modem hung up, until it is asked for
   pub dropped : Option ℕ
   -- the greatest name of a connection so far
   pub greatest : ℕ
@@ -62,28 +62,28 @@ face_of core = record {
 -- ---- what it stands for ----
 
 -- the client of this name
-abbrev pub client_of : Framing → Answering → List Event → ℕ → Client
-client_of size answers past c = record { name = c; rest = (cut size (stream c past)).rest; waiting = waiting size answers c past }
+abbrev pub client_of : Framing → Conduct → List Event → ℕ → Client
+client_of size conduct past c = record { name = c; rest = (cut size (stream c past)).rest; waiting = waiting size conduct c past }
 
--- it stands for these events, where the modem has these answers
-pub record StandsFor {S : Type 0} (size : Framing) (keeps : Answering → List (List ℕ) → S → Type 0) (answers : Answering) (past : List Event) (core : Core S) : Type 0 where
-  pub modem : keeps answers (messages_of (requests size past)) core.sim
-  pub clients : core.clients ≡ map (client_of size answers past) (present size past)
-  pub distinct : IsDistinct (λ c d. c == d) (present size past)
-  pub known : AllByRecursion (λ c. c ≤ core.greatest) (present size past)
+-- it stands for these events, where the modem behaves so
+pub record StandsFor {S : Type 0} (size : Framing) (keeps : Conduct → List (List ℕ) → S → Type 0) (conduct : Conduct) (past : List Event) (core : Core S) : Type 0 where
+  pub modem : keeps conduct (messages_of (requests size conduct past)) core.sim
+  pub clients : core.clients ≡ map (client_of size conduct past) (present size conduct past)
+  pub distinct : IsDistinct (λ c d. c == d) (present size conduct past)
+  pub known : AllByRecursion (λ c. c ≤ core.greatest) (present size conduct past)
   -- who was dropped may have been asked for
-  pub dropped : dropped size past ≡ [] → core.dropped ≡ None
+  pub dropped : dropped size conduct past ≡ [] → core.dropped ≡ None
 
 -- just after the newest of these events: whom it dropped is still to be hung up
-pub record StandsAfter {S : Type 0} (size : Framing) (keeps : Answering → List (List ℕ) → S → Type 0) (answers : Answering) (past : List Event) (core : Core S) : Type 0 where
-  pub stands : StandsFor size keeps answers past core
-  pub all_dropped : listed core.dropped ≡ dropped size past
+pub record StandsAfter {S : Type 0} (size : Framing) (keeps : Conduct → List (List ℕ) → S → Type 0) (conduct : Conduct) (past : List Event) (core : Core S) : Type 0 where
+  pub stands : StandsFor size keeps conduct past core
+  pub all_dropped : listed core.dropped ≡ dropped size conduct past
 
 -- it keeps what it has to, by the definitions of this proxy
-pub record Keeps {S : Type 0} (size : Framing) (keeps : Answering → List (List ℕ) → S → Type 0) (p : Proxy) (past : List Event) (core : Core S) : Type 0 where
-  pub answers : Answering
-  pub same : p ≡ proxy_of size answers
-  pub stands : StandsFor size keeps answers past core
+pub record Keeps {S : Type 0} (size : Framing) (keeps : Conduct → List (List ℕ) → S → Type 0) (p : Proxy) (past : List Event) (core : Core S) : Type 0 where
+  pub conduct : Conduct
+  pub same : p ≡ served size conduct
+  pub stands : StandsFor size keeps conduct past core
 
 -- memory may be lacking for a client that joins, and for what a piece asks
 abbrev pub TakesMemory : Event → Type 0

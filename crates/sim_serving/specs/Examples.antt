@@ -1,9 +1,10 @@
 -- Worked examples of serving a simulated modem. Lists of events and of requests have the newest first.
-use Rattle.std.specs.Prelude.{◌≡◌, ℕ, zero, suc, List, [], ◌∷◌, length, reverse}
+use Rattle.std.specs.Prelude.{◌≡◌, ◌==◌, ℕ, zero, suc, List, [], ◌∷◌, length, reverse}
 use Rattle.framing.specs.declared.framing.Size.{Size}
 use Rattle.framing.specs.declared.framing.Size.TheVariants.{Unknown, Known, Invalid}
 use Rattle.proxy_history.specs.Events.{Event, Joined, Piece, Left, Now, Took}
 use Rattle.sim_modem.specs.Sim.{Answering}
+use Rattle.served_sim.specs.Conduct.{Conduct, plain}
 use Rattle.sim_serving.specs.Clients.{present, dropped, requests, text, waiting}
 
 -- ---- the modem of the examples ----
@@ -19,10 +20,10 @@ abbrev pub counting : Answering
 counting before message = length before ∷ message
 
 abbrev pub text_of : ℕ → List Event → List ℕ
-text_of c past = text size_of counting c past
+text_of c past = text size_of (plain counting) c past
 
 abbrev pub waiting_of : ℕ → List Event → List ℕ
-waiting_of c past = waiting size_of counting c past
+waiting_of c past = waiting size_of (plain counting) c past
 
 -- the connections 1 and 2 join, and then these events come
 abbrev pub both_joined : List Event → List Event
@@ -54,11 +55,11 @@ abbrev pub gone_bad : List Event
 gone_bad = Piece 2 (2 ∷ 8 ∷ []) ∷ Piece 1 (2 ∷ 9 ∷ []) ∷ going_bad
 
 pub record BadStreamsAreHungUp : Type 0 where
-  pub hung_up : dropped size_of going_bad ≡ 1 ∷ []
-  pub there : present size_of going_bad ≡ 2 ∷ []
-  pub asked : requests size_of going_bad ≡ record { conn = 1; message = 2 ∷ 7 ∷ [] } ∷ []
+  pub hung_up : dropped size_of (plain counting) going_bad ≡ 1 ∷ []
+  pub there : present size_of (plain counting) going_bad ≡ 2 ∷ []
+  pub asked : requests size_of (plain counting) going_bad ≡ record { conn = 1; message = 2 ∷ 7 ∷ [] } ∷ []
   pub second : text_of 2 gone_bad ≡ 1 ∷ 2 ∷ 8 ∷ []
-  pub once : dropped size_of gone_bad ≡ []
+  pub once : dropped size_of (plain counting) gone_bad ≡ []
 
 -- who left asks nothing
 abbrev pub leaving : List Event
@@ -67,8 +68,8 @@ leaving = both_joined (Left 1 ∷ Piece 1 (2 ∷ 7 ∷ []) ∷ Piece 2 (2 ∷ 8 
 pub record WhoLeftGetsNothing : Type 0 where
   pub first : text_of 1 leaving ≡ []
   pub second : text_of 2 leaving ≡ 0 ∷ 2 ∷ 8 ∷ []
-  pub there : present size_of leaving ≡ 2 ∷ []
-  pub hung_up : dropped size_of leaving ≡ []
+  pub there : present size_of (plain counting) leaving ≡ 2 ∷ []
+  pub hung_up : dropped size_of (plain counting) leaving ≡ []
 
 -- half a request of who left is no part of what it sends under its next name; the modem goes on as it was
 abbrev pub coming_back : List Event
@@ -76,7 +77,7 @@ coming_back = both_joined (Piece 1 (2 ∷ 7 ∷ 3 ∷ 5 ∷ []) ∷ Left 1 ∷ J
 
 pub record WhoComesBackBeginsAnew : Type 0 where
   pub third : text_of 3 coming_back ≡ 1 ∷ 2 ∷ 9 ∷ []
-  pub there : present size_of coming_back ≡ 2 ∷ 3 ∷ []
+  pub there : present size_of (plain counting) coming_back ≡ 2 ∷ 3 ∷ []
 
 -- what a socket took waits no longer, and what comes then waits behind the rest; the clock changes nothing
 abbrev pub taking_some : List Event
@@ -85,3 +86,25 @@ taking_some = both_joined (Piece 1 (2 ∷ 7 ∷ []) ∷ Took 1 2 ∷ Now 1000 �
 pub record TakenBytesWaitNoLonger : Type 0 where
   pub all : text_of 1 taking_some ≡ 0 ∷ 2 ∷ 7 ∷ 1 ∷ 2 ∷ 9 ∷ []
   pub left : waiting_of 1 taking_some ≡ 7 ∷ 1 ∷ 2 ∷ 9 ∷ []
+
+-- ---- a modem that hangs up ----
+
+-- at the third request of all
+abbrev pub hanging_up : Conduct
+hanging_up = record { answers = counting; hangs_up = λ before message. length before == 2 }
+
+-- two requests and a half come in the piece that brings the third
+abbrev pub ending : List Event
+ending = both_joined (Piece 1 (2 ∷ 7 ∷ []) ∷ Piece 2 (2 ∷ 8 ∷ []) ∷ Piece 1 (2 ∷ 9 ∷ 2 ∷ 5 ∷ 3 ∷ []) ∷ [])
+
+abbrev pub ended : List Event
+ended = Piece 2 (2 ∷ 6 ∷ []) ∷ Piece 1 (4 ∷ 2 ∷ 3 ∷ []) ∷ ending
+
+pub record ModemsHangUp : Type 0 where
+  pub hung_up : dropped size_of hanging_up ending ≡ 1 ∷ []
+  pub there : present size_of hanging_up ending ≡ 2 ∷ []
+  -- what came behind the third isn't asked
+  pub asked : requests size_of hanging_up ending ≡ record { conn = 1; message = 2 ∷ 9 ∷ [] } ∷ record { conn = 2; message = 2 ∷ 8 ∷ [] } ∷ record { conn = 1; message = 2 ∷ 7 ∷ [] } ∷ []
+  -- the other goes on
+  pub second : text size_of hanging_up 2 ended ≡ 1 ∷ 2 ∷ 8 ∷ 3 ∷ 2 ∷ 6 ∷ []
+  pub once : dropped size_of hanging_up ended ≡ []

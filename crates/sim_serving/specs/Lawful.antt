@@ -6,9 +6,9 @@ use Rattle.proxy_history.specs.Events.{Event, Joined, Piece, Left, ModemPiece, M
 use Rattle.proxy_history.specs.Streams.{Framing}
 use Rattle.proxy_history.specs.Connections.{without}
 use Rattle.proxy_history.specs.Proxy.{LeavesBytesOf, HasGrown, IsTakenByModem, IsLawful}
-use Rattle.sim_modem.specs.Sim.{Answering}
-use Rattle.sim_serving.specs.Clients.{present, added, joins, taken, text, waiting}
-use Rattle.sim_serving.specs.Proxy.{proxy_of}
+use Rattle.served_sim.specs.Conduct.{Conduct}
+use Rattle.sim_serving.specs.Clients.{session, present, added, joins, taken, text, waiting}
+use Rattle.sim_serving.specs.Proxy.{served}
 
 same : (c : ℕ) → (c == c) ≡ true
 same c = eq-eqb c c refl
@@ -37,67 +37,67 @@ no_taking c (Now time) other = refl
 no_taking c (Took d count) other = ap (λ (b : Bool). if b then count else 0) other
 no_taking c (ModemTook count) other = refl
 
-module _ (size : Framing) (answers : Answering) where
+module _ (size : Framing) (conduct : Conduct) where
   -- a client that doesn't join keeps what it got
-  pub text_after : (c : ℕ) (event : Event) (past : List Event) → joins c event ≡ false → text size answers c (event ∷ past) ≡ text size answers c past ++ added size answers c event past
+  pub text_after : (c : ℕ) (event : Event) (past : List Event) → joins c event ≡ false → text size conduct c (event ∷ past) ≡ text size conduct c past ++ added size conduct c event past
   unfolding text
-  text_after c event past other = ap (λ (b : Bool). if b then [] else text size answers c past ++ added size answers c event past) other
+  text_after c event past other = ap (λ (b : Bool). if b then [] else text size conduct c past ++ added size conduct c event past) other
 
-  pub waiting_after : (c : ℕ) (event : Event) (past : List Event) (count : ℕ) → joins c event ≡ false → taken c event ≡ count → waiting size answers c (event ∷ past) ≡ drop count (waiting size answers c past) ++ added size answers c event past
+  pub waiting_after : (c : ℕ) (event : Event) (past : List Event) (count : ℕ) → joins c event ≡ false → taken c event ≡ count → waiting size conduct c (event ∷ past) ≡ drop count (waiting size conduct c past) ++ added size conduct c event past
   unfolding waiting
   waiting_after c event past count other taking =
-      ap (λ (b : Bool). if b then [] else drop (taken c event) (waiting size answers c past) ++ added size answers c event past) other
-      ∙ ap (λ (n : ℕ). drop n (waiting size answers c past) ++ added size answers c event past) taking
+      ap (λ (b : Bool). if b then [] else drop (taken c event) (waiting size conduct c past) ++ added size conduct c event past) other
+      ∙ ap (λ (n : ℕ). drop n (waiting size conduct c past) ++ added size conduct c event past) taking
 
   -- a client that joins has nothing
-  pub text_joined : (c : ℕ) (past : List Event) → text size answers c (Joined c ∷ past) ≡ []
+  pub text_joined : (c : ℕ) (past : List Event) → text size conduct c (Joined c ∷ past) ≡ []
   unfolding text
-  text_joined c past = ap (λ (b : Bool). if b then [] else text size answers c past ++ []) (same c)
+  text_joined c past = ap (λ (b : Bool). if b then [] else text size conduct c past ++ []) (same c)
 
-  pub waiting_joined : (c : ℕ) (past : List Event) → waiting size answers c (Joined c ∷ past) ≡ []
+  pub waiting_joined : (c : ℕ) (past : List Event) → waiting size conduct c (Joined c ∷ past) ≡ []
   unfolding waiting
-  waiting_joined c past = ap (λ (b : Bool). if b then [] else waiting size answers c past ++ []) (same c)
+  waiting_joined c past = ap (λ (b : Bool). if b then [] else waiting size conduct c past ++ []) (same c)
 
-  grown : (c : ℕ) (event : Event) (past : List Event) → LeavesBytesOf c event → HasGrown (proxy_of size answers) c past (event ∷ past)
+  grown : (c : ℕ) (event : Event) (past : List Event) → LeavesBytesOf c event → HasGrown (served size conduct) c past (event ∷ past)
   grown c event past other = record {
-    more = added size answers c event past;
+    more = added size conduct c event past;
     text = text_after c event past (no_joining c event other);
     waiting = waiting_after c event past 0 (no_joining c event other) (no_taking c event other);
   }
 
   -- where an event adds nothing
-  pub nothing_added : (c : ℕ) (event : Event) (past : List Event) (count : ℕ) → joins c event ≡ false → taken c event ≡ count → added size answers c event past ≡ [] → waiting size answers c (event ∷ past) ≡ drop count (waiting size answers c past)
+  pub nothing_added : (c : ℕ) (event : Event) (past : List Event) (count : ℕ) → joins c event ≡ false → taken c event ≡ count → added size conduct c event past ≡ [] → waiting size conduct c (event ∷ past) ≡ drop count (waiting size conduct c past)
   nothing_added c event past count other taking none =
-      waiting_after c event past count other taking ∙ ap (λ (l : List ℕ). drop count (waiting size answers c past) ++ l) none ∙ append-nil (drop count (waiting size answers c past))
+      waiting_after c event past count other taking ∙ ap (λ (l : List ℕ). drop count (waiting size conduct c past) ++ l) none ∙ append-nil (drop count (waiting size conduct c past))
 
-  no_bytes : (c : ℕ) → text size answers c [] ≡ waiting size answers c []
+  no_bytes : (c : ℕ) → text size conduct c [] ≡ waiting size conduct c []
   unfolding text waiting
   no_bytes c = refl
 
-  nobody : present size [] ≡ []
-  unfolding present
+  nobody : present size conduct [] ≡ []
+  unfolding session
   nobody = refl
 
-  took_present : (c count : ℕ) (past : List Event) → present size (Took c count ∷ past) ≡ present size past
-  unfolding present
+  took_present : (c count : ℕ) (past : List Event) → present size conduct (Took c count ∷ past) ≡ present size conduct past
+  unfolding session
   took_present c count past = refl
 
-  modem_took_present : (count : ℕ) (past : List Event) → present size (ModemTook count ∷ past) ≡ present size past
-  unfolding present
+  modem_took_present : (count : ℕ) (past : List Event) → present size conduct (ModemTook count ∷ past) ≡ present size conduct past
+  unfolding session
   modem_took_present count past = refl
 
-  left_present : (c : ℕ) (past : List Event) → present size (Left c ∷ past) ≡ without c (present size past)
-  unfolding present
+  left_present : (c : ℕ) (past : List Event) → present size conduct (Left c ∷ past) ≡ without c (present size conduct past)
+  unfolding session
   left_present c past = refl
 
-  modem_taken : (count : ℕ) (past : List Event) → IsTakenByModem (proxy_of size answers) count past
+  modem_taken : (count : ℕ) (past : List Event) → IsTakenByModem (served size conduct) count past
   modem_taken count past = record { more = []; waiting = none count }
     where
       none : (count : ℕ) → ◌≡◌ {A = List ℕ} [] (drop count [] ++ [])
       none zero = refl
       none (suc count) = refl
 
-  pub is_lawful : IsLawful (proxy_of size answers)
+  pub is_lawful : IsLawful (served size conduct)
   is_lawful = record {
     nobody = nobody;
     none_dropped = refl;
@@ -105,7 +105,7 @@ module _ (size : Framing) (answers : Answering) where
     no_modem_bytes = refl;
     joined = λ c past. text_joined c past ∙ sym (waiting_joined c past);
     grown = grown;
-    taken_text = λ c count past there. text_after c (Took c count) past refl ∙ append-nil (text size answers c past);
+    taken_text = λ c count past there. text_after c (Took c count) past refl ∙ append-nil (text size conduct c past);
     taken_waiting = λ c count past there. nothing_added c (Took c count) past count refl (ap (λ (b : Bool). if b then count else 0) (same c)) refl;
     took_other = λ c count d past other. nothing_added d (Took c count) past 0 refl (ap (λ (b : Bool). if b then count else 0) other) refl;
     left_other = λ c d past other. nothing_added d (Left c) past 0 refl refl refl;

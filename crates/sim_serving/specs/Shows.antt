@@ -8,9 +8,9 @@ use Rattle.proxy_history.specs.Streams.{Framing}
 use Rattle.proxy_history.specs.Connections.{contains}
 use Rattle.proxy_history.specs.Proxy.{Proxy}
 use Rattle.proxy_serving.specs.Cores.{Shows}
-use Rattle.sim_modem.specs.Sim.{Answering}
+use Rattle.served_sim.specs.Conduct.{Conduct}
 use Rattle.sim_serving.specs.Clients.{present}
-use Rattle.sim_serving.specs.Proxy.{proxy_of}
+use Rattle.sim_serving.specs.Proxy.{served}
 use Rattle.sim_serving.specs.Core.{Client, Core, named, names_of, waiting_in, waiting_for, listed, face_of, client_of, StandsFor, Keeps}
 use Rattle.sim_serving.specs.Lawful.{is_lawful}
 
@@ -32,12 +32,12 @@ module _ (c : ℕ) (f : ℕ → Client) (name : (d : ℕ) → (f d).name ≡ d) 
 
 -- ---- what a core shows ----
 
-module _ {S : Type 0} (size : Framing) (keeps : Answering → List (List ℕ) → S → Type 0) where
-  shows_answers : (answers : Answering) (past : List Event) (core : Core S) → StandsFor size keeps answers past core → Shows (proxy_of size answers) past (face_of core)
-  shows_answers answers past core Sd = record {
-    lawful = is_lawful size answers;
-    present = ap names_of Sd.clients ∙ map-map (λ (k : Client). k.name) (client_of size answers past) (present size past) ∙ map-id (present size past);
-    queue = λ c there. ap (waiting_for c) Sd.clients ∙ waiting_is c (client_of size answers past) (λ d. refl) (present size past) there;
+module _ {S : Type 0} (size : Framing) (keeps : Conduct → List (List ℕ) → S → Type 0) where
+  shows_conduct : (conduct : Conduct) (past : List Event) (core : Core S) → StandsFor size keeps conduct past core → Shows (served size conduct) past (face_of core)
+  shows_conduct conduct past core Sd = record {
+    lawful = is_lawful size conduct;
+    present = ap names_of Sd.clients ∙ map-map (λ (k : Client). k.name) (client_of size conduct past) (present size conduct past) ∙ map-id (present size conduct past);
+    queue = λ c there. ap (waiting_for c) Sd.clients ∙ waiting_is c (client_of size conduct past) (λ d. refl) (present size conduct past) there;
     modem_queue = refl;
     modem_backlog = refl;
     dropped = λ none. ap listed (Sd.dropped none);
@@ -47,4 +47,4 @@ module _ {S : Type 0} (size : Framing) (keeps : Answering → List (List ℕ) �
   }
 
   pub shows_of : (p : Proxy) (past : List Event) (core : Core S) → Keeps size keeps p past core → Shows p past (face_of core)
-  shows_of p past core kept = let Showing : Proxy → Type 0 = λ q. Shows q past (face_of core) in subst Showing (sym kept.same) (shows_answers kept.answers past core kept.stands)
+  shows_of p past core kept = let Showing : Proxy → Type 0 = λ q. Shows q past (face_of core) in subst Showing (sym kept.same) (shows_conduct kept.conduct past core kept.stands)

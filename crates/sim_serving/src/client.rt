@@ -1,25 +1,25 @@
-ghost use Rattle.std.specs.Prelude.{◌≡◌, ◌≤◌, ◌==◌, ℕ, [], List, not, true, length, nat_lt, IfOk, OnOk, Ok};
+ghost use Rattle.std.specs.Prelude.{◌≡◌, ◌≤◌, ◌==◌, ℕ, [], List, true, length, nat_lt, IfOk, OnOk, Ok};
 ghost use Rattle.framing.specs.Cutting.{cut};
-ghost use Rattle.framing.specs.Framing.{IsPartial, is_invalid};
-ghost use Rattle.sim_modem.specs.Sim.{Answering};
-ghost use Rattle.sim_serving.specs.Hearing.{Answers, cut_of, goes_on, heard, took};
+ghost use Rattle.framing.specs.Framing.{IsPartial};
+ghost use Rattle.served_sim.specs.Conduct.{Conduct};
+ghost use Rattle.sim_serving.specs.Hearing.{Answers, cut_of, goes_on, is_good, took};
 
 use crate::queue::Queue;
 use framing::{Cutter, LONGEST_PIECE};
 use kit_bytes::Cut;
-use sim_modem::Sim;
+use served_sim::ServedSim;
 use std::alloc::{AllocError, Global};
 use std::marker::Model;
 
 /// A client that is there.
 #[derive(Drop)]
-pub struct Client<S: Sim> {
+pub struct Client<S: ServedSim> {
     name: u64,
     stream: Cutter<S::Framing>,
     queue: Queue,
 }
 
-impl<S: Sim> Model for Client<S> {
+impl<S: ServedSim> Model for Client<S> {
     ghost use Rattle.framing.specs.Framing.{IsPartial};
     ghost use Rattle.sim_serving.specs.Core as core;
 
@@ -30,7 +30,7 @@ impl<S: Sim> Model for Client<S> {
     ghost invariant = { λ k. IsPartial S.Framing.size k.stream.rest };
 }
 
-impl<S: Sim> Client<S> {
+impl<S: ServedSim> Client<S> {
     /// One that has joined under this name.
     pub fn open(alloc: Global, name: u64) -> Result<Self, AllocError>
         ensures { IfOk result (λ client. client ≡ record { name = name; rest = []; waiting = [] }) }
@@ -49,13 +49,13 @@ impl<S: Sim> Client<S> {
     }
 
     /// Has the modem asked what the next piece of its stream makes whole, queues the answers, and
-    /// says whether the stream is good behind that.
+    /// says whether the stream is good behind that and the modem doesn't hang up.
     pub fn hear(&mut self, piece: &[u8], sim: &mut S) -> Result<bool, AllocError>
         requires { length piece.now ≤ LONGEST_PIECE }
         ensures name { self.new.name ≡ self.old.name }
-        ensures goes_on { IfOk result (λ good. good ≡ goes_on S.Framing.size piece.now self.old) }
-        ensures answers { OnOk result ((answers : Answering) (before : List (List ℕ)) → S.keeps answers before sim.old →
-            Answers S.keeps answers before (cut_of S.Framing.size piece.now self.old).messages sim.new self.old.waiting self.new.waiting) }
+        ensures goes_on { IfOk result (λ good. (conduct : Conduct) (before : List (List ℕ)) → S.keeps conduct before sim.old → good ≡ goes_on S.Framing.size conduct before piece.now self.old) }
+        ensures answers { OnOk result ((conduct : Conduct) (before : List (List ℕ)) → S.keeps conduct before sim.old →
+            Answers S.keeps conduct before (cut_of S.Framing.size piece.now self.old).messages sim.new self.old.waiting self.new.waiting) }
         ensures rest { IfOk result (λ good. good ≡ true → self.new.rest ≡ (cut_of S.Framing.size piece.now self.old).rest) }
     {
         self.stream.push(piece);
@@ -90,23 +90,26 @@ impl<S: Sim> Client<S> {
     }
 }
 
-// Has the modem asked the whole messages, queues its answers, and says whether the stream is good
-// behind them.
-fn ask_all<S: Sim>(
+// Has the modem asked the whole messages, up to the first at which it hangs up, queues its answers, and
+// says whether the stream is good behind them and it doesn't hang up.
+fn ask_all<S: ServedSim>(
     stream: &mut Cutter<S::Framing>,
     queue: &mut Queue,
     sim: &mut S,
 ) -> Result<bool, AllocError>
-    ensures good { IfOk result (λ good. good ≡ not (is_invalid (S.Framing.size (cut S.Framing.size stream.old.rest).rest))) }
-    ensures answers { OnOk result ((answers : Answering) (before : List (List ℕ)) → S.keeps answers before sim.old →
-        Answers S.keeps answers before (cut S.Framing.size stream.old.rest).messages sim.new queue.old queue.new) }
+    ensures good { IfOk result (λ good. (conduct : Conduct) (before : List (List ℕ)) → S.keeps conduct before sim.old → good ≡ is_good S.Framing.size conduct before stream.old.rest) }
+    ensures answers { OnOk result ((conduct : Conduct) (before : List (List ℕ)) → S.keeps conduct before sim.old →
+        Answers S.keeps conduct before (cut S.Framing.size stream.old.rest).messages sim.new queue.old queue.new) }
     ensures rest { IfOk result (λ good. good ≡ true → (stream.new.rest ≡ (cut S.Framing.size stream.old.rest).rest) × IsPartial S.Framing.size stream.new.rest) }
 {
     loop {
         match stream.next() {
             Cut::Whole(span) => {
-                let answer = sim.ask(stream.bytes(span))?;
-                queue.add(answer.as_slice())?;
+                let reply = sim.ask(stream.bytes(span))?;
+                queue.add(reply.messages.as_slice())?;
+                if reply.hangs_up {
+                    return Ok(false);
+                }
             }
             Cut::NeedMore => return Ok(true),
             Cut::Bad(_) => return Ok(false),

@@ -1,6 +1,6 @@
 //! Worked examples of what clients of a simulated modem get.
 
-ghost use Rattle.sim_serving.specs.Examples.{ClientsShareOneModem, RequestsAreAskedOnceWhole, BadStreamsAreHungUp, WhoLeftGetsNothing, WhoComesBackBeginsAnew, TakenBytesWaitNoLonger};
+ghost use Rattle.sim_serving.specs.Examples.{ClientsShareOneModem, RequestsAreAskedOnceWhole, BadStreamsAreHungUp, ModemsHangUp, WhoLeftGetsNothing, WhoComesBackBeginsAnew, TakenBytesWaitNoLonger};
 
 /// The clients share one modem, which counts the requests of both.
 pub fn clients_share_one_modem()
@@ -15,6 +15,11 @@ pub fn requests_are_asked_once_whole()
 /// A client whose stream goes bad is hung up, once what was whole before is asked.
 pub fn bad_streams_are_hung_up()
     ensures { BadStreamsAreHungUp }
+{}
+
+/// A client is hung up at the request at which the modem says so, which is the last that it asks.
+pub fn modems_hang_up()
+    ensures { ModemsHangUp }
 {}
 
 /// A client that left asks nothing.

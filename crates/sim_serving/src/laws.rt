@@ -1,4 +1,4 @@
-ghost use Rattle.sim_serving.specs.Laws.{SimulatedModemsAreLawful, GetsItsOwnAnswers};
+ghost use Rattle.sim_serving.specs.Laws.{SimulatedModemsAreLawful, GetsItsOwnAnswers, PlainModemsHangNobodyUp};
 
 /// The law that serving a simulated modem keeps the rules by which clients can be served over a hub.
 pub fn simulated_modems_are_lawful()
@@ -9,4 +9,10 @@ pub fn simulated_modems_are_lawful()
 /// order, and no others.
 pub fn a_client_gets_its_own_answers()
     ensures { GetsItsOwnAnswers }
+{}
+
+/// The law that a modem that hangs nobody up is asked all that comes whole, and that only a bad stream
+/// ends a connection to it.
+pub fn plain_modems_hang_nobody_up()
+    ensures { PlainModemsHangNobodyUp }
 {}

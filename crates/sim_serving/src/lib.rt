@@ -11,5 +11,5 @@ mod sim_core;
 #[cfg(test)]
 mod tests;
 
-pub use serving::serve_sim;
+pub use serving::{serve_sim, serve_so};
 pub use sim_core::SimCore;

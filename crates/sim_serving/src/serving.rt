@@ -3,18 +3,20 @@ ghost use Rattle.kit_io.specs.Causes.{Rose};
 ghost use Rattle.hub_io.specs.Record.{Since};
 ghost use Rattle.proxy_serving.specs.Ends.{EndsFor};
 ghost use Rattle.proxy_serving.specs.Serving.{never};
+ghost use Rattle.served_sim.specs.Conduct.{Conduct};
 ghost use Rattle.sim_modem.specs.Sim.{Answering};
 ghost use Rattle.sim_serving.specs.Core.{face_of, Keeps, TakesMemory};
-ghost use Rattle.sim_serving.specs.Proxy.{proxy_of};
+ghost use Rattle.sim_serving.specs.Proxy.{proxy_of, served};
 ghost use Rattle.sim_serving.specs.Shows.{shows_of};
 
 use crate::sim_core::SimCore;
 use hub_io::{Event, Hub, ServeEnd, Until};
 use proxy_serving::{ProxyCore, serve};
+use served_sim::{Plain, ServedSim};
 use sim_modem::Sim;
 use std::alloc::{AllocError, Global};
 
-impl<S: Sim> ProxyCore for SimCore<S> {
+impl<S: ServedSim> ProxyCore for SimCore<S> {
     ghost face = { λ core. face_of core };
 
     ghost keeps = { λ p past core. Keeps S.Framing.size S.keeps p past core };
@@ -80,6 +82,20 @@ pub fn serve_sim<H: Hub, S: Sim>(alloc: Global, hub: &mut H, sim: S, turns: u64)
     requires { (answers : Answering) × S.keeps answers [] sim }
     ensures served { (answers : Answering) → S.keeps answers [] sim →
         Since (H.calls hub.old) (H.calls hub.new) (EndsFor TakesMemory (proxy_of S.Framing.size answers) never turns result) }
+    ensures never_empty { Since (H.calls hub.old) (H.calls hub.new) (λ calls. ¬ (result ≡ ServeEnd.Empty)) }
+    ensures never_lost { ¬ (result ≡ ServeEnd.Lost) }
+    ensures later { H.faults hub.old ≤ H.faults hub.new }
+    ensures fault { result ≡ ServeEnd.HubFault → Rose (H.faults hub.old) (H.faults hub.new) }
+{
+    serve_so(alloc, hub, Plain { sim }, turns)
+}
+
+/// The same for a modem that may hang its clients up: those connections are hung up too, at whose request
+/// it does, which is the last of theirs that it is asked.
+pub fn serve_so<H: Hub, S: ServedSim>(alloc: Global, hub: &mut H, sim: S, turns: u64) -> ServeEnd
+    requires { (conduct : Conduct) × S.keeps conduct [] sim }
+    ensures served { (conduct : Conduct) → S.keeps conduct [] sim →
+        Since (H.calls hub.old) (H.calls hub.new) (EndsFor TakesMemory (served S.Framing.size conduct) never turns result) }
     ensures never_empty { Since (H.calls hub.old) (H.calls hub.new) (λ calls. ¬ (result ≡ ServeEnd.Empty)) }
     ensures never_lost { ¬ (result ≡ ServeEnd.Lost) }
     ensures later { H.faults hub.old ≤ H.faults hub.new }

@@ -4,32 +4,32 @@ ghost use Rattle.hub_io.specs.Events.{event_of};
 ghost use Rattle.proxy_history.specs.Events as history;
 ghost use Rattle.proxy_history.specs.Events.{greatest_after};
 ghost use Rattle.proxy_serving.specs.Face.{BringsIn, CanMeet};
-ghost use Rattle.sim_modem.specs.Sim.{Answering};
+ghost use Rattle.served_sim.specs.Conduct.{Conduct};
 ghost use Rattle.sim_serving.specs.Core.{named, names_of, waiting_for, face_of, StandsFor, StandsAfter, TakesMemory};
 ghost use Rattle.sim_serving.specs.Hearing.{Brings, changed, gone, took};
 
 use crate::client::Client;
 use framing::LONGEST_PIECE;
 use hub_io::Event;
-use sim_modem::Sim;
+use served_sim::ServedSim;
 use std::alloc::{AllocError, Global};
 use std::marker::Model;
 
 /// What serves the clients of a simulated modem: it is told what happens, and keeps what each client
 /// is to get.
 #[derive(Drop)]
-pub struct SimCore<S: Sim> {
+pub struct SimCore<S: ServedSim> {
     alloc: Global,
     sim: S,
     // in order of joining
     clients: Vec<Client<S>>,
-    // whose stream went bad, until it is asked for
+    // whose stream went bad or whom the modem hung up, until it is asked for
     dropped: Option<u64>,
     // the greatest name of a client so far
     greatest: u64,
 }
 
-impl<S: Sim> Model for SimCore<S> {
+impl<S: ServedSim> Model for SimCore<S> {
     ghost use Rattle.sim_serving.specs.Core as core;
 
     ghost Value = { core.Core S };
@@ -37,7 +37,7 @@ impl<S: Sim> Model for SimCore<S> {
     ghost view = { λ c. record { sim = c.sim; clients = c.clients.items; dropped = c.dropped; greatest = c.greatest } };
 }
 
-impl<S: Sim> SimCore<S> {
+impl<S: ServedSim> SimCore<S> {
     /// Nobody is there yet.
     pub fn open(alloc: Global, sim: S) -> Self
         ensures { result ≡ record { sim = sim; clients = []; dropped = None; greatest = 0 } }
@@ -54,8 +54,8 @@ impl<S: Sim> SimCore<S> {
     /// Meets an event. What a modem or the clock tells changes nothing.
     pub fn step(&mut self, event: Event<'_>) -> Result<(), AllocError>
         requires { CanMeet (event_of event) (face_of self.old) }
-        ensures stands { OnOk result ((answers : Answering) (past : List history.Event) → StandsFor S.Framing.size S.keeps answers past self.old →
-            StandsAfter S.Framing.size S.keeps answers (event_of event.entry ∷ past) self.new) }
+        ensures stands { OnOk result ((conduct : Conduct) (past : List history.Event) → StandsFor S.Framing.size S.keeps conduct past self.old →
+            StandsAfter S.Framing.size S.keeps conduct (event_of event.entry ∷ past) self.new) }
         ensures greatest { OnOk result (self.new.greatest ≡ greatest_after (event_of event.entry) self.old.greatest) }
         ensures memory { OnErr result (TakesMemory (event_of event.entry)) }
         ensures brings { OnErr result (BringsIn (event_of event.entry)) }
@@ -95,11 +95,11 @@ impl<S: Sim> SimCore<S> {
     }
 
     // The next piece of a client's stream: the modem is asked what it makes whole, and the client is
-    // dropped where the stream goes bad.
+    // dropped where the stream goes bad or the modem hangs up.
     fn bring(&mut self, name: u64, piece: &[u8]) -> Result<(), AllocError>
         requires { length piece.now ≤ LONGEST_PIECE }
-        ensures brought { OnOk result ((answers : Answering) (before : List (List ℕ)) → S.keeps answers before self.old.sim →
-            Brings S.Framing.size S.keeps answers before (named name self.old.clients) piece.now self.old self.new) }
+        ensures brought { OnOk result ((conduct : Conduct) (before : List (List ℕ)) → S.keeps conduct before self.old.sim →
+            Brings S.Framing.size S.keeps conduct before (named name self.old.clients) piece.now self.old self.new) }
         ensures greatest { OnOk result (self.new.greatest ≡ self.old.greatest) }
     {
         let Some(place) = place_of(&self.clients, name) else {
@@ -186,7 +186,7 @@ impl<S: Sim> SimCore<S> {
 }
 
 // Where the client of this name stands.
-fn place_of<S: Sim>(clients: &[Client<S>], name: u64) -> Option<usize>
+fn place_of<S: ServedSim>(clients: &[Client<S>], name: u64) -> Option<usize>
     ensures place { result ≡ position (λ k. name == k.name) clients.now }
     ensures within { IfSome result (λ place. place < length clients.now) }
 {
@@ -194,7 +194,7 @@ fn place_of<S: Sim>(clients: &[Client<S>], name: u64) -> Option<usize>
 }
 
 // Where the first client stands for which bytes wait.
-fn waiting_in<S: Sim>(clients: &[Client<S>]) -> Option<usize>
+fn waiting_in<S: ServedSim>(clients: &[Client<S>]) -> Option<usize>
     ensures place { result ≡ position (λ k. nat_lt 0 (length k.waiting)) clients.now }
     ensures within { IfSome result (λ place. place < length clients.now) }
 {

@@ -9,8 +9,8 @@ use Rattle.modem_rules.specs.Rules.{Rules}
 use Rattle.sim_modem.specs.Sim.{Answering}
 use Rattle.ruled_modem.specs.Requests.{kind_of}
 use Rattle.ruled_modem.specs.Host.{host_after, longest}
-use Rattle.ruled_modem.specs.Turns.{all_told, answer_to, answer_text, passed}
-use Rattle.ruled_modem.specs.Ruled.{count, fault_for, reached, reached_by, ruled_by}
+use Rattle.ruled_modem.specs.Turns.{all_told, answer_to, answer_text, hangs_up, passed}
+use Rattle.ruled_modem.specs.Ruled.{count, fault_for, hangs_up_by, reached, reached_by, ruled_by}
 use Rattle.ruled_modem.specs.Laws.{IsFree}
 use Rattle.ruled_modem.proofs.Tables.{first-own}
 use Rattle.ruled_modem.proofs.laws.others_reach_the_modem.Goals as goal
@@ -55,8 +55,12 @@ module _ (modem : Kind) (rules : Rules) (past : List (List ℕ)) (message : List
       ∙ ap (λ (fault : Option FaultRule). passed before message fault (answer_to kind rules.answers)) fault-none
       ∙ ap (λ (rule : Option AnswerRule). passed before message None rule) answer-none
 
+  pub stays : kind_of modem message ≡ Some kind → hangs_up_by modem rules past (kind_of modem message) ≡ false
+  stays is = ap (λ (found : Option RequestKind). hangs_up_by modem rules past found) is ∙ ap hangs_up fault-none
+
 pub returns : goal.returns
 returns c = record {
   answered = λ modem rules answers past message kind is free. said modem rules past message kind free answers is;
   reaches = λ modem rules past message kind is free. goes modem rules past message kind free is;
+  stays = λ modem rules past message kind is free. stays modem rules past message kind free is;
 }

@@ -1,14 +1,14 @@
 use Rattle.std.proofs.Common.{◌≡◌, ℕ, List, length}
 use Rattle.framing.specs.Cutting.{cut}
-use Rattle.sim_modem.specs.Sim.{Answering}
+use Rattle.served_sim.specs.Conduct.{Conduct}
 use Rattle.sim_serving.proofs.Hearing.{IsAsking}
 use Rattle.sim_serving.proofs.client.ask_all.Given as goal
 
 -- what is left to ask, asked, is what there was to ask, asked
 abbrev pub invariant-loop-span : goal.invariant-loop-span
 invariant-loop-span g l = record {
-  asking : (answers : Answering) (before : List (List ℕ)) → g.S.Sim.keeps answers before l.initial.sim
-      → IsAsking g.S.Sim.keeps answers before (cut g.S.Framing.Framing.size l.initial.stream.rest).messages l.initial.queue (cut g.S.Framing.Framing.size l.stream.rest).messages l.sim l.queue;
+  asking : (conduct : Conduct) (before : List (List ℕ)) → g.S.ServedSim.keeps conduct before l.initial.sim
+      → IsAsking g.S.ServedSim.keeps conduct before (cut g.S.Framing.Framing.size l.initial.stream.rest).messages l.initial.queue (cut g.S.Framing.Framing.size l.stream.rest).messages l.sim l.queue;
   rest : (cut g.S.Framing.Framing.size l.stream.rest).rest ≡ (cut g.S.Framing.Framing.size l.initial.stream.rest).rest;
 }
 

@@ -1,0 +1,26 @@
+ghost use Rattle.std.specs.Prelude.{◌≡◌};
+ghost use Rattle.served_sim.specs.Conduct.{KeepsPlain};
+
+use crate::{Reply, ServedSim};
+use sim_modem::Sim;
+use std::alloc::AllocError;
+
+/// A simulated modem that answers, and hangs nobody up.
+#[derive(Drop)]
+pub struct Plain<S: Sim> {
+    pub sim: S,
+}
+
+impl<S: Sim> ServedSim for Plain<S> {
+    type Framing = S::Framing;
+
+    ghost keeps = { λ conduct past plain. KeepsPlain S.keeps conduct past plain.sim };
+
+    fn ask(&mut self, message: &[u8]) -> Result<Reply, AllocError> {
+        let messages = self.sim.ask(message)?;
+        Ok(Reply {
+            messages,
+            hangs_up: false,
+        })
+    }
+}
