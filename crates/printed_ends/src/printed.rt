@@ -12,7 +12,7 @@ pub struct Printed {
     pub status: u8,
 }
 
-/// What a command prints, at a modem itself and through a proxy.
+/// What a command prints, at a modem itself and by another way: through a proxy, or carried by an MBIM modem.
 #[derive(Debug, Drop)]
 pub struct Twice {
     pub direct: Printed,
