@@ -82,7 +82,7 @@ module _ (names : Names) (defined : AreDefined names) where
   abbrev KeepsOutput : (List TlvForm → MessageForm) → Type 0
   KeepsOutput head = (output : List TlvForm) → AreWell output → IsWellMessage (head output)
 
-  message_with-well : (entry : Data) (indication : Bool) (name : List ℕ) (service : ℕ) → OnKnown IsWellMessage (message_with names entry indication name service)
+  pub message_with-well : (entry : Data) (indication : Bool) (name : List ℕ) (service : ℕ) → OnKnown IsWellMessage (message_with names entry indication name service)
   unfolding message_with
   message_with-well entry indication name service =
       on_then KeepsOutput AreWell IsWellMessage (λ head output. head output) (λ head output keeps well. keeps output well)
@@ -113,7 +113,7 @@ module _ (names : Names) (defined : AreDefined names) where
 nests : (form : Form) → nests_well form ≡ true → nesting form ≤ 16
 nests form is = grind (arith, common_steps)
 
-sound-tlvs : (tlvs : List TlvForm) → AllByRecursion IsWellTlv tlvs → nest_well tlvs ≡ true → AllByRecursion IsSoundTlv tlvs
+pub sound-tlvs : (tlvs : List TlvForm) → AllByRecursion IsWellTlv tlvs → nest_well tlvs ≡ true → AllByRecursion IsSoundTlv tlvs
 sound-tlvs [] well nest = tt
 sound-tlvs (tlv ∷ tlvs) well nest =
     let both = and_parts (nests_well tlv.form) (nest_well tlvs) nest in (record { well_made = well.0; nests_well = nests tlv.form both.0 }, sound-tlvs tlvs well.1 both.1)
@@ -160,7 +160,7 @@ with_message-sound so_far unknown sound well = tt
 with_message-sound so_far (known None) sound well = sound
 with_message-sound so_far (known (Some message)) sound well = refused-or-taken so_far message _ _ refl refl sound well
 
-defined-more : (definition : List ℕ × Definition) (definitions : List (List ℕ × Definition)) → IsDefined definition.1 → AreDefined (named_by definitions) → AreDefined (named_by (definition ∷ definitions))
+pub defined-more : (definition : List ℕ × Definition) (definitions : List (List ℕ × Definition)) → IsDefined definition.1 → AreDefined (named_by definitions) → AreDefined (named_by (definition ∷ definitions))
 defined-more definition definitions good defined = λ name. by (bytes_eq definition.0 name) (named_by definitions name) (defined name)
   where
     by : (b : Bool) (rest : Option Definition) → IfSome rest IsDefined → IfSome (if b then Some definition.1 else rest) IsDefined
@@ -180,7 +180,7 @@ with_definition-sound so_far (faulty member_name) sound good = tt
 with_definition-sound so_far unknown sound good = tt
 with_definition-sound so_far (known definition) sound good = defined-or-deep so_far definition _ refl sound good
 
-definition_of-good : (names : Names) → AreDefined names → (entry : Data) → OnKnown IsGoodPair (definition_of names entry)
+pub definition_of-good : (names : Names) → AreDefined names → (entry : Data) → OnKnown IsGoodPair (definition_of names entry)
 unfolding definition_of
 definition_of-good names defined entry =
     on_then (λ _. Unit {0}) IsWellMade IsGoodPair (definition_with entry) (λ reference form first well. well) (required which.CommonRef (text_in which.CommonRef entry)) (form_of names entry) (on_any _)
@@ -211,7 +211,7 @@ described_by-sound no_items number so_far sound = sound
 described_by-sound (item entry objects) number so_far sound =
     or_fault-sound number _ (with_object so_far entry) (with_object-sound so_far entry sound) (λ next good. described_by-sound objects _ next good)
 
-first-defined : AreDefined (named_by first_definitions)
+pub first-defined : AreDefined (named_by first_definitions)
 first-defined =
     let two : IsSize 2 = (omega arith, omega arith) in
     let good : IsDefined operation_result = inr (tt, (two, (two, tt))) in

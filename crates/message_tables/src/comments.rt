@@ -4,7 +4,7 @@ ghost use Rattle.message_tables.specs.Comments.{lines_of, is_comment, json_text}
 use std::alloc::{AllocError, Global};
 
 /// The text without its comment lines, those whose first bytes behind blanks are `//`.
-pub(crate) fn without_comments(alloc: Global, text: &[u8]) -> Result<Vec<u8>, AllocError>
+pub fn without_comments(alloc: Global, text: &[u8]) -> Result<Vec<u8>, AllocError>
     ensures { IfOk result (λ kept. kept.items ≡ json_text text.now) }
 {
     let mut kept = Vec::with_capacity(alloc, text.len())?;

@@ -15,15 +15,15 @@ use std::alloc::{AllocError, Global};
 
 /// What a name stands for: a TLV, whose name and id may be missing.
 #[derive(Drop)]
-pub(crate) struct Definition {
-    pub(crate) name: Option<Text>,
-    pub(crate) id: Option<u8>,
-    pub(crate) shape: Shape,
+pub struct Definition {
+    pub name: Option<Text>,
+    pub id: Option<u8>,
+    pub shape: Shape,
 }
 
 /// The definitions so far.
 #[derive(Drop)]
-pub(crate) struct Definitions {
+pub struct Definitions {
     named: IndexMap<String, Definition>,
     allowance: Allowance,
 }
@@ -40,7 +40,7 @@ impl Definitions {
     ghost use Rattle.message_tables.specs.View.{names_in, definition_view, tlv_view};
 
     /// The one definition that is there from the start, the result of an operation.
-    pub(crate) fn open(alloc: Global) -> Result<Definitions, AllocError>
+    pub fn open(alloc: Global) -> Result<Definitions, AllocError>
         ensures { IfOk result (λ definitions. (name : List ℕ)
             → names_in definitions name ≡ named_by first_definitions name) }
     {
@@ -60,11 +60,7 @@ impl Definitions {
     }
 
     /// Lets a name stand for a definition from now on.
-    pub(crate) fn define(
-        &mut self,
-        reference: String,
-        definition: Definition,
-    ) -> Result<(), AllocError>
+    pub fn define(&mut self, reference: String, definition: Definition) -> Result<(), AllocError>
         ensures { OnOk result ((name : List ℕ) → names_in self.new name
             ≡ (if bytes_eq (string_bytes reference) name then Some (definition_view definition)
             else names_in self.old name)) }

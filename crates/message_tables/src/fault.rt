@@ -117,7 +117,7 @@ impl<T: Drop> From<AllocFailed<T>> for TableFault {
 
 /// Why one object isn't read.
 #[derive(Drop)]
-pub(crate) enum ObjectFault {
+pub enum ObjectFault {
     Member(MemberName),
     Format,
     Twice,

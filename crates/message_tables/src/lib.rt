@@ -19,9 +19,14 @@ mod tables;
 mod tlv;
 mod tlvs;
 
-pub use fault::{MemberName, TableFault};
+pub use comments::without_comments;
+pub use definitions::{Definition, Definitions};
+pub use fault::{MemberName, ObjectFault, TableFault};
 pub use laws::{forms_are_by_their_members, lines_are_the_text};
+pub use members::{objects_in, text_member};
 pub use message::Message;
-pub use read::read_tables;
+pub use nesting::nests_well;
+pub use objects::{Sort, definition_of, message_with, sort_of};
+pub use read::{json_value, read_tables};
 pub use tables::Tables;
 pub use tlv::{TlvShape, TlvShapes};

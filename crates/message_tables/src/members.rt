@@ -16,7 +16,7 @@ pub(crate) fn member(object: &Value, name: MemberName) -> Option<&Value>
 }
 
 /// The value of a member that is to be a text.
-pub(crate) fn text_member(object: &Value, name: MemberName) -> Result<&str, ObjectFault>
+pub fn text_member(object: &Value, name: MemberName) -> Result<&str, ObjectFault>
     ensures { MatchResult result
         (λ text. text_in name (view object.now) ≡ Some text.now)
         (λ fault. (text_in name (view object.now) ≡ None) × (fault ≡ ObjectFault.Member name)) }
@@ -46,7 +46,7 @@ pub(crate) fn tlv_id(object: &Value) -> Option<u8>
 }
 
 /// The objects that a value lists, where it is a list of objects.
-pub(crate) fn objects_in(value: &Value) -> Option<&[Value]>
+pub fn objects_in(value: &Value) -> Option<&[Value]>
     ensures { option_map (λ objects. items_view objects.now) result ≡ objects_in (view value.now) }
 {
     let values = value.as_array()?.as_slice();

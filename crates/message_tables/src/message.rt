@@ -31,7 +31,7 @@ impl Message {
     ghost use Rattle.message_tables.specs.Keys.{key_of};
 
     /// Whether an id stands twice in one of the lists of TLVs.
-    pub(crate) fn has_id_twice(&self) -> bool
+    pub fn has_id_twice(&self) -> bool
         ensures { result ≡ (has_twice (message_view self.now).input
             || has_twice (message_view self.now).output) }
     {
@@ -39,7 +39,7 @@ impl Message {
     }
 
     /// Whether too many formats stand inside each other.
-    pub(crate) fn is_deep(&self) -> bool
+    pub fn is_deep(&self) -> bool
         ensures { result ≡ is_deep (message_view self.now) }
     {
         !nest_well(self.input.as_slice()) || !nest_well(self.output.as_slice())

@@ -8,7 +8,7 @@ use qmi_shapes::{Shape, ShapeField};
 const MOST_LEVELS: u8 = 16;
 
 /// Whether no more formats stand inside each other than may.
-pub(crate) fn nests_well(shape: &Shape) -> bool
+pub fn nests_well(shape: &Shape) -> bool
     ensures { result ≡ nests_well (shape_view shape.now) }
 {
     nests_within(shape, MOST_LEVELS)

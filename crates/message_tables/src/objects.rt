@@ -25,7 +25,7 @@ pub(crate) struct Described {
 
 /// What an object is, by its `type`.
 #[derive(Drop)]
-pub(crate) enum Sort {
+pub enum Sort {
     /// A message, or an indication.
     Message { indication: bool },
     /// A definition that later objects refer to.
@@ -104,8 +104,9 @@ impl Described {
     }
 }
 
+/// What an object is.
 #[tactic(auto, unfolding(crate::specs::Objects::sort_of))]
-fn sort_of(object: &Value) -> Result<Sort, ObjectFault>
+pub fn sort_of(object: &Value) -> Result<Sort, ObjectFault>
     ensures { result ≡ sort_of (view object.now) }
 {
     let kind = text_member(object, MemberName::Kind)?;
@@ -146,9 +147,9 @@ fn service_named(name: &str) -> Option<u8>
     }
 }
 
-// The name that an object gives a definition, and the definition.
+/// The name that an object gives a definition, and the definition.
 #[tactic(auto, unfolding(crate::specs::Objects::definition_of))]
-fn definition_of(
+pub fn definition_of(
     definitions: &Definitions,
     alloc: Global,
     object: &Value,
@@ -198,8 +199,9 @@ fn message_of(
     }
 }
 
+/// The message of a name and a service that an object describes.
 #[tactic(auto, unfolding(crate::specs::Messages::message_with))]
-fn message_with(
+pub fn message_with(
     definitions: &Definitions,
     alloc: Global,
     object: &Value,

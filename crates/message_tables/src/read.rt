@@ -48,8 +48,9 @@ fn tables_of(alloc: Global, value: &Value) -> Result<Tables, TableFault>
     }
 }
 
+/// The JSON value that a text is.
 #[tactic(auto, unfolding(crate::specs::Tables::value_of))]
-fn json_value(alloc: Global, json: &[u8]) -> Result<Value, TableFault>
+pub fn json_value(alloc: Global, json: &[u8]) -> Result<Value, TableFault>
     ensures { IsValue (value_of json.now) result }
 {
     match Value::from_slice(alloc, json) {
