@@ -39,12 +39,29 @@ pub fn mbim_twice<B: Bench>(
     ensures same { IfOk result (λ twice. IsCommand plan.request → twice.direct ≡ twice.through) }
     ensures runs { OnOk result ((earlier : List Run) → AreTold (B.runs bench.old) earlier → AreTold (B.runs bench.new) (run_of profile.now plan ∷ earlier)) }
 {
-    plan_in_range(&plan);
     let mut plan = plan;
+    let twice = run_twice(alloc, bench, profile, &mut plan);
+    drop(plan);
+    twice
+}
+
+// By a plan that is lent.
+fn run_twice<B: Bench>(
+    alloc: Global,
+    bench: &mut B,
+    profile: &Profile,
+    plan: &mut MbimPlan,
+) -> Result<Twice, AllocError>
+    ensures direct { IfOk result (λ twice. Prints (direct_run profile.now plan.old).end twice.direct) }
+    ensures through { IfOk result (λ twice. Prints (through_run profile.now plan.old).end twice.through) }
+    ensures same { IfOk result (λ twice. IsCommand plan.old.request → twice.direct ≡ twice.through) }
+    ensures runs { OnOk result ((earlier : List Run) → AreTold (B.runs bench.old) earlier → AreTold (B.runs bench.new) (run_of profile.now plan.old ∷ earlier)) }
+{
+    plan_in_range(plan);
     plan.proxied = false;
-    let direct = directly(alloc, profile, &plan)?;
+    let direct = directly(alloc, profile, plan)?;
     plan.proxied = true;
-    let through = behind_proxy(alloc, profile, &plan)?;
+    let through = behind_proxy(alloc, profile, plan)?;
     let device = plan.device.value().as_str();
     play::<MbimSim, B>(alloc, bench, profile, device, &through.texts)?;
     Ok(Twice {

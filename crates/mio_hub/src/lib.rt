@@ -5,6 +5,7 @@ mod hub;
 mod line;
 mod modem;
 mod peer;
+mod resting;
 mod sockets;
 mod ticker;
 

@@ -78,6 +78,16 @@ impl Peer {
         finds
     }
 
+    /// Has the registry tell of room alone.
+    pub(crate) fn rest(&mut self, registry: &Registry) {
+        let _ = registry.reregister(&mut self.stream, self.token, Interest::WRITABLE);
+    }
+
+    /// Has the registry tell of bytes as well again, also of those that came meanwhile.
+    pub(crate) fn wake(&mut self, registry: &Registry) {
+        let _ = registry.reregister(&mut self.stream, self.token, both_ways());
+    }
+
     /// Reads once for an event, if it says that there is something to read.
     ///
     /// What comes after a reading that left room in the buffer is a new event. After one that left
@@ -92,7 +102,7 @@ impl Peer {
                 Ok(0) => (Gave::End, true),
                 Ok(count) if count < buf.len() => (Gave::Bytes(count), !event.is_read_closed()),
                 Ok(count) => {
-                    let _ = registry.reregister(&mut self.stream, self.token, both_ways());
+                    self.wake(registry);
                     (Gave::Bytes(count), true)
                 }
                 Err(error) => match error.kind() {

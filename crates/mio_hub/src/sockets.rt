@@ -9,6 +9,7 @@ ghost use Rattle.hub_io.specs.declared.hub.HubEvent.TheVariants.{Joined};
 use crate::line::Line;
 use crate::modem::Modem;
 use crate::peer::{Gave, Peer};
+use crate::resting::{FEW, Resting};
 use crate::ticker::Ticker;
 use hub_io::{HubEvent, NEXT_ROOM, Names, PLACES, place_of};
 use kit_bytes::Text;
@@ -54,6 +55,7 @@ pub(crate) struct Sockets<'a, R: Files> {
     clients: Slab<Peer>,
     /// Who is there.
     pub(crate) names: Names,
+    resting: Resting,
     /// The path of the modem's socket.
     device: Option<Text>,
     /// Where the modem's pumps connect.
@@ -78,6 +80,7 @@ impl<'a, R: Net + Clock + Files<File = File>> Sockets<'a, R> {
             is_barred: false,
             clients: Slab::with_capacity(alloc, PLACES)?,
             names: Names::none(alloc)?,
+            resting: Resting::nobody(),
             device: None,
             bridge: None,
             modem: None,
@@ -193,7 +196,8 @@ impl<'a, R: Net + Clock + Files<File = File>> Sockets<'a, R> {
     {
         self.at = 0;
         self.write_to_modem();
-        let left = self.ticker.left();
+        self.wake_next();
+        let left = self.ticker.left(self.resting.is_empty());
         match self.poll.poll(&mut self.events, Some(left)) {
             Ok(()) => {}
             // a signal came: nothing was found
@@ -310,12 +314,40 @@ impl<'a, R: Net + Clock + Files<File = File>> Sockets<'a, R> {
             self.done();
         }
         match reading.gave {
-            Gave::Bytes(count) => Some(HubEvent::Piece(name, count)),
+            Gave::Bytes(count) => {
+                if count < FEW {
+                    self.rest(name);
+                }
+                Some(HubEvent::Piece(name, count))
+            }
             Gave::Nothing => None,
             Gave::End => {
                 self.hang_up(name);
                 Some(HubEvent::Left(name))
             }
+        }
+    }
+
+    /// Leaves a client alone that sends few bytes at a time, so that others needn't wait for it.
+    fn rest(&mut self, name: u64)
+        ensures names { self.new.names ≡ self.old.names }
+    {
+        if let Some(peer) = peer_of(&mut self.clients, &self.names, name)
+            && self.resting.add(name, self.ticker.now())
+        {
+            peer.rest(self.poll.registry());
+        }
+    }
+
+    /// Has the next client that was left alone be read again, once it is time. The others follow when
+    /// the sockets were asked again.
+    fn wake_next(&mut self)
+        ensures names { self.new.names ≡ self.old.names }
+    {
+        if let Some(name) = self.resting.next(self.ticker.now())
+            && let Some(peer) = peer_of(&mut self.clients, &self.names, name)
+        {
+            peer.wake(self.poll.registry());
         }
     }
 

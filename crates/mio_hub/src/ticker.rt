@@ -46,8 +46,14 @@ impl Ticker {
         Some(self.now)
     }
 
-    /// How long it is until the time is to be told.
-    pub(crate) fn left(&self) -> Duration {
-        Duration::from_millis(self.due.saturating_sub(self.now))
+    /// The time that was read.
+    pub(crate) fn now(&self) -> u64 {
+        self.now
+    }
+
+    /// How long it is until the time is to be told, or a millisecond where that isn't all that is waited for.
+    pub(crate) fn left(&self, is_all: bool) -> Duration {
+        let left = self.due.saturating_sub(self.now);
+        Duration::from_millis(if is_all { left } else { left.min(1) })
     }
 }

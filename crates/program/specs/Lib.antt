@@ -4,3 +4,4 @@ pub mod Serving
 pub mod Pumping
 pub mod Rigging
 pub mod Telling
+pub mod Laws

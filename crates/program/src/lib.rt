@@ -4,6 +4,7 @@
 
 mod dispatch;
 mod dissecting;
+mod laws;
 mod opening;
 mod proxy;
 mod pumping;
@@ -16,6 +17,7 @@ mod tool;
 mod tools;
 
 pub use dispatch::run;
+pub use laws::statuses_agree;
 pub use report::{give_up, refuse};
 pub use status::Status;
 pub use tools::{run_proxy, run_pump, run_rig, run_simulator, run_tool};

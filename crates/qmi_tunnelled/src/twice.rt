@@ -1,11 +1,6 @@
-ghost use Rattle.std.specs.Prelude.{◌≡◌, false, OnOk, IfOk};
-ghost use Rattle.qmux_frame.specs.Frame as qmux;
-ghost use Rattle.mbim_frame.specs.Frame as mbim;
-ghost use Rattle.device_core.specs.Peer.{session_at};
+ghost use Rattle.std.specs.Prelude.{◌≡◌, false, IfOk};
+ghost use Rattle.mbim_frame.specs.Frame.{size_of};
 ghost use Rattle.tunnel_session.specs.Peer.{tunnel_at};
-ghost use Rattle.modem_profile.specs.Limits.{IsWithin};
-ghost use Rattle.sim_modem.specs.Sim.{answers};
-ghost use Rattle.sim_qmi.specs.Modem.{machine};
 ghost use Rattle.lone_peers.specs.Peers.{at_modem};
 ghost use Rattle.printed_ends.specs.Held.{IsHeld};
 ghost use Rattle.printed_ends.specs.declared.printed.Printed.{Printed};
@@ -21,8 +16,7 @@ use device_core::QmiPlan;
 use lone_peers::ModemPeer;
 use modem_profile::Profile;
 use printed_ends::{Held, Twice};
-use qmi_twice::have_room;
-use sim_qmi::QmiSim;
+use qmi_twice::{directly, have_room};
 use std::alloc::{AllocError, Global};
 
 /// Runs the command of a plan on a simulated modem of this profile itself, and on another one that a
@@ -50,19 +44,9 @@ pub fn qmi_tunnelled(
     })
 }
 
-// The session of a plan with a modem of this profile itself.
-fn directly(alloc: Global, profile: &Profile, plan: &QmiPlan) -> Result<Held, AllocError>
-    ensures limits { OnOk result (IsWithin profile.now) }
-    ensures held { IfOk result (IsHeld direct.Prints (session_at (at_modem qmux.size_of (answers (machine profile.now))) plan.now)) }
-{
-    let modem: ModemPeer<QmiSim> = ModemPeer::open(alloc, profile)?;
-    let held = qmi_twice::hold(alloc, modem, plan)?;
-    Ok(held)
-}
-
 // The session of a plan with a modem of this profile that an MBIM modem carries the messages to.
 fn carried(alloc: Global, profile: &Profile, plan: &QmiPlan) -> Result<Held, AllocError>
-    ensures { IfOk result (IsHeld (Prints plan.now) (tunnel_at (at_modem mbim.size_of (carrying_modem profile.now)) plan.now)) }
+    ensures { IfOk result (IsHeld (Prints plan.now) (tunnel_at (at_modem size_of (carrying_modem profile.now)) plan.now)) }
 {
     let carrier: ModemPeer<Carrier> = ModemPeer::open(alloc, profile)?;
     let held = hold(alloc, carrier, plan)?;

@@ -8,5 +8,4 @@ mod twice;
 
 pub use printed::print_end;
 pub use printed_ends::{Printed, Twice};
-pub use session::hold;
-pub use twice::{have_room, qmi_twice};
+pub use twice::{directly, have_room, qmi_twice};

@@ -10,7 +10,11 @@ use printed_ends::{Held, held_over};
 use std::alloc::{AllocError, Global};
 
 /// Has the session of a plan over a link to whoever answers each text at once.
-pub fn hold<A: Answerer>(alloc: Global, answerer: A, plan: &QmiPlan) -> Result<Held, AllocError>
+pub(crate) fn hold<A: Answerer>(
+    alloc: Global,
+    answerer: A,
+    plan: &QmiPlan,
+) -> Result<Held, AllocError>
     requires { A.has_met [] answerer }
     ensures { IfOk result (IsHeld Prints (session_at (A.peer answerer) plan.now)) }
 {

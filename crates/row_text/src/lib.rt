@@ -1,10 +1,13 @@
-//! Worked rows as text: the reader of a file of rows, of their bytes and of their words.
+//! Worked rows as text: the reader of a file of rows, of their bytes and of their words, and what tells
+//! a difference between a row and what was found.
 #![tactic(auto)]
 
 mod fault;
+mod found;
 mod rows;
 mod words;
 
 pub use fault::RowFault;
+pub use found::{Place, Spelled, are_bytes, differs_at, is, lines_of, tell, text_of};
 pub use rows::{Line, Row, Rows, joined_lines, read_rows};
 pub use words::words_of;

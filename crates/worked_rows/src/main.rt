@@ -1,30 +1,15 @@
 //! Runs worked rows, which are text in the files that its words name, and tells each difference
-//! between what a row says and what is found. `tool.rt`, `story.rt`, `modem.rt`, `format.rt` and `tables.rt`
-//! say what lines each kind of a row has.
+//! between what a row says and what is found. `tool.rt`, and `story.rt` of `core_rows`, and `modem.rt`,
+//! `format.rt` and `tables.rt` of `part_rows` say what lines each kind of a row has.
 #![tactic(auto)]
 
-mod alone;
 mod asked;
-mod bench;
-mod calls;
-mod files;
-mod format;
-mod found;
-mod hub;
-mod kids;
-mod modem;
-mod proxy;
 mod ran;
-mod story;
-mod tables;
 mod tool;
 
-use crate::found::{Place, tell};
-use crate::proxy::{mbim_proxy, qmi_proxy};
-use row_text::{Row, RowFault, Rows, joined_lines, read_rows};
-use sim_qmi::QmiSim;
-use sim_tunnel::TunnelSim;
-use std::alloc::Global;
+use core_rows::{mbim_stories, qmi_stories};
+use part_rows::{are_tables, is_format, is_mbim_modem, is_qmi_modem};
+use row_text::{Place, Row, RowFault, Rows, joined_lines, read_rows, tell};
 use std::process::ExitCode;
 use std::{env, fs, io};
 
@@ -83,96 +68,16 @@ fn run_row(
     rows: &Rows<'_>,
     row: &Row<'_>,
 ) -> Result<bool, RowFault> {
+    let alloc = rt.alloc();
     match row.first.key {
-        "words" => tool::is_as_told(rt, rt.alloc(), place, rows, row),
-        "story" => qmi_stories(rt, place, rows, row, None),
-        "releasing-story" => qmi_stories(rt, place, rows, row, Some(60_000)),
-        "mbim-story" => {
-            Ok(mbim_story(rt, place, rows, row, true)? && mbim_story(rt, place, rows, row, false)?)
-        }
-        "qmi-modem" => qmi_modem(rt, place, rows, row),
-        "mbim-modem" => mbim_modem(rt, place, rows, row),
-        "format" => format::is_as_told(rt, rt.alloc(), place, rows, row),
-        "tables" => tables::is_as_told(rt, rt.alloc(), place, row),
+        "words" => tool::is_as_told(rt, alloc, place, rows, row),
+        "story" => qmi_stories(rt, alloc, place, rows, row, None),
+        "releasing-story" => qmi_stories(rt, alloc, place, rows, row, Some(60_000)),
+        "mbim-story" => mbim_stories(rt, alloc, place, rows, row),
+        "qmi-modem" => is_qmi_modem(rt, alloc, place, rows, row),
+        "mbim-modem" => is_mbim_modem(rt, alloc, place, rows, row),
+        "format" => is_format(rt, alloc, place, rows, row),
+        "tables" => are_tables(rt, alloc, place, row),
         _ => Err(RowFault::new("no kind of a row")),
     }
-}
-
-// Whether a story of a QMI proxy is what is found, where bytes come whole and byte by byte. The proxy
-// releases the client ids that are kept for so many milliseconds.
-fn qmi_stories(
-    rt: &HostRuntime,
-    place: Place<'_>,
-    rows: &Rows<'_>,
-    row: &Row<'_>,
-    release: Option<u64>,
-) -> Result<bool, RowFault> {
-    Ok(
-        qmi_story(rt, place, rows, row, release, true)?
-            && qmi_story(rt, place, rows, row, release, false)?,
-    )
-}
-
-fn qmi_story(
-    rt: &HostRuntime,
-    place: Place<'_>,
-    rows: &Rows<'_>,
-    row: &Row<'_>,
-    release: Option<u64>,
-    whole: bool,
-) -> Result<bool, RowFault> {
-    let mut proxy = qmi_proxy(rt.alloc(), "/dev/cdc-wdm0", release)?;
-    let same = story::is_as_told(rt, rt.alloc(), place, rows, row, &mut proxy, whole);
-    drop(proxy);
-    same
-}
-
-// And of an MBIM proxy.
-fn mbim_story(
-    rt: &HostRuntime,
-    place: Place<'_>,
-    rows: &Rows<'_>,
-    row: &Row<'_>,
-    whole: bool,
-) -> Result<bool, RowFault> {
-    let mut proxy = mbim_proxy(rt.alloc(), "/dev/cdc-wdm0")?;
-    let same = story::is_as_told(rt, rt.alloc(), place, rows, row, &mut proxy, whole);
-    drop(proxy);
-    same
-}
-
-// Whether a simulated QMI modem says what a row tells.
-fn qmi_modem(
-    rt: &HostRuntime,
-    place: Place<'_>,
-    rows: &Rows<'_>,
-    row: &Row<'_>,
-) -> Result<bool, RowFault> {
-    let mut sim = qmi_sim(rt.alloc(), rows, row)?;
-    let same = modem::is_as_told(rt, rt.alloc(), place, rows, row, &mut sim);
-    drop(sim);
-    same
-}
-
-fn qmi_sim(alloc: Global, rows: &Rows<'_>, row: &Row<'_>) -> Result<QmiSim, RowFault> {
-    let profile = modem::profile_of(alloc, rows, row)?;
-    Ok(QmiSim::open(alloc, &profile)?)
-}
-
-// And an MBIM modem.
-fn mbim_modem(
-    rt: &HostRuntime,
-    place: Place<'_>,
-    rows: &Rows<'_>,
-    row: &Row<'_>,
-) -> Result<bool, RowFault> {
-    let mut sim = mbim_sim(rt.alloc(), rows, row)?;
-    let same = modem::is_as_told(rt, rt.alloc(), place, rows, row, &mut sim);
-    drop(sim);
-    same
-}
-
-fn mbim_sim(alloc: Global, rows: &Rows<'_>, row: &Row<'_>) -> Result<TunnelSim, RowFault> {
-    let profile = modem::profile_of(alloc, rows, row)?;
-    Ok(TunnelSim::open(alloc, &profile)?)
 }

@@ -1,5 +1,5 @@
-use crate::calls::link_of;
 use crate::tool::ToolRow;
+use call_rows::link_of;
 use child_io::MemSpawner;
 use core_bench::MemBench;
 use file_io::MemFiles;

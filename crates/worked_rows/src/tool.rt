@@ -1,15 +1,12 @@
-use crate::alone::is_same_alone;
 use crate::asked::{asked, requested};
-use crate::bench::BenchRuns;
-use crate::calls::{Call, Noted, made_by, made_calls, push_calls, told_calls};
-use crate::files::FileCalls;
-use crate::found::{Place, Spelled, is, lines_of, text_of};
-use crate::hub::HubCalls;
-use crate::kids::KidCalls;
 use crate::ran::{Ran, run_row};
+use call_rows::{
+    Call, FileCalls, HubCalls, KidCalls, Noted, made_by, made_calls, push_calls, told_calls,
+};
 use core_bench::MemBench;
+use core_rows::{BenchRuns, is_same_alone};
 use kit_io::SinkAnswer;
-use row_text::{Line, Row, RowFault, Rows, words_of};
+use row_text::{Line, Place, Row, RowFault, Rows, Spelled, is, lines_of, text_of, words_of};
 use std::alloc::Global;
 
 /// A run of the program as a tool: its words, how its outside answers, and all that it does. Its

@@ -1,0 +1,49 @@
+//! Clients that send few bytes at a time, and are left alone for a while each time.
+use arrayvec::ArrayVec;
+use hub_io::PLACES;
+
+/// A piece of fewer bytes is no message: the shortest ones, of QMUX and of MBIM, have 12.
+pub(crate) const FEW: usize = 8;
+
+/// Behind so many milliseconds a client is read again.
+const REST: u64 = 2;
+
+/// A client that is read again at a time.
+#[derive(Clone, Copy)]
+struct Rest {
+    name: u64,
+    due: u64,
+}
+
+/// Who is left alone, in the order of their times.
+#[derive(Drop)]
+pub(crate) struct Resting {
+    rests: ArrayVec<Rest, PLACES>,
+}
+
+impl Resting {
+    pub(crate) fn nobody() -> Self {
+        Resting {
+            rests: ArrayVec::new(),
+        }
+    }
+
+    pub(crate) fn is_empty(&self) -> bool {
+        self.rests.is_empty()
+    }
+
+    /// Adds a client, where there is room. It tells whether there was.
+    pub(crate) fn add(&mut self, name: u64, now: u64) -> bool {
+        let due = now.saturating_add(REST);
+        self.rests.try_push(Rest { name, due }).is_ok()
+    }
+
+    /// Takes out the first client, once it is to be read again.
+    pub(crate) fn next(&mut self, now: u64) -> Option<u64> {
+        let due = self.rests.first()?.due;
+        if now < due {
+            return None;
+        }
+        Some(self.rests.remove(0).name)
+    }
+}
