@@ -202,6 +202,7 @@ abbrev pub IsOfTool : Status → Type 0
 IsOfTool status.HubFault = ⊥
 IsOfTool status.TurnsSpent = ⊥
 IsOfTool (status.ProfileFault fault) = ⊥
+IsOfTool (status.RulesFault fault) = ⊥
 IsOfTool _ = Unit {0}
 
 abbrev pub IsOfProxy : Status → Type 0
