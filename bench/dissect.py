@@ -1,5 +1,6 @@
 """Times the showing of captures, and looks at how it ends. `dissect.sh` starts it."""
 import os
+import re
 import shutil
 import struct
 import subprocess
@@ -102,7 +103,22 @@ def run(words, watched=False):
     return usage.ru_utime + usage.ru_stime, peak, child.returncode
 
 
+def instructions(name, messages, words):
+    """How many instructions a byte takes, by the difference of two lengths, where valgrind is there: steadier than times beside other work."""
+    counts = []
+    for length in (MB // 2, 2 * MB):
+        path, written = stream("counted.bin", messages, length)
+        words_of = ["valgrind", "--tool=callgrind", "--callgrind-out-file=/dev/null", program, "dissect", *words, path]
+        said = subprocess.run(words_of, stdout=subprocess.DEVNULL, stderr=subprocess.PIPE, text=True).stderr
+        counts.append((written, int(re.search(r"refs: +([0-9,]+)", said)[1].replace(",", ""))))
+        os.remove(path)
+    (short, few), (long, many) = counts
+    print(f"{name}: {(many - few) / (long - short):.0f} instructions a byte")
+
+
 def rate(name, messages, words, least):
+    if shutil.which("valgrind"):
+        instructions(name, messages, words)
     path, length = stream(f"{name}.bin", messages, megabytes * MB)
     runs = [run([*words, path]) for _ in range(3)]
     check(all(status == 0 for _, _, status in runs), f"{name} ends with 0")

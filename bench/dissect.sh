@@ -1,6 +1,7 @@
 #!/bin/sh
 # How fast captures are shown: streams of ordinary answers, of QMI by the built-in tables and by libqmi's own description of WDS, where WDS_TABLES
-# names that file (qmi-service-wds.json of libqmi's sources), and of MBIM; by processor time, best of three, and of MBIM beside tshark, where that is there. Then the
+# names that file (qmi-service-wds.json of libqmi's sources), and of MBIM; by processor time, best of three, and by instructions, where valgrind is there;
+# and of MBIM beside tshark, where that is there. Then the
 # peak of memory at 1 MB and at 1 GB, and one message of 65,536 bytes with 20,000 TLVs beside as many bytes of ordinary ones. Then captures that are
 # cut, mixed or none: how they end. Fails where the rate is under 30 MB a second (20 by WDS's file), ten times tshark's messages a second are missed,
 # memory grows with the length, a byte of the one message costs more than twice a byte of the others, or an end isn't as docs/DISSECT.md says.

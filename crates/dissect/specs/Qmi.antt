@@ -81,8 +81,8 @@ name_behind [] = []
 name_behind (byte ∷ name) = codes " " ++ byte ∷ name
 
 -- a TLV by its type and its name in the tables
-unfoldable pub named_tlv : ℕ → TlvForm → List ℕ
-named_tlv kind form = tlv_name kind ++ name_behind (encode_utf8_all form.name)
+unfoldable pub named_tlv : ℕ → List ℕ → List ℕ
+named_tlv kind name = tlv_name kind ++ name_behind name
 
 abbrev pub bytes_line : Entry → List ℕ
 bytes_line entry = hex_line (tlv_name entry.kind) entry.value
@@ -90,7 +90,7 @@ bytes_line entry = hex_line (tlv_name entry.kind) entry.value
 -- a value where it reads, shown as its name in the tables says, else its bytes
 abbrev pub value_lines : Entry → TlvForm → Option Value → List ℕ
 value_lines entry form None = bytes_line entry
-value_lines entry form (Some value) = titled_text NumbersAlone form.form (shown_as (encode_utf8_all form.name)) (spaces 1) (named_tlv entry.kind form) value
+value_lines entry form (Some value) = titled_text NumbersAlone form.form (shown_as (encode_utf8_all form.name)) (spaces 1) (named_tlv entry.kind (encode_utf8_all form.name)) value
 
 abbrev pub plain_lines : Entry → Option TlvForm → List ℕ
 plain_lines entry None = bytes_line entry

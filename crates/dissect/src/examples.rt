@@ -1,6 +1,6 @@
 //! Worked examples, letter for letter.
 
-ghost use Rattle.dissect.specs.Examples.{AnswersAreShown, CloseIsShown, CommandsAreShown, EndsAreTold, FragmentIsRefused, IndicationsAreShown, PartShowsNothing, QueryIsShown, StatusesAreShown, StrangeMessagesAreShown, TailsAreShown, TlvsAreShown, VersionInfoIsShown};
+ghost use Rattle.dissect.specs.Examples.{AnswersAreShown, CloseIsShown, CommandsAreShown, EndsAreTold, FragmentIsRefused, IndicationsAreShown, KindsAreJoinedApart, LongBodyIsRefused, OddBodiesAreShown, PartShowsNothing, QueryIsShown, StatusesAreShown, StrangeMessagesAreShown, TailsAreShown, TlvsAreShown, VersionInfoIsShown};
 
 pub fn close_is_shown()
     ensures { CloseIsShown }
@@ -44,6 +44,18 @@ pub fn commands_are_shown()
 
 pub fn answers_are_shown()
     ensures { AnswersAreShown }
+{}
+
+pub fn odd_bodies_are_shown()
+    ensures { OddBodiesAreShown }
+{}
+
+pub fn kinds_are_joined_apart()
+    ensures { KindsAreJoinedApart }
+{}
+
+pub fn long_body_is_refused()
+    ensures { LongBodyIsRefused }
 {}
 
 pub fn statuses_are_shown()

@@ -47,13 +47,13 @@ impl Shows for MbimLines {
         message: &[u8],
     ) -> Result<(), AllocError> {
         let head = MHead::read(message);
-        push_head(alloc, lines, place, head)?;
+        push_head(lines, place, head)?;
         if message.len() < 20 {
-            push_tail(alloc, lines, &message[12..])?;
+            push_tail(lines, &message[12..])?;
             return Ok(());
         }
         let Some(kind) = head.message_kind() else {
-            push_tail(alloc, lines, &message[12..])?;
+            push_tail(lines, &message[12..])?;
             return Ok(());
         };
         match kind {
@@ -73,7 +73,7 @@ impl Shows for MbimLines {
                 Ok(())
             }
             _ => {
-                push_tail(alloc, lines, &message[12..])?;
+                push_tail(lines, &message[12..])?;
                 Ok(())
             }
         }

@@ -138,7 +138,7 @@ fn push_buffer(
 {
     match shape {
         Some(shape) => push_fields(alloc, text, &shape, buffer),
-        None => push_bytes(alloc, text, buffer),
+        None => push_bytes(text, buffer),
     }
 }
 
@@ -155,7 +155,7 @@ fn push_fields(
         Ok(val) => val,
         Err(FieldFault::OutOfMemory) => return Err(AllocError),
         Err(FieldFault::OutOfRange { .. } | FieldFault::Lone { .. }) => {
-            push_bytes(alloc, text, buffer)?;
+            push_bytes(text, buffer)?;
             return Ok(());
         }
     };
@@ -165,11 +165,11 @@ fn push_fields(
 }
 
 // Adds the bytes of a buffer, where there are some.
-fn push_bytes(alloc: Global, text: &mut Octets, buffer: &[u8]) -> Result<(), AllocError>
+fn push_bytes(text: &mut Octets, buffer: &[u8]) -> Result<(), AllocError>
     ensures { OnOk result (text.new ≡ text.old ++ bytes_lines buffer.now) }
 {
     if buffer.is_empty() {
         return Ok(());
     }
-    push_hex_line(alloc, text, "buffer", buffer)
+    push_hex_line(text, "buffer", buffer)
 }

@@ -1,10 +1,10 @@
 ghost use Rattle.std.specs.Prelude.{◌≡◌, ◌++◌, decimal, OnOk};
-ghost use Rattle.dissect.specs.Lines.{hex, hex_line};
+ghost use Rattle.dissect.specs.Lines.{hex_line};
 
 use itoa::Buffer;
 use kit_bytes::Octets;
-use print_text::{hex_text, push_line};
-use std::alloc::{AllocError, Global};
+use print_text::{push_front, push_hex};
+use std::alloc::AllocError;
 
 /// Adds a number.
 pub(crate) fn push_decimal(text: &mut Octets, number: u64) -> Result<(), AllocError>
@@ -20,23 +20,12 @@ pub(crate) fn push_number(text: &mut Octets, front: &str, number: u64) -> Result
     text.extend_from_slices(front.as_bytes(), Buffer::new().format(number).as_bytes())
 }
 
-/// Adds bytes in hexadecimal.
-pub(crate) fn push_hex(alloc: Global, text: &mut Octets, bytes: &[u8]) -> Result<(), AllocError>
-    ensures { OnOk result (text.new ≡ text.old ++ hex bytes.now) }
-{
-    let digits = hex_text(alloc, bytes)?;
-    text.extend_from_slice(digits.as_slice())
-}
-
 /// Adds a line inside a message, with a name and bytes.
-pub(crate) fn push_hex_line(
-    alloc: Global,
-    text: &mut Octets,
-    name: &str,
-    bytes: &[u8],
-) -> Result<(), AllocError>
+#[tactic(auto, unfolding(print_text::specs::Lines::line))]
+pub(crate) fn push_hex_line(text: &mut Octets, name: &str, bytes: &[u8]) -> Result<(), AllocError>
     ensures { OnOk result (text.new ≡ text.old ++ hex_line name.now bytes.now) }
 {
-    let digits = hex_text(alloc, bytes)?;
-    push_line(text, b"  ", name, digits.as_slice())
+    push_front(text, b"  ", name)?;
+    push_hex(text, bytes)?;
+    text.extend_from_slice(b"\n")
 }

@@ -7,10 +7,11 @@ ghost use Rattle.qmicli_print.specs.Words.{word_of};
 ghost use Rattle.tlv_codec.specs.Tlv.{tlvs_of};
 ghost use Rattle.dissect.specs.Qmi.{described, entry_lines, forms_for, framed_lines, head_kind, head_line, id_digits, is_indication, kind_word, lines_at, service_by, title, unframed_line};
 
-use crate::parts::{push_decimal, push_hex, push_hex_line, push_number};
+use crate::parts::{push_decimal, push_hex_line, push_number};
 use crate::qmi_tlvs::push_each;
 use kit_bytes::{Octets, u16_bytes};
 use message_tables::{Message, Tables, TlvShape};
+use print_text::push_hex;
 use qmicli_print::service_word;
 use qmux_frame::{Head, MessageKind, tlvs_in};
 use std::alloc::{AllocError, Global};
@@ -32,21 +33,16 @@ pub(crate) fn push_message(
     if head.framed {
         push_framed(alloc, tables, text, place, head, tlvs_in(message))
     } else {
-        push_unframed(alloc, text, place, message)
+        push_unframed(text, place, message)
     }
 }
 
-fn push_unframed(
-    alloc: Global,
-    text: &mut Octets,
-    place: u64,
-    message: &[u8],
-) -> Result<(), AllocError>
+fn push_unframed(text: &mut Octets, place: u64, message: &[u8]) -> Result<(), AllocError>
     ensures { OnOk result (text.new ≡ text.old ++ unframed_line place message.now) }
 {
     push_decimal(text, place)?;
     text.extend_from_slice(b" unframed: ")?;
-    push_hex(alloc, text, message)?;
+    push_hex(text, message)?;
     text.extend_from_slice(b"\n")?;
     Ok(())
 }
@@ -64,7 +60,7 @@ fn push_framed(
 {
     let kind = head.kind();
     let form = tables.message(head.service, head.message, is_indication(kind));
-    push_head(alloc, text, place, head, form)?;
+    push_head(text, place, head, form)?;
     push_tlvs(alloc, text, kind, forms_for(kind, form), bytes)?;
     Ok(())
 }
@@ -90,7 +86,6 @@ fn forms_for<'a>(kind: MessageKind, form: Option<&'a Message>) -> &'a [TlvShape]
 
 // Adds the line of the head.
 fn push_head(
-    alloc: Global,
     text: &mut Octets,
     place: u64,
     head: Head,
@@ -102,7 +97,7 @@ fn push_head(
     text.extend_from_slice(b" ")?;
     push_service(text, head.service, service_word(head.service))?;
     text.extend_from_slice(b" 0x")?;
-    push_id(alloc, text, head.message)?;
+    push_id(text, head.message)?;
     push_number(text, kind_word(head.kind()), u64::from(head.client))?;
     push_number(text, " number ", u64::from(head.number))?;
     push_title(text, form)?;
@@ -121,11 +116,11 @@ fn push_service(text: &mut Octets, service: u8, word: Option<&str>) -> Result<()
 }
 
 // Adds a message id in four digits.
-fn push_id(alloc: Global, text: &mut Octets, id: u16) -> Result<(), AllocError>
+fn push_id(text: &mut Octets, id: u16) -> Result<(), AllocError>
     ensures { OnOk result (text.new ≡ text.old ++ id_digits id) }
 {
     let [low, high] = u16_bytes(id);
-    push_hex(alloc, text, &[high, low])
+    push_hex(text, &[high, low])
 }
 
 fn kind_word(kind: MessageKind) -> &'static str
@@ -163,7 +158,7 @@ fn push_tlvs(
         Ok(list) => list,
         Err(TlvFault::OutOfMemory) => return Err(AllocError),
         Err(TlvFault::ShortHead { .. } | TlvFault::ShortValue { .. }) => {
-            push_hex_line(alloc, text, "tlvs", bytes)?;
+            push_hex_line(text, "tlvs", bytes)?;
             return Ok(());
         }
     };

@@ -7,14 +7,17 @@ ghost use Rattle.dissect.specs.Places.{StandsWithin, entry_at};
 ghost use Rattle.dissect.specs.Qmi.{bytes_line, is_outcome, name_behind, named_tlv, outcome_line, plain_lines, tlv_lines, tlv_name, value_lines};
 
 use crate::parts::{push_hex_line, push_number};
-use kit_bytes::{Octets, Text, u16_at};
+use kit_bytes::{Octets, u16_at};
 use message_tables::TlvShape;
 use qmi_values::Val;
-use qmicli_print::titled_text;
+use qmicli_print::print_titled;
 use qmux_frame::MessageKind;
 use std::alloc::{AllocError, Global};
 use tlv_codec::Tlv;
 use tlv_values::read_value;
+
+/// How many bytes are set aside for a TLV's type and name. Few are longer.
+const TITLE_ROOM: usize = 64;
 
 /// Adds the lines of the TLVs that stand at these places of some bytes.
 pub(crate) fn push_each(
@@ -112,9 +115,9 @@ fn push_value(
     let Some(val) = val else {
         return push_bytes(alloc, text, tlv, value);
     };
-    let title = named_tlv(alloc, tlv, form)?;
-    let lines = titled_text(alloc, 1, &title, &form.name, &form.shape, &val)?;
-    text.extend_from_slice(lines.as_slice())
+    let name = form.name.as_str();
+    let title = named_tlv(alloc, tlv, name)?;
+    print_titled(alloc, text, b"  ", title.as_str(), name, &form.shape, &val)
 }
 
 // Adds the bytes of a TLV.
@@ -122,14 +125,15 @@ fn push_bytes(alloc: Global, text: &mut Octets, tlv: u8, value: &[u8]) -> Result
     ensures { OnOk result (text.new ≡ text.old ++ bytes_line (record { kind = tlv; value = value.now })) }
 {
     let name = tlv_name(alloc, tlv)?;
-    push_hex_line(alloc, text, name.as_str(), value)
+    push_hex_line(text, name.as_str(), value)
 }
 
 // A TLV by its type.
 fn tlv_name(alloc: Global, tlv: u8) -> Result<String, AllocError>
     ensures { IfOk result (λ text. string_bytes text ≡ tlv_name tlv) }
 {
-    let mut text = String::from_str(alloc, "0x")?;
+    let mut text = String::with_capacity(alloc, TITLE_ROOM)?;
+    text.push_str("0x")?;
     text.push_str(digit(tlv / 16))?;
     text.push_str(digit(tlv % 16))?;
     Ok(text)
@@ -137,12 +141,12 @@ fn tlv_name(alloc: Global, tlv: u8) -> Result<String, AllocError>
 
 // A TLV by its type and its name in the tables.
 #[tactic(auto, unfolding(crate::specs::Qmi::named_tlv))]
-fn named_tlv(alloc: Global, tlv: u8, form: &TlvShape) -> Result<Text, AllocError>
-    ensures { IfOk result (λ text. encode_utf8_all text ≡ named_tlv tlv (tlv_view form.now)) }
+fn named_tlv(alloc: Global, tlv: u8, name: &str) -> Result<String, AllocError>
+    ensures { IfOk result (λ text. string_bytes text ≡ named_tlv tlv name.now) }
 {
     let mut text = tlv_name(alloc, tlv)?;
-    push_name(&mut text, form.name.as_str())?;
-    Ok(Text::from(text))
+    push_name(&mut text, name)?;
+    Ok(text)
 }
 
 // Adds a name behind a blank, where there is one.

@@ -9,9 +9,13 @@ spaces level = replicate (2 * level) 32
 unfoldable pub deeper : List ℕ → List ℕ
 deeper indent = indent ++ codes "  "
 
+-- what stands before a line's text
+unfoldable pub front : List ℕ → List ℕ → List ℕ
+front indent name = indent ++ name ++ codes ": "
+
 -- a line with a name and a text
 unfoldable pub line : List ℕ → List ℕ → List ℕ → List ℕ
-line indent name shown = indent ++ name ++ codes ": " ++ shown ++ codes "\n"
+line indent name shown = front indent name ++ shown ++ codes "\n"
 
 -- a line with a name alone
 unfoldable pub heading : List ℕ → List ℕ → List ℕ

@@ -1,5 +1,5 @@
 ghost use Rattle.std.specs.Prelude.{◌≡◌, ◌++◌, IfOk, OnOk};
-ghost use Rattle.print_text.specs.Lines.{deeper, heading, line, or_ok};
+ghost use Rattle.print_text.specs.Lines.{deeper, front, heading, line, or_ok};
 
 use kit_bytes::Octets;
 use std::alloc::{AllocError, Global};
@@ -9,9 +9,18 @@ use std::alloc::{AllocError, Global};
 pub fn push_line(out: &mut Octets, indent: &[u8], name: &str, text: &[u8]) -> Result<(), AllocError>
     ensures { OnOk result (out.new ≡ out.old ++ line indent.now name.now text.now) }
 {
+    push_front(out, indent, name)?;
+    out.extend_from_slices(text, b"\n")?;
+    Ok(())
+}
+
+/// Adds what stands before a line's text: its name, behind the spaces of its level.
+#[tactic(auto, unfolding(crate::specs::Lines::front))]
+pub fn push_front(out: &mut Octets, indent: &[u8], name: &str) -> Result<(), AllocError>
+    ensures { OnOk result (out.new ≡ out.old ++ front indent.now name.now) }
+{
     out.extend_from_slices(indent, name.as_bytes())?;
-    out.extend_from_slices(b": ", text)?;
-    out.extend_from_slice(b"\n")?;
+    out.extend_from_slice(b": ")?;
     Ok(())
 }
 
@@ -30,8 +39,8 @@ pub fn push_heading(out: &mut Octets, indent: &[u8], name: &str) -> Result<(), A
 pub fn deeper(alloc: Global, indent: &[u8]) -> Result<Octets, AllocError>
     ensures { IfOk result (λ more. more ≡ deeper indent.now) }
 {
-    let mut more = Octets::from_slice(alloc, indent)?;
-    more.extend_from_slice(b"  ")?;
+    let mut more = Octets::new(alloc);
+    more.extend_from_slices(indent, b"  ")?;
     Ok(more)
 }
 

@@ -13,12 +13,22 @@ use std::alloc::{AllocError, Global};
 pub fn worded(alloc: Global, number: u64, word: Option<&str>) -> Result<Octets, AllocError>
     ensures { IfOk result (λ text. text ≡ worded number (option_copied word.entry)) }
 {
-    let mut text = Octets::from_slice(alloc, Buffer::new().format(number).as_bytes())?;
+    let mut text = Octets::new(alloc);
+    push_worded(&mut text, number, word)?;
+    Ok(text)
+}
+
+/// Adds a number with its word, where it has one.
+#[tactic(auto, unfolding(crate::specs::Texts::worded))]
+pub fn push_worded(text: &mut Octets, number: u64, word: Option<&str>) -> Result<(), AllocError>
+    ensures { OnOk result (text.new ≡ text.old ++ worded number (option_copied word.entry)) }
+{
+    text.extend_from_slice(Buffer::new().format(number).as_bytes())?;
     if let Some(word) = word {
         text.extend_from_slices(b" (", word.as_bytes())?;
         text.extend_from_slice(b")")?;
     }
-    Ok(text)
+    Ok(())
 }
 
 /// Adds these words and a number behind them.
@@ -63,12 +73,21 @@ pub fn ipv4_text(alloc: Global, address: &[u8]) -> Result<Octets, AllocError>
     ensures { IfOk result (λ text. text ≡ ipv4_text address.now) }
 {
     let mut text = Octets::new(alloc);
-    let [first, rest @ ..] = address else {
-        return Ok(text);
-    };
-    push_number(&mut text, "", *first)?;
-    push_dotted(&mut text, rest)?;
+    push_ipv4(&mut text, address)?;
     Ok(text)
+}
+
+/// Adds the bytes of an IPv4 address in decimal, with dots between.
+#[tactic(auto, unfolding(crate::specs::Texts::ipv4_text))]
+pub fn push_ipv4(text: &mut Octets, address: &[u8]) -> Result<(), AllocError>
+    ensures { OnOk result (text.new ≡ text.old ++ ipv4_text address.now) }
+{
+    let [first, rest @ ..] = address else {
+        return Ok(());
+    };
+    push_number(text, "", *first)?;
+    push_dotted(text, rest)?;
+    Ok(())
 }
 
 // Adds bytes in decimal, with a dot in front of each.
@@ -86,10 +105,18 @@ pub fn hex_text(alloc: Global, bytes: &[u8]) -> Result<Octets, AllocError>
     ensures { IfOk result (λ text. text ≡ flat_map hex_pair bytes.now) }
 {
     let mut text = Octets::new(alloc);
+    push_hex(&mut text, bytes)?;
+    Ok(text)
+}
+
+/// Adds bytes in hexadecimal.
+pub fn push_hex(text: &mut Octets, bytes: &[u8]) -> Result<(), AllocError>
+    ensures { OnOk result (text.new ≡ text.old ++ flat_map hex_pair bytes.now) }
+{
     for byte in bytes {
         text.extend_from_slice(&hex_pair(*byte))?;
     }
-    Ok(text)
+    Ok(())
 }
 
 /// A byte as two hexadecimal digits in upper case.

@@ -7,5 +7,5 @@ mod shown;
 mod texts;
 
 pub use answer::qmi_text;
-pub use print::{print_field, titled_text, value_text};
+pub use print::{print_field, print_titled};
 pub use shown::service_word;

@@ -1,17 +1,19 @@
-ghost use Rattle.std.specs.Prelude.{◌≡◌, ◌++◌, encode_utf8_all, map, IfOk, OnOk, OnErr};
+ghost use Rattle.std.specs.Prelude.{◌≡◌, ◌++◌, encode_utf8_all, map, OnOk, OnErr};
+ghost use Rattle.std.specs.List.{flat_map};
 ghost use Rattle.qmi_shapes.specs.View.{fields_of, field_view, shape_view};
 ghost use Rattle.qmi_values.specs.View.{val_view};
-ghost use Rattle.print_text.specs.Lines.{each_text, spaces};
+ghost use Rattle.print_text.specs.Lines.{each_text, line, spaces};
 ghost use Rattle.print_text.specs.declared.wording.Wording.TheVariants.{NumbersAlone, WithWords};
 ghost use Rattle.qmicli_print.specs.declared.shown.Shown.TheVariants.{Plainly};
 ghost use Rattle.qmicli_print.specs.Printed.{fields_text, list_text, titled_text, value_text};
+ghost use Rattle.qmicli_print.specs.Texts.{escaped, hex_of, number_text};
 ghost use Rattle.qmicli_print.specs.Words.{shown_as};
 
 use crate::shown::{Shown, shown_for};
-use crate::texts::{escaped_text, hex_text, number_text};
+use crate::texts::{push_escaped, push_hex, push_number};
 use itoa::Buffer;
 use kit_bytes::{Octets, Text};
-use print_text::{Wording, deeper, push_heading, push_line};
+use print_text::{Wording, deeper, push_front, push_heading, push_line};
 use qmi_shapes::{Shape, ShapeField};
 use qmi_values::Val;
 use std::alloc::{AllocError, Global};
@@ -28,61 +30,45 @@ pub fn print_field(
     ensures ok { OnOk result (out.new ≡ out.old ++ value_text WithWords (shape_view shape.now) (spaces level) (encode_utf8_all name.now) (val_view val.now)) }
     ensures err { OnErr result (out.new ≡ out.old) }
 {
-    let text = field_text(alloc, Wording::WithWords, level, name, name, shape, val)?;
-    out.extend_from_slice(text.as_slice())
-}
-
-/// The text of a field at a level, with no words for its numbers.
-pub fn value_text(
-    alloc: Global,
-    level: u8,
-    name: &Text,
-    shape: &Shape,
-    val: &Val,
-) -> Result<Octets, AllocError>
-    ensures { IfOk result (λ text. text ≡ value_text NumbersAlone (shape_view shape.now) (spaces level) (encode_utf8_all name.now) (val_view val.now)) }
-{
-    titled_text(alloc, level, name, name, shape, val)
-}
-
-/// The text of a field at a level under a title, shown as its own name says, with no words for its numbers.
-pub fn titled_text(
-    alloc: Global,
-    level: u8,
-    title: &Text,
-    name: &Text,
-    shape: &Shape,
-    val: &Val,
-) -> Result<Octets, AllocError>
-    ensures { IfOk result (λ text. text ≡ titled_text NumbersAlone (shape_view shape.now) (shown_as (encode_utf8_all name.now)) (spaces level) (encode_utf8_all title.now) (val_view val.now)) }
-{
-    field_text(alloc, Wording::NumbersAlone, level, title, name, shape, val)
-}
-
-fn field_text(
-    alloc: Global,
-    wording: Wording,
-    level: u8,
-    title: &Text,
-    name: &Text,
-    shape: &Shape,
-    val: &Val,
-) -> Result<Octets, AllocError>
-    ensures { IfOk result (λ text. text ≡ titled_text wording (shape_view shape.now) (shown_as (encode_utf8_all name.now)) (spaces level) (encode_utf8_all title.now) (val_view val.now)) }
-{
+    let name = name.as_str();
     let indent = vec![in alloc; b' '; 2 * usize::from(level)]?;
     let mut text = Octets::new(alloc);
     print_value(
         alloc,
-        wording,
-        shown_for(name.as_str()),
+        Wording::WithWords,
+        shown_for(name),
         &mut text,
         &indent,
-        title.as_str(),
+        name,
         shape,
         val,
     )?;
-    Ok(text)
+    out.extend_from_slice(text.as_slice())
+}
+
+/// Adds the text of a field behind an indent under a title, shown as its own name says, with no words
+/// for its numbers.
+pub fn print_titled(
+    alloc: Global,
+    out: &mut Octets,
+    indent: &[u8],
+    title: &str,
+    name: &str,
+    shape: &Shape,
+    val: &Val,
+) -> Result<(), AllocError>
+    ensures { OnOk result (out.new ≡ out.old ++ titled_text NumbersAlone (shape_view shape.now) (shown_as name.now) indent.now title.now (val_view val.now)) }
+{
+    print_value(
+        alloc,
+        Wording::NumbersAlone,
+        shown_for(name),
+        out,
+        indent,
+        title,
+        shape,
+        val,
+    )
 }
 
 // Adds the text of a value.
@@ -104,8 +90,7 @@ fn print_value(
             let Some(number) = val.as_u64() else {
                 return Ok(());
             };
-            let text = number_text(alloc, wording, shown, number)?;
-            push_line(out, indent, title, text.as_slice())
+            print_number(wording, shown, out, indent, title, number)
         }
         Shape::I(_) => {
             let Some(number) = val.as_i64() else {
@@ -117,8 +102,7 @@ fn print_value(
             let Some(octets) = val.as_octets() else {
                 return Ok(());
             };
-            let text = escaped_text(alloc, octets.as_slice())?;
-            push_line(out, indent, title, text.as_slice())
+            print_string(out, indent, title, octets.as_slice())
         }
         Shape::List(_, element) => {
             let Some(vals) = val.as_list() else {
@@ -153,6 +137,48 @@ fn print_value(
     }
 }
 
+// Adds the line of a number.
+#[tactic(auto, unfolding(print_text::specs::Lines::line))]
+fn print_number(
+    wording: Wording,
+    shown: Shown,
+    out: &mut Octets,
+    indent: &[u8],
+    title: &str,
+    number: u64,
+) -> Result<(), AllocError>
+    ensures { OnOk result (out.new ≡ out.old ++ line indent.now title.now (number_text wording shown number)) }
+{
+    push_front(out, indent, title)?;
+    push_number(out, wording, shown, number)?;
+    out.extend_from_slice(b"\n")
+}
+
+// Adds the line of a text.
+#[tactic(auto, unfolding(print_text::specs::Lines::line))]
+fn print_string(
+    out: &mut Octets,
+    indent: &[u8],
+    title: &str,
+    octets: &[u8],
+) -> Result<(), AllocError>
+    ensures { OnOk result (out.new ≡ out.old ++ line indent.now title.now (flat_map escaped octets.now)) }
+{
+    push_front(out, indent, title)?;
+    push_escaped(out, octets)?;
+    out.extend_from_slice(b"\n")
+}
+
+// Adds the line of a list of bytes.
+#[tactic(auto, unfolding(print_text::specs::Lines::line))]
+fn print_bytes(out: &mut Octets, indent: &[u8], title: &str, vals: &[Val]) -> Result<(), AllocError>
+    ensures { OnOk result (out.new ≡ out.old ++ line indent.now title.now (flat_map hex_of (map val_view vals.now))) }
+{
+    push_front(out, indent, title)?;
+    push_hex(out, vals)?;
+    out.extend_from_slice(b"\n")
+}
+
 // Adds the text of a list.
 #[cycle(print)]
 fn print_list(
@@ -168,8 +194,7 @@ fn print_list(
     ensures { OnOk result (out.new ≡ out.old ++ list_text shown (titled_text wording (shape_view element.now) Plainly) indent.now title.now (map val_view vals.now)) }
 {
     if shown.is_bytes() {
-        let text = hex_text(alloc, vals)?;
-        return push_line(out, indent, title, text.as_slice());
+        return print_bytes(out, indent, title, vals);
     }
     let mut count = Buffer::new();
     push_line(out, indent, title, count.format(vals.len()).as_bytes())?;

@@ -1,33 +1,33 @@
-ghost use Rattle.std.specs.Prelude.{◌≡◌, ◌++◌, map, IfOk, OnOk};
+ghost use Rattle.std.specs.Prelude.{◌≡◌, ◌++◌, map, OnOk};
 ghost use Rattle.std.specs.List.{flat_map};
 ghost use Rattle.qmi_values.specs.View.{val_view};
 ghost use Rattle.qmicli_print.specs.Texts.{address_text, escaped, hex_of, number_text};
 
 use crate::shown::{Shown, word};
 use kit_bytes::Octets;
-use print_text::{Wording, hex_pair, ipv4_text, worded};
+use print_text::{Wording, hex_pair, push_ipv4, push_worded};
 use qmi_values::Val;
-use std::alloc::{AllocError, Global};
+use std::alloc::AllocError;
 
-/// A number as it is shown.
-pub fn number_text(
-    alloc: Global,
+/// Adds a number as it is shown.
+pub fn push_number(
+    text: &mut Octets,
     wording: Wording,
     shown: Shown,
     number: u64,
-) -> Result<Octets, AllocError>
-    ensures { IfOk result (λ text. text ≡ number_text wording shown number) }
+) -> Result<(), AllocError>
+    ensures { OnOk result (text.new ≡ text.old ++ number_text wording shown number) }
 {
     if shown.is_address() {
-        return address_text(alloc, number);
+        return push_address(text, number);
     }
-    worded(alloc, number, wording.shown(word(shown, number)))
+    push_worded(text, number, wording.shown(word(shown, number)))
 }
 
-// A number as an IPv4 address, the top byte first.
+// Adds a number as an IPv4 address, the top byte first.
 #[tactic(auto, unfolding(crate::specs::Texts::address_text))]
-fn address_text(alloc: Global, number: u64) -> Result<Octets, AllocError>
-    ensures { IfOk result (λ text. text ≡ address_text number) }
+fn push_address(text: &mut Octets, number: u64) -> Result<(), AllocError>
+    ensures { OnOk result (text.new ≡ text.old ++ address_text number) }
 {
     let address = [
         (number / 16_777_216 % 256) as u8,
@@ -35,22 +35,21 @@ fn address_text(alloc: Global, number: u64) -> Result<Octets, AllocError>
         (number / 256 % 256) as u8,
         (number % 256) as u8,
     ];
-    ipv4_text(alloc, &address)
+    push_ipv4(text, &address)
 }
 
-/// The bytes of a text: printable ASCII but the backslash stands as it is, and all other bytes in
+/// Adds the bytes of a text: printable ASCII but the backslash stands as it is, and all other bytes in
 /// hexadecimal.
-pub fn escaped_text(alloc: Global, octets: &[u8]) -> Result<Octets, AllocError>
-    ensures { IfOk result (λ text. text ≡ flat_map escaped octets.now) }
+pub fn push_escaped(text: &mut Octets, octets: &[u8]) -> Result<(), AllocError>
+    ensures { OnOk result (text.new ≡ text.old ++ flat_map escaped octets.now) }
 {
-    let mut text = Octets::new(alloc);
     for byte in octets {
-        push_escaped(&mut text, *byte)?;
+        push_escaped_byte(text, *byte)?;
     }
-    Ok(text)
+    Ok(())
 }
 
-fn push_escaped(text: &mut Octets, byte: u8) -> Result<(), AllocError>
+fn push_escaped_byte(text: &mut Octets, byte: u8) -> Result<(), AllocError>
     ensures { OnOk result (text.new ≡ text.old ++ escaped byte) }
 {
     match byte {
@@ -59,18 +58,17 @@ fn push_escaped(text: &mut Octets, byte: u8) -> Result<(), AllocError>
     }
 }
 
-/// A list of bytes in hexadecimal.
-pub fn hex_text(alloc: Global, vals: &[Val]) -> Result<Octets, AllocError>
-    ensures { IfOk result (λ text. text ≡ flat_map hex_of (map val_view vals.now)) }
+/// Adds a list of bytes in hexadecimal.
+pub fn push_hex(text: &mut Octets, vals: &[Val]) -> Result<(), AllocError>
+    ensures { OnOk result (text.new ≡ text.old ++ flat_map hex_of (map val_view vals.now)) }
 {
-    let mut text = Octets::new(alloc);
     for val in vals {
-        push_hex(&mut text, val)?;
+        push_hex_byte(text, val)?;
     }
-    Ok(text)
+    Ok(())
 }
 
-fn push_hex(text: &mut Octets, val: &Val) -> Result<(), AllocError>
+fn push_hex_byte(text: &mut Octets, val: &Val) -> Result<(), AllocError>
     ensures { OnOk result (text.new ≡ text.old ++ hex_of (val_view val.now)) }
 {
     if let Some(number) = val.as_u64() {

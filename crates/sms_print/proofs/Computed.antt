@@ -5,10 +5,10 @@ use Rattle.std.specs.Char.{encode_utf8}
 use Rattle.std.specs.Fmt.{digits}
 use Rattle.std.specs.Str.{chars}
 use Rattle.std.proofs.lemmas.Str.{encodes_same}
-use Rattle.print_text.specs.Lines.{line}
+use Rattle.print_text.specs.Lines.{front, line}
 
 unfoldable pub computed : ⊤
-unfolding digits chars encode_utf8 line
+unfolding digits chars encode_utf8 front line
 computed = tt
 
 no_bytes : (bytes : List ℕ) → (length bytes == 0) ≡ true → bytes ≡ []
