@@ -30,6 +30,8 @@ starts() {
 }
 # expects WHAT GOT: that they are the same
 expects() { [ "$1" = "$2" ] || { echo "expected: $1"; echo "     got: $2"; failed=1; }; }
+# late MILLISECONDS: that it isn't earlier (a fifth tick comes behind four whole ones)
+late() { [ "$(date +%s%3N)" -ge "$1" ] || { echo "an answer isn't late"; failed=1; }; }
 qmi() { timeout 2 "$program" qmicli -d "$folder/qmi" "$@" 2>&1; }
 mbim() { timeout 2 "$program" mbimcli -d "$folder/mbim" "$@" 2>&1; }
 
@@ -39,13 +41,14 @@ basic=a289cc33-bcbb-8b4f-b6b0-133ec2aae6df
 cat >"$folder/qmi.json" <<END
 {"answers": [{"service": 2, "message": 35, "data": "01010039"}],
  "faults": [{"service": 3, "message": 32, "nth": 1, "error": 3}, {"service": 2, "message": 34, "nth": 2, "error": null},
-            {"service": 2, "message": 33, "nth": 1, "hangs_up": true}],
- "indications": [{"service": 3, "message": 2, "data": "", "after": {"service": 3, "message": 32}}]}
+            {"service": 2, "message": 34, "nth": 3, "ticks": 5}, {"service": 2, "message": 33, "nth": 1, "hangs_up": true}],
+ "indications": [{"service": 3, "message": 2, "data": "", "after": {"service": 3, "message": 32}},
+                 {"service": 0, "message": 40, "data": "", "each": 1}]}
 END
 cat >"$folder/mbim.json" <<END
 {"answers": [{"service": "$basic", "command": 11, "data": "1f00000000000000000000000000000000000000"}],
  "faults": [{"service": "$basic", "command": 3, "nth": 1, "error": 14}, {"service": "$basic", "command": 1, "nth": 1, "error": null},
-            {"service": "$basic", "command": 2, "nth": 1, "hangs_up": true}],
+            {"service": "$basic", "command": 1, "nth": 2, "ticks": 5}, {"service": "$basic", "command": 2, "nth": 1, "hangs_up": true}],
  "indications": [{"service": "$basic", "command": 11, "data": "", "after": {"service": "$basic", "command": 11}}]}
 END
 starts qmi --rules="$folder/qmi.json"
@@ -53,7 +56,9 @@ starts mbim --kind=mbim --rules="$folder/mbim.json"
 expects "Revision: 9" "$(qmi --dms-get-revision)"
 expects "Model: Sim-1" "$(qmi --dms-get-model)"
 expects 124 "$(qmi --dms-get-model; echo $?)"
+began=$(date +%s%3N)
 expects "Model: Sim-1" "$(qmi --dms-get-model)"
+late $((began + 400))
 expects "error: link ended" "$(qmi --dms-get-manufacturer)"
 expects "Manufacturer: Example" "$(qmi --dms-get-manufacturer)"
 expects "error: denied 3" "$(qmi --nas-get-signal-strength)"
@@ -61,7 +66,9 @@ expects "Signal:" "$(qmi --nas-get-signal-strength | head -n 1)"
 expects "error: denied 14" "$(mbim --query-radio-state)"
 expects 0 "$(mbim --query-radio-state >"$folder/out"; echo $?)"
 expects 124 "$(mbim --query-device-caps; echo $?)"
+began=$(date +%s%3N)
 expects 0 "$(mbim --query-device-caps >"$folder/out"; echo $?)"
+late $((began + 400))
 expects "error: link ended" "$(mbim --query-subscriber-ready-status)"
 expects 0 "$(mbim --query-subscriber-ready-status >"$folder/out"; echo $?)"
 expects 31 "$(mbim --query-signal-state | grep -o 31)"

@@ -12,9 +12,11 @@ use Rattle.modem_rules.specs.declared.kind.RequestKind.{RequestKind}
 use Rattle.modem_rules.specs.declared.kind.RequestKind.TheVariants.{Message, Command}
 use Rattle.modem_rules.specs.declared.rules.AnswerRule.{AnswerRule}
 use Rattle.modem_rules.specs.declared.rules.Failure.{Failure}
-use Rattle.modem_rules.specs.declared.rules.Failure.TheVariants.{Refused, Silent, HungUp}
+use Rattle.modem_rules.specs.declared.rules.Failure.TheVariants.{Refused, Silent, HungUp, Late}
 use Rattle.modem_rules.specs.declared.rules.FaultRule.{FaultRule}
 use Rattle.modem_rules.specs.declared.rules.IndicationRule.{IndicationRule}
+use Rattle.modem_rules.specs.declared.rules.When.{When}
+use Rattle.modem_rules.specs.declared.rules.When.TheVariants.{After, Each}
 
 -- one member after another, if each has such a value
 infixl 10 ◌>>=◌
@@ -103,15 +105,23 @@ hang_up_if (Some true) = Some HungUp
 hang_up_if (Some false) = None
 hang_up_if None = None
 
--- true alone says that the connection ends
-abbrev pub hang_up_in : Data → Option Failure
-hang_up_in members = hang_up_if (option_and_then as_bool (get (codes "hangs_up") members))
+-- how many ticks of the clock a member says: at least one, and at most 32 bits
+abbrev pub ticks_in : (name : List ℕ) → Data → Option ℕ
+ticks_in name members = number_in name 1 0xffff_ffff members
+
+-- true alone says that the connection ends; else the answer is late by so many ticks
+abbrev pub other_failure : (hangs_up : Option Data) → (members : Data) → Option Failure
+other_failure None members = option_map Late (ticks_in (codes "ticks") members)
+other_failure (Some value) members = hang_up_if (as_bool value)
+
+abbrev pub other_failure_in : Data → Option Failure
+other_failure_in members = other_failure (get (codes "hangs_up") members) members
 
 abbrev pub failure_by : Kind → (error : Option Data) → (members : Data) → Option Failure
-failure_by kind None members = hang_up_in members
+failure_by kind None members = other_failure_in members
 failure_by kind (Some value) members = failure_of kind value
 
--- by its error, or that it hangs up where it has no error
+-- by its error, or otherwise where it has no error
 unfoldable pub failure_in : Kind → Data → Option Failure
 failure_in kind members = failure_by kind (get (codes "error") members) members
 
@@ -122,10 +132,17 @@ fault_rule kind members = do
   failure ← failure_in kind members
   if_members 4 members (record { kind = request; nth = nth; failure = failure })
 
+abbrev pub when_by : Kind → (after : Option Data) → (members : Data) → Option When
+when_by kind None members = option_map Each (ticks_in (codes "each") members)
+when_by kind (Some request) members = option_map After (kind_alone kind request)
+
+-- behind requests of a kind, or each so many ticks where no kind is named
+unfoldable pub when_in : Kind → Data → Option When
+when_in kind members = when_by kind (get (codes "after") members) members
+
 unfoldable pub indication_rule : Kind → Data → Option IndicationRule
 indication_rule kind members = do
-  request ← get (codes "after") members
-  after ← kind_alone kind request
+  when ← when_in kind members
   indicated ← kind_in kind members
   bytes ← data_in members
-  if_members 4 members (record { after = after; kind = indicated; «data» = bytes })
+  if_members 4 members (record { when = when; kind = indicated; «data» = bytes })

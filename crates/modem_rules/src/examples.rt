@@ -1,6 +1,6 @@
 //! Worked examples of values that are rules, and of some that are none.
 
-ghost use Rattle.modem_rules.specs.Examples.{ErrorsHaveTheirSize, HangingUpIsSpelledOut, RulesHaveNoOtherMembers, SilenceIsSpelledOut};
+ghost use Rattle.modem_rules.specs.Examples.{ErrorsHaveTheirSize, HangingUpIsSpelledOut, IndicationsHaveOneTime, LateAnswersAreCounted, RulesHaveNoOtherMembers, SilenceIsSpelledOut};
 
 /// A rule has the members that its list asks for, and no others.
 pub fn rules_have_no_other_members()
@@ -20,4 +20,14 @@ pub fn hanging_up_is_spelled_out()
 /// An error of QMI has 16 bits, and a status of MBIM 32.
 pub fn errors_have_their_size()
     ensures { ErrorsHaveTheirSize }
+{}
+
+/// A fault that is answered late says by how many ticks, and then has no error and hangs nobody up.
+pub fn late_answers_are_counted()
+    ensures { LateAnswersAreCounted }
+{}
+
+/// An indication is sent behind requests of a kind or each so many ticks, and not both.
+pub fn indications_have_one_time()
+    ensures { IndicationsHaveOneTime }
 {}

@@ -14,4 +14,4 @@ pub use data::{LONGEST_DATA, RuleData};
 pub use fault::{RuleList, RulesFault};
 pub use kind::RequestKind;
 pub use read::read_rules;
-pub use rules::{AnswerRule, Failure, FaultRule, IndicationRule, Rules};
+pub use rules::{AnswerRule, Failure, FaultRule, IndicationRule, Rules, When};

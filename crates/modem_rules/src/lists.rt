@@ -3,11 +3,12 @@ ghost use Rattle.serde_json.specs.Data.{Data};
 ghost use Rattle.serde_json.specs.View.{view};
 ghost use Rattle.modem_rules.specs.Answers.{Gives};
 ghost use Rattle.modem_rules.specs.Lists.{list_in, rules_in_list};
-ghost use Rattle.modem_rules.specs.Values.{answer_rule, data_in, failure_in, fault_rule, hang_up_in, indication_rule, most_error};
+ghost use Rattle.modem_rules.specs.Values.{answer_rule, data_in, failure_in, fault_rule, indication_rule, most_error, other_failure_in, ticks_in, when_in};
 
 use crate::members::{has_members, number_in, number_within};
 use crate::{
     AnswerRule, Failure, FaultRule, IndicationRule, RequestKind, RuleData, RuleList, RulesFault,
+    When,
 };
 use hex::FromHexError;
 use kit_bytes::{Kind, Octets};
@@ -60,10 +61,7 @@ impl Rule for IndicationRule {
 
     #[tactic(auto, unfolding(crate::specs::Values::indication_rule))]
     fn read(alloc: Global, kind: Kind, value: &Value) -> Result<Option<Self>, AllocError> {
-        let Some(request) = value.get("after") else {
-            return Ok(None);
-        };
-        let Some(after) = RequestKind::read_alone(kind, request) else {
+        let Some(when) = when_in(kind, value) else {
             return Ok(None);
         };
         let Some(indicated) = RequestKind::read(kind, value) else {
@@ -76,7 +74,7 @@ impl Rule for IndicationRule {
             return Ok(None);
         }
         Ok(Some(IndicationRule {
-            after,
+            when,
             kind: indicated,
             data,
         }))
@@ -100,13 +98,13 @@ fn fault_rule(kind: Kind, value: &Value) -> Option<FaultRule>
     })
 }
 
-// How an object says that a request fails: by an error, by null in its place, or by hanging up.
+// How an object says that a request fails: by an error, by null in its place, or otherwise.
 #[tactic(auto, unfolding(crate::specs::Values::failure_in))]
 fn failure_in(kind: Kind, object: &Value) -> Option<Failure>
     ensures { result ≡ failure_in kind (view object.now) }
 {
     let Some(value) = object.get("error") else {
-        return hang_up_in(object);
+        return other_failure_in(object);
     };
     if value.is_null() {
         return Some(Failure::Silent);
@@ -115,15 +113,40 @@ fn failure_in(kind: Kind, object: &Value) -> Option<Failure>
     Some(Failure::Refused(error as u32))
 }
 
-// Whether an object says that a request ends its connection.
-fn hang_up_in(object: &Value) -> Option<Failure>
-    ensures { result ≡ hang_up_in (view object.now) }
+// By hanging up, or by how many ticks its answer is late.
+fn other_failure_in(object: &Value) -> Option<Failure>
+    ensures { result ≡ other_failure_in (view object.now) }
 {
-    if object.get("hangs_up")?.as_bool()? {
+    let Some(value) = object.get("hangs_up") else {
+        let ticks = ticks_in(object, "ticks")?;
+        return Some(Failure::Late(ticks));
+    };
+    if value.as_bool()? {
         Some(Failure::HungUp)
     } else {
         None
     }
+}
+
+// When an object says that an indication is sent.
+#[tactic(auto, unfolding(crate::specs::Values::when_in))]
+fn when_in(kind: Kind, object: &Value) -> Option<When>
+    ensures { result ≡ when_in kind (view object.now) }
+{
+    let Some(request) = object.get("after") else {
+        let ticks = ticks_in(object, "each")?;
+        return Some(When::Each(ticks));
+    };
+    let after = RequestKind::read_alone(kind, request)?;
+    Some(When::After(after))
+}
+
+// How many ticks of the clock a member says, which are some.
+fn ticks_in(object: &Value, name: &str) -> Option<u32>
+    ensures { result ≡ ticks_in name.now (view object.now) }
+{
+    let ticks = number_in(object, name, 1, 0xffff_ffff)?;
+    Some(ticks as u32)
 }
 
 fn most_error(kind: Kind) -> u64

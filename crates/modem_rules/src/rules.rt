@@ -16,6 +16,8 @@ pub enum Failure {
     Silent,
     /// The connection on which it came is ended.
     HungUp,
+    /// It is answered, but only after so many ticks of the clock.
+    Late(u32),
 }
 
 /// One request of a kind fails.
@@ -27,11 +29,19 @@ pub struct FaultRule {
     pub failure: Failure,
 }
 
-/// Each request of a kind brings an indication.
+/// When an indication is sent.
+#[derive(Clone, Copy, Debug, PartialEq, Eq)]
+pub enum When {
+    /// Behind each request of this kind.
+    After(RequestKind),
+    /// Each so many ticks of the clock.
+    Each(u32),
+}
+
+/// An indication is sent, again and again.
 #[derive(Debug, Drop)]
 pub struct IndicationRule {
-    /// The kind of the requests behind which it is sent.
-    pub after: RequestKind,
+    pub when: When,
     /// What it is an indication of.
     pub kind: RequestKind,
     /// Its TLVs or its buffer.

@@ -1,7 +1,6 @@
--- Faults that are counted down, in a list and behind requests.
-use Rattle.std.proofs.Common.{◌≡◌, ℕ, suc, zero, ◌+◌, ◌-◌, ◌<◌, Bool, true, false, if◌then◌else◌, List, [], ◌∷◌, map, filter, length, get_or, set, take, drop, add-one, append-nil, ◌++◌, ◌≤◌, Option, Some, None, option_map, cond, ◌&&◌, ◌==◌, refl, sym, ap, ◌∙◌, arith, true≢false}
-use Rattle.std.proofs.lemmas.Bool.{eq-eqb, eqb-true}
-use Rattle.std.proofs.lemmas.List.{drop_all, take_all}
+-- Faults that are counted down behind requests.
+use Rattle.std.proofs.Common.{◌≡◌, ℕ, ◌+◌, Bool, true, false, if◌then◌else◌, List, [], ◌∷◌, map, filter, length, Option, Some, None, option_map, cond, ◌&&◌, ◌==◌, refl, sym, ap, ◌∙◌, arith}
+use Rattle.served_sim.proofs.Counting.{one-left}
 use Rattle.kit_bytes.specs.declared.Kind.{Kind}
 use Rattle.modem_rules.specs.declared.kind.RequestKind.{RequestKind}
 use Rattle.modem_rules.specs.declared.rules.FaultRule.{FaultRule}
@@ -43,7 +42,7 @@ module _ (modem : Kind) (past : List (List ℕ)) (message : List ℕ) where
   pub behind-request : (faults : List FaultRule) (before after : ByKind FaultRule) (kind : RequestKind) → kind_of modem message ≡ Some kind
       → HasBehind modem past faults before → Counts kind before after → HasBehind modem (message ∷ past) faults after
   behind-request faults before after kind is has counts = λ other.
-      let mine = own (λ (f : FaultRule). f.kind) other faults in
+      let mine = own (λ (f : FaultRule). Some f.kind) other faults in
       counts other
       ∙ ap (λ (l : List FaultRule). if is_same kind other then map (nearer 1) l else l) (has other)
       ∙ moved (is_same kind other) (count modem other past) mine
@@ -52,17 +51,9 @@ module _ (modem : Kind) (past : List (List ℕ)) (message : List ℕ) where
   -- or a message that is none
   pub behind-other : (faults : List FaultRule) (table : ByKind FaultRule) → kind_of modem message ≡ None → HasBehind modem past faults table → HasBehind modem (message ∷ past) faults table
   behind-other faults table is has = λ other.
-      has other ∙ ap (λ (n : ℕ). map (nearer n) (own (λ (f : FaultRule). f.kind) other faults)) (sym (count-is other None is))
+      has other ∙ ap (λ (n : ℕ). map (nearer n) (own (λ (f : FaultRule). Some f.kind) other faults)) (sym (count-is other None is))
 
 -- ---- the fault for a request ----
-
-same-test : (a b c d : ℕ) (l r : Bool) → (a == b) ≡ l → (c == d) ≡ r → (a ≡ b → c ≡ d) → (c ≡ d → a ≡ b) → (a == b) ≡ (c == d)
-same-test a b c d true r left right to from = left ∙ sym (eq-eqb c d (to (eqb-true a b left)))
-same-test a b c d false true left right to from = absurd (true≢false (sym (eq-eqb a b (from (eqb-true c d right))) ∙ left))
-same-test a b c d false false left right to from = left ∙ sym right
-
-nth-due : (nth n : ℕ) → (nth - n == 1) ≡ (nth == n + 1)
-nth-due nth n = same-test (nth - n) 1 nth (n + 1) _ _ refl refl (λ is. omega (arith, is)) (λ is. omega (arith, is))
 
 found-changed : {A : Type 0} (change : A → A) (b : Bool) (x : A) (changed rest : Option A) → changed ≡ option_map change rest
     → cond b (Some (change x)) changed ≡ option_map change (cond b (Some x) rest)
@@ -71,17 +62,17 @@ found-changed change false x changed rest is = is
 
 module _ (modem : Kind) (past : List (List ℕ)) (kind : RequestKind) where
   due-own : List FaultRule → Option FaultRule
-  due-own faults = due (map (nearer (count modem kind past)) (own (λ f. f.kind) kind faults))
+  due-own faults = due (map (nearer (count modem kind past)) (own (λ f. Some f.kind) kind faults))
 
   due-step : (f : FaultRule) (faults : List FaultRule) (same : Bool) → is_same kind f.kind ≡ same
-      → due (map (nearer (count modem kind past)) (if same then f ∷ own (λ f. f.kind) kind faults else own (λ f. f.kind) kind faults))
+      → due (map (nearer (count modem kind past)) (if same then f ∷ own (λ f. Some f.kind) kind faults else own (λ f. Some f.kind) kind faults))
       ≡ cond (same && f.nth == count modem kind past + 1) (Some (nearer (count modem kind past) f)) (due-own faults)
   unfolding due-own
-  due-step f faults true is = ap (λ b. cond b (Some (nearer (count modem kind past) f)) (due-own faults)) (nth-due f.nth (count modem kind past))
+  due-step f faults true is = ap (λ b. cond b (Some (nearer (count modem kind past) f)) (due-own faults)) (one-left f.nth (count modem kind past))
   due-step f faults false is = refl
 
   -- the fault that is due, counted down, is the one for this request
-  pub due-for : (faults : List FaultRule) → due (map (nearer (count modem kind past)) (own (λ f. f.kind) kind faults)) ≡ option_map (nearer (count modem kind past)) (fault_for modem past kind faults)
+  pub due-for : (faults : List FaultRule) → due (map (nearer (count modem kind past)) (own (λ f. Some f.kind) kind faults)) ≡ option_map (nearer (count modem kind past)) (fault_for modem past kind faults)
   unfolding due-own
   due-for [] = refl
   due-for (f ∷ faults) =
@@ -97,42 +88,5 @@ faults-fresh : (faults : List FaultRule) → map (nearer 0) faults ≡ faults
 faults-fresh [] = refl
 faults-fresh (f ∷ faults) = ap (λ y. y ∷ map (nearer 0) faults) (fault-fresh f) ∙ ap (λ ys. f ∷ ys) (faults-fresh faults)
 
-pub behind-none : (modem : Kind) (faults : List FaultRule) (table : ByKind FaultRule) → Has (λ f. f.kind) faults table → HasBehind modem [] faults table
-behind-none modem faults table has = λ kind. has kind ∙ sym (faults-fresh (own (λ f. f.kind) kind faults))
-
--- ---- in a list, one after another ----
-
--- those in front of a place are changed
-abbrev pub changed_to : {A : Type 0} → (A → A) → ℕ → List A → List A
-changed_to change i [] = []
-changed_to change zero (x ∷ xs) = x ∷ xs
-changed_to change (suc i) (x ∷ xs) = change x ∷ changed_to change i xs
-
-pub changed_to-none : {A : Type 0} (change : A → A) (xs : List A) → xs ≡ changed_to change 0 xs
-changed_to-none change [] = refl
-changed_to-none change (x ∷ xs) = refl
-
-changed_to-one : {A : Type 0} (change : A → A) (i : ℕ) (xs : List A) (x : A) → i < length xs → x ≡ get_or (changed_to change i xs) i x
-    → set (changed_to change i xs) i (change x) ≡ changed_to change (suc i) xs
-changed_to-one change i [] x within is = absurd (omega (arith, within))
-changed_to-one change zero (y ∷ xs) x within is = ap (λ z. change z ∷ xs) is ∙ ap (λ ys. change y ∷ ys) (changed_to-none change xs)
-changed_to-one change (suc i) (y ∷ xs) x within is = ap (λ ys. change y ∷ ys) (changed_to-one change i xs x (omega (arith, within)) is)
-
-pub changed_to-next : {A : Type 0} (change : A → A) (i : ℕ) (xs : List A) (x : A) → i < length xs → x ≡ get_or (changed_to change i xs) i x
-    → set (changed_to change i xs) i (change x) ≡ changed_to change (i + 1) xs
-changed_to-next change i xs x within is = changed_to-one change i xs x within is ∙ ap (λ n. changed_to change n xs) (sym (add-one i))
-
-pub changed_to-length : {A : Type 0} (change : A → A) (i : ℕ) (xs : List A) → length (changed_to change i xs) ≡ length xs
-changed_to-length change i [] = refl
-changed_to-length change zero (x ∷ xs) = refl
-changed_to-length change (suc i) (x ∷ xs) = ap suc (changed_to-length change i xs)
-
-pub changed_to-all : {A : Type 0} (change : A → A) (i : ℕ) (xs : List A) → length xs ≤ i → changed_to change i xs ≡ map change xs
-changed_to-all change i [] all = refl
-changed_to-all change zero (x ∷ xs) all = absurd (omega (arith, all))
-changed_to-all change (suc i) (x ∷ xs) all = ap (λ ys. change x ∷ ys) (changed_to-all change i xs (omega (arith, all)))
-
--- what was written stands in front of what the list has room for
-pub written : {A : Type 0} (xs ys : List A) (room : ℕ) → length xs ≡ length ys → length xs ≤ room → take room (xs ++ drop (length xs) ys) ≡ xs
-written xs ys room same within =
-    ap (λ l. take room (xs ++ l)) (drop_all (length xs) ys (omega (arith, same))) ∙ ap (take room) (append-nil xs) ∙ take_all room xs within
+pub behind-none : (modem : Kind) (faults : List FaultRule) (table : ByKind FaultRule) → Has (λ f. Some f.kind) faults table → HasBehind modem [] faults table
+behind-none modem faults table has = λ kind. has kind ∙ sym (faults-fresh (own (λ f. Some f.kind) kind faults))

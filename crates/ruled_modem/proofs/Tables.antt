@@ -1,5 +1,5 @@
 -- Tables of rules by the kind of request.
-use Rattle.std.proofs.Common.{◌≡◌, ℕ, Bool, true, false, if◌then◌else◌, cond, ◌&&◌, ◌==◌, bytes_eq, List, [], ◌∷◌, ◌++◌, filter, find, slice_get, Option, Some, Vec, Global, refl, sym, ap, ◌∙◌, append_assoc, subst, true≢false}
+use Rattle.std.proofs.Common.{◌≡◌, ℕ, Bool, true, false, not, is_some, if◌then◌else◌, cond, ◌&&◌, ◌==◌, bytes_eq, List, [], ◌∷◌, ◌++◌, filter, find, slice_get, Option, Some, Vec, Global, refl, sym, ap, ◌∙◌, append_assoc, subst, true≢false}
 use Rattle.std.specs.Map.{lookup}
 use Rattle.std.proofs.lemmas.Bool.{eq-eqb, eqb-true}
 use Rattle.std.proofs.lemmas.Slice.Eq.{bytes_eq-Decides}
@@ -8,7 +8,8 @@ use Rattle.modem_rules.specs.declared.kind.RequestKind.TheVariants.{Message, Com
 use Rattle.modem_rules.specs.Kinds.{is_same}
 use Rattle.modem_rules.specs.contracts.kind.RequestKindPartialEq.TheImpl.{eq-value}
 use Rattle.modem_rules.proofs.Same.{same-same}
-use Rattle.ruled_modem.specs.Keeping.{ByKind, items_in, own, rules_for}
+use Rattle.ruled_modem.specs.Keeping.{ByKind, items_in, others, own, rules_for}
+use Rattle.ruled_modem.specs.Turns.{is_own}
 
 -- ---- kinds are the same either way ----
 
@@ -25,7 +26,7 @@ texts : (a b : List ℕ) → bytes_eq a b ≡ bytes_eq b a
 texts a b =
     alike (bytes_eq a b) (bytes_eq b a) (λ is. (bytes_eq-Decides b a).1 (sym ((bytes_eq-Decides a b).0 is))) (λ is. (bytes_eq-Decides a b).1 (sym ((bytes_eq-Decides b a).0 is)))
 
-same-sym : (kind other : RequestKind) → is_same kind other ≡ is_same other kind
+pub same-sym : (kind other : RequestKind) → is_same kind other ≡ is_same other kind
 same-sym (Message service message) (Message other_service other_message) =
     ap (λ b. b && service == other_service) (numbers message other_message) ∙ ap (λ b. other_message == message && b) (numbers service other_service)
 same-sym (Command service command) (Command other_service other_command) =
@@ -57,11 +58,15 @@ moved : {R : Type 0} (same : Bool) (rule : R) (rules rest : List R) → (if same
 moved true rule rules rest = append_assoc rules (rule ∷ []) rest
 moved false rule rules rest = refl
 
-pub moved-own : {R : Type 0} (for : R → RequestKind) (kind : RequestKind) (rule : R) (rules rest : List R)
-    → (if is_same (for rule) kind then rules ++ rule ∷ [] else rules) ++ own for kind rest ≡ rules ++ own for kind (rule ∷ rest)
-moved-own for kind rule rules rest =
-    moved (is_same (for rule) kind) rule rules (own for kind rest)
-    ∙ ap (λ (same : Bool). rules ++ (if same then rule ∷ own for kind rest else own for kind rest)) (same-sym (for rule) kind)
+-- those of a kind
+pub moved-own : {R : Type 0} (for : R → Option RequestKind) (kind : RequestKind) (rule : R) (rules rest : List R)
+    → (if is_own kind (for rule) then rules ++ rule ∷ [] else rules) ++ own for kind rest ≡ rules ++ own for kind (rule ∷ rest)
+moved-own for kind rule rules rest = moved (is_own kind (for rule)) rule rules (own for kind rest)
+
+-- and those of none
+pub moved-other : {R : Type 0} (for : R → Option RequestKind) (rule : R) (rules rest : List R)
+    → (if not (is_some (for rule)) then rules ++ rule ∷ [] else rules) ++ others for rest ≡ rules ++ others for (rule ∷ rest)
+moved-other for rule rules rest = moved (not (is_some (for rule))) rule rules (others for rest)
 
 -- ---- rules that were put in or taken out ----
 
@@ -114,3 +119,13 @@ first-if false rule rules = refl
 pub first-own : {R : Type 0} (test : R → Bool) (rules : List R) → slice_get (filter test rules) 0 ≡ find test rules
 first-own test [] = refl
 first-own test (rule ∷ rules) = first-if (test rule) rule (filter test rules) ∙ ap (λ rest. cond (test rule) (Some rule) rest) (first-own test rules)
+
+-- ---- those that are picked are among those that were ----
+
+picked-if : {R : Type 0} (p : R → Bool) (kept : Bool) (x : R) (front all : List R) → (kept ≡ false → p x ≡ false) → filter p front ≡ all → filter p (if kept then x ∷ front else front) ≡ (if p x then x ∷ all else all)
+picked-if p true x front all none is = ap (λ l. if p x then x ∷ l else l) is
+picked-if p false x front all none is = is ∙ sym (ap (λ (b : Bool). if b then x ∷ all else all) (none refl))
+
+pub picked-among : {R : Type 0} (p q : R → Bool) → ((x : R) → q x ≡ false → p x ≡ false) → (xs : List R) → filter p (filter q xs) ≡ filter p xs
+picked-among p q none [] = refl
+picked-among p q none (x ∷ xs) = picked-if p (q x) x (filter q xs) (filter p xs) (none x) (picked-among p q none xs)

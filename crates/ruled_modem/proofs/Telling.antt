@@ -1,37 +1,36 @@
 -- Indications that are added one after another.
 use Rattle.std.proofs.Common.{◌≡◌, ℕ, ◌+◌, ◌<◌, ◌≤◌, Bool, true, false, if◌then◌else◌, List, ◌∷◌, ◌++◌, length, drop, filter, get_or, refl, sym, ap, ◌∙◌, append_assoc, append-nil, add-one}
-use Rattle.std.specs.List.{flat_map}
 use Rattle.std.proofs.Math.Seq.{drop-cons}
 use Rattle.std.proofs.lemmas.List.{drop_all}
 use Rattle.modem_rules.specs.declared.rules.IndicationRule.{IndicationRule}
-use Rattle.ruled_modem.specs.Host.{Host, hears, longest}
+use Rattle.ruled_modem.specs.Host.{Host, longest}
 use Rattle.ruled_modem.specs.Replies.{indication}
-use Rattle.ruled_modem.specs.Turns.{all_told}
+use Rattle.ruled_modem.specs.Turns.{told_to}
 
--- of all that is to be told, this is left
-abbrev pub IsLeft : (host : Host) → (rules : List IndicationRule) → (before text : List ℕ) → (i : ℕ) → Type 0
-IsLeft host rules before text i = before ++ all_told host rules ≡ text ++ all_told host (drop i rules)
+-- of all that is to be told, this is left, where those are told that pass a test
+abbrev pub IsLeft : (host : Host) → (test : IndicationRule → Bool) → (rules : List IndicationRule) → (before text : List ℕ) → (i : ℕ) → Type 0
+IsLeft host test rules before text i = before ++ told_to host (filter test rules) ≡ text ++ told_to host (filter test (drop i rules))
 
-module _ (host : Host) (rules : List IndicationRule) (before text : List ℕ) (i : ℕ) (rule : IndicationRule)
-    (within : i < length rules) (is : rule ≡ get_or rules i rule) (has : IsLeft host rules before text i) where
+module _ (host : Host) (test : IndicationRule → Bool) (rules : List IndicationRule) (before text : List ℕ) (i : ℕ) (rule : IndicationRule)
+    (within : i < length rules) (is : rule ≡ get_or rules i rule) (has : IsLeft host test rules before text i) where
   item : drop i rules ≡ rule ∷ drop (i + 1) rules
   item = rw (add-one i, drop-cons rules i rule within, ← is) refl
 
-  others : List IndicationRule
-  others = filter (λ r. hears host r.kind) (drop (i + 1) rules)
+  rest : List IndicationRule
+  rest = filter test (drop (i + 1) rules)
 
-  next : (heard : Bool) → hears host rule.kind ≡ heard
-      → all_told host (drop i rules) ≡ (if heard then indication (longest host) rule.kind rule.«data» ++ all_told host (drop (i + 1) rules) else all_told host (drop (i + 1) rules))
-  unfolding others
-  next true heard = ap (all_told host) item ∙ ap (λ (b : Bool). flat_map (λ r. indication (longest host) r.kind r.«data») (if b then rule ∷ others else others)) heard
-  next false heard = ap (all_told host) item ∙ ap (λ (b : Bool). flat_map (λ r. indication (longest host) r.kind r.«data») (if b then rule ∷ others else others)) heard
+  next : (told : Bool) → test rule ≡ told
+      → told_to host (filter test (drop i rules)) ≡ (if told then indication (longest host) rule.kind rule.«data» ++ told_to host (filter test (drop (i + 1) rules)) else told_to host (filter test (drop (i + 1) rules)))
+  unfolding rest
+  next true told = ap (λ (l : List IndicationRule). told_to host (filter test l)) item ∙ ap (λ (b : Bool). told_to host (if b then rule ∷ rest else rest)) told
+  next false told = ap (λ (l : List IndicationRule). told_to host (filter test l)) item ∙ ap (λ (b : Bool). told_to host (if b then rule ∷ rest else rest)) told
 
-  pub IsLeft-told : hears host rule.kind ≡ true → IsLeft host rules before (text ++ indication (longest host) rule.kind rule.«data») (i + 1)
-  IsLeft-told heard =
-      has ∙ ap (λ l. text ++ l) (next true heard) ∙ sym (append_assoc text (indication (longest host) rule.kind rule.«data») (all_told host (drop (i + 1) rules)))
+  pub IsLeft-told : test rule ≡ true → IsLeft host test rules before (text ++ indication (longest host) rule.kind rule.«data») (i + 1)
+  IsLeft-told told =
+      has ∙ ap (λ l. text ++ l) (next true told) ∙ sym (append_assoc text (indication (longest host) rule.kind rule.«data») (told_to host (filter test (drop (i + 1) rules))))
 
-  pub IsLeft-other : hears host rule.kind ≡ false → IsLeft host rules before text (i + 1)
-  IsLeft-other heard = has ∙ ap (λ l. text ++ l) (next false heard)
+  pub IsLeft-other : test rule ≡ false → IsLeft host test rules before text (i + 1)
+  IsLeft-other other = has ∙ ap (λ l. text ++ l) (next false other)
 
-pub IsLeft-all : (host : Host) (rules : List IndicationRule) (before text : List ℕ) (i : ℕ) → length rules ≤ i → IsLeft host rules before text i → text ≡ before ++ all_told host rules
-IsLeft-all host rules before text i all has = sym (has ∙ ap (λ l. text ++ all_told host l) (drop_all i rules all) ∙ append-nil text)
+pub IsLeft-all : (host : Host) (test : IndicationRule → Bool) (rules : List IndicationRule) (before text : List ℕ) (i : ℕ) → length rules ≤ i → IsLeft host test rules before text i → text ≡ before ++ told_to host (filter test rules)
+IsLeft-all host test rules before text i all has = sym (has ∙ ap (λ l. text ++ told_to host (filter test l)) (drop_all i rules all) ∙ append-nil text)

@@ -1,10 +1,11 @@
 -- Worked examples of modems that go by rules, byte for byte. Past messages have the newest first.
-use Rattle.std.specs.Prelude.{◌≡◌, ℕ, Bool, false, true, List, [], ◌∷◌, ◌++◌, Some, None, codes}
+use Rattle.std.specs.Prelude.{◌≡◌, ℕ, Bool, false, true, List, [], ◌∷◌, ◌++◌, codes}
 use Rattle.kit_bytes.specs.Hex.{hex}
 use Rattle.kit_bytes.specs.declared.Kind.TheVariants.{Qmi, Mbim}
 use Rattle.kit_bytes.specs.declared.services.TheConstants.{BASIC_CONNECT}
 use Rattle.modem_rules.specs.declared.kind.RequestKind.TheVariants.{Message, Command}
-use Rattle.modem_rules.specs.declared.rules.Failure.TheVariants.{Refused, Silent, HungUp}
+use Rattle.modem_rules.specs.declared.rules.Failure.TheVariants.{Refused, Silent, HungUp, Late}
+use Rattle.modem_rules.specs.declared.rules.When.TheVariants.{After, Each}
 use Rattle.modem_rules.specs.Rules.{Rules}
 use Rattle.sim_modem.specs.Sim.{Answering}
 use Rattle.ruled_modem.specs.Ruled.{conduct_by, reached, ruled}
@@ -31,7 +32,7 @@ abbrev pub faulty : Rules
 faulty = record {
   answers = [];
   faults = record { kind = Message 2 34; nth = 2; failure = Refused 3 } ∷ record { kind = Message 2 34; nth = 3; failure = Silent } ∷ [];
-  indications = record { after = Message 2 34; kind = Message 0 40; «data» = [] } ∷ record { after = Message 2 34; kind = Message 3 36; «data» = [] } ∷ [];
+  indications = record { when = After (Message 2 34); kind = Message 0 40; «data» = [] } ∷ record { when = After (Message 2 34); kind = Message 3 36; «data» = [] } ∷ [];
 }
 
 abbrev pub Answers : List (List ℕ) → (message answer : List ℕ) → Type 0
@@ -67,6 +68,32 @@ pub record ConnectionsEndInTheirTurn : Type 0 where
   pub refuses : HangsUp faulty (get_model ∷ []) get_model false
   pub silence : HangsUp faulty (get_model ∷ get_model ∷ []) get_model false
 
+-- the second such request is answered three ticks later, and each second tick there is the indication
+abbrev pub clocked : Rules
+clocked = record {
+  answers = [];
+  faults = record { kind = Message 2 34; nth = 2; failure = Late 3 } ∷ [];
+  indications = record { when = Each 2; kind = Message 0 40; «data» = [] } ∷ record { when = Each 2; kind = Message 3 36; «data» = [] } ∷ [];
+}
+
+abbrev pub Waits : List (List ℕ) → (ticks : ℕ) → Type 0
+Waits past ticks = (conduct_by Qmi clocked echo).late past get_model ≡ ticks
+
+abbrev pub Tells : (tick : ℕ) → List ℕ → Type 0
+Tells tick text = (conduct_by Qmi clocked echo).told tick [] ≡ text
+
+pub record TheClockMatters : Type 0 where
+  pub first : Waits [] 0
+  pub second : Waits (get_model ∷ []) 3
+  pub third : Waits (get_model ∷ get_model ∷ []) 0
+  -- it is answered by the modem itself, and reaches it at once
+  pub answered : ruled Qmi clocked echo (get_model ∷ []) get_model ≡ get_model
+  pub reaches : reached Qmi clocked (get_model ∷ get_model ∷ []) ≡ get_model ∷ get_model ∷ []
+  -- indications of a service without a client id don't come
+  pub none : Tells 1 []
+  pub tick : Tells 2 told
+  pub again : Tells 4 told
+
 -- ---- MBIM ----
 
 -- for messages of at most 64 bytes
@@ -86,7 +113,7 @@ abbrev pub telling : Rules
 telling = record {
   answers = record { kind = Command BASIC_CONNECT 3; «data» = hex (codes "00 01 02 03 04 05 06 07 08 09 0A 0B 0C 0D 0E 0F 10 11 12 13") } ∷ [];
   faults = [];
-  indications = record { after = Command BASIC_CONNECT 3; kind = Command BASIC_CONNECT 11; «data» = 9 ∷ [] } ∷ [];
+  indications = record { when = After (Command BASIC_CONNECT 3); kind = Command BASIC_CONNECT 11; «data» = 9 ∷ [] } ∷ [];
 }
 
 abbrev pub done_whole : List ℕ

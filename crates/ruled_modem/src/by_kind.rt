@@ -1,67 +1,107 @@
-ghost use Rattle.std.specs.Prelude.{◌≡◌, ◌++◌, ◌∷◌, [], if◌then◌else◌, IfOk, OnOk};
+ghost use Rattle.std.specs.Prelude.{◌≡◌, ◌++◌, ◌∷◌, [], not, is_some, if◌then◌else◌, IfOk, OnOk};
 ghost use Rattle.modem_rules.specs.Kinds.{is_same};
 ghost use Rattle.modem_rules.specs.declared.kind.RequestKind as request;
-ghost use Rattle.ruled_modem.specs.Keeping.{Has, rules_for};
+ghost use Rattle.ruled_modem.specs.Keeping.{Has, others, rules_for};
+ghost use Rattle.ruled_modem.specs.Turns.{is_own};
 
 use indexmap::IndexMap;
-use modem_rules::{AnswerRule, FaultRule, IndicationRule, RequestKind};
+use modem_rules::{AnswerRule, FaultRule, IndicationRule, RequestKind, When};
 use std::alloc::{AllocError, Global};
 
 /// Rules by the kind of request that they are for.
 pub(crate) type ByKind<R> = IndexMap<RequestKind, Vec<R>>;
 
-/// A rule for the requests of a kind.
+/// The rules of a list: those for a kind of request, and the others.
+#[derive(Drop)]
+pub(crate) struct Sorted<R: ForKind> {
+    pub table: ByKind<R>,
+    pub others: Vec<R>,
+}
+
+/// A rule, which may be for the requests of a kind.
 pub(crate) trait ForKind: Drop {
+    ghost use Rattle.std.specs.Prelude.{Option};
     ghost use Rattle.modem_rules.specs.declared.kind.RequestKind.{RequestKind};
 
     /// Of which kind they are.
-    ghost for_kind: { Self → RequestKind };
+    ghost for_kind: { Self → Option RequestKind };
 
-    fn for_kind(&self) -> RequestKind
+    fn for_kind(&self) -> Option<RequestKind>
         ensures { result ≡ for_kind self.now };
 }
 
 impl ForKind for AnswerRule {
-    ghost for_kind = { λ rule. rule.kind };
+    ghost use Rattle.std.specs.Prelude.{Some};
 
-    fn for_kind(&self) -> RequestKind {
-        self.kind
+    ghost for_kind = { λ rule. Some rule.kind };
+
+    fn for_kind(&self) -> Option<RequestKind> {
+        Some(self.kind)
     }
 }
 
 impl ForKind for FaultRule {
-    ghost for_kind = { λ rule. rule.kind };
+    ghost use Rattle.std.specs.Prelude.{Some};
 
-    fn for_kind(&self) -> RequestKind {
-        self.kind
+    ghost for_kind = { λ rule. Some rule.kind };
+
+    fn for_kind(&self) -> Option<RequestKind> {
+        Some(self.kind)
     }
 }
 
 impl ForKind for IndicationRule {
-    ghost for_kind = { λ rule. rule.after };
+    ghost use Rattle.ruled_modem.specs.Turns.{behind};
 
-    fn for_kind(&self) -> RequestKind {
-        self.after
+    ghost for_kind = { λ rule. behind rule.when };
+
+    fn for_kind(&self) -> Option<RequestKind> {
+        match self.when {
+            When::After(kind) => Some(kind),
+            When::Each(_) => None,
+        }
     }
 }
 
-/// The rules of a list by their kinds, those of a kind in the list's order.
-pub(crate) fn by_kind<R: ForKind>(alloc: Global, rules: Vec<R>) -> Result<ByKind<R>, AllocError>
-    ensures { IfOk result (λ table. Has R.for_kind rules.items table.entries) }
+/// The rules of a list by their kinds, those of a kind in the list's order, and the others in its order.
+pub(crate) fn by_kind<R: ForKind>(alloc: Global, rules: Vec<R>) -> Result<Sorted<R>, AllocError>
+    ensures table { IfOk result (λ sorted. Has R.for_kind rules.items sorted.table.entries) }
+    ensures others { IfOk result (λ sorted. sorted.others.items ≡ others R.for_kind rules.items) }
 {
-    let mut table = IndexMap::new(alloc);
+    let mut sorted = Sorted {
+        table: IndexMap::new(alloc),
+        others: Vec::new(alloc),
+    };
     for rule in rules {
-        add(alloc, &mut table, rule)?;
+        sort(alloc, &mut sorted, rule)?;
     }
-    Ok(table)
+    Ok(sorted)
+}
+
+// Puts a rule behind the others of its kind, or behind those that are for none.
+fn sort<R: ForKind>(alloc: Global, sorted: &mut Sorted<R>, rule: R) -> Result<(), AllocError>
+    ensures table { OnOk result ((other : request.RequestKind) → rules_for other sorted.new.table.entries ≡
+        (if is_own other (R.for_kind rule) then rules_for other sorted.old.table.entries ++ rule ∷ [] else rules_for other sorted.old.table.entries)) }
+    ensures others { OnOk result (sorted.new.others.items ≡ (if not (is_some (R.for_kind rule)) then sorted.old.others.items ++ rule ∷ [] else sorted.old.others.items)) }
+{
+    let Some(kind) = rule.for_kind() else {
+        sorted.others.push(rule)?;
+        return Ok(());
+    };
+    add(alloc, &mut sorted.table, kind, rule)?;
+    Ok(())
 }
 
 // Adds a rule behind the others of its kind.
-fn add<R: ForKind>(alloc: Global, table: &mut ByKind<R>, rule: R) -> Result<(), AllocError>
-    ensures { OnOk result ((kind : request.RequestKind) → rules_for kind table.new.entries ≡
-        (if is_same (R.for_kind rule) kind then rules_for kind table.old.entries ++ rule ∷ [] else rules_for kind table.old.entries)) }
+fn add<R: ForKind>(
+    alloc: Global,
+    table: &mut ByKind<R>,
+    kind: RequestKind,
+    rule: R,
+) -> Result<(), AllocError>
+    ensures { OnOk result ((other : request.RequestKind) → rules_for other table.new.entries ≡
+        (if is_same kind other then rules_for other table.old.entries ++ rule ∷ [] else rules_for other table.old.entries)) }
 {
-    let kind = rule.for_kind();
     let mut rules = taken(alloc, table, &kind);
     rules.push(rule)?;
     place(table, kind, rules)

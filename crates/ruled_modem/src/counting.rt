@@ -1,15 +1,15 @@
 ghost use Rattle.std.specs.Prelude.{◌≡◌, ◌==◌, map, option_map};
-ghost use Rattle.ruled_modem.specs.Keeping.{Counts, due, nearer};
+ghost use Rattle.ruled_modem.specs.Keeping.{Counts, due, failing, nearer};
 
 use crate::by_kind::ByKind;
-use modem_rules::{FaultRule, RequestKind};
+use modem_rules::{Failure, FaultRule, RequestKind};
 
-/// The first of the faults whose turn it is.
-pub(crate) fn due(faults: &[FaultRule]) -> Option<FaultRule>
-    ensures { result ≡ due faults.now }
+/// How the request fails, by the first of the faults whose turn it is.
+pub(crate) fn failing(faults: &[FaultRule]) -> Option<Failure>
+    ensures { result ≡ failing faults.now }
 {
     let fault = first_due(faults)?;
-    Some(*fault)
+    Some(fault.failure)
 }
 
 fn first_due(faults: &[FaultRule]) -> Option<&FaultRule>

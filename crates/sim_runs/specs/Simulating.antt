@@ -27,7 +27,8 @@ use Rattle.modem_rules.specs.declared.fault.RulesFault.{RulesFault}
 use Rattle.modem_rules.specs.declared.fault.RulesFault.TheVariants as rules_fault
 use Rattle.ruled_modem.specs.Ruled.{conduct_by}
 use Rattle.sim_modem.specs.Sim.{Answering, answers}
-use Rattle.sim_serving.specs.Core.{TakesMemory}
+use Rattle.proxy_history.specs.Events.{Event}
+use Rattle.sim_serving.specs.Core.{LacksMemory, TakesMemory}
 use Rattle.sim_serving.specs.Proxy.{proxy_of, served}
 use Rattle.sim_qmi.specs.Modem as qmi
 use Rattle.sim_tunnel.specs.Carrying as mbim
@@ -62,6 +63,11 @@ abbrev pub served_by : Kind → Framing → Option Rules → Answering → Proxy
 served_by kind size None answering = proxy_of size answering
 served_by kind size (Some rules) answering = served size (conduct_by kind rules answering)
 
+-- memory may be lacking at a tick of the clock only where it goes by rules
+abbrev pub lacks_by : Option Rules → Event → Type 0
+lacks_by None = TakesMemory
+lacks_by (Some rules) = LacksMemory (Unit {0})
+
 -- serving a simulated modem of this kind and profile, as serving a proxy
 abbrev pub modem_of : Kind → Option Rules → Profile → Proxy
 modem_of kind.Qmi rules profile = served_by kind.Qmi qmux.size_of rules (answers (qmi.machine profile))
@@ -74,20 +80,20 @@ abbrev pub opening : (socket : List ℕ) → (ok : Bool) → hub.Call
 opening socket ok = hub.Opened (encode_utf8_all socket) None ok
 
 -- the hub was opened, and then the modem's clients were served
-pub record ServesOpened (modem : Proxy) (socket : List ℕ) (turns : ℕ) (why : ServeEnd) (calls : List hub.Call) : Type 0 where
+pub record ServesOpened (lacks : Event → Type 0) (modem : Proxy) (socket : List ℕ) (turns : ℕ) (why : ServeEnd) (calls : List hub.Call) : Type 0 where
   pub served : List hub.Call
   pub whole : calls ≡ served ++ opening socket true ∷ []
-  pub ends : EndsFor TakesMemory modem never turns why served
+  pub ends : EndsFor lacks modem never turns why served
 
 -- or it couldn't be opened, or no memory was there before
-abbrev pub Serves : Proxy → (socket : List ℕ) → (turns : ℕ) → SimEnd → List hub.Call → Type 0
-Serves modem socket turns (sim.Served why) calls = ServesOpened modem socket turns why calls
-Serves modem socket turns sim.HubFault calls = calls ≡ opening socket false ∷ []
-Serves modem socket turns sim.OutOfMemory calls = calls ≡ []
-Serves modem socket turns _ calls = ⊥
+abbrev pub Serves : (lacks : Event → Type 0) → Proxy → (socket : List ℕ) → (turns : ℕ) → SimEnd → List hub.Call → Type 0
+Serves lacks modem socket turns (sim.Served why) calls = ServesOpened lacks modem socket turns why calls
+Serves lacks modem socket turns sim.HubFault calls = calls ≡ opening socket false ∷ []
+Serves lacks modem socket turns sim.OutOfMemory calls = calls ≡ []
+Serves lacks modem socket turns _ calls = ⊥
 
 abbrev pub ServesProfile : Asked → Profile → SimEnd → List hub.Call → Type 0
-ServesProfile asked profile ends calls = Serves (modem_of asked.kind asked.rules profile) asked.socket asked.turns ends calls
+ServesProfile asked profile ends calls = Serves (lacks_by asked.rules) (modem_of asked.kind asked.rules profile) asked.socket asked.turns ends calls
 
 -- ---- the profile ----
 

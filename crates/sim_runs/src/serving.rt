@@ -4,8 +4,9 @@ ghost use Rattle.hub_io.specs.Record.{Since};
 ghost use Rattle.modem_rules.specs.Rules.{rules_view};
 ghost use Rattle.sim_modem.specs.Sim.{Answering};
 ghost use Rattle.served_sim.specs.Conduct.{Conduct};
+ghost use Rattle.sim_serving.specs.Core.{LacksMemory, TakesMemory};
 ghost use Rattle.sim_serving.specs.Proxy.{proxy_of, served};
-ghost use Rattle.sim_runs.specs.Simulating.{IsHubFault, Serves, ServesProfile, asked_of, served_by};
+ghost use Rattle.sim_runs.specs.Simulating.{IsHubFault, Serves, ServesProfile, asked_of, lacks_by, served_by};
 
 use crate::{Manner, SimEnd};
 use hub_io::{Hub, ServeEnd};
@@ -59,7 +60,7 @@ fn serve_by<H: Hub, S: Sim>(
 ) -> SimEnd
     requires { (answers : Answering) × S.keeps answers [] sim }
     ensures serves { (answers : Answering) → S.keeps answers [] sim →
-        Since (H.calls hub.old) (H.calls hub.new) (Serves (served_by kind S.Framing.size (option_map rules_view rules) answers) socket.now turns result) }
+        Since (H.calls hub.old) (H.calls hub.new) (Serves (lacks_by (option_map rules_view rules)) (served_by kind S.Framing.size (option_map rules_view rules) answers) socket.now turns result) }
     ensures own { ¬ (result ≡ SimEnd.ReadFault) }
     ensures never_lost { ¬ (result ≡ SimEnd.Served ServeEnd.Lost) }
     ensures hub_fault { IsHubFault result → Rose (H.faults hub.old) (H.faults hub.new) }
@@ -83,7 +84,7 @@ fn serve_at<H: Hub, S: Sim>(
 ) -> SimEnd
     requires { (answers : Answering) × S.keeps answers [] sim }
     ensures serves { (answers : Answering) → S.keeps answers [] sim →
-        Since (H.calls hub.old) (H.calls hub.new) (Serves (proxy_of S.Framing.size answers) socket.now turns result) }
+        Since (H.calls hub.old) (H.calls hub.new) (Serves TakesMemory (proxy_of S.Framing.size answers) socket.now turns result) }
     ensures own { ¬ (result ≡ SimEnd.ReadFault) }
     ensures never_lost { ¬ (result ≡ SimEnd.Served ServeEnd.Lost) }
     ensures hub_fault { IsHubFault result → Rose (H.faults hub.old) (H.faults hub.new) }
@@ -94,7 +95,7 @@ fn serve_at<H: Hub, S: Sim>(
     }
 }
 
-// The same of one that may hang its clients up.
+// The same of one that may hang its clients up, and to which the clock may matter.
 fn serve_so_at<H: Hub, S: ServedSim>(
     alloc: Global,
     socket: &PathText,
@@ -102,9 +103,9 @@ fn serve_so_at<H: Hub, S: ServedSim>(
     turns: u64,
     hub: &mut H,
 ) -> SimEnd
-    requires { (conduct : Conduct) × S.keeps conduct [] sim }
-    ensures serves { (conduct : Conduct) → S.keeps conduct [] sim →
-        Since (H.calls hub.old) (H.calls hub.new) (Serves (served S.Framing.size conduct) socket.now turns result) }
+    requires { (conduct : Conduct) × S.keeps 0 conduct [] sim }
+    ensures serves { (conduct : Conduct) → S.keeps 0 conduct [] sim →
+        Since (H.calls hub.old) (H.calls hub.new) (Serves (LacksMemory S.by_clock) (served S.Framing.size conduct) socket.now turns result) }
     ensures own { ¬ (result ≡ SimEnd.ReadFault) }
     ensures never_lost { ¬ (result ≡ SimEnd.Served ServeEnd.Lost) }
     ensures hub_fault { IsHubFault result → Rose (H.faults hub.old) (H.faults hub.new) }

@@ -1,5 +1,6 @@
 pub mod Names
 pub mod Asking
+pub mod Owing
 pub mod Own
 pub mod Plain
 pub mod Standing

@@ -6,7 +6,7 @@ use Rattle.std.proofs.lemmas.List.Quantifiers.{position-Some}
 use Rattle.kit_bytes.proofs.Lists.{find_first, find_none}
 use Rattle.proxy_history.specs.Streams.{Framing}
 use Rattle.served_sim.specs.Conduct.{Conduct}
-use Rattle.sim_serving.specs.Core.{Client, Core, names_of, named, waiting_in, waiting_for}
+use Rattle.sim_serving.specs.Core.{Client, Core, Replies, names_of, named, waiting_in, waiting_for}
 use Rattle.sim_serving.specs.Hearing.{Answers, cut_of, goes_on, heard, changed, gone, took, Hears, Brings}
 
 pub remove_set : {X : Type 0} (xs : List X) (i : ℕ) (y : X) → remove (set xs i y) i ≡ remove xs i
@@ -62,7 +62,7 @@ module _ (name : ℕ) where
     pub name_is : name ≡ k.name
     name_is = eqb-true name k.name (ap is_named at ∙ (is_at clients place is k).here k)
 
-    pub waiting_at : waiting_for name clients ≡ k.waiting
+    pub waiting_at : waiting_for name clients ≡ k.replies.waiting
     waiting_at = ap waiting_in found
 
     pub changed_at : (change : Client → Client) → changed name change clients ≡ set clients place (change k)
@@ -111,7 +111,7 @@ module _ {S : Type 0} {t old : Core S} (was : t ≡ old) (name : ℕ) where
   with_clients l core = record core { clients = l }
 
   module _ (place : ℕ) (is : Some place ≡ position (is_named name) t.clients) (k : Client) (at : k ≡ get_or t.clients place k) where
-    pub queue_is : waiting_for name old.clients ≡ k.waiting
+    pub queue_is : waiting_for name old.clients ≡ k.replies.waiting
     queue_is = ap (λ (c : Core S). waiting_for name c.clients) (sym was) ∙ waiting_at name t.clients place is k at
 
     pub left_is : (after : List Client) → after ≡ remove t.clients place → core_of t.sim after t.dropped t.greatest ≡ with_clients (gone name old.clients) old
@@ -125,20 +125,20 @@ module _ {S : Type 0} {t old : Core S} (was : t ≡ old) (name : ℕ) where
         ∙ ap (λ (c : Core S). with_clients (changed name (took count) c.clients) c) was
 
     -- a piece of its stream
-    module _ (size : Framing) (keeps : Conduct → List (List ℕ) → S → Type 0) (conduct : Conduct) (before : List (List ℕ)) (piece : List ℕ) (next : S) (now : Client) (A : Answers keeps conduct before (cut_of size piece k).messages next k.waiting now.waiting) where
-      hears_here : (new : Core S) → Hears size keeps conduct before k piece t new → Brings size keeps conduct before (named name old.clients) piece old new
+    module _ (size : Framing) (keeps : ℕ → Conduct → List (List ℕ) → S → Type 0) (ticks : ℕ) (conduct : Conduct) (before : List (List ℕ)) (piece : List ℕ) (next : S) (now : Client) (A : Answers keeps ticks conduct before (cut_of size piece k).messages next k.replies now.replies) where
+      hears_here : (new : Core S) → Hears size keeps ticks conduct before k piece t new → Brings size keeps ticks conduct before (named name old.clients) piece old new
       hears_here new H =
-          subst (λ (c : Core S). Brings size keeps conduct before (named name c.clients) piece c new) was
-          (subst (λ (o : Option Client). Brings size keeps conduct before o piece t new) (sym (found name t.clients place is k at)) H)
+          subst (λ (c : Core S). Brings size keeps ticks conduct before (named name c.clients) piece c new) was
+          (subst (λ (o : Option Client). Brings size keeps ticks conduct before o piece t new) (sym (found name t.clients place is k at)) H)
 
       pub hears_good : now.name ≡ k.name → now.rest ≡ (cut_of size piece k).rest → goes_on size conduct before piece k ≡ true
-          → Brings size keeps conduct before (named name old.clients) piece old (core_of next (set t.clients place now) t.dropped t.greatest)
+          → Brings size keeps ticks conduct before (named name old.clients) piece old (core_of next (set t.clients place now) t.dropped t.greatest)
       hears_good named_so rest good =
-          let make : ℕ → List ℕ → List ℕ → Client = λ name rest waiting. let m : Client = record { name = name; rest = rest; waiting = waiting } in m in
-          let now_is : now ≡ heard size conduct before piece k =
-          ap (λ (n : ℕ). make n now.rest now.waiting) named_so ∙ ap (λ (r : List ℕ). make k.name r now.waiting) rest ∙ ap (make k.name (cut_of size piece k).rest) A.answered
+          let make : ℕ → List ℕ → Replies → Client = λ name rest replies. let m : Client = record { name = name; rest = rest; replies = replies } in m in
+          let now_is : now ≡ heard size ticks conduct before piece k =
+          ap (λ (n : ℕ). make n now.rest now.replies) named_so ∙ ap (λ (r : List ℕ). make k.name r now.replies) rest ∙ ap (make k.name (cut_of size piece k).rest) A.answered
           in
-          let change : Client → Client = heard size conduct before piece in
+          let change : Client → Client = heard size ticks conduct before piece in
           let list : set t.clients place now ≡ changed k.name change t.clients =
           ap (set t.clients place) now_is ∙ sym (changed_at name t.clients place is k at change) ∙ ap (λ (n : ℕ). changed n change t.clients) (name_is name t.clients place is k at)
           in
@@ -150,9 +150,9 @@ module _ {S : Type 0} {t old : Core S} (was : t ≡ old) (name : ℕ) where
           })
 
       pub hears_bad : goes_on size conduct before piece k ≡ false → (after : List Client) → after ≡ remove (set t.clients place now) place
-          → Brings size keeps conduct before (named name old.clients) piece old (core_of next after (Some name) t.greatest)
+          → Brings size keeps ticks conduct before (named name old.clients) piece old (core_of next after (Some name) t.greatest)
       hears_bad bad after after_is =
-          let change : Client → Client = heard size conduct before piece in
+          let change : Client → Client = heard size ticks conduct before piece in
           let list : after ≡ gone k.name t.clients =
           after_is ∙ remove_set t.clients place now ∙ sym (gone_at name t.clients place is k at) ∙ ap (λ (n : ℕ). gone n t.clients) (name_is name t.clients place is k at)
           in
@@ -176,5 +176,5 @@ module _ {S : Type 0} {t old : Core S} (was : t ≡ old) (name : ℕ) where
     pub took_none : (count : ℕ) → old ≡ with_clients (changed name (took count) old.clients) old
     took_none count = ap (λ (l : List Client). with_clients l old) (sym (changed_none name (took count) old.clients nobody))
 
-    pub brought_none : (size : Framing) (keeps : Conduct → List (List ℕ) → S → Type 0) (conduct : Conduct) (before : List (List ℕ)) (piece : List ℕ) → Brings size keeps conduct before (named name old.clients) piece old old
-    brought_none size keeps conduct before piece = subst (λ (o : Option Client). Brings size keeps conduct before o piece old old) (sym nobody) refl
+    pub brought_none : (size : Framing) (keeps : ℕ → Conduct → List (List ℕ) → S → Type 0) (ticks : ℕ) (conduct : Conduct) (before : List (List ℕ)) (piece : List ℕ) → Brings size keeps ticks conduct before (named name old.clients) piece old old
+    brought_none size keeps ticks conduct before piece = subst (λ (o : Option Client). Brings size keeps ticks conduct before o piece old old) (sym nobody) refl

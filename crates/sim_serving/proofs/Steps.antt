@@ -9,12 +9,12 @@ use Rattle.proxy_history.specs.Streams.{Framing}
 use Rattle.proxy_history.specs.Proxy.{Proxy}
 use Rattle.proxy_serving.specs.Face.{CanMeet, NextDropped, first_waiting}
 use Rattle.served_sim.specs.Conduct.{Conduct}
-use Rattle.sim_serving.specs.Clients.{session, present, requests, messages_of, waiting}
+use Rattle.sim_serving.specs.Clients.{session, present, requests, messages_of, ticks, waiting}
 use Rattle.sim_serving.specs.Core.{Client, Core, named, listed, face_of, client_of, StandsFor, StandsAfter, Keeps}
-use Rattle.sim_serving.specs.Hearing.{Brings, changed, gone, took}
+use Rattle.sim_serving.specs.Hearing.{Brings, Ticks, changed, gone, took}
 use Rattle.sim_serving.proofs.Standing.{joined, left, taken_from, brought_is, passed_modem_piece, passed_modem_gone, passed_modem_back, passed_now, passed_modem_took}
 
-module _ {S : Type 0} (size : Framing) (keeps : Conduct → List (List ℕ) → S → Type 0) where
+module _ {S : Type 0} (size : Framing) (keeps : ℕ → Conduct → List (List ℕ) → S → Type 0) where
   abbrev pub Goes : Event → Core S → Core S → Type 0
   Goes event old new = (conduct : Conduct) (past : List Event) → StandsFor size keeps conduct past old → StandsAfter size keeps conduct (event ∷ past) new
 
@@ -24,12 +24,12 @@ module _ {S : Type 0} (size : Framing) (keeps : Conduct → List (List ℕ) → 
       subst (λ (e : Event). Goes e old new) (sym event_is) (subst (λ (core : Core S). Goes it old core) (sym new_is) (goes (subst (λ (e : Event). CanMeet e (face_of old)) event_is can)))
 
   module _ (old : Core S) where
-    pub goes_joined : (c : ℕ) → CanMeet (Joined c) (face_of old) → Goes (Joined c) old (record old { clients = old.clients ++ record { name = c; rest = []; waiting = [] } ∷ []; greatest = c })
+    pub goes_joined : (c : ℕ) → CanMeet (Joined c) (face_of old) → Goes (Joined c) old (record old { clients = old.clients ++ record { name = c; rest = []; replies = record { waiting = []; late = [] } } ∷ []; greatest = c })
     goes_joined c can conduct past Sd = joined size keeps conduct past old Sd can.hung_up c can.may_come
 
-    pub goes_brought : (c : ℕ) (piece : List ℕ) (new : Core S) → ((conduct : Conduct) (before : List (List ℕ)) → keeps conduct before old.sim → Brings size keeps conduct before (named c old.clients) piece old new)
+    pub goes_brought : (c : ℕ) (piece : List ℕ) (new : Core S) → ((ticks : ℕ) (conduct : Conduct) (before : List (List ℕ)) → keeps ticks conduct before old.sim → Brings size keeps ticks conduct before (named c old.clients) piece old new)
         → CanMeet (Piece c piece) (face_of old) → Goes (Piece c piece) old new
-    goes_brought c piece new brings can conduct past Sd = brought_is size keeps conduct past old Sd can.hung_up c piece new (brings conduct (messages_of (requests size conduct past)) Sd.modem)
+    goes_brought c piece new brings can conduct past Sd = brought_is size keeps conduct past old Sd can.hung_up c piece new (brings (ticks size conduct past) conduct (messages_of (requests size conduct past)) Sd.modem)
 
     pub goes_left : (c : ℕ) → CanMeet (Left c) (face_of old) → Goes (Left c) old (record old { clients = gone c old.clients })
     goes_left c can conduct past Sd = left size keeps conduct past old Sd can.hung_up c
@@ -46,15 +46,16 @@ module _ {S : Type 0} (size : Framing) (keeps : Conduct → List (List ℕ) → 
     pub goes_modem_back : CanMeet ModemBack (face_of old) → Goes ModemBack old old
     goes_modem_back can conduct past Sd = passed_modem_back size keeps conduct past old Sd can.hung_up
 
-    pub goes_now : (time : ℕ) → CanMeet (Now time) (face_of old) → Goes (Now time) old old
-    goes_now time can conduct past Sd = passed_now size keeps conduct past old Sd can.hung_up time
+    pub goes_now : (time : ℕ) (new : Core S) → ((ticks : ℕ) (conduct : Conduct) (before : List (List ℕ)) → keeps ticks conduct before old.sim → Ticks keeps ticks conduct before old new)
+        → CanMeet (Now time) (face_of old) → Goes (Now time) old new
+    goes_now time new ticked can conduct past Sd = passed_now size keeps conduct past old Sd can.hung_up time new (ticked (ticks size conduct past) conduct (messages_of (requests size conduct past)) Sd.modem)
 
     pub goes_modem_took : (count : ℕ) → CanMeet (ModemTook count) (face_of old) → Goes (ModemTook count) old old
     goes_modem_took count can conduct past Sd = passed_modem_took size keeps conduct past old Sd can.hung_up count
 
   -- ---- the instance ----
 
-  pub stands_opened : (conduct : Conduct) (sim : S) (core : Core S) → core ≡ record { sim = sim; clients = []; dropped = None; greatest = 0 } → keeps conduct [] sim → StandsFor size keeps conduct [] core
+  pub stands_opened : (conduct : Conduct) (sim : S) (core : Core S) → core ≡ record { sim = sim; clients = []; dropped = None; greatest = 0 } → keeps 0 conduct [] sim → StandsFor size keeps conduct [] core
   unfolding session IsDistinct
   stands_opened conduct sim core is kept = subst (λ (c : Core S). StandsFor size keeps conduct [] c) (sym is) (record { modem = kept; clients = refl; distinct = tt; known = tt; dropped = λ none. refl })
 
@@ -83,18 +84,18 @@ module _ {S : Type 0} (size : Framing) (keeps : Conduct → List (List ℕ) → 
           stands = record { modem = stands.modem; clients = stands.clients; distinct = stands.distinct; known = stands.known; dropped = λ none. refl };
         })
 
-    pub first_is : (from : ℕ) → option_map (λ at. from + at) (position (λ (k : Client). nat_lt 0 (length k.waiting)) (drop from old.clients)) ≡ first_waiting p past from
+    pub first_is : (from : ℕ) → option_map (λ at. from + at) (position (λ (k : Client). nat_lt 0 (length k.replies.waiting)) (drop from old.clients)) ≡ first_waiting p past from
     first_is from =
-        let First : Proxy → Type 0 = λ q. option_map (λ at. from + at) (position (λ (k : Client). nat_lt 0 (length k.waiting)) (drop from old.clients)) ≡ first_waiting q past from in
+        let First : Proxy → Type 0 = λ q. option_map (λ at. from + at) (position (λ (k : Client). nat_lt 0 (length k.replies.waiting)) (drop from old.clients)) ≡ first_waiting q past from in
         let client : ℕ → Client = client_of size kept.conduct past in
         let names : List ℕ = drop from (present size kept.conduct past) in
         subst First (sym kept.same) (ap (option_map (λ at. from + at))
-        (ap (λ (l : List Client). position (λ (k : Client). nat_lt 0 (length k.waiting)) (drop from l)) kept.stands.clients
-        ∙ ap (position (λ (k : Client). nat_lt 0 (length k.waiting))) (drop-map client from (present size kept.conduct past))
-        ∙ position_from-zero (λ (k : Client). nat_lt 0 (length k.waiting)) (map client names)
+        (ap (λ (l : List Client). position (λ (k : Client). nat_lt 0 (length k.replies.waiting)) (drop from l)) kept.stands.clients
+        ∙ ap (position (λ (k : Client). nat_lt 0 (length k.replies.waiting))) (drop-map client from (present size kept.conduct past))
+        ∙ position_from-zero (λ (k : Client). nat_lt 0 (length k.replies.waiting)) (map client names)
         ∙ first_of names 0
         ∙ sym (position_from-zero (λ c. nat_lt 0 (length (waiting size kept.conduct c past))) names)))
       where
-        first_of : (names : List ℕ) (start : ℕ) → position_from (λ (k : Client). nat_lt 0 (length k.waiting)) start (map (client_of size kept.conduct past) names) ≡ position_from (λ c. nat_lt 0 (length (waiting size kept.conduct c past))) start names
+        first_of : (names : List ℕ) (start : ℕ) → position_from (λ (k : Client). nat_lt 0 (length k.replies.waiting)) start (map (client_of size kept.conduct past) names) ≡ position_from (λ c. nat_lt 0 (length (waiting size kept.conduct c past))) start names
         first_of [] start = refl
         first_of (c ∷ names) start = let others = first_of names (start + 1) in rw others refl

@@ -1,10 +1,10 @@
 -- The clients of a simulated modem, what they ask and what they get, read off the events. Lists of events and of requests have the newest first.
--- `size` is the framing of the clients' streams, and `conduct` is how the modem behaves.
-use Rattle.std.specs.Prelude.{ℕ, Bool, false, ◌&&◌, ◌||◌, ◌==◌, if◌then◌else◌, List, [], ◌∷◌, ◌++◌, map, drop, reverse}
-use Rattle.proxy_history.specs.Events.{Event, Joined, Piece, Left, Took}
+-- `size` is the framing of the clients' streams, and `conduct` is how the modem behaves. Each telling of the time is a tick of the clock.
+use Rattle.std.specs.Prelude.{ℕ, ◌+◌, Bool, false, ◌&&◌, ◌||◌, ◌==◌, if◌then◌else◌, List, [], ◌∷◌, ◌++◌, map, filter, drop, reverse}
+use Rattle.std.specs.List.{flat_map}
+use Rattle.proxy_history.specs.Events.{Event, Joined, Piece, Left, Now, Took}
 use Rattle.proxy_history.specs.Streams.{Framing, stream, messages_of_piece, is_bad}
 use Rattle.proxy_history.specs.Connections.{contains, without}
-use Rattle.sim_modem.specs.Sim.{Answering}
 use Rattle.served_sim.specs.Conduct.{Conduct}
 
 -- ---- at which message a modem hangs up ----
@@ -38,6 +38,8 @@ pub record Session : Type 0 where
   pub present : List ℕ
   -- all requests, in the order in which they became whole
   pub requests : List Request
+  -- how often the clock has ticked
+  pub ticks : ℕ
 
 -- the stream is bad once the piece has come, or the modem hangs up at a message that is whole with it
 abbrev pub ends_then : Framing → Conduct → ℕ → List ℕ → List Event → Session → Bool
@@ -53,11 +55,13 @@ goes_on_by size conduct (Left c) past before = record before { present = without
 goes_on_by size conduct (Piece c piece) past before = record {
   present = if ends_then size conduct c piece past before then without c before.present else before.present;
   requests = asks (map (λ message. record { conn = c; message = message }) (brought_then size conduct c piece past before)) before.requests;
+  ticks = before.ticks;
 }
+goes_on_by size conduct (Now time) past before = record before { ticks = before.ticks + 1 }
 goes_on_by size conduct _ past before = before
 
 unfoldable pub session : Framing → Conduct → List Event → Session
-session size conduct [] = record { present = []; requests = [] }
+session size conduct [] = record { present = []; requests = []; ticks = 0 }
 session size conduct (event ∷ past) = goes_on_by size conduct event past (session size conduct past)
 
 abbrev pub present : Framing → Conduct → List Event → List ℕ
@@ -65,6 +69,9 @@ present size conduct past = (session size conduct past).present
 
 abbrev pub requests : Framing → Conduct → List Event → List Request
 requests size conduct past = (session size conduct past).requests
+
+abbrev pub ticks : Framing → Conduct → List Event → ℕ
+ticks size conduct past = (session size conduct past).ticks
 
 abbrev pub is_ended : Framing → Conduct → ℕ → List ℕ → List Event → Bool
 is_ended size conduct c piece past = ends_then size conduct c piece past (session size conduct past)
@@ -77,33 +84,59 @@ abbrev pub dropped : Framing → Conduct → List Event → List ℕ
 dropped size conduct (Piece c piece ∷ past) = if contains c (present size conduct past) && is_ended size conduct c piece past then c ∷ [] else []
 dropped size conduct _ = []
 
--- ---- what a client gets ----
+-- ---- what a client is owed ----
 
--- the answers to these messages, one behind the other, where those before were asked before them
-unfoldable pub answers_to : Answering → List (List ℕ) → (before : List (List ℕ)) → List ℕ
-answers_to answers [] before = []
-answers_to answers (message ∷ messages) before = answers before message ++ answers_to answers messages (message ∷ before)
+-- messages that are due at a tick of the clock
+pub record Owed : Type 0 where
+  pub due : ℕ
+  pub messages : List ℕ
 
--- the answers that an event brings a client: those to the requests that it makes whole
-abbrev pub added : Framing → Conduct → ℕ → Event → List Event → List ℕ
-added size conduct c (Piece d piece) past = if d == c then answers_to conduct.answers (brought size conduct d piece past) (messages_of (requests size conduct past)) else []
-added size conduct c _ past = []
+-- the answers to these messages, where those before were asked before them, and so many ticks have been
+unfoldable pub promised : Conduct → (ticks : ℕ) → List (List ℕ) → (before : List (List ℕ)) → List Owed
+promised conduct ticks [] before = []
+promised conduct ticks (message ∷ messages) before = record { due = ticks + conduct.late before message; messages = conduct.answers before message } ∷ promised conduct ticks messages (message ∷ before)
+
+-- of what is owed all that is due at this tick, one behind the other
+abbrev pub due_at : (tick : ℕ) → List Owed → List ℕ
+due_at tick owed = flat_map (λ o. o.messages) (filter (λ o. o.due == tick) owed)
+
+-- the answers that a connection is promised by a piece of its stream
+abbrev pub promises : Framing → Conduct → ℕ → List ℕ → List Event → List Owed
+promises size conduct c piece past = promised conduct (ticks size conduct past) (brought size conduct c piece past) (messages_of (requests size conduct past))
+
+-- those that an event promises a client
+abbrev pub promised_by : Framing → Conduct → ℕ → Event → List Event → List Owed
+promised_by size conduct c (Piece d piece) past = if d == c then promises size conduct d piece past else []
+promised_by size conduct c _ past = []
 
 abbrev pub joins : ℕ → Event → Bool
 joins c (Joined d) = d == c
 joins c _ = false
+
+-- all that a client was promised since it joined
+unfoldable pub owed : Framing → Conduct → ℕ → List Event → List Owed
+owed size conduct c [] = []
+owed size conduct c (event ∷ past) = if joins c event then [] else owed size conduct c past ++ promised_by size conduct c event past
+
+-- ---- what a client gets ----
+
+-- what an event brings a client: at a piece the answers that are due at once, and at a tick those that are due then and what the modem tells by the clock
+abbrev pub added : Framing → Conduct → ℕ → Event → List Event → List ℕ
+added size conduct c (Piece d piece) past = if d == c then due_at (ticks size conduct past) (promises size conduct d piece past) else []
+added size conduct c (Now time) past = due_at (ticks size conduct past + 1) (owed size conduct c past) ++ conduct.told (ticks size conduct past + 1) (messages_of (requests size conduct past))
+added size conduct c _ past = []
 
 -- how many bytes the client's socket takes
 abbrev pub taken : ℕ → Event → ℕ
 taken c (Took d count) = if d == c then count else 0
 taken c _ = 0
 
--- the answers to all requests of the client since it joined
+-- all that the client got since it joined
 unfoldable pub text : Framing → Conduct → ℕ → List Event → List ℕ
 text size conduct c [] = []
 text size conduct c (event ∷ past) = if joins c event then [] else text size conduct c past ++ added size conduct c event past
 
--- those that its socket didn't take yet
+-- what its socket didn't take yet of it
 unfoldable pub waiting : Framing → Conduct → ℕ → List Event → List ℕ
 waiting size conduct c [] = []
 waiting size conduct c (event ∷ past) = if joins c event then [] else drop (taken c event) (waiting size conduct c past) ++ added size conduct c event past

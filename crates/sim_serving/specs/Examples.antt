@@ -1,5 +1,5 @@
 -- Worked examples of serving a simulated modem. Lists of events and of requests have the newest first.
-use Rattle.std.specs.Prelude.{◌≡◌, ◌==◌, ℕ, zero, suc, List, [], ◌∷◌, length, reverse}
+use Rattle.std.specs.Prelude.{◌≡◌, ◌==◌, ◌%◌, ℕ, zero, suc, false, if◌then◌else◌, List, [], ◌∷◌, length, reverse}
 use Rattle.framing.specs.declared.framing.Size.{Size}
 use Rattle.framing.specs.declared.framing.Size.TheVariants.{Unknown, Known, Invalid}
 use Rattle.proxy_history.specs.Events.{Event, Joined, Piece, Left, Now, Took}
@@ -91,7 +91,7 @@ pub record TakenBytesWaitNoLonger : Type 0 where
 
 -- at the third request of all
 abbrev pub hanging_up : Conduct
-hanging_up = record { answers = counting; hangs_up = λ before message. length before == 2 }
+hanging_up = record { answers = counting; hangs_up = λ before message. length before == 2; late = λ before message. 0; told = λ tick before. [] }
 
 -- two requests and a half come in the piece that brings the third
 abbrev pub ending : List Event
@@ -108,3 +108,30 @@ pub record ModemsHangUp : Type 0 where
   -- the other goes on
   pub second : text size_of hanging_up 2 ended ≡ 1 ∷ 2 ∷ 8 ∷ 3 ∷ 2 ∷ 6 ∷ []
   pub once : dropped size_of hanging_up ended ≡ []
+
+-- ---- a modem to which the clock matters ----
+
+-- its answer to the second request of all goes two ticks later, and each third tick it tells which it is
+abbrev pub by_clock : Conduct
+by_clock = record {
+  answers = counting;
+  hangs_up = λ before message. false;
+  late = λ before message. if length before == 1 then 2 else 0;
+  told = λ tick before. if tick % 3 == 0 then 99 ∷ tick ∷ [] else [];
+}
+
+abbrev pub ticking : List Event → List Event
+ticking events = both_joined (Piece 1 (2 ∷ 7 ∷ []) ∷ Piece 2 (2 ∷ 8 ∷ []) ∷ Piece 2 (2 ∷ 9 ∷ []) ∷ Now 100 ∷ events)
+
+pub record AnswersGoLate : Type 0 where
+  -- the third request is answered before the second
+  pub first : text size_of by_clock 2 (ticking []) ≡ 2 ∷ 2 ∷ 9 ∷ []
+  pub second : text size_of by_clock 2 (ticking (Now 200 ∷ [])) ≡ 2 ∷ 2 ∷ 9 ∷ 1 ∷ 2 ∷ 8 ∷ []
+  -- to nobody else
+  pub other : text size_of by_clock 1 (ticking (Now 200 ∷ [])) ≡ 0 ∷ 2 ∷ 7 ∷ []
+  -- nor to who left before
+  pub gone : text size_of by_clock 3 (ticking (Left 2 ∷ Joined 3 ∷ Now 200 ∷ [])) ≡ []
+
+pub record TicksTellClients : Type 0 where
+  pub first : text size_of by_clock 1 (ticking (Now 200 ∷ Now 300 ∷ [])) ≡ 0 ∷ 2 ∷ 7 ∷ 99 ∷ 3 ∷ []
+  pub second : text size_of by_clock 2 (ticking (Now 200 ∷ Now 300 ∷ Now 400 ∷ [])) ≡ 2 ∷ 2 ∷ 9 ∷ 1 ∷ 2 ∷ 8 ∷ 99 ∷ 3 ∷ []

@@ -5,7 +5,7 @@ use Rattle.proxy_history.specs.Connections.{contains}
 use Rattle.proxy_history.specs.Streams.{Framing, stream, messages_of_piece, is_bad}
 use Rattle.proxy_history.specs.Proxy.{IsLawful}
 use Rattle.sim_modem.specs.Sim.{Answering}
-use Rattle.served_sim.specs.Conduct.{Conduct, plain}
+use Rattle.served_sim.specs.Conduct.{Conduct, IsPrompt, plain}
 use Rattle.sim_serving.specs.Clients.{Request, present, requests, messages_of, is_ended, brought, joins, text}
 use Rattle.sim_serving.specs.Proxy.{served}
 
@@ -22,9 +22,9 @@ own_answers answers c (r ∷ before) = if r.conn == c then own_answers answers c
 abbrev pub JoinsOnce : ℕ → List Event → Type 0
 JoinsOnce c past = length (filter (joins c) past) ≤ 1
 
--- whose name is no other's gets the answers to its own requests, in their order, and no others
+-- of a modem that answers at once and tells nothing by the clock, whose name is no other's gets the answers to its own requests, in their order, and no others
 abbrev pub GetsItsOwnAnswers : Type 0
-GetsItsOwnAnswers = (size : Framing) (conduct : Conduct) (c : ℕ) (past : List Event) → JoinsOnce c past → text size conduct c past ≡ own_answers conduct.answers c (requests size conduct past)
+GetsItsOwnAnswers = (size : Framing) (conduct : Conduct) → IsPrompt conduct → (c : ℕ) (past : List Event) → JoinsOnce c past → text size conduct c past ≡ own_answers conduct.answers c (requests size conduct past)
 
 -- a modem that hangs nobody up is asked all that comes whole of a connection that is there, and only a bad stream ends one
 pub record PlainModemsHangNobodyUp : Type 0 where

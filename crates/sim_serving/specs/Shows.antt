@@ -27,12 +27,12 @@ module _ (c : ℕ) (f : ℕ → Client) (name : (d : ℕ) → (f d).name ≡ d) 
       elim [ true ↦ λ is. ap (λ (d : ℕ). Some (f d)) (sym (eqb-true c x is)) | false ↦ λ is. named_is names ]
       in ap (λ (b : Bool). if b then Some (f x) else named c (map f names)) (test x) ∙ step (c == x) refl
 
-  pub waiting_is : (names : List ℕ) → contains c names ≡ true → waiting_for c (map f names) ≡ (f c).waiting
+  pub waiting_is : (names : List ℕ) → contains c names ≡ true → waiting_for c (map f names) ≡ (f c).replies.waiting
   waiting_is names there = ap waiting_in (named_is names ∙ ap (λ (b : Bool). if b then Some (f c) else None) there)
 
 -- ---- what a core shows ----
 
-module _ {S : Type 0} (size : Framing) (keeps : Conduct → List (List ℕ) → S → Type 0) where
+module _ {S : Type 0} (size : Framing) (keeps : ℕ → Conduct → List (List ℕ) → S → Type 0) where
   shows_conduct : (conduct : Conduct) (past : List Event) (core : Core S) → StandsFor size keeps conduct past core → Shows (served size conduct) past (face_of core)
   shows_conduct conduct past core Sd = record {
     lawful = is_lawful size conduct;

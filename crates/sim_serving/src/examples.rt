@@ -1,6 +1,6 @@
 //! Worked examples of what clients of a simulated modem get.
 
-ghost use Rattle.sim_serving.specs.Examples.{ClientsShareOneModem, RequestsAreAskedOnceWhole, BadStreamsAreHungUp, ModemsHangUp, WhoLeftGetsNothing, WhoComesBackBeginsAnew, TakenBytesWaitNoLonger};
+ghost use Rattle.sim_serving.specs.Examples.{AnswersGoLate, ClientsShareOneModem, RequestsAreAskedOnceWhole, BadStreamsAreHungUp, ModemsHangUp, WhoLeftGetsNothing, WhoComesBackBeginsAnew, TakenBytesWaitNoLonger, TicksTellClients};
 
 /// The clients share one modem, which counts the requests of both.
 pub fn clients_share_one_modem()
@@ -35,4 +35,14 @@ pub fn who_comes_back_begins_anew()
 /// What a socket took waits no longer, and what comes then waits behind the rest.
 pub fn taken_bytes_wait_no_longer()
     ensures { TakenBytesWaitNoLonger }
+{}
+
+/// An answer that is late goes at its tick, to the client that asked, if it is still there.
+pub fn answers_go_late()
+    ensures { AnswersGoLate }
+{}
+
+/// What a modem tells by the clock goes to each client.
+pub fn ticks_tell_clients()
+    ensures { TicksTellClients }
 {}

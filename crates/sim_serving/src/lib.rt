@@ -6,6 +6,7 @@ mod client;
 mod examples;
 mod laws;
 mod queue;
+mod replies;
 mod serving;
 mod sim_core;
 #[cfg(test)]

@@ -5,7 +5,7 @@ ghost use Rattle.proxy_serving.specs.Ends.{EndsFor};
 ghost use Rattle.proxy_serving.specs.Serving.{never};
 ghost use Rattle.served_sim.specs.Conduct.{Conduct};
 ghost use Rattle.sim_modem.specs.Sim.{Answering};
-ghost use Rattle.sim_serving.specs.Core.{face_of, Keeps, TakesMemory};
+ghost use Rattle.sim_serving.specs.Core.{face_of, Keeps, LacksMemory, TakesMemory};
 ghost use Rattle.sim_serving.specs.Proxy.{proxy_of, served};
 ghost use Rattle.sim_serving.specs.Shows.{shows_of};
 
@@ -21,7 +21,7 @@ impl<S: ServedSim> ProxyCore for SimCore<S> {
 
     ghost keeps = { λ p past core. Keeps S.Framing.size S.keeps p past core };
 
-    ghost lacks_memory = { TakesMemory };
+    ghost lacks_memory = { LacksMemory S.by_clock };
 
     fn step(&mut self, event: Event<'_>) -> Result<(), AllocError> {
         SimCore::step(self, event)?;
@@ -90,12 +90,13 @@ pub fn serve_sim<H: Hub, S: Sim>(alloc: Global, hub: &mut H, sim: S, turns: u64)
     serve_so(alloc, hub, Plain { sim }, turns)
 }
 
-/// The same for a modem that may hang its clients up: those connections are hung up too, at whose request
-/// it does, which is the last of theirs that it is asked.
+/// The same for a modem that may hang its clients up, answer late, and tell something by the clock.
+/// Those connections are hung up too, at whose request it does, which is the last of theirs that it is
+/// asked. A late answer goes at its tick, if its client is still there.
 pub fn serve_so<H: Hub, S: ServedSim>(alloc: Global, hub: &mut H, sim: S, turns: u64) -> ServeEnd
-    requires { (conduct : Conduct) × S.keeps conduct [] sim }
-    ensures served { (conduct : Conduct) → S.keeps conduct [] sim →
-        Since (H.calls hub.old) (H.calls hub.new) (EndsFor TakesMemory (served S.Framing.size conduct) never turns result) }
+    requires { (conduct : Conduct) × S.keeps 0 conduct [] sim }
+    ensures served { (conduct : Conduct) → S.keeps 0 conduct [] sim →
+        Since (H.calls hub.old) (H.calls hub.new) (EndsFor (LacksMemory S.by_clock) (served S.Framing.size conduct) never turns result) }
     ensures never_empty { Since (H.calls hub.old) (H.calls hub.new) (λ calls. ¬ (result ≡ ServeEnd.Empty)) }
     ensures never_lost { ¬ (result ≡ ServeEnd.Lost) }
     ensures later { H.faults hub.old ≤ H.faults hub.new }

@@ -1,12 +1,12 @@
-ghost use Rattle.std.specs.Prelude.{◌≡◌, ◌<◌, ◌≤◌, ◌+◌, ◌==◌, ℕ, [], ◌∷◌, ◌++◌, List, None, Some, length, nat_lt, drop, slice_get, position, OnOk, OnErr, IfSome};
+ghost use Rattle.std.specs.Prelude.{◌≡◌, ◌<◌, ◌≤◌, ◌+◌, ◌==◌, ℕ, [], ◌∷◌, ◌++◌, List, None, Some, length, map, nat_lt, drop, slice_get, position, OnOk, OnErr, IfSome};
 ghost use Rattle.std.specs.Option.{option_map};
 ghost use Rattle.hub_io.specs.Events.{event_of};
 ghost use Rattle.proxy_history.specs.Events as history;
 ghost use Rattle.proxy_history.specs.Events.{greatest_after};
 ghost use Rattle.proxy_serving.specs.Face.{BringsIn, CanMeet};
 ghost use Rattle.served_sim.specs.Conduct.{Conduct};
-ghost use Rattle.sim_serving.specs.Core.{named, names_of, waiting_for, face_of, StandsFor, StandsAfter, TakesMemory};
-ghost use Rattle.sim_serving.specs.Hearing.{Brings, changed, gone, took};
+ghost use Rattle.sim_serving.specs.Core.{named, names_of, no_replies, waiting_for, face_of, StandsFor, StandsAfter, LacksMemory};
+ghost use Rattle.sim_serving.specs.Hearing.{Brings, Ticks, changed, gone, ticks_on, took};
 
 use crate::client::Client;
 use framing::LONGEST_PIECE;
@@ -51,13 +51,13 @@ impl<S: ServedSim> SimCore<S> {
         }
     }
 
-    /// Meets an event. What a modem or the clock tells changes nothing.
+    /// Meets an event. What a modem tells changes nothing.
     pub fn step(&mut self, event: Event<'_>) -> Result<(), AllocError>
         requires { CanMeet (event_of event) (face_of self.old) }
         ensures stands { OnOk result ((conduct : Conduct) (past : List history.Event) → StandsFor S.Framing.size S.keeps conduct past self.old →
             StandsAfter S.Framing.size S.keeps conduct (event_of event.entry ∷ past) self.new) }
         ensures greatest { OnOk result (self.new.greatest ≡ greatest_after (event_of event.entry) self.old.greatest) }
-        ensures memory { OnErr result (TakesMemory (event_of event.entry)) }
+        ensures memory { OnErr result (LacksMemory S.by_clock (event_of event.entry)) }
         ensures brings { OnErr result (BringsIn (event_of event.entry)) }
     {
         match event {
@@ -80,14 +80,17 @@ impl<S: ServedSim> SimCore<S> {
             Event::ModemPiece(_) => Ok(()),
             Event::ModemGone => Ok(()),
             Event::ModemBack => Ok(()),
-            Event::Now(_) => Ok(()),
+            Event::Now(_) => {
+                self.tick()?;
+                Ok(())
+            }
             Event::ModemTook(_) => Ok(()),
         }
     }
 
     // A client connected: it is there behind the others.
     fn join(&mut self, name: u64) -> Result<(), AllocError>
-        ensures { OnOk result (self.new ≡ record self.old { clients = self.old.clients ++ record { name = name; rest = []; waiting = [] } ∷ []; greatest = name }) }
+        ensures { OnOk result (self.new ≡ record self.old { clients = self.old.clients ++ record { name = name; rest = []; replies = no_replies } ∷ []; greatest = name }) }
     {
         self.clients.push(Client::open(self.alloc, name)?)?;
         self.greatest = name;
@@ -98,8 +101,8 @@ impl<S: ServedSim> SimCore<S> {
     // dropped where the stream goes bad or the modem hangs up.
     fn bring(&mut self, name: u64, piece: &[u8]) -> Result<(), AllocError>
         requires { length piece.now ≤ LONGEST_PIECE }
-        ensures brought { OnOk result ((conduct : Conduct) (before : List (List ℕ)) → S.keeps conduct before self.old.sim →
-            Brings S.Framing.size S.keeps conduct before (named name self.old.clients) piece.now self.old self.new) }
+        ensures brought { OnOk result ((ticks : ℕ) (conduct : Conduct) (before : List (List ℕ)) → S.keeps ticks conduct before self.old.sim →
+            Brings S.Framing.size S.keeps ticks conduct before (named name self.old.clients) piece.now self.old self.new) }
         ensures greatest { OnOk result (self.new.greatest ≡ self.old.greatest) }
     {
         let Some(place) = place_of(&self.clients, name) else {
@@ -134,6 +137,19 @@ impl<S: ServedSim> SimCore<S> {
         }
     }
 
+    // The clock ticks: the modem may tell something, and what was late may be due.
+    fn tick(&mut self) -> Result<(), AllocError>
+        ensures ticked { OnOk result ((ticks : ℕ) (conduct : Conduct) (before : List (List ℕ)) → S.keeps ticks conduct before self.old.sim → Ticks S.keeps ticks conduct before self.old self.new) }
+        ensures greatest { OnOk result (self.new.greatest ≡ self.old.greatest) }
+        ensures clock { OnErr result S.by_clock }
+    {
+        let Some(told) = self.sim.tick()? else {
+            return Ok(());
+        };
+        tick_all(&mut self.clients, told.as_slice())?;
+        Ok(())
+    }
+
     /// The bytes that wait for a client; none where it isn't there.
     pub fn queued(&self, name: u64) -> &[u8]
         ensures { result.now ≡ waiting_for name self.now.clients }
@@ -158,7 +174,7 @@ impl<S: ServedSim> SimCore<S> {
     /// The place of the first client, from this place on, for which bytes wait.
     pub fn waiting_from(&self, from: usize) -> Option<usize>
         requires { from ≤ length self.now.clients }
-        ensures place { result ≡ option_map (λ at. from + at) (position (λ k. nat_lt 0 (length k.waiting)) (drop from self.now.clients)) }
+        ensures place { result ≡ option_map (λ at. from + at) (position (λ k. nat_lt 0 (length k.replies.waiting)) (drop from self.now.clients)) }
         ensures within { IfSome result (λ place. (from ≤ place) × (place < length self.now.clients)) }
         ensures fits { IfSome result (λ place. place < usize.MAX) }
     {
@@ -195,8 +211,18 @@ fn place_of<S: ServedSim>(clients: &[Client<S>], name: u64) -> Option<usize>
 
 // Where the first client stands for which bytes wait.
 fn waiting_in<S: ServedSim>(clients: &[Client<S>]) -> Option<usize>
-    ensures place { result ≡ position (λ k. nat_lt 0 (length k.waiting)) clients.now }
+    ensures place { result ≡ position (λ k. nat_lt 0 (length k.replies.waiting)) clients.now }
     ensures within { IfSome result (λ place. place < length clients.now) }
 {
     clients.iter().position(|client| client.is_waiting())
+}
+
+// The clock ticks for each of the clients, and the modem tells this.
+fn tick_all<S: ServedSim>(clients: &mut Vec<Client<S>>, told: &[u8]) -> Result<(), AllocError>
+    ensures { OnOk result (clients.new.items ≡ map (ticks_on told.now) clients.old.items) }
+{
+    for client in clients.iter_mut() {
+        client.tick(told)?;
+    }
+    Ok(())
 }

@@ -1,7 +1,7 @@
 use Rattle.std.proofs.Common.{refl}
-use Rattle.modem_rules.specs.Values.{answer_rule, data_in, failure_in, fault_rule, has_members, indication_rule, kind_alone, number_in, number_within}
+use Rattle.modem_rules.specs.Values.{answer_rule, data_in, failure_in, fault_rule, has_members, indication_rule, kind_alone, number_in, number_within, when_in}
 use Rattle.modem_rules.proofs.examples.hanging_up_is_spelled_out.Goals as goal
 
 pub returns : goal.returns
-unfolding answer_rule data_in failure_in fault_rule has_members indication_rule kind_alone number_in number_within
+unfolding answer_rule data_in failure_in fault_rule has_members indication_rule kind_alone number_in number_within when_in
 returns c = record { ended = refl; denied = refl; counted = refl; missing = refl; both = refl }

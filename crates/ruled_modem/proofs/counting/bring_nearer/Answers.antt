@@ -1,7 +1,7 @@
 use Rattle.std.proofs.Common.{◌≡◌, ◌∙◌, ap, sym, length, set, get_or, List, arith}
 use Rattle.modem_rules.specs.declared.rules.FaultRule.{FaultRule}
 use Rattle.ruled_modem.specs.Keeping.{nearer}
-use Rattle.ruled_modem.proofs.Nearer.{changed_to, changed_to-none, changed_to-next, changed_to-length, changed_to-all, written}
+use Rattle.served_sim.proofs.Counting.{changed_to, changed_to-none, changed_to-next, changed_to-length, changed_to-all, written}
 use Rattle.ruled_modem.proofs.counting.bring_nearer.Goals as goal
 
 pub loop-fault-init : goal.loop-fault-init

@@ -1,6 +1,6 @@
 use Rattle.std.proofs.Common.{◌≡◌}
 use Rattle.ruled_modem.specs.Keeping.{nearer}
-use Rattle.ruled_modem.proofs.Nearer.{changed_to}
+use Rattle.served_sim.proofs.Counting.{changed_to}
 use Rattle.ruled_modem.proofs.counting.bring_nearer.Given as goal
 
 abbrev pub invariant-loop-fault : goal.invariant-loop-fault

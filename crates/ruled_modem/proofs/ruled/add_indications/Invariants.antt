@@ -1,5 +1,6 @@
+use Rattle.ruled_modem.specs.Host.{hears}
 use Rattle.ruled_modem.proofs.Telling.{IsLeft}
 use Rattle.ruled_modem.proofs.ruled.add_indications.Given as goal
 
 abbrev pub invariant-loop-rule : goal.invariant-loop-rule
-invariant-loop-rule l = IsLeft l.host l.rules l.fn.text l.text l.rule-index
+invariant-loop-rule l = IsLeft l.host (λ rule. hears l.host rule.kind) l.rules l.fn.text l.text l.rule-index

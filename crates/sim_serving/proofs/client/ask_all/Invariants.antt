@@ -7,8 +7,8 @@ use Rattle.sim_serving.proofs.client.ask_all.Given as goal
 -- what is left to ask, asked, is what there was to ask, asked
 abbrev pub invariant-loop-span : goal.invariant-loop-span
 invariant-loop-span g l = record {
-  asking : (conduct : Conduct) (before : List (List ℕ)) → g.S.ServedSim.keeps conduct before l.initial.sim
-      → IsAsking g.S.ServedSim.keeps conduct before (cut g.S.Framing.Framing.size l.initial.stream.rest).messages l.initial.queue (cut g.S.Framing.Framing.size l.stream.rest).messages l.sim l.queue;
+  asking : (ticks : ℕ) (conduct : Conduct) (before : List (List ℕ)) → g.S.ServedSim.keeps ticks conduct before l.initial.sim
+      → IsAsking g.S.ServedSim.keeps ticks conduct before (cut g.S.Framing.Framing.size l.initial.stream.rest).messages l.initial.replies (cut g.S.Framing.Framing.size l.stream.rest).messages l.sim l.replies;
   rest : (cut g.S.Framing.Framing.size l.stream.rest).rest ≡ (cut g.S.Framing.Framing.size l.initial.stream.rest).rest;
 }
 

@@ -6,15 +6,15 @@ use Rattle.proxy_history.specs.Proxy.{Proxy}
 use Rattle.proxy_serving.specs.Ends.{EndsFor, EndsAtClock}
 use Rattle.proxy_serving.specs.Serving.{never, IsEmptied}
 use Rattle.sim_serving.specs.Proxy.{served}
-use Rattle.sim_serving.specs.Core.{Core, TakesMemory}
+use Rattle.sim_serving.specs.Core.{Core, LacksMemory}
 use Rattle.sim_serving.proofs.Steps.{stands_opened}
 use Rattle.sim_serving.proofs.serving.serve_so.Goals as goal
 
 -- with no limit it isn't that nobody was there for so long
-never_empty : (start now : Option (List Call)) (p : Proxy) (turns : ℕ) (why : ServeEnd) → Since start now (EndsFor TakesMemory p never turns why) → Since start now (λ calls. why ≡ end.Empty → ⊥)
-never_empty start None p turns why since = tt
-never_empty None (Some now) p turns why since = absurd since
-never_empty (Some start) (Some now) p turns why since = (since.0, since.1, λ empty. isnt (subst (λ (w : ServeEnd). EndsFor TakesMemory p never turns w since.0) empty since.2))
+never_empty : (clock : Type 0) (start now : Option (List Call)) (p : Proxy) (turns : ℕ) (why : ServeEnd) → Since start now (EndsFor (LacksMemory clock) p never turns why) → Since start now (λ calls. why ≡ end.Empty → ⊥)
+never_empty clock start None p turns why since = tt
+never_empty clock None (Some now) p turns why since = absurd since
+never_empty clock (Some start) (Some now) p turns why since = (since.0, since.1, λ empty. isnt (subst (λ (w : ServeEnd). EndsFor (LacksMemory clock) p never turns w since.0) empty since.2))
   where
     isnt : EndsAtClock (IsEmptied p never) p never turns since.0 → ⊥
     isnt ends = let wrong : false ≡ true = ends.over in cc
@@ -31,4 +31,4 @@ returns-clause-served g c =
     λ conduct kept. c.serve.ensures.served (served g.S.Framing.Framing.size conduct) (record { conduct = conduct; same = refl; stands = stands_opened g.S.Framing.Framing.size g.S.ServedSim.keeps conduct c.args.sim c.open.result c.open.ensures kept })
 
 pub returns-clause-never_empty : goal.returns-clause-never_empty
-returns-clause-never_empty g c = never_empty _ _ (served g.S.Framing.Framing.size c.requires.0) c.args.turns c.serve.result (returns-clause-served g c c.requires.0 c.requires.1)
+returns-clause-never_empty g c = never_empty g.S.ServedSim.by_clock _ _ (served g.S.Framing.Framing.size c.requires.0) c.args.turns c.serve.result (returns-clause-served g c c.requires.0 c.requires.1)

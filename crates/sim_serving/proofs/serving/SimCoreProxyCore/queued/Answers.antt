@@ -1,4 +1,4 @@
-use Rattle.std.proofs.Common.{◌≡◌, ℕ, List, [], sym, subst}
+use Rattle.std.proofs.Common.{ℕ, List, [], sym, subst}
 use Rattle.std.proofs.lemmas.List.{append-nil}
 use Rattle.outbox.specs.Fronts.{IsFrontOf}
 use Rattle.sim_serving.proofs.serving.SimCoreProxyCore.queued.Goals as goal

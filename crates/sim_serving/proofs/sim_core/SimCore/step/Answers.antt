@@ -1,6 +1,6 @@
 use Rattle.std.proofs.Common.{refl, ap}
 use Rattle.hub_io.specs.Events.{event_of}
-use Rattle.proxy_history.specs.Events.{Joined, Piece, Left, ModemGone, ModemBack, Took}
+use Rattle.proxy_history.specs.Events.{Joined, Piece, Left, ModemGone, ModemBack, Now, Took}
 use Rattle.sim_serving.proofs.Steps.{step_as, goes_joined, goes_brought, goes_left, goes_took, goes_modem_piece, goes_modem_gone, goes_modem_back, goes_now, goes_modem_took}
 use Rattle.sim_serving.proofs.sim_core.SimCore.step.Goals as goal
 
@@ -25,8 +25,8 @@ returns-in-ModemGone-clause-stands g c = step_as g.S.Framing.Framing.size g.S.Se
 pub returns-in-ModemBack-clause-stands : goal.returns-in-ModemBack-clause-stands
 returns-in-ModemBack-clause-stands g c = step_as g.S.Framing.Framing.size g.S.ServedSim.keeps (event_of c.args.event) ModemBack c.args.self.now c.args.self.now _ (ap event_of c.in-ModemBack.is) refl c.requires (goes_modem_back g.S.Framing.Framing.size g.S.ServedSim.keeps c.args.self.now)
 
-pub returns-in-Now-clause-stands : goal.returns-in-Now-clause-stands
-returns-in-Now-clause-stands g c = step_as g.S.Framing.Framing.size g.S.ServedSim.keeps (event_of c.args.event) _ c.args.self.now c.args.self.now _ (ap event_of c.in-Now.is) refl c.requires (goes_now g.S.Framing.Framing.size g.S.ServedSim.keeps c.args.self.now _)
+pub returns-in_ok-tick-in-Now-clause-stands : goal.returns-in_ok-tick-in-Now-clause-stands
+returns-in_ok-tick-in-Now-clause-stands g c = step_as g.S.Framing.Framing.size g.S.ServedSim.keeps (event_of c.args.event) (Now _) c.args.self.now c.tick.new.self _ (ap event_of c.in-Now.is) refl c.requires (goes_now g.S.Framing.Framing.size g.S.ServedSim.keeps c.args.self.now _ c.tick.new.self c.in_ok-tick-in-Now.ensures.ticked)
 
 pub returns-in-ModemTook-clause-stands : goal.returns-in-ModemTook-clause-stands
 returns-in-ModemTook-clause-stands g c = step_as g.S.Framing.Framing.size g.S.ServedSim.keeps (event_of c.args.event) _ c.args.self.now c.args.self.now _ (ap event_of c.in-ModemTook.is) refl c.requires (goes_modem_took g.S.Framing.Framing.size g.S.ServedSim.keeps c.args.self.now _)
