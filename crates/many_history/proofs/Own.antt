@@ -76,10 +76,10 @@ module _ {Known : Type 0} (s : Devices Known) where
   parts_sound (Piece c bytes) seats events may sound = said_by_sound (place_of c seats) bytes events may sound
   parts_sound (Left c) seats events may sound = left_sound (place_of c seats) events sound
   parts_sound (Took c count) seats events may sound = taken_sound (place_of c seats) count events may sound
-  parts_sound (ModemPiece d bytes) seats events may sound = only_sound d (one.ModemPiece bytes ∷ []) events (may, sound d) sound
+  parts_sound (ModemPiece d bytes) seats events may sound = only_sound d (one.ModemPiece bytes ∷ []) events (may.1, sound d) sound
   parts_sound (ModemGone d) seats events may sound = only_sound d (one.ModemGone ∷ []) events (tt, sound d) sound
   parts_sound (ModemBack d) seats events may sound = only_sound d (one.ModemBack ∷ []) events (tt, sound d) sound
-  parts_sound (ModemTook d count) seats events may sound = only_sound d (one.ModemTook count ∷ []) events (may, sound d) sound
+  parts_sound (ModemTook d count) seats events may sound = only_sound d (one.ModemTook count ∷ []) events (may.1, sound d) sound
   parts_sound (Now time) seats events may sound = λ d. (tt, sound d)
 
   pub own_events_are_sound : (events : List ManyEvent) → several.AreSound s events → AllSound (many s events).own

@@ -6,13 +6,12 @@ use Rattle.std.proofs.lemmas.Bool.Decides.{nat_tests}
 use Rattle.proxy_history.specs.Events.{Event}
 use Rattle.proxy_history.specs.Events as one
 use Rattle.proxy_history.specs.Items.{Item, Joins, items_of}
-use Rattle.proxy_history.specs.Facts.{Fact, EventBegan, Closed, Admitted, Ended}
+use Rattle.proxy_history.specs.Facts.{Fact, Request, EventBegan, Closed, Admitted, Ended}
 use Rattle.proxy_history.specs.Connections.{present, is_present, contains}
 use Rattle.proxy_history.specs.Coming.{greatest_name}
 use Rattle.proxy_history.specs.Protocol.{Protocol}
 use Rattle.proxy_history.specs.History.{history, add_all}
 use Rattle.proxy_history.specs.Adding.{MayAdd, MayFinish, IsOrderly}
-use Rattle.proxy_history.specs.Orderly.{Anything}
 use Rattle.proxy_history.proofs.Lists.{contains_filter, contains_kept}
 use Rattle.proxy_history.proofs.Walk.{IsOf, kept_by_event, kept_at_end, sound_items, begun_is_sound}
 use Rattle.many_history.specs.Events.{ManyEvent, Joined, Piece, Left, Took, ModemPiece, ModemGone, ModemBack, ModemTook, Now}
@@ -61,14 +60,14 @@ and_none : (b : Bool) → (b && false) ≡ false
 and_none true = refl
 and_none false = refl
 
-module _ {Known : Type 0} (p : Protocol Known) (O : IsOrderly p Anything) (name : ℕ) where
+module _ {Known : Type 0} (p : Protocol Known) (Asks : Request → List Fact → Type 0) (O : IsOrderly p Asks) (name : ℕ) where
   abbrev Is : List Event → Bool
   Is events = is_present name (history p events)
 
   absent_after : (event : Event) (events : List Event) → joins name event ≡ false → Is events ≡ false → Is (event ∷ events) ≡ false
   unfolding present
   absent_after event events other absent =
-      kept_by_event p Anything O (λ past. contains name (present past) ≡ false) event
+      kept_by_event p Asks O (λ past. contains name (present past) ≡ false) event
       (λ item of fact past follows may asked none. absent_more name fact past (item_admits name event item fact past other of may) none)
       (λ fact past follows may asked none. absent_more name fact past (finish_admits name fact past may) none)
       events absent
@@ -89,9 +88,9 @@ module _ {Known : Type 0} (p : Protocol Known) (O : IsOrderly p Anything) (name 
   unfolding history add_all present
   gone_once_left events =
       let begun : List Fact = EventBegan ∷ history p events in
-      kept_at_end p Anything O (λ past. contains name (present past) ≡ false)
+      kept_at_end p Asks O (λ past. contains name (present past) ≡ false)
       (λ fact past follows may asked none. absent_more name fact past (finish_admits name fact past may) none)
-      (add_all p (items_of p events (one.Left name)) begun) (sound_items p Anything O (items_of p events (one.Left name)) begun (begun_is_sound p Anything O events))
+      (add_all p (items_of p events (one.Left name)) begun) (sound_items p Asks O (items_of p events (one.Left name)) begun (begun_is_sound p Asks O events))
       (by (contains name (present begun)) refl)
     where
       by : (b : Bool) → contains name (present (history p events)) ≡ b → contains name (present (if b then Ended name Closed ∷ EventBegan ∷ history p events else EventBegan ∷ history p events)) ≡ false
@@ -196,7 +195,7 @@ none_arrives name k before piece other = (refl, none_says name k (in_pieces befo
 
 -- ---- an event ----
 
-module _ {Known : Type 0} (s : Devices Known) (O : (d : ℕ) → IsOrderly (s.protocol d) Anything) (events : ℕ → List Event) (seats : List Seat) where
+module _ {Known : Type 0} (s : Devices Known) (Asks : ℕ → Request → List Fact → Type 0) (O : (d : ℕ) → IsOrderly (s.protocol d) (Asks d)) (events : ℕ → List Event) (seats : List Seat) where
   abbrev IsThere : (ℕ → List Event) → Type 0
   IsThere part = (d name : ℕ) → is_present name (history (s.protocol d) (part d ++ events d)) ≡ true → sits d name seats ≡ true
 
@@ -209,7 +208,7 @@ module _ {Known : Type 0} (s : Devices Known) (O : (d : ℕ) → IsOrderly (s.pr
     only_there e part none d name = by (d == e)
       where
         by : (b : Bool) → is_present name (history (s.protocol d) (events_if b part ++ events d)) ≡ true → sits d name seats ≡ true
-        by true is = were d name (came_from (s.protocol d) (O d) name part (events d) (none name) is)
+        by true is = were d name (came_from (s.protocol d) (Asks d) (O d) name part (events d) (none name) is)
         by false is = were d name is
 
     chosen_there : (choice : Option ℕ) (c : ℕ) (before piece : List ℕ) → place_of c seats ≡ Some (Undecided before)
@@ -225,7 +224,7 @@ module _ {Known : Type 0} (s : Devices Known) (O : (d : ℕ) → IsOrderly (s.pr
 
         by_name : (d name : ℕ) → (e ≡ d) → (b : Bool) → (k == name) ≡ b → is_present name (history (s.protocol d) (arrival k before piece ++ events d)) ≡ true → sits d name (placed c (At e k) seats) ≡ true
         by_name d name device true new is = subst (λ (f : ℕ). sits d name (placed c (At f k) seats) ≡ true) (sym device) (subst (λ (n : ℕ). sits d name (placed c (At d n) seats) ≡ true) (sym (eqb-true k name new)) (placed_sits d name c (Undecided before) seats at))
-        by_name d name device false other is = moved d name (came_from (s.protocol d) (O d) name (arrival k before piece) (events d) (none_arrives name k before piece other) is)
+        by_name d name device false other is = moved d name (came_from (s.protocol d) (Asks d) (O d) name (arrival k before piece) (events d) (none_arrives name k before piece other) is)
 
         by : (d name : ℕ) (b : Bool) → (d == e) ≡ b → is_present name (history (s.protocol d) (events_if b (arrival k before piece) ++ events d)) ≡ true → sits d name (placed c (At e k) seats) ≡ true
         by d name true here is = by_name d name (sym (eqb-true d e here)) (k == name) refl is
@@ -249,8 +248,8 @@ module _ {Known : Type 0} (s : Devices Known) (O : (d : ℕ) → IsOrderly (s.pr
 
         by : (d name : ℕ) (b : Bool) → (d == e) ≡ b → (t : Bool) → (k == name) ≡ t → is_present name (history (s.protocol d) (events_if b (one.Left k ∷ []) ++ events d)) ≡ true → sits d name (without c seats) ≡ true
         by d name true here true same is =
-            absurd (let gone : is_present name (history (s.protocol d) (one.Left k ∷ events d)) ≡ false = subst (λ (n : ℕ). is_present name (history (s.protocol d) (one.Left n ∷ events d)) ≡ false) (sym (eqb-true k name same)) (gone_once_left (s.protocol d) (O d) name (events d)) in let clash : true ≡ false = sym is ∙ gone in cc)
-        by d name true here false other is = sits_without d name c (At e k) seats at (other_place d name true here other) (were d name (came_from (s.protocol d) (O d) name (one.Left k ∷ []) (events d) (refl, tt) is))
+            absurd (let gone : is_present name (history (s.protocol d) (one.Left k ∷ events d)) ≡ false = subst (λ (n : ℕ). is_present name (history (s.protocol d) (one.Left n ∷ events d)) ≡ false) (sym (eqb-true k name same)) (gone_once_left (s.protocol d) (Asks d) (O d) name (events d)) in let clash : true ≡ false = sym is ∙ gone in cc)
+        by d name true here false other is = sits_without d name c (At e k) seats at (other_place d name true here other) (were d name (came_from (s.protocol d) (Asks d) (O d) name (one.Left k ∷ []) (events d) (refl, tt) is))
         by d name false away t same is = sits_without d name c (At e k) seats at (ap (λ (b : Bool). b && (k == name)) (turned d away)) (were d name is)
 
     taken_there : (place : Option Place) (count : ℕ) → AreThere (on_taking place count) seats
@@ -271,12 +270,12 @@ module _ {Known : Type 0} (s : Devices Known) (O : (d : ℕ) → IsOrderly (s.pr
     event_there (ModemGone e) = only_there e (one.ModemGone ∷ []) (λ name. (refl, tt))
     event_there (ModemBack e) = only_there e (one.ModemBack ∷ []) (λ name. (refl, tt))
     event_there (ModemTook e count) = only_there e (one.ModemTook count ∷ []) (λ name. (refl, tt))
-    event_there (Now time) = λ d name is. were d name (came_from (s.protocol d) (O d) name (one.Now time ∷ []) (events d) (refl, tt) is)
+    event_there (Now time) = λ d name is. were d name (came_from (s.protocol d) (Asks d) (O d) name (one.Now time ∷ []) (events d) (refl, tt) is)
 
-module _ {Known : Type 0} (s : Devices Known) (O : (d : ℕ) → IsOrderly (s.protocol d) Anything) where
+module _ {Known : Type 0} (s : Devices Known) (Asks : ℕ → Request → List Fact → Type 0) (O : (d : ℕ) → IsOrderly (s.protocol d) (Asks d)) where
   pub who_is_there_sits : (events : List ManyEvent) (d name : ℕ) → is_present name (history (s.protocol d) (own s d events)) ≡ true → sits d name (many s events).seats ≡ true
   unfolding many history present
   who_is_there_sits [] d name is = absurd (cc)
   who_is_there_sits (event ∷ events) d name is =
       let m = many s events in
-      sits_there (is_there_at s (own_after s event m)) d name (seats_before s event m) is (event_there s O m.own m.seats (who_is_there_sits events) event d name is)
+      sits_there (is_there_at s (own_after s event m)) d name (seats_before s event m) is (event_there s Asks O m.own m.seats (who_is_there_sits events) event d name is)

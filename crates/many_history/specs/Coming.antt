@@ -3,7 +3,7 @@ use Rattle.std.specs.Prelude.{ℕ, ◌≤◌, ◌<◌, max, List, [], ◌∷◌,
 use Rattle.proxy_history.specs.Events.{Event}
 use Rattle.proxy_history.specs.Coming.{piece_limit, queued_for}
 use Rattle.proxy_history.specs.History.{modem_queue}
-use Rattle.many_history.specs.Events.{ManyEvent, Joined, Piece, Took, ModemPiece, ModemTook}
+use Rattle.many_history.specs.Events.{ManyEvent, Joined, Piece, Took, ModemPiece, ModemGone, ModemBack, ModemTook}
 use Rattle.many_history.specs.Devices.{Devices}
 use Rattle.many_history.specs.Many.{Place, Undecided, At, Seat, place_of, many}
 
@@ -24,12 +24,14 @@ queued_at s own None = 0
 queued_at s own (Some (Undecided bytes)) = 0
 queued_at s own (Some (At d name)) = queued_for (s.protocol d) name (own d)
 
--- pieces are short, and no more is taken than waits
+-- pieces are short, no more is taken than waits, and a modem is that of a device that there is
 abbrev pub MayMeet : {Known : Type 0} → Devices Known → ManyEvent → List Seat → (ℕ → List Event) → Type 0
 MayMeet s (Piece c bytes) seats own = length bytes ≤ piece_limit
 MayMeet s (Took c count) seats own = count ≤ queued_at s own (place_of c seats)
-MayMeet s (ModemPiece d bytes) seats own = length bytes ≤ piece_limit
-MayMeet s (ModemTook d count) seats own = count ≤ length (modem_queue (s.protocol d) (own d))
+MayMeet s (ModemPiece d bytes) seats own = d < s.count × length bytes ≤ piece_limit
+MayMeet s (ModemGone d) seats own = d < s.count
+MayMeet s (ModemBack d) seats own = d < s.count
+MayMeet s (ModemTook d count) seats own = d < s.count × count ≤ length (modem_queue (s.protocol d) (own d))
 MayMeet s _ seats own = Unit {0}
 
 -- an event may follow these events

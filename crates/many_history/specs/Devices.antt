@@ -1,10 +1,12 @@
 -- What a proxy of several devices is set up with. Each device has a proxy of its own. `Known` is what a client's own view tells of it.
-use Rattle.std.specs.Prelude.{ℕ, List, [], ◌∷◌, Option, Some, None, if◌then◌else◌}
+use Rattle.std.specs.Prelude.{ℕ, ◌<◌, List, [], ◌∷◌, Option, Some, None, if◌then◌else◌}
 use Rattle.framing.specs.Cutting.{cut}
 use Rattle.proxy_history.specs.Streams.{Framing, is_invalid}
 use Rattle.proxy_history.specs.Protocol.{Protocol}
 
 pub record Devices (Known : Type 0) : Type 0 where
+  -- how many there are
+  pub count : ℕ
   -- that of each device, counted from 0
   pub protocol : ℕ → Protocol Known
   -- how a client's stream is cut while it hasn't chosen a device
@@ -13,6 +15,11 @@ pub record Devices (Known : Type 0) : Type 0 where
   pub choice : List ℕ → ℕ
   -- how many connections may be there
   pub limit : ℕ
+
+-- there is one, and each first message chooses one that there is
+pub record HasDevices {Known : Type 0} (s : Devices Known) : Type 0 where
+  pub some : 0 < s.count
+  pub choice : (m : List ℕ) → s.choice m < s.count
 
 -- ---- the device that a client chooses ----
 

@@ -6,8 +6,8 @@ use Rattle.proxy_history.specs.Streams.{stream}
 use Rattle.proxy_history.specs.Coming as one_coming
 use Rattle.many_history.specs.Events.{ManyEvent, ModemPiece, ModemGone, ModemBack, ModemTook, Now}
 use Rattle.many_history.specs.Devices.{Devices}
-use Rattle.many_history.specs.Many.{At, place_of, arrival, only_at, parts, names_in, many, own}
-use Rattle.many_history.specs.Queues.{text_for}
+use Rattle.many_history.specs.Many.{Place, At, place_of, arrival, only_at, parts, names_in, many, own}
+use Rattle.many_history.specs.Queues.{text_at, text_for}
 use Rattle.many_history.specs.Coming.{AreSound}
 
 -- where these events may come, those of each device may come to its own proxy
@@ -47,6 +47,11 @@ EachHasItsModemAndTheClock Known = (s : Devices Known) (events : List ManyEvent)
 -- with the piece by which a client chooses, its device's proxy has all that the client said
 abbrev pub NothingIsLostByChoosing : Type 0
 NothingIsLostByChoosing = (name : ℕ) (before piece : List ℕ) (events : List Event) → stream name (arrival name before piece ++ events) ≡ before ++ piece
+
+-- whom the last event ended has the bytes of the place where it was
+abbrev pub DroppedHaveTheBytesOfTheirPlace : Type 0 → Type 0
+DroppedHaveTheBytesOfTheirPlace Known = (s : Devices Known) (events : List ManyEvent) (c : ℕ) (place : Place)
+    → AreSound s events → place_of c (many s events).dropped ≡ Some place → text_for s c events ≡ text_at s (many s events).own (Some place)
 
 -- of what its device's proxy meets nothing, a client notices nothing: it stays where it is, and so do its bytes
 abbrev pub OthersChangeNothing : Type 0 → Type 0

@@ -1,10 +1,11 @@
 ghost use Rattle.many_history.specs.Laws.{
+  DroppedHaveTheBytesOfTheirPlace,
   EachHasItsModemAndTheClock,
   NothingIsLostByChoosing,
   OthersChangeNothing,
   OwnEventsMayCome,
 };
-ghost use Rattle.many_history.specs.Seated.{WhoIsThereSits};
+ghost use Rattle.many_history.specs.Seated.{FewAreThere, SeatsAreOfDevices, WhoIsThereSits};
 
 /// The law that where some events may come to a proxy of several devices, those of each device may
 /// come to a proxy of this device alone.
@@ -27,4 +28,19 @@ pub fn other_devices_change_nothing<Known>()
 /// The law that whoever is there for the proxy of a device is there for that of all.
 pub fn who_is_there_sits<Known>()
     ensures { WhoIsThereSits Known }
+{}
+
+/// The law that no more connections are there than may be.
+pub fn few_are_there<Known>()
+    ensures { FewAreThere Known }
+{}
+
+/// The law that whoever is there is at a device that there is, or hasn't chosen one.
+pub fn seats_are_of_devices<Known>()
+    ensures { SeatsAreOfDevices Known }
+{}
+
+/// The law that the bytes for whom the last event ended are those of the place where it was.
+pub fn dropped_have_the_bytes_of_their_place<Known>()
+    ensures { DroppedHaveTheBytesOfTheirPlace Known }
 {}

@@ -4,5 +4,6 @@
 mod laws;
 
 pub use laws::{
-    each_device_meets_its_own, other_devices_change_nothing, own_events_may_come, who_is_there_sits,
+    dropped_have_the_bytes_of_their_place, each_device_meets_its_own, few_are_there,
+    other_devices_change_nothing, own_events_may_come, seats_are_of_devices, who_is_there_sits,
 };

@@ -1,5 +1,5 @@
 -- A QMI proxy of several devices.
-use Rattle.std.specs.Prelude.{ℕ, Bool, false, not, ◌&&◌, List, [], position, get_or, Option, Some, None}
+use Rattle.std.specs.Prelude.{ℕ, Bool, false, not, ◌&&◌, List, [], length, position, get_or, Option, Some, None}
 use Rattle.qmux_frame.specs.Frame.{size_of}
 use Rattle.qmi_proxy.specs.Setup.{Setup}
 use Rattle.qmi_proxy.specs.Limits.{connection_limit}
@@ -25,6 +25,7 @@ choice_among paths m = or_first (position (chooses m) paths)
 
 abbrev pub qmi_devices : (paths : List (List ℕ)) → (time_limit : ℕ) → (release : Option ℕ) → Devices Bool
 qmi_devices paths time_limit release = record {
+  count = length paths;
   protocol = λ d. qmi_protocol (setup_at paths time_limit release d);
   size = size_of;
   choice = choice_among paths;
