@@ -26,7 +26,7 @@ unnamed_is one.ModemBack = refl
 unnamed_is (one.ModemTook count) = refl
 unnamed_is (one.Now time) = refl
 
-abbrev all : List Call → List ManyCall
+abbrev pub all : List Call → List ManyCall
 all calls = map call_of calls
 
 device_is : (device : Option Address) → first_of (devices_of device) ≡ device
@@ -49,14 +49,14 @@ call_is Reopened = refl
 call_is ReopenFailed = refl
 call_is (HungUp c) = refl
 
-calls_are : (calls : List Call) → unnamed_calls (all calls) ≡ calls
+pub calls_are : (calls : List Call) → unnamed_calls (all calls) ≡ calls
 calls_are [] = refl
 calls_are (call ∷ calls) = ap (λ (k : Call). k ∷ unnamed_calls (all calls)) (call_is call) ∙ ap (λ (l : List Call). call ∷ l) (calls_are calls)
 
-abbrev met : List Call → List Event
+abbrev pub met : List Call → List Event
 met calls = map unnamed (events (all calls))
 
-met_is : (calls : List Call) → met calls ≡ one_call.events calls
+pub met_is : (calls : List Call) → met calls ≡ one_call.events calls
 unfolding events one_call.events
 met_is [] = refl
 met_is (Told event ∷ calls) = ap (λ (e : Event). e ∷ met calls) (unnamed_is event) ∙ ap (λ (l : List Event). event ∷ l) (met_is calls)
@@ -77,7 +77,7 @@ met_is (ReopenFailed ∷ calls) = met_is calls
 met_is (HungUp c ∷ calls) = met_is calls
 
 module _ (p : Proxy) where
-  abbrev q : ManyProxy
+  abbrev pub q : ManyProxy
   q = only_of p
 
   -- ---- bytes ----
@@ -135,7 +135,7 @@ module _ (p : Proxy) where
       ⊎_elim (λ away. inl (ap p.is_away (sym (met_is calls)) ∙ away))
       (λ rest. inr (⊎_elim (λ none. inl (ap p.waiting_for_modem (sym (met_is calls)) ∙ none)) (λ blocked. inr (sym (modem_blocked_same calls) ∙ blocked)) rest)) is
 
-  all_offered : (calls : List Call) → several.AllIsOffered q (all calls) → one_serving.AllIsOffered p calls
+  pub all_offered : (calls : List Call) → several.AllIsOffered q (all calls) → one_serving.AllIsOffered p calls
   all_offered calls is = record {
     clients = subst (λ (l : List Event). AllByRecursion (one_serving.IsOffered p calls) (p.present l)) (met_is calls) (all_weaker _ _ (offered calls) (p.present (met calls)) is.clients);
     modem = modem_offered calls (is.modems 0 (omega arith));
@@ -213,7 +213,7 @@ module _ (p : Proxy) where
 
   -- ---- all that is done ----
 
-  done : (calls : List Call) → several.AllIsDone q (all calls) → one_serving.AllIsDone p calls
+  pub done : (calls : List Call) → several.AllIsDone q (all calls) → one_serving.AllIsDone p calls
   done calls is = record {
     offered = all_offered calls is.offered;
     hung_up = sym (ap one_serving.hang_ups (calls_are calls)) ∙ is.hung_up ∙ due_same calls;

@@ -1,16 +1,19 @@
 -- A proxy of one device as one of several: its modem is that of device 0. Lists of calls and of events have the newest first.
-use Rattle.std.specs.Prelude.{List, [], ◌∷◌, map, Option, Some, None}
+use Rattle.std.specs.Prelude.{◌≡◌, ℕ, Bool, true, List, [], ◌∷◌, map, Option, Some, None}
 use Rattle.link_io.specs.Target.{Address}
 use Rattle.proxy_history.specs.Events.{Event}
 use Rattle.proxy_history.specs.Events as one
 use Rattle.proxy_history.specs.Proxy.{Proxy}
 use Rattle.hub_io.specs.Record.{Call}
 use Rattle.hub_io.specs.Record as one_call
+use Rattle.hub_io.specs.declared.settings.ServeEnd.{ServeEnd}
+use Rattle.hub_io.specs.declared.settings.Until.{Until}
 use Rattle.proxy_serving.specs.Ends as one_end
 use Rattle.many_history.specs.Events.{ManyEvent, Joined, Piece, Left, Took, ModemPiece, ModemGone, ModemBack, ModemTook, Now}
 use Rattle.many_serving.specs.Record.{ManyCall, unnamed, Told, ToldRoom, ToldModemRoom, ToldStop, NextFailed, Sent, SendFailed, SentModem, SendModemFailed, Opened, Paired, Reopened, ReopenFailed, HungUp}
 use Rattle.many_serving.specs.Proxy.{ManyProxy}
 use Rattle.many_serving.specs.Serving.{Serves}
+use Rattle.many_serving.specs.Ends.{EndsFor}
 
 abbrev pub of_device_0 : Event → ManyEvent
 of_device_0 (one.Joined c) = Joined c
@@ -59,3 +62,8 @@ only_of p = record {
 -- serving it as one of several is serving it
 abbrev pub ServedAsOneOfSeveral : Type 0
 ServedAsOneOfSeveral = (p : Proxy) (calls : List Call) → Serves (only_of p) (map call_of calls) → one_end.Serves p calls
+
+-- and it ends for the reasons for which that ends; `lacks` says at which events memory may be lacking
+abbrev pub EndsAsOneOfSeveral : Type 0
+EndsAsOneOfSeveral = (p : Proxy) (until : Until) (turns : ℕ) (lacks : Event → Bool) (why : ServeEnd) (calls : List Call)
+    → EndsFor (λ event. lacks (unnamed event) ≡ true) (only_of p) until turns why (map call_of calls) → one_end.EndsFor (λ event. lacks event ≡ true) p until turns why calls
