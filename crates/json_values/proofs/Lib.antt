@@ -1,0 +1,4 @@
+pub mod Widths
+pub mod Continued
+pub mod Walks
+pub mod Fits

@@ -1,0 +1,7 @@
+use Rattle.std.proofs.Common.{refl}
+use Rattle.json_values.specs.Texts.{digits_in, hex_in, octets_in}
+use Rattle.json_values.proofs.examples.wide_number_is_refused.Goals as goal
+
+pub returns : goal.returns
+unfolding digits_in hex_in octets_in lib.Utf8.encode
+returns c = refl
