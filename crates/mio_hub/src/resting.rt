@@ -9,7 +9,7 @@ pub(crate) const FEW: usize = 8;
 const REST: u64 = 2;
 
 /// A client that is read again at a time.
-#[derive(Clone, Copy)]
+#[derive(Clone, Copy, Default)]
 struct Rest {
     name: u64,
     due: u64,
