@@ -11,6 +11,7 @@ folder, program, megabytes = sys.argv[1], sys.argv[2], int(sys.argv[3])
 MB = 1_000_000
 BASIC_CONNECT = bytes.fromhex("a289cc33bcbb8b4fb6b0133ec2aae6df")
 failed = False
+COUNTS = shutil.which("valgrind") is not None
 
 
 def check(holds, what):
@@ -97,28 +98,34 @@ def run(words, watched=False):
     peak = 0
     while watched and not os.waitid(os.P_PID, child.pid, os.WEXITED | os.WNOHANG | os.WNOWAIT):
         peak = max(peak, peak_of(child))
-        time.sleep(0.002)
+        time.sleep(0.005)
     _, status, usage = os.wait4(child.pid, 0)
     child.returncode = os.waitstatus_to_exitcode(status)
     return usage.ru_utime + usage.ru_stime, peak, child.returncode
 
 
-def instructions(name, messages, words):
-    """How many instructions a byte takes, by the difference of two lengths, where valgrind is there: steadier than times beside other work."""
-    counts = []
-    for length in (MB // 2, 2 * MB):
-        path, written = stream("counted.bin", messages, length)
-        words_of = ["valgrind", "--tool=callgrind", "--callgrind-out-file=/dev/null", program, "dissect", *words, path]
-        said = subprocess.run(words_of, stdout=subprocess.DEVNULL, stderr=subprocess.PIPE, text=True).stderr
-        counts.append((written, int(re.search(r"refs: +([0-9,]+)", said)[1].replace(",", ""))))
+def instructions(words):
+    """How many instructions a run takes, by valgrind."""
+    words = ["valgrind", "--tool=callgrind", "--callgrind-out-file=/dev/null", program, "dissect", *words]
+    said = subprocess.run(words, stdout=subprocess.DEVNULL, stderr=subprocess.PIPE, text=True).stderr
+    return int(re.search(r"refs: +([0-9,]+)", said)[1].replace(",", ""))
+
+
+def costs(words, captures):
+    """What a byte of each stream of some messages and about so many bytes costs, and in what: in instructions where they can be counted, since
+    they are the same beside other work."""
+    found = []
+    for messages, length in captures:
+        path, written = stream("cost.bin", messages, length)
+        cost = instructions([*words, path]) if COUNTS else min(run([*words, path])[0] for _ in range(3)) * 1e9
+        found.append(cost / written)
         os.remove(path)
-    (short, few), (long, many) = counts
-    print(f"{name}: {(many - few) / (long - short):.0f} instructions a byte")
+    return found, "instructions" if COUNTS else "ns"
 
 
 def rate(name, messages, words, least):
-    if shutil.which("valgrind"):
-        instructions(name, messages, words)
+    if COUNTS:
+        print(f"{name}: {costs(words, [(messages, 2 * MB)])[0][0]:.0f} instructions a byte")
     path, length = stream(f"{name}.bin", messages, megabytes * MB)
     runs = [run([*words, path]) for _ in range(3)]
     check(all(status == 0 for _, _, status in runs), f"{name} ends with 0")
@@ -162,13 +169,10 @@ def memory():
 
 
 def linear():
-    seconds = []
-    for length in (megabytes * MB // 4, megabytes * MB):
-        path, written = stream("half.bin", QMI, length)
-        seconds.append(min(run([path])[0] for _ in range(3)) / written)
-        os.remove(path)
-    print(f"a byte: {seconds[0] * 1e9:.1f} ns at {megabytes // 4} MB, {seconds[1] * 1e9:.1f} ns at {megabytes} MB")
-    check(seconds[1] <= seconds[0] * 1.25, "time that is linear in the length")
+    short, long = (2 * MB, 8 * MB) if COUNTS else (megabytes * MB // 4, megabytes * MB)
+    (few, many), unit = costs([], [(QMI, short), (QMI, long)])
+    print(f"a byte: {few:.1f} {unit} at {short // MB} MB, {many:.1f} at {long // MB} MB")
+    check(many <= few * 1.25, "time that is linear in the length")
 
 
 def one_message():
@@ -177,13 +181,10 @@ def one_message():
     large = qmi(1, 9, 2, 1, 0x7FFF, tlvs + tlv(0x11, bytes(65_536 - 13 - len(tlvs) - 3)))
     small = qmi(1, 9, 2, 1, 0x7FFF, tlv(0x10, b"") * 20)
     assert len(large) == 65_536
-    costs = []
-    for name, message in (("large.bin", large), ("small.bin", small)):
-        path, length = stream(name, [message], 20 * MB)
-        costs.append(min(run([path])[0] for _ in range(3)) / length)
-        os.remove(path)
-    print(f"a byte of a message with 20,000 TLVs: {costs[0] * 1e9:.1f} ns, of messages with 20: {costs[1] * 1e9:.1f} ns")
-    check(costs[0] <= costs[1] * 2, "a byte of a large message costs no more")
+    length = 2 * MB if COUNTS else 20 * MB
+    (of_large, of_small), unit = costs([], [([large], length), ([small], length)])
+    print(f"a byte of a message with 20,000 TLVs: {of_large:.1f} {unit}, of messages with 20: {of_small:.1f}")
+    check(of_large <= of_small * 2, "a byte of a large message costs no more")
 
 
 # ---- bad input ----
