@@ -1,0 +1,5 @@
+pub mod Services
+pub mod Named
+pub mod Reading
+pub mod Answers
+pub mod Faults
