@@ -1,5 +1,5 @@
-//! What worked rows tell of the outside of a run: how a link, files, children and a hub answer, and each
-//! call that is made on them.
+//! What worked rows tell of the outside of a run: how it answers, and each call that is made on it. A
+//! link, files, children and a hub.
 #![tactic(auto)]
 
 mod calls;

@@ -1,5 +1,5 @@
-//! Child processes: the trait of what starts them, one in memory, and one over the system; and the
-//! type of the started children that must be spent.
+//! Child processes: a trait of what starts them, in memory and over the system, and `Kids`. These are
+//! the started children, which must be spent.
 #![tactic(auto)]
 
 mod examples;

@@ -1,5 +1,5 @@
-//! The connections of a proxy's clients: who is there, what is left of each one's stream, what
-//! waits for it, and what the protocol keeps of its client.
+//! The connections of a proxy's clients: who is there, their streams, and what waits for each. And what
+//! the protocol keeps of its client.
 #![tactic(auto)]
 
 mod connection;

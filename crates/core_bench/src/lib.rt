@@ -1,5 +1,5 @@
-//! A bench on which a proxy's core of either protocol runs alone: it is opened, steps, and is asked
-//! what waits for whom. In memory it also keeps what was run.
+//! A bench on which a proxy's core of either protocol runs alone. It is opened, steps, and is asked
+//! what waits for whom; in memory it also keeps what was run.
 #![tactic(auto)]
 
 mod bench;

@@ -1,5 +1,4 @@
-//! Worked rows that step a proxy's running core: stories of a proxy, what a rig runs on its bench, and
-//! whether its clients take the same bytes alone.
+//! Worked rows that step a proxy's running core: stories, what a rig runs, and clients alone.
 #![tactic(auto)]
 
 mod alone;

@@ -1,4 +1,4 @@
-//! A tool's session with a modem, over a link that is open.
+//! A tool's session with a QMI modem, over a link that is open.
 #![tactic(auto)]
 
 mod answer;

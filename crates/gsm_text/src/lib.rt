@@ -1,5 +1,4 @@
-//! The default alphabet of short messages: texts as codes of 7 bits, both ways, and these codes
-//! packed into octets.
+//! The default alphabet of short messages: texts as codes of 7 bits, both ways, and packed in octets.
 #![tactic(auto)]
 
 mod alphabet;

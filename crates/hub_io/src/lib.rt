@@ -1,5 +1,5 @@
-//! A proxy's outside: its clients and its modem as a trait, and in memory, what they tell a proxy, and
-//! what a proxy is asked to do.
+//! A proxy's clients and its modem as a trait, and in memory; what they tell, and what a proxy is
+//! asked.
 #![tactic(auto)]
 
 mod clients;

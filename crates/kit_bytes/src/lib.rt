@@ -1,5 +1,4 @@
-//! Bytes: numbers in them, the parts of a stream, and small types over lists of bytes and of
-//! characters.
+//! Numbers in bytes, the parts of a stream, and small types over lists of bytes and of characters.
 #![tactic(auto)]
 
 mod buffer;

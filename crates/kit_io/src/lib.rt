@@ -1,4 +1,4 @@
-//! The outside of a program as traits: what a call on it took, and when it may say that it failed.
+//! The outside as traits: what a call on it took, and when it may say that it failed.
 //!
 //! Each trait has an implementation in memory, which follows a script and tells what was done to
 //! it, and an adapter over the real thing, which tells nothing.

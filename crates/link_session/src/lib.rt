@@ -1,5 +1,5 @@
-//! A session over a link that is open: what comes in, the wait for an answer, and one request behind
-//! the answer to another, in any framing.
+//! A session over an open link: the wait for an answer, and requests one behind another, in any
+//! framing.
 #![tactic(auto)]
 
 mod asking;

@@ -1,4 +1,4 @@
-//! One client behind a proxy whose modem answers at once: what the proxy meets, and what the client gets.
+//! Laws: what one client gets behind a QMI proxy whose modem answers at once, and what the proxy meets.
 #![tactic(auto)]
 
 mod laws;

@@ -1,5 +1,4 @@
-//! One client behind an MBIM proxy whose modem answers at once: what the modem is asked, and what the
-//! client gets.
+//! Laws: what one client gets behind an MBIM proxy whose modem answers at once, and what that is asked.
 #![tactic(auto)]
 
 mod laws;

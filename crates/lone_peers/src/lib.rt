@@ -1,5 +1,5 @@
-//! What a tool finds that is alone: a simulated modem itself, or a core of a proxy before one on a bench,
-//! each of which answers a text at once.
+//! What a tool finds that is alone: a simulated modem, or a core of a proxy before one on a bench. Each
+//! answers a text at once.
 #![tactic(auto)]
 
 mod asking;

@@ -1,4 +1,4 @@
-//! What the proxy of each of several devices meets of all events.
+//! What the proxy of each of several devices meets of all events: definitions and laws.
 #![tactic(auto)]
 
 mod laws;

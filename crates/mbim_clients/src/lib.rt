@@ -1,5 +1,4 @@
-//! What a core of the MBIM proxy keeps of each client and of the modem, and how it hears a client's
-//! message.
+//! What a core of the MBIM proxy keeps of a client and of the modem, and how it hears a client.
 #![tactic(auto)]
 
 mod client;

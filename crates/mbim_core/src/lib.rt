@@ -1,5 +1,4 @@
-//! The core of the MBIM proxy: it is told what happens, and keeps what each client and the modem are
-//! to get.
+//! The core of the MBIM proxy: it meets events, and keeps what each client and the modem are to get.
 #![tactic(auto)]
 
 mod answer;

@@ -1,4 +1,4 @@
-//! Messages of MBIM: where they end in a stream, what their heads say, and how they are written.
+//! Messages of MBIM: where they end in a stream, their heads, and how they are written.
 #![tactic(auto)]
 
 mod bodies;

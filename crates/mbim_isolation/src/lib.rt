@@ -1,5 +1,4 @@
-//! What the clients of the MBIM proxy have of each other, and what stands in the queues when an event is
-//! over: laws of its history.
+//! Laws of the MBIM proxy: what its clients have of each other, and what stands in their queues.
 //!
 //! `mbim_state` keeps what the history says, so they hold of each client's bytes in a running proxy.
 #![tactic(auto)]

@@ -1,5 +1,4 @@
-//! MBIM's services: their commands, the layouts of the buffers, what each request sends, and what its
-//! answer says.
+//! MBIM's services: their commands in a table, what each request sends, and what its answer says.
 //!
 //! Source: the USB-IF MBIM specification 1.0, and of the proxy's own service libmbim.
 #![tactic(auto)]

@@ -1,5 +1,5 @@
-//! What a client of the MBIM proxy would get if it were alone with the modem: the law that it gets the
-//! same beside others, worked examples, byte for byte, and that its bytes may come message by message.
+//! Laws: a client of the MBIM proxy gets beside others the bytes that it would get alone with the
+//! modem. With worked examples, byte for byte, and that its bytes may come message by message.
 #![tactic(auto)]
 
 mod laws;

@@ -1,5 +1,5 @@
-//! A command of an MBIM tool twice, at a simulated modem itself and through a proxy where the tool is
-//! alone: it prints the same.
+//! A command of an MBIM tool twice: at a simulated modem itself, and alone through a proxy. It prints
+//! the same.
 #![tactic(auto)]
 
 mod printed;

@@ -1,5 +1,4 @@
-//! The ways to a modem, and how one is gone: over a socket, over a bridge with two pumps, or over a
-//! proxy, which is started where it isn't there.
+//! The ways to a modem: over a socket, behind two pumps, or over a proxy that is started.
 #![tactic(auto)]
 
 mod reaching;

@@ -1,6 +1,6 @@
-//! The program: its words come from the command line, its text goes to the standard streams, its
-//! link and its hub are Unix sockets, its children are processes that run it again, and its bench
-//! runs the cores of its proxies. What it does with them is `program`'s.
+//! The program: it hands words, standard streams, sockets, children, files and a bench to `program`.
+//! Its link and its hub are Unix sockets, its children are processes that run it again, and its bench
+//! runs the cores of its proxies.
 #![tactic(auto)]
 
 use child_io::{Spawner, StdSpawner};

@@ -1,5 +1,4 @@
-//! Worked rows that run one part of the product: a format of values, tables of messages, a simulated
-//! modem.
+//! Worked rows that run one part: a format of values, tables of messages, a simulated modem.
 #![tactic(auto)]
 
 mod format;

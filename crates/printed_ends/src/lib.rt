@@ -1,4 +1,4 @@
-//! What a tool prints where its session ended, and its exit status; what a session over a link to a peer
+//! What a tool prints where its session ended, and its status. And what a session over a link to a peer
 //! comes to.
 #![tactic(auto)]
 

@@ -1,5 +1,4 @@
-//! What the program does: as a tool, as a proxy, as a simulated modem, as a pump, as a rig, and where its version is asked
-//! for, from its words to its status.
+//! What the program does for each of its tools, from its words to its status.
 #![tactic(auto)]
 
 mod dispatch;

@@ -1,5 +1,4 @@
-//! The history of a proxy between several clients and one modem: the definitions that say what
-//! each client and the modem get, and their laws.
+//! The history of a proxy of any protocol: what each client and the modem get, and laws.
 //!
 //! `docs/MODEL.md` tells the model in plain words.
 #![tactic(auto)]

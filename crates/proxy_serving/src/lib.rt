@@ -1,5 +1,4 @@
-//! Serving the clients of any proxy over a hub: what it comes to, the core that a protocol brings,
-//! and the loop that tells the core what happens and offers what waits.
+//! Serving the clients of any proxy over a hub: what it comes to, and the loop that does it.
 #![tactic(auto)]
 
 mod blocked;

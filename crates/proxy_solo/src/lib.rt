@@ -1,5 +1,4 @@
-//! What a client of a proxy would meet if it were alone with the modem, whatever the protocol, and
-//! what it has of a history.
+//! What a client of any proxy would meet alone with the modem, and what of a history concerns it.
 #![tactic(auto)]
 
 mod laws;

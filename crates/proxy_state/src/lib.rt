@@ -1,5 +1,4 @@
-//! What a core of a proxy keeps of its events, whatever its protocol, and that it stands for them
-//! after each.
+//! What a core of any proxy keeps of its events, and that it stands for them after each.
 #![tactic(auto)]
 
 mod laws;

@@ -1,5 +1,5 @@
-//! The two ways between a device node and a socket, one for each direction: what a node gives is
-//! sent, and what comes is written to the node, which takes one control message a write.
+//! The two ways between a device node and a socket, one for each direction. What a node gives is sent,
+//! and what comes is written to the node, which takes one control message a write.
 #![tactic(auto)]
 
 mod begin;

@@ -1,5 +1,5 @@
-//! What a tool prints through the QMI proxy: where no time passes and nothing is lost, a tool that is
-//! alone on the simulated modem prints through the proxy what it prints at the modem itself.
+//! Laws: a QMI tool prints alone through the proxy what it prints at the simulated modem itself. No
+//! time passes meanwhile, and nothing is lost.
 #![tactic(auto)]
 
 mod laws;

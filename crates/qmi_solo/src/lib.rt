@@ -1,5 +1,5 @@
-//! What a client of the QMI proxy would get if it were alone with the modem: the law that it gets the
-//! same beside others, and worked examples, byte for byte.
+//! Laws: a client of the QMI proxy gets beside others the bytes that it would get alone with the modem.
+//! With worked examples, byte for byte.
 #![tactic(auto)]
 
 mod laws;

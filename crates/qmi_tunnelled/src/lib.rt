@@ -1,5 +1,5 @@
-//! A command of a QMI tool twice, at a simulated modem itself and carried by a simulated MBIM modem: it
-//! prints the same.
+//! A command of a QMI tool twice: at a simulated modem itself, and carried by a simulated MBIM modem.
+//! It prints the same.
 #![tactic(auto)]
 
 mod carrier;

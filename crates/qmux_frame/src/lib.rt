@@ -1,5 +1,4 @@
-//! Messages of QMI over QMUX: where they end in a stream, what their heads say, and how they are
-//! written.
+//! Messages of QMI over QMUX: where they end in a stream, their heads, and how they are written.
 #![tactic(auto)]
 
 pub mod control;

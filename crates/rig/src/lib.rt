@@ -1,5 +1,4 @@
-//! Runs a proxy's core on a bench with many clients and a simulated modem, then with each of the clients
-//! alone, and tells in eight lines what became of their requests and how many took the same bytes.
+//! Runs a proxy's core with many clients, then with each alone, and sums it up in eight lines.
 #![tactic(auto)]
 
 mod lines;

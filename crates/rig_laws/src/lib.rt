@@ -1,5 +1,4 @@
-//! What holds of every run of the rig, whatever is drawn: nobody is disturbed, each client gets the
-//! bytes that it gets alone, and what is refused passes its client's share.
+//! Laws of every rig for QMI: each client gets what it gets alone, and only its own share refuses it.
 #![tactic(auto)]
 
 mod laws;

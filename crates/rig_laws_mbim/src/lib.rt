@@ -1,5 +1,4 @@
-//! What holds of every run of the rig for MBIM, whatever is drawn: nobody is disturbed or refused, and
-//! each client gets the bytes that it gets alone.
+//! Laws of every rig for MBIM: each client gets what it gets alone, and only its own share refuses it.
 #![tactic(auto)]
 
 mod laws;

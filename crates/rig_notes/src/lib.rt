@@ -1,5 +1,4 @@
-//! Benches that note what a proxy meets on them, as much of it as each of its clients needs to meet
-//! its part again alone, and runs of such parts.
+//! Benches that note what a proxy meets on them, and the run of one client alone by such notes.
 #![tactic(auto)]
 
 mod alone;

@@ -1,4 +1,4 @@
-//! All clients of a rig: each opens the device, and then they take turns that are drawn from a number.
+//! All clients of a rig on a running stage: each opens the device, then they take turns that are drawn.
 #![tactic(auto)]
 
 mod draws;

@@ -1,5 +1,4 @@
-//! What the rig runs: a large input for a proxy that is drawn from a number, its summary, and small
-//! ones byte for byte.
+//! What a rig runs, drawn from a number, and the lines that sum it up: definitions and small examples.
 #![tactic(auto)]
 
 pub mod examples;

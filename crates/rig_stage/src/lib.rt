@@ -1,5 +1,5 @@
-//! Clients and a simulated modem with a running core of a proxy between them, where each takes at
-//! once all that waits for it, and the modem's messages are held until they arrive.
+//! Clients and a simulated modem with a running core of a proxy between them. Each takes at once all
+//! that waits for it, and the modem's messages are held until they arrive.
 #![tactic(auto)]
 
 mod messages;

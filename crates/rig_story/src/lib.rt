@@ -1,5 +1,4 @@
-//! What a proxy meets on a bench, as much of it as each of its clients needs to meet its part again
-//! alone, and what became of the clients' requests: definitions.
+//! What is noted of a proxy on a bench, its story and a ledger of the requests in use: definitions.
 #![tactic(auto)]
 
 mod rows;

@@ -1,5 +1,4 @@
-//! Worked rows as text: the reader of a file of rows, of their bytes and of their words, and what tells
-//! a difference between a row and what was found.
+//! Worked rows as text: the reader of a file of rows, and what tells a difference from one.
 #![tactic(auto)]
 
 mod fault;

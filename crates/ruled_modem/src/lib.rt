@@ -1,5 +1,4 @@
-//! A simulated modem that goes by rules: what it answers to requests is a definition over the modem
-//! that it is without them.
+//! A simulated modem of either kind that goes by rules, over one that goes by none.
 #![tactic(auto)]
 
 mod by_kind;

@@ -1,4 +1,4 @@
-//! What a simulated modem is to whoever serves its clients: it answers, and may hang up.
+//! The trait of a simulated modem that is served: it answers whole requests, and may hang up.
 #![tactic(auto)]
 
 mod plain;

@@ -1,4 +1,4 @@
-//! What a simulated modem is to whoever serves it.
+//! The trait of a simulated modem: it answers whole requests.
 #![tactic(auto)]
 
 pub mod examples;

@@ -1,5 +1,4 @@
-//! Serving the clients of a simulated modem over a hub: what each of them gets, the core that
-//! keeps it, and the serving.
+//! Serving the clients of a simulated modem over a hub, by the loop of any proxy.
 #![tactic(auto)]
 
 mod client;

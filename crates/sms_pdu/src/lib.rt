@@ -1,5 +1,4 @@
-//! Short messages: the bodies of those that the network delivers, and of those that are submitted
-//! to it, read and made, in parts where they are long.
+//! Bodies of short messages, which the network delivers or is given: read, made, and joined from parts.
 #![tactic(auto)]
 
 mod address;

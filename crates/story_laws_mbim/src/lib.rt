@@ -1,5 +1,5 @@
-//! What holds of the story and the ledger of each rig for MBIM: each client meets alone what it would
-//! meet, and takes the same bytes, and the ledger keeps and counts what the facts say.
+//! Laws of the notes of every rig for MBIM: each client meets its part alone, and the counts are right.
+//! It takes the same bytes, and the ledger keeps and counts what the facts say.
 #![tactic(auto)]
 
 mod laws;

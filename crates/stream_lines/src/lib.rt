@@ -1,5 +1,5 @@
-//! A captured stream, shown message by message in lines: read after read, and the lines of what a read
-//! gave are written before the next read.
+//! A captured stream, shown message by message in lines, read after read. The lines of what a read gave
+//! are written before the next read.
 #![tactic(auto)]
 
 mod capture;

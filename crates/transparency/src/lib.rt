@@ -1,5 +1,5 @@
-//! Commands of a tool, each run at a simulated modem itself and in each of the other ways that there are,
-//! and the lines that tell how they compare.
+//! Commands of a tool, each run at a simulated modem itself and in each other way, and how they
+//! compare.
 #![tactic(auto)]
 
 mod line;

@@ -1,5 +1,4 @@
-//! What a QMI tool prints whose messages an MBIM modem carries: at a simulated modem that carries them
-//! it prints what it prints at the simulated QMI modem itself.
+//! Laws: a QMI tool prints the same carried by a simulated MBIM modem and at the QMI modem itself.
 #![tactic(auto)]
 
 mod laws;

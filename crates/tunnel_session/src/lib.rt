@@ -1,4 +1,4 @@
-//! A tool's session with a QMI modem that an MBIM modem carries messages to, over a link that is open.
+//! A tool's session with a QMI modem inside an MBIM modem, over a link that is open.
 #![tactic(auto)]
 
 mod carried;

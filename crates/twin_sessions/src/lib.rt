@@ -1,4 +1,4 @@
-//! The session of a tool twice: at a modem itself, and through a proxy where the tool is alone.
+//! Laws: the session of a QMI tool twice, at a modem itself and alone through a proxy.
 #![tactic(auto)]
 
 mod laws;

@@ -1,5 +1,5 @@
-//! A tool's way to one modem or proxy over a Unix socket, or over a bridge to a node's pumps; and the
-//! files of the sockets that are listened to.
+//! A link over a Unix socket, or over a bridge to a node's two pumps. And the files of the sockets that
+//! are listened to.
 #![tactic(auto)]
 
 mod bridge;

@@ -1,6 +1,6 @@
-//! Runs worked rows, which are text in the files that its words name, and tells each difference
-//! between what a row says and what is found. `tool.rt`, and `story.rt` of `core_rows`, and `modem.rt`,
-//! `format.rt` and `tables.rt` of `part_rows` say what lines each kind of a row has.
+//! Runs worked rows of text, and tells each difference between a row and what is found. `tool.rt`, and
+//! `story.rt` of `core_rows`, and `modem.rt`, `format.rt` and `tables.rt` of `part_rows` say what lines
+//! each kind of a row has.
 #![tactic(auto)]
 
 mod asked;
