@@ -1,0 +1,5 @@
+pub mod Clients
+pub mod Lasting
+pub mod Events
+pub mod Standing
+pub mod Meets

@@ -1,0 +1,5 @@
+pub mod Meaning
+pub mod Core
+pub mod Lawful
+pub mod Face
+pub mod Shows
