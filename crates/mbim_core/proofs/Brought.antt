@@ -11,8 +11,8 @@ use Rattle.mbim_proxy.specs.Setup.{Setup}
 use Rattle.mbim_state.specs.Core.{Client, ModemSide, MbimState, setup_of}
 use Rattle.mbim_state.specs.Transitions.{give_up, hear_client, mbim_handlers}
 use Rattle.mbim_core.specs.State.{state_of}
-use Rattle.mbim_core.proofs.Kept.{heard_client}
-use Rattle.mbim_core.proofs.Kept as kept
+use Rattle.mbim_core.specs.Kept.{heard_client}
+use Rattle.mbim_core.specs.Kept as kept
 
 -- it is read at each message
 abbrev pub hears : Hearer Client ModemSide
@@ -55,4 +55,4 @@ module _ (c : ℕ) (piece : List ℕ) (x : MbimState) where
   pub brought_list : brought.beside.last_list ≡ x.beside.last_list
   brought_list =
       let one : Option (Connection Client) = connection_in c x.table.present in
-      ap (λ (b : Brought Client ModemSide). b.beside.last_list) (brought_to one c piece x.table x.beside) ∙ ap (λ (l : Setup × List Pair). l.1) (kept.brought (setup_of x.beside) one c piece x.table x.beside).kept
+      ap (λ (b : Brought Client ModemSide). b.beside.last_list) (brought_to one c piece x.table x.beside) ∙ ap (λ (l : Setup × List Pair). l.1) (kept.brought (setup_of x.beside) one c piece x.table x.beside)

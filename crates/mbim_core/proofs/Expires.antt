@@ -13,23 +13,8 @@ use Rattle.mbim_state.specs.declared.asked.Asked.{Asked}
 use Rattle.mbim_state.specs.declared.asked.Asked.TheVariants as asked
 use Rattle.mbim_state.specs.Core.{known_by, Numbers, ModemSide, MbimState, setup_of, silences}
 use Rattle.mbim_state.specs.Transitions.{with_side, with_numbers, refuse_as, refuse, expire_in, expire}
-use Rattle.mbim_core.proofs.Told.{rows_at, KeepsRequests, leaves_keeps, ended_keeps, told_leaves}
-
--- ---- what refusals leave as it was ----
-
-refused_keeps : (s : Setup) (note : Asked) (c : ℕ) (x : MbimState) → KeepsRequests x (refuse_as s note c x)
-refused_keeps s asked.Open c x = ended_keeps s FAILURE x
-refused_keeps s (asked.Command name) c x = leaves_keeps x _ (told_leaves (λ client. refusal_text (known_by client) (ask_by name)) (λ client. client) c x)
-
-abbrev silenced : ℕ → MbimState → MbimState
-silenced number x = with_numbers (silences number x.beside.numbers) x
-
-pub record Refused (s : Setup) (row : Row Asked) (x : MbimState) : Type 0 where
-  pub greatest : (refuse s row x).table.greatest ≡ x.table.greatest
-  pub setup : setup_of (refuse s row x).beside ≡ setup_of x.beside
-
-pub refused : (s : Setup) (row : Row Asked) (x : MbimState) → Refused s row x
-refused s row x = let K = refused_keeps s row.note row.conn (silenced row.number x) in record { greatest = K.greatest; setup = K.setup }
+use Rattle.mbim_core.specs.Kept.{silenced, refused_keeps, refused}
+use Rattle.mbim_core.specs.Told.{rows_at, KeepsRequests, leaves_keeps, ended_keeps, told_leaves}
 
 pub refused_less : (s : Setup) (time : ℕ) (row : Row Asked) (x : MbimState) → first_due time (rows_at x) ≡ Some row
     → (waiting_count (rows_at (refuse s row x)) < waiting_count (rows_at x)) × (length (rows_at (refuse s row x)) ≡ length (rows_at x))
@@ -84,7 +69,7 @@ module _ (time : ℕ) (was : MbimState) (side : ModemSide) (made : side ≡ reco
     pub turn_same : expire_now time later ≡ expire_now time was
     turn_same =
         ap (expire_now time) refused_is
-        ∙ ap (λ (s : Setup). expire s time (refuse (setup_of was.beside) D.row was)) (refused (setup_of was.beside) D.row was).setup
+        ∙ ap (λ (s : Setup). expire s time (refuse (setup_of was.beside) D.row was)) (refused (setup_of was.beside) D.row was)
         ∙ expired_one (setup_of was.beside) time was D.row D.due
 
     pub turn_less : waiting_count (rows_at later) < waiting_count (rows_at was)

@@ -6,6 +6,8 @@ use Rattle.std.proofs.lemmas.Bool.Decides.{nat_tests}
 use Rattle.mbim_frame.specs.declared.kind.MessageKind.{MessageKind}
 use Rattle.mbim_frame.specs.declared.kind.MessageKind.TheVariants.{OpenDone, CommandDone, FunctionError, IndicateStatus}
 use Rattle.mbim_frame.specs.declared.head.MHead.{MHead}
+use Rattle.framing.specs.Framing.{IsMessage}
+use Rattle.mbim_frame.specs.Frame.{size_of}
 use Rattle.mbim_frame.specs.Kinds.{kind_number, kind_numbered}
 use Rattle.mbim_frame.specs.Head.{kind_of, is_kind, number_of}
 use Rattle.mbim_frame.specs.Fragment.{body_of}
@@ -40,6 +42,10 @@ heard_by kind m =
 heard_is : (kind : ℕ) (m : List ℕ) → kind_of m ≡ kind → heard_as m ≡ heard_by kind m
 unfolding heard_by
 heard_is kind m is = ap (λ (n : ℕ). heard_by n m) is
+
+-- a whole message has its head
+pub whole_long : (m : List ℕ) → IsMessage size_of m → 12 ≤ length m
+whole_long m whole = grind (arith, nat_tests, whole)
 
 -- ---- messages whose fragments are joined ----
 

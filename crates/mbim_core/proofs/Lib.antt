@@ -1,6 +1,4 @@
-pub mod Told
 pub mod Expires
-pub mod Kept
 pub mod Responses
 pub mod Hearing
 pub mod Shut
@@ -8,7 +6,7 @@ pub mod Tells
 pub mod Turns
 pub mod Texts
 pub mod Gathering
-pub mod Meets
 pub mod Brought
 pub mod Merged
-pub mod Bound
+pub mod Hands
+pub mod Asks

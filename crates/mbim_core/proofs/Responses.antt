@@ -11,7 +11,7 @@ use Rattle.mbim_state.specs.declared.asked.Asked.TheVariants as asked
 use Rattle.mbim_state.specs.Core.{ModemSide, MbimState}
 use Rattle.mbim_state.specs.Transitions.{with_side, with_numbers, is_for, answer_if, respond_if, respond_to, respond, ends_opening}
 use Rattle.mbim_core.specs.State.{Settles}
-use Rattle.mbim_core.proofs.Told.{rows_at}
+use Rattle.mbim_core.specs.Told.{rows_at}
 
 module _ (heard : Heard) (number : ℕ) (x : MbimState) where
   -- no request has the number

@@ -1,11 +1,11 @@
 -- The clients are shut from place to place.
 use Rattle.std.proofs.Common.{◌≡◌, ℕ, zero, suc, ◌+◌, ◌<◌, ◌≤◌, List, [], ◌∷◌, length, map, refl, ap, sym, ◌∙◌, subst, arith}
-use Rattle.connections.specs.Table.{Connection, changed_at, with_client, with_client_at}
+use Rattle.connections.specs.Table.{Connection, Table, changed_at, with_client, with_client_at}
 use Rattle.proxy_state.specs.Chosen.{StandsAt}
 use Rattle.proxy_state.proofs.Places.{connection_at, stands_at}
 use Rattle.proxy_history.specs.View.{Shut}
 use Rattle.mbim_proxy.specs.Setup.{Setup}
-use Rattle.mbim_state.specs.Core.{Client, MbimState, setup_of}
+use Rattle.mbim_state.specs.Core.{Client}
 use Rattle.mbim_state.specs.Transitions.{after, shut_all}
 
 module _ {T : Type 0} (change : Connection T → Connection T) where
@@ -49,38 +49,33 @@ module _ {T : Type 0} (change : Connection T → Connection T) where
 abbrev pub shut_one : Setup → Connection Client → Connection Client
 shut_one s k = with_client (after s Shut k.client) k
 
-abbrev pub shut_to : MbimState → ℕ → MbimState
-shut_to x place = record x { table = record x.table { present = changed_to (shut_one (setup_of x.beside)) place x.table.present } }
+abbrev with_present : Table Client → List (Connection Client) → Table Client
+with_present t present = record t { present = present }
 
-abbrev with_present : MbimState → List (Connection Client) → MbimState
-with_present x present = record x { table = record x.table { present = present } }
+abbrev pub shut_to : Setup → Table Client → ℕ → Table Client
+shut_to s t place = with_present t (changed_to (shut_one s) place t.present)
 
-abbrev pub with_later : ℕ → Client → MbimState → MbimState
-with_later place client x = record x { table = with_client_at place client x.table }
+module _ (s : Setup) (t : Table Client) where
+  pub shut_none : t ≡ shut_to s t 0
+  shut_none = ap (with_present t) (sym (changed_none (shut_one s) t.present))
 
-module _ (x : MbimState) where
-  pub shut_none : x ≡ shut_to x 0
-  shut_none = ap (with_present x) (sym (changed_none (shut_one (setup_of x.beside)) x.table.present))
+  pub shut_end : (place : ℕ) → length t.present ≤ place → shut_to s t place ≡ with_present t (shut_all s t.present)
+  shut_end place past = ap (with_present t) (changed_all (shut_one s) place t.present past)
 
-  pub shut_end : (place : ℕ) → length x.table.present ≤ place → shut_to x place ≡ with_present x (shut_all (setup_of x.beside) x.table.present)
-  shut_end place past = ap (with_present x) (changed_all (shut_one (setup_of x.beside)) place x.table.present past)
-
-  module _ (place : ℕ) (now : MbimState) (is : now ≡ shut_to x place) where
+  module _ (place : ℕ) (now : Table Client) (is : now ≡ shut_to s t place) where
     abbrev so_far : List (Connection Client)
-    so_far = changed_to (shut_one (setup_of x.beside)) place x.table.present
+    so_far = changed_to (shut_one s) place t.present
 
-    pub shut_length : length now.table.present ≡ length x.table.present
-    shut_length = ap (λ (y : MbimState). length y.table.present) is ∙ changed_length (shut_one (setup_of x.beside)) place x.table.present
+    pub shut_length : length now.present ≡ length t.present
+    shut_length = ap (λ (u : Table Client). length u.present) is ∙ changed_length (shut_one s) place t.present
 
     -- the client of the place is shut
-    pub shut_next : place < length now.table.present → (client later : Client) → ((k : Connection Client) → StandsAt k now.table.present place → client ≡ k.client) → ((s : Setup) → later ≡ after s Shut client)
-        → with_later place later now ≡ shut_to x (place + 1)
+    pub shut_next : place < length now.present → (client later : Client) → ((k : Connection Client) → StandsAt k now.present place → client ≡ k.client) → later ≡ after s Shut client → with_client_at place later now ≡ shut_to s t (place + 1)
     shut_next within client later reads made =
-        let s : Setup = setup_of x.beside in
-        let same : now.table.present ≡ so_far = ap (λ (y : MbimState). y.table.present) is in
+        let same : now.present ≡ so_far = ap (λ (u : Table Client). u.present) is in
         let inside : place < length so_far = subst (λ (l : List (Connection Client)). place < length l) same within in
         let k : Connection Client = connection_at client so_far place in
         let at : StandsAt k so_far place = stands_at client so_far place inside in
         let kept : client ≡ k.client = reads k (subst (λ (l : List (Connection Client)). StandsAt k l place) (sym same) at) in
-        ap (with_later place later) is
-        ∙ ap (with_present x) (changed_here (shut_one s) place x.table.present k (with_client later) (omega (arith, within, shut_length)) at (ap (λ (n : Client). with_client n k) (made s ∙ ap (after s Shut) kept)))
+        ap (with_client_at place later) is
+        ∙ ap (with_present t) (changed_here (shut_one s) place t.present k (with_client later) (omega (arith, within, shut_length)) at (ap (λ (n : Client). with_client n k) (made ∙ ap (after s Shut) kept)))

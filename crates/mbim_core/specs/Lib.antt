@@ -1,6 +1,8 @@
 pub mod Answer
 pub mod State
-pub mod Core
-pub mod Bound
-pub mod Face
-pub mod Shows
+pub mod Meaning
+pub mod Hand
+pub mod Told
+pub mod Kept
+pub mod Lawful
+pub mod Asks

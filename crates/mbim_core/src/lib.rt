@@ -2,8 +2,9 @@
 #![tactic(auto)]
 
 mod answer;
-mod proxy;
-mod serving;
-mod state;
+mod laws;
+mod protocol;
+mod teller;
 
-pub use proxy::MbimCore;
+pub use laws::the_modem_is_asked_for_all;
+pub use protocol::{MbimCore, MbimHand};

@@ -1,9 +1,9 @@
 pub mod Granted
+pub mod Inside
+pub mod Limit
 pub mod Forwards
 pub mod Expires
 pub mod Tells
 pub mod Turns
 pub mod Releases
 pub mod Responses
-pub mod Meets
-pub mod Bound

@@ -18,12 +18,11 @@ use Rattle.qmi_state.specs.Transitions.{give_up, tell, tell_all, opened_ones, ho
 use Rattle.qmi_core.specs.State.{is_chosen, tell_from}
 
 -- the bytes find room
-pub stays_told : (c : ℕ) (bytes : List ℕ) (was now : QmiState) → was ≡ now → (table : Table Client) → table ≡ tables.tells c bytes was.table → finds_room bytes (connection_in c was.table.present) ≡ true
-    → record { table = table; beside = was.beside } ≡ tell c bytes now
-stays_told c bytes was now same table told room =
+pub stays_told : (c : ℕ) (bytes : List ℕ) (was : QmiState) (table : Table Client) → table ≡ tables.tells c bytes was.table → finds_room bytes (connection_in c was.table.present) ≡ true → record { table = table; beside = was.beside } ≡ tell c bytes was
+stays_told c bytes was table told room =
     ap (λ (t : Table Client). let y : QmiState = record { table = t; beside = was.beside } in y) told
     ∙ sym (ap (λ (fits : Bool). let y : QmiState = record { table = tables.tells c bytes was.table; beside = given_up_unless give_up fits c was.beside } in y) room)
-    ∙ sym (tell_is give_up (λ client. bytes) c bytes was (λ k at. refl)) ∙ ap (tell c bytes) same
+    ∙ sym (tell_is give_up (λ client. bytes) c bytes was (λ k at. refl))
 
 -- those that hold an id of the service
 holders_chosen : (service : ℕ) (side : ModemSide) (present : List (Connection Client)) → chosen (is_chosen (Some service)) side present ≡ holders_of service side.traffic.held present

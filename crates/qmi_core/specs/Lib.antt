@@ -1,7 +1,5 @@
 pub mod Message
 pub mod Hearing
 pub mod State
-pub mod Core
-pub mod Bound
-pub mod Face
-pub mod Shows
+pub mod Meaning
+pub mod Lawful

@@ -4,10 +4,9 @@
 mod errors;
 mod hearing;
 mod message;
-mod proxy;
-mod serving;
+mod protocol;
 mod side;
-mod state;
+mod telling;
 mod traffic;
 
-pub use proxy::QmiCore;
+pub use protocol::{QmiCore, QmiHand};

@@ -121,7 +121,7 @@ ticked time x = released_due x.beside.release (shows time x) ∙ expired (max ti
 
 -- ---- each handler ----
 
-keeps_greatest : KeepsGreatest qmi_handlers size_of
+pub keeps_greatest : KeepsGreatest qmi_handlers size_of
 keeps_greatest = record {
   hear_modem = heard;
   lose = λ x. expired _ x;

@@ -1,0 +1,681 @@
+ghost use Rattle.std.specs.Prelude.{◌≡◌, ◌+◌, ◌<◌, ◌≤◌, ◌==◌, ◌++◌, ℕ, List, [], true, false, length, position, Some, IfOk, IsTrue};
+ghost use Rattle.connections.specs.Table.{Table, connection_in, finds_room};
+ghost use Rattle.mbim_frame.specs.declared.kind.MessageKind.TheVariants.{CommandDone, OpenDone, FunctionError, IndicateStatus};
+ghost use Rattle.mbim_frame.specs.Bodies.{is_done, is_indication};
+ghost use Rattle.mbim_frame.specs.Frame.{size_of};
+ghost use Rattle.mbim_frame.specs.Head.{kind_of};
+ghost use Rattle.mbim_frame.specs.Kinds.{kind_number};
+ghost use Rattle.mbim_frame.specs.Writing.{unsplit};
+ghost use Rattle.mbim_fragments.specs.Splitting.{split};
+ghost use Rattle.mbim_proxy.specs.Setup.{Setup};
+ghost use Rattle.mbim_proxy.specs.FromModem.{heard_if, IsDone, IsIndication};
+ghost use Rattle.proxy_state.specs.Step as proxy;
+ghost use Rattle.proxy_state.specs.Telling.{tell};
+ghost use Rattle.mbim_state.specs.Core.{Client as TableClient, setup_of};
+ghost use Rattle.mbim_state.specs.Transitions.{give_up, mbim_handlers, tell_answer, tell_refusal, ends_opening, hear_as, hear_modem, refuse_as, expire, shut_all, lose, tick, merged_in, finish};
+ghost use Rattle.mbim_core.specs.Answer.{heard_of};
+ghost use Rattle.mbim_core.specs.Hand.{hand_of, forgotten, IsOf};
+ghost use Rattle.mbim_core.specs.State.{state_of, opened_from, indicated_from, gathered, noted, wish_of, Settles, IsDoneWith, IsIndicationWith};
+
+use crate::answer::Answer;
+use connections::Connections;
+use framing::LONGEST_PIECE;
+use kit_bytes::u32_at;
+use mbim_clients::{Client, ModemSide, Writer, is_same};
+use mbim_fragments::{Body, LONGEST_BODY, unsplit_head};
+use mbim_frame::{
+    DoneHead, IndicationHead, MHead, Mbim, MessageKind, open_done, set_number, status,
+};
+use mbim_state::{Asked, CommandName};
+use std::alloc::{AllocError, Global};
+use subscriptions::{Merge, PairList};
+
+/// Tells the clients what comes of the modem, and asks it for the merge of their lists.
+#[derive(Drop)]
+pub struct Teller {
+    // writes what a client is to get of the modem
+    writer: Writer,
+    // all that the open clients subscribe to
+    merge: Merge,
+    merged: PairList,
+    // that is the merge of the open clients' lists as they are
+    current: bool,
+    // the modem was last asked for that
+    asked: bool,
+    // what a client subscribed to before it was heard
+    noted: PairList,
+}
+
+impl Teller {
+    /// Nothing is put together yet.
+    pub fn open(alloc: Global) -> Result<Self, AllocError>
+        ensures current { IfOk result (λ teller. teller.current ≡ false) }
+        ensures asked { IfOk result (λ teller. teller.asked ≡ false) }
+    {
+        let (writer, merge) = open_room(alloc)?;
+        let (merged, noted) = open_lists(alloc)?;
+        Ok(Teller {
+            writer,
+            merge,
+            merged,
+            current: false,
+            asked: false,
+            noted,
+        })
+    }
+
+    /// A client is gone: the lists are to be put together again.
+    pub fn forget(&mut self)
+        ensures { hand_of self.new ≡ forgotten (hand_of self.old) }
+    {
+        self.current = false;
+    }
+
+    /// A piece of a client's stream.
+    pub fn bring(
+        &mut self,
+        connections: &mut Connections<Mbim, Client>,
+        side: &mut ModemSide,
+        name: u64,
+        piece: &[u8],
+    )
+        requires agrees { IsOf connections.old side.old (hand_of self.old) }
+        requires short { length piece.now ≤ LONGEST_PIECE }
+        ensures told { state_of connections.new side.new ≡ proxy.bring (mbim_handlers (setup_of side.old)) size_of name piece.now (state_of connections.old side.old) }
+        ensures agrees { IsOf connections.new side.new (hand_of self.new) }
+    {
+        let was_open = note(connections, name, &mut self.noted);
+        if !connections.bring(name, piece, side) {
+            self.current = false;
+            side.give_up(name);
+            return;
+        }
+        let same = is_as_noted(connections, name, was_open, &self.noted);
+        self.current &= same;
+    }
+
+    /// The clock shows this time.
+    pub fn tick(
+        &mut self,
+        connections: &mut Connections<Mbim, Client>,
+        side: &mut ModemSide,
+        time: u64,
+    )
+        requires { IsOf connections.old side.old (hand_of self.old) }
+        ensures told { state_of connections.new side.new ≡ tick (setup_of side.old) time (state_of connections.old side.old) }
+        ensures agrees { IsOf connections.new side.new (hand_of self.new) }
+    {
+        side.show_time(time);
+        let now = side.time();
+        self.expire(connections, side, now);
+    }
+
+    // The requests whose time has come are refused.
+    fn expire(
+        &mut self,
+        connections: &mut Connections<Mbim, Client>,
+        side: &mut ModemSide,
+        time: u64,
+    )
+        requires { IsOf connections.old side.old (hand_of self.old) }
+        ensures told { state_of connections.new side.new ≡ expire (setup_of side.old) time (state_of connections.old side.old) }
+        ensures agrees { IsOf connections.new side.new (hand_of self.new) }
+    {
+        while let Some((name, asked)) = side.expire(time) {
+            self.refuse(connections, side, name, &asked);
+        }
+    }
+
+    // No answer comes to what was asked.
+    fn refuse(
+        &mut self,
+        connections: &mut Connections<Mbim, Client>,
+        side: &mut ModemSide,
+        name: u64,
+        asked: &Asked,
+    )
+        requires { IsOf connections.old side.old (hand_of self.old) }
+        ensures told { state_of connections.new side.new ≡ refuse_as (setup_of side.old) asked.now name (state_of connections.old side.old) }
+        ensures agrees { IsOf connections.new side.new (hand_of self.new) }
+    {
+        match asked {
+            Asked::Open => self.end_opening(connections, side, status::FAILURE),
+            Asked::Command(command) => self.tell_refusal(connections, side, name, command),
+        }
+    }
+
+    /// The modem is lost, and away from here on: what waits is refused, and no client is open any more.
+    pub fn lose(&mut self, connections: &mut Connections<Mbim, Client>, side: &mut ModemSide)
+        requires { IsOf connections.old side.old (hand_of self.old) }
+        ensures told { state_of connections.new side.new ≡ lose (setup_of side.old) (state_of connections.old side.old) }
+        ensures agrees { IsOf connections.new side.new (hand_of self.new) }
+    {
+        self.expire(connections, side, u64::MAX);
+        self.current = false;
+        shut_all(connections);
+        side.lose();
+    }
+
+    /// A whole message of the modem's stream. Where messages come in fragments, `whole` gets the body that
+    /// the last of them completes.
+    pub fn hear_modem(
+        &mut self,
+        connections: &mut Connections<Mbim, Client>,
+        side: &mut ModemSide,
+        message: &[u8],
+        whole: &mut Body,
+    )
+        requires agrees { IsOf connections.old side.old (hand_of self.old) }
+        requires least { 12 ≤ length message.now }
+        ensures told { state_of connections.new side.new ≡ hear_modem (setup_of side.old) message.now (state_of connections.old side.old) }
+        ensures agrees { IsOf connections.new side.new (hand_of self.new) }
+    {
+        let Some(kind) = MHead::read(message).message_kind() else {
+            return;
+        };
+        match kind {
+            MessageKind::CommandDone => self.hear_done(connections, side, message, whole),
+            MessageKind::OpenDone => self.hear_open_done(connections, side, message),
+            MessageKind::FunctionError => self.hear_error(connections, side, message),
+            MessageKind::IndicateStatus => self.hear_indication(connections, side, message, whole),
+            _ => {}
+        }
+    }
+
+    // A fragment of an answer to a command.
+    fn hear_done(
+        &mut self,
+        connections: &mut Connections<Mbim, Client>,
+        side: &mut ModemSide,
+        message: &[u8],
+        whole: &mut Body,
+    )
+        requires agrees { IsOf connections.old side.old (hand_of self.old) }
+        requires least { 12 ≤ length message.now }
+        requires kind { kind_of message.now ≡ kind_number CommandDone }
+        ensures told { state_of connections.new side.new ≡ hear_modem (setup_of side.old) message.now (state_of connections.old side.old) }
+        ensures agrees { IsOf connections.new side.new (hand_of self.new) }
+    {
+        if message.len() < 20 {
+            return;
+        }
+        if side.join_answer(message, whole) {
+            self.respond_done(
+                connections,
+                side,
+                MHead::read(message).number,
+                whole.as_slice(),
+            );
+        }
+    }
+
+    // The answer with this body to the command of this number.
+    fn respond_done(
+        &mut self,
+        connections: &mut Connections<Mbim, Client>,
+        side: &mut ModemSide,
+        number: u32,
+        body: &[u8],
+    )
+        requires agrees { IsOf connections.old side.old (hand_of self.old) }
+        requires short { length body.now ≤ LONGEST_BODY }
+        ensures told { state_of connections.new side.new ≡ hear_as (setup_of side.old) (heard_if (is_done body.now) IsDone) (unsplit (kind_number CommandDone) number body.now) (state_of connections.old side.old) }
+        ensures agrees { IsOf connections.new side.new (hand_of self.new) }
+    {
+        if DoneHead::read(body).is_none() {
+            return;
+        }
+        match settle(side, Answer::Done, number) {
+            Some((_, Asked::Open)) => {}
+            Some((name, Asked::Command(command))) => self.tell_done(
+                connections,
+                side,
+                name,
+                &command,
+                body,
+            ),
+            None => {}
+        }
+    }
+
+    // An answer to a request to open.
+    fn hear_open_done(
+        &mut self,
+        connections: &mut Connections<Mbim, Client>,
+        side: &mut ModemSide,
+        message: &[u8],
+    )
+        requires agrees { IsOf connections.old side.old (hand_of self.old) }
+        requires least { 12 ≤ length message.now }
+        requires kind { kind_of message.now ≡ kind_number OpenDone }
+        ensures told { state_of connections.new side.new ≡ hear_modem (setup_of side.old) message.now (state_of connections.old side.old) }
+        ensures agrees { IsOf connections.new side.new (hand_of self.new) }
+    {
+        if message.len() != 16 {
+            return;
+        }
+        let settled = settle(side, Answer::OpenDone, MHead::read(message).number);
+        if settled.is_some() {
+            self.end_opening(connections, side, u32_at(message, 12));
+        }
+    }
+
+    // An error in place of an answer.
+    fn hear_error(
+        &mut self,
+        connections: &mut Connections<Mbim, Client>,
+        side: &mut ModemSide,
+        message: &[u8],
+    )
+        requires agrees { IsOf connections.old side.old (hand_of self.old) }
+        requires least { 12 ≤ length message.now }
+        requires kind { kind_of message.now ≡ kind_number FunctionError }
+        ensures told { state_of connections.new side.new ≡ hear_modem (setup_of side.old) message.now (state_of connections.old side.old) }
+        ensures agrees { IsOf connections.new side.new (hand_of self.new) }
+    {
+        if message.len() != 16 {
+            return;
+        }
+        match settle(side, Answer::Error, MHead::read(message).number) {
+            Some((_, Asked::Open)) => self.end_opening(connections, side, status::FAILURE),
+            Some((name, Asked::Command(command))) => self.tell_error(
+                connections,
+                side,
+                name,
+                &command,
+                message,
+            ),
+            None => {}
+        }
+    }
+
+    // A client gets the answer with this body to its command, under its own number.
+    fn tell_done(
+        &mut self,
+        connections: &mut Connections<Mbim, Client>,
+        side: &mut ModemSide,
+        name: u64,
+        command: &CommandName,
+        body: &[u8],
+    )
+        requires agrees { IsOf connections.old side.old (hand_of self.old) }
+        requires short { length body.now ≤ LONGEST_BODY }
+        ensures told { (m : List ℕ) → IsDoneWith body.now m → state_of connections.new side.new ≡ tell_answer command.now m name (state_of connections.old side.old) }
+        ensures agrees { IsOf connections.new side.new (hand_of self.new) }
+    {
+        let Some(place) = connections.find(name) else {
+            return;
+        };
+        let max = connections.client_at(place).fragment();
+        let stays = put_done(
+            connections,
+            side,
+            &mut self.writer,
+            place,
+            name,
+            command.number,
+            max,
+            body,
+        );
+        self.current &= stays;
+    }
+
+    // A client gets the error in place of the answer to its command, under its own number.
+    fn tell_error(
+        &mut self,
+        connections: &mut Connections<Mbim, Client>,
+        side: &mut ModemSide,
+        name: u64,
+        command: &CommandName,
+        message: &[u8],
+    )
+        requires agrees { IsOf connections.old side.old (hand_of self.old) }
+        requires long { length message.now ≡ 16 }
+        requires kind { kind_of message.now ≡ kind_number FunctionError }
+        ensures told { state_of connections.new side.new ≡ tell_answer command.now message.now name (state_of connections.old side.old) }
+        ensures agrees { IsOf connections.new side.new (hand_of self.new) }
+    {
+        let mut error = [0; 16];
+        error.copy_from_slice(message);
+        set_number(&mut error, command.number);
+        let stays = put(connections, side, name, &error);
+        self.current &= stays;
+    }
+
+    // A client is told that no answer to its command comes.
+    fn tell_refusal(
+        &mut self,
+        connections: &mut Connections<Mbim, Client>,
+        side: &mut ModemSide,
+        name: u64,
+        command: &CommandName,
+    )
+        requires { IsOf connections.old side.old (hand_of self.old) }
+        ensures told { state_of connections.new side.new ≡ tell_refusal command.now name (state_of connections.old side.old) }
+        ensures agrees { IsOf connections.new side.new (hand_of self.new) }
+    {
+        let Some(place) = connections.find(name) else {
+            return;
+        };
+        let max = connections.client_at(place).fragment();
+        let done = DoneHead {
+            uuid: command.uuid,
+            cid: command.cid,
+            status: status::FAILURE,
+        };
+        self.writer.done(command.number, max, &done);
+        let text = self.writer.text();
+        let stays = put(connections, side, name, text);
+        self.current &= stays;
+    }
+
+    // The proxy's own request to open the modem ends with this status, which each client that waits
+    // for it is told.
+    fn end_opening(
+        &mut self,
+        connections: &mut Connections<Mbim, Client>,
+        side: &mut ModemSide,
+        status: u32,
+    )
+        requires { IsOf connections.old side.old (hand_of self.old) }
+        ensures told { state_of connections.new side.new ≡ ends_opening (setup_of side.old) status (state_of connections.old side.old) }
+        ensures agrees { IsOf connections.new side.new (hand_of self.new) }
+    {
+        self.asked = false;
+        side.end_opening(status);
+        let mut index = 0;
+        while index < connections.present() {
+            index = self.open_at(connections, side, index, status);
+        }
+    }
+
+    // The client of this place is told of the end of the opening where it waits for that. Gives the
+    // place of the next one.
+    fn open_at(
+        &mut self,
+        connections: &mut Connections<Mbim, Client>,
+        side: &mut ModemSide,
+        index: usize,
+        status: u32,
+    ) -> usize
+        requires agrees { IsOf connections.old side.old (hand_of self.old) }
+        requires here { index < length connections.old.present }
+        ensures told { (s : Setup) → opened_from s status result (state_of connections.new side.new) ≡ opened_from s status index (state_of connections.old side.old) }
+        ensures fewer { length connections.new.present + index < length connections.old.present + result }
+        ensures agrees { IsOf connections.new side.new (hand_of self.new) }
+    {
+        let name = connections.name_at(index);
+        let Some(number) = connections.client_at(index).waits() else {
+            return index + 1;
+        };
+        let done = open_done(number, status);
+        self.current = false;
+        if !put(connections, side, name, &done) {
+            return index;
+        }
+        let client = connections.client_mut(index);
+        client.end_opening(status);
+        index + 1
+    }
+
+    // A fragment of an indication.
+    fn hear_indication(
+        &mut self,
+        connections: &mut Connections<Mbim, Client>,
+        side: &mut ModemSide,
+        message: &[u8],
+        whole: &mut Body,
+    )
+        requires agrees { IsOf connections.old side.old (hand_of self.old) }
+        requires least { 12 ≤ length message.now }
+        requires kind { kind_of message.now ≡ kind_number IndicateStatus }
+        ensures told { state_of connections.new side.new ≡ hear_modem (setup_of side.old) message.now (state_of connections.old side.old) }
+        ensures agrees { IsOf connections.new side.new (hand_of self.new) }
+    {
+        if message.len() < 20 {
+            return;
+        }
+        if side.join_indication(message, whole) {
+            self.indicate(connections, side, whole.as_slice());
+        }
+    }
+
+    // Each client that is open and wants the indication with this body gets it.
+    fn indicate(
+        &mut self,
+        connections: &mut Connections<Mbim, Client>,
+        side: &mut ModemSide,
+        body: &[u8],
+    )
+        requires agrees { IsOf connections.old side.old (hand_of self.old) }
+        requires short { length body.now ≤ LONGEST_BODY }
+        ensures told { (m : List ℕ) → IsIndicationWith body.now m → state_of connections.new side.new ≡ hear_as (setup_of side.old) (heard_if (is_indication body.now) IsIndication) m (state_of connections.old side.old) }
+        ensures agrees { IsOf connections.new side.new (hand_of self.new) }
+    {
+        let Some(head) = IndicationHead::read(body) else {
+            return;
+        };
+        let mut index = 0;
+        while index < connections.present() {
+            index = self.indicate_at(connections, side, index, &head, body);
+        }
+    }
+
+    // The client of this place gets the indication where it is for it. Gives the place of the next one.
+    fn indicate_at(
+        &mut self,
+        connections: &mut Connections<Mbim, Client>,
+        side: &mut ModemSide,
+        index: usize,
+        head: &IndicationHead,
+        body: &[u8],
+    ) -> usize
+        requires agrees { IsOf connections.old side.old (hand_of self.old) }
+        requires here { index < length connections.old.present }
+        requires short { length body.now ≤ LONGEST_BODY }
+        ensures told { indicated_from head.now body.now result (state_of connections.new side.new) ≡ indicated_from head.now body.now index (state_of connections.old side.old) }
+        ensures fewer { length connections.new.present + index < length connections.old.present + result }
+        ensures agrees { IsOf connections.new side.new (hand_of self.new) }
+    {
+        let name = connections.name_at(index);
+        let client = connections.client_at(index);
+        if !client.opened() {
+            return index + 1;
+        }
+        if !client.wants(head.uuid, head.cid) {
+            return index + 1;
+        }
+        let max = client.fragment();
+        let kind = MessageKind::IndicateStatus.number();
+        self.writer.split(kind, 0, max, body);
+        let text = self.writer.text();
+        if put(connections, side, name, text) {
+            return index + 1;
+        }
+        self.current = false;
+        index
+    }
+
+    /// The end of each event: the modem is asked for the list of all open clients together, where it
+    /// was last asked for another one and may be asked.
+    pub fn finish(&mut self, connections: &mut Connections<Mbim, Client>, side: &mut ModemSide)
+        requires { IsOf connections.old side.old (hand_of self.old) }
+        ensures told { state_of connections.new side.new ≡ finish (setup_of side.old) (state_of connections.old side.old) }
+        ensures agrees { IsOf connections.new side.new (hand_of self.new) }
+    {
+        if self.current && self.asked {
+            return;
+        }
+        self.put_together(connections);
+        self.asked = side.send_list(&self.merged);
+    }
+
+    // The lists of the open clients are put together, where they aren't.
+    fn put_together(&mut self, connections: &Connections<Mbim, Client>)
+        requires limit { connections.now.limit ≤ 64 }
+        requires current { self.old.current ≡ true → self.old.merged ≡ merged_in connections.now.present }
+        ensures merged { self.new.merged ≡ merged_in connections.now.present }
+        ensures current { self.new.current ≡ true }
+    {
+        if self.current {
+            return;
+        }
+        gather(connections, &mut self.merge);
+        self.merge.finish(&mut self.merged);
+        self.current = true;
+    }
+}
+
+// An answer frees its number. Gives who asked, and what, where somebody still waits for it.
+fn settle(side: &mut ModemSide, answer: Answer, number: u32) -> Option<(u64, Asked)>
+    ensures settles { (table : Table TableClient) → Settles (heard_of answer) number (state_of table side.old) (state_of table side.new) result }
+    ensures setup { setup_of side.new ≡ setup_of side.old }
+    ensures list { side.new.last_list ≡ side.old.last_list }
+{
+    let (name, asked, waits) = side.look(number)?;
+    if !answer.is_for(&asked) {
+        return None;
+    }
+    side.free(number);
+    if !waits {
+        return None;
+    }
+    Some((name, asked))
+}
+
+// No client is open any more.
+fn shut_all(connections: &mut Connections<Mbim, Client>)
+    ensures { (s : Setup) → connections.new ≡ record connections.old { present = shut_all s connections.old.present } }
+{
+    for place in 0..connections.present() {
+        let client = connections.client_mut(place);
+        client.shut();
+    }
+}
+
+// Room for what is written, and for what is put together.
+fn open_room(alloc: Global) -> Result<(Writer, Merge), AllocError> {
+    Ok((Writer::open(alloc)?, Merge::open(alloc)?))
+}
+
+fn open_lists(alloc: Global) -> Result<(PairList, PairList), AllocError> {
+    Ok((PairList::open(alloc)?, PairList::open(alloc)?))
+}
+
+// A client gets these bytes, or is dropped where they find no room. Says whether it wasn't dropped.
+fn put(
+    connections: &mut Connections<Mbim, Client>,
+    side: &mut ModemSide,
+    name: u64,
+    bytes: &[u8],
+) -> bool
+    ensures told { state_of connections.new side.new ≡ tell give_up (λ _. bytes.now) (λ client. client) name (state_of connections.old side.old) }
+    ensures stays { result ≡ finds_room bytes.now (connection_in name connections.old.present) }
+    ensures limit { connections.new.limit ≡ connections.old.limit }
+    ensures setup { setup_of side.new ≡ setup_of side.old }
+    ensures list { side.new.last_list ≡ side.old.last_list }
+{
+    match connections.find(name) {
+        Some(place) => put_at(connections, side, place, name, bytes, &[]),
+        None => true,
+    }
+}
+
+// The client of this name, which stands at this place, gets the bytes of both runs, one run behind the
+// other, or is dropped where they find no room. Says whether it wasn't dropped.
+fn put_at(
+    connections: &mut Connections<Mbim, Client>,
+    side: &mut ModemSide,
+    place: usize,
+    name: u64,
+    head: &[u8],
+    rest: &[u8],
+) -> bool
+    requires { Some place ≡ position (λ k. name == k.name) connections.old.present }
+    ensures told { state_of connections.new side.new ≡ tell give_up (λ _. head.now ++ rest.now) (λ client. client) name (state_of connections.old side.old) }
+    ensures stays { result ≡ finds_room (head.now ++ rest.now) (connection_in name connections.old.present) }
+    ensures limit { connections.new.limit ≡ connections.old.limit }
+    ensures setup { setup_of side.new ≡ setup_of side.old }
+    ensures list { side.new.last_list ≡ side.old.last_list }
+{
+    if connections.tell_at(place, name, head, rest) {
+        return true;
+    }
+    side.give_up(name);
+    false
+}
+
+// The client of this name, which stands at this place, gets the answer with this body under this number, in
+// fragments of at most `max` bytes, or is dropped where it finds no room. Says whether it wasn't dropped.
+fn put_done(
+    connections: &mut Connections<Mbim, Client>,
+    side: &mut ModemSide,
+    writer: &mut Writer,
+    place: usize,
+    name: u64,
+    number: u32,
+    max: u32,
+    body: &[u8],
+) -> bool
+    requires stands { Some place ≡ position (λ k. name == k.name) connections.old.present }
+    requires least { 64 ≤ max }
+    requires most { max ≤ 4096 }
+    requires short { length body.now ≤ LONGEST_BODY }
+    ensures told { state_of connections.new side.new ≡ tell give_up (λ _. split (kind_number CommandDone) number max body.now) (λ client. client) name (state_of connections.old side.old) }
+    ensures stays { result ≡ finds_room (split (kind_number CommandDone) number max body.now) (connection_in name connections.old.present) }
+    ensures limit { connections.new.limit ≡ connections.old.limit }
+    ensures setup { setup_of side.new ≡ setup_of side.old }
+    ensures list { side.new.last_list ≡ side.old.last_list }
+{
+    let kind = MessageKind::CommandDone.number();
+    let Some(head) = unsplit_head(kind, number, max, body) else {
+        writer.split(kind, number, max, body);
+        return put(connections, side, name, writer.text());
+    };
+    put_at(connections, side, place, name, &head, body)
+}
+
+// The lists of the open clients, one behind the other.
+fn gather(connections: &Connections<Mbim, Client>, merge: &mut Merge)
+    requires { connections.now.limit ≤ 64 }
+    ensures { merge.new ≡ gathered connections.now.present }
+{
+    merge.clear();
+    for place in 0..connections.present() {
+        let client = connections.client_at(place);
+        if client.opened() {
+            merge.add(client.list());
+        }
+    }
+}
+
+// Notes what a client subscribes to, and says whether it is there and open.
+fn note(connections: &Connections<Mbim, Client>, name: u64, list: &mut PairList) -> bool
+    ensures { noted result list.new ≡ wish_of name connections.now.present }
+{
+    let Some(place) = connections.find(name) else {
+        return false;
+    };
+    let client = connections.client_at(place);
+    list.copy(client.list());
+    client.opened()
+}
+
+// Whether a client subscribes to what was noted.
+fn is_as_noted(
+    connections: &Connections<Mbim, Client>,
+    name: u64,
+    was_open: bool,
+    list: &PairList,
+) -> bool
+    ensures { IsTrue result → noted was_open list.now ≡ wish_of name connections.now.present }
+{
+    let Some(place) = connections.find(name) else {
+        return !was_open;
+    };
+    let client = connections.client_at(place);
+    if !client.opened() {
+        return !was_open;
+    }
+    was_open && is_same(client.list().pairs(), list.pairs())
+}
