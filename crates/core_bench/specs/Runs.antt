@@ -7,9 +7,9 @@ use Rattle.hub_io.specs.declared.settings.Limits.{Limits}
 use Rattle.proxy_history.specs.Events.{Event}
 use Rattle.proxy_history.specs.Proxy.{Proxy}
 use Rattle.qmi_proxy.specs.Proxy as qmi
-use Rattle.qmi_core.specs.Core.{setup_of}
+use Rattle.qmi_core.specs.Meaning.{setup_of}
 use Rattle.mbim_proxy.specs.Proxy as mbim
-use Rattle.mbim_core.specs.Core.{opening_setup}
+use Rattle.mbim_core.specs.Meaning.{opening_setup}
 
 -- a core was opened like this, and met these events
 pub record Run : Type 0 where

@@ -8,7 +8,7 @@ ghost use Rattle.core_bench.specs.Runs.{proxy_for};
 ghost use Rattle.core_bench.specs.Held.{face_of, Keeps};
 
 use hub_io::{Event, Limits};
-use kit_bytes::{Kind, Text};
+use kit_bytes::Kind;
 use mbim_core::MbimCore;
 use proxy_serving::ProxyCore;
 use qmi_core::QmiCore;
@@ -36,10 +36,7 @@ impl Held {
     {
         match kind {
             Kind::Qmi => Ok(Held::Qmi(QmiCore::open(alloc, limits, device)?)),
-            Kind::Mbim => {
-                let device = Text::from_str(alloc, device)?;
-                Ok(Held::Mbim(MbimCore::open(alloc, limits, device)?))
-            }
+            Kind::Mbim => Ok(Held::Mbim(MbimCore::open(alloc, limits, device)?)),
         }
     }
 }

@@ -5,7 +5,7 @@ ghost use Rattle.proxy_serving.specs.Face.{MayCome};
 
 use framing::LONGEST_PIECE;
 use hub_io::{Event, Limits};
-use kit_bytes::{Octets, Text};
+use kit_bytes::Octets;
 use mbim_core::MbimCore;
 use proxy_serving::ProxyCore;
 use qmi_core::QmiCore;
@@ -49,7 +49,6 @@ pub fn mbim_proxy(alloc: Global, device: &str) -> Result<Proxy<MbimCore>, AllocE
         time: 30_000,
         release: None,
     };
-    let device = Text::from_str(alloc, device)?;
     let core = MbimCore::open(alloc, &limits, device)?;
     Ok(Proxy {
         core,

@@ -13,9 +13,10 @@ use crate::status::Status;
 use child_io::{Kids, Spawner};
 use hub_io::{Hub, ServeEnd, Settings, Until};
 use kit_bytes::{Kind, PathText, Text};
-use mbim_serving::serve_mbim;
+use mbim_core::MbimHand;
 use modem_ways::Device;
-use qmi_serving::serve_qmi;
+use proxy_core::serve_proxy;
+use qmi_core::QmiHand;
 use std::alloc::{AllocError, Global};
 
 // How the words of a proxy want it.
@@ -140,7 +141,7 @@ fn serve_opened<H: Hub>(alloc: Global, kind: Kind, settings: &Settings, hub: &mu
     ensures fault { result ≡ ServeEnd.HubFault → Rose (H.faults hub.old) (H.faults hub.new) }
 {
     match kind {
-        Kind::Qmi => serve_qmi(alloc, hub, settings),
-        Kind::Mbim => serve_mbim(alloc, hub, settings),
+        Kind::Qmi => serve_proxy::<QmiHand, H>(alloc, hub, settings),
+        Kind::Mbim => serve_proxy::<MbimHand, H>(alloc, hub, settings),
     }
 }
