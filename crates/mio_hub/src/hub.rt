@@ -28,7 +28,7 @@ use std::rt::Clock;
 /// is left of the line to its pumps.
 ///
 /// A client that sent fewer than 8 bytes, which are no message, is read again a millisecond or two
-/// later: one that sends byte by byte holds nobody up.
+/// later, so one that sends byte by byte costs the others less time.
 ///
 /// What `send_modem` took is written at the last of the events that one wait found. A modem that is
 /// lost before then is told by `next`.
