@@ -1,3 +1,4 @@
 pub mod Cases
 pub mod Cuts
+pub mod First
 pub mod Standing

@@ -32,7 +32,7 @@ takes_send_nothing (Opened address ok ∷ takes) each = absurd (All-head IsTake 
 takes_send_nothing (Paired ok ∷ takes) each = absurd (All-head IsTake (Paired ok) takes each)
 takes_send_nothing (Closed ∷ takes) each = absurd (All-head IsTake Closed takes each)
 
-texts_in-append : (xs ys : List Call) → texts_in (xs ++ ys) ≡ texts_in xs ++ texts_in ys
+pub texts_in-append : (xs ys : List Call) → texts_in (xs ++ ys) ≡ texts_in xs ++ texts_in ys
 unfolding texts_in
 texts_in-append [] ys = refl
 texts_in-append (Sent text true ∷ xs) ys = ap (λ (l : List (List ℕ)). text ∷ l) (texts_in-append xs ys)

@@ -16,7 +16,7 @@ use Rattle.many_history.proofs.Places.{placed_of, seats_are_of_devices}
 use Rattle.many_state.specs.Core.{ManyCore, queue_under, queue_at, modem_queue_of, MayMeet, Stands}
 use Rattle.many_state.specs.Laws.{IsProxysCore}
 use Rattle.many_state.proofs.Same.{got}
-use Rattle.many_state.proofs.Steps.{stands_hung_up}
+use Rattle.proxy_solo.proofs.Cores.{stands_hung_up}
 
 module _ {Known T S : Type 0} (s : Devices Known) (k : ℕ → Kept Known T S) (h : Handlers T S) (H : HasDevices s) (P : IsProxysCore s k h) (events : List ManyEvent) (x : ManyCore T S) (stands : Stands s k events x) where
   abbrev own : ℕ → List Event

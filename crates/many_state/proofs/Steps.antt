@@ -13,6 +13,7 @@ use Rattle.proxy_state.specs.Stands.{Kept, CanStep, connection_of, parting_of, s
 use Rattle.proxy_state.specs.Stands as proxy
 use Rattle.proxy_state.proofs.Keeping.{found}
 use Rattle.proxy_state.proofs.Waiting.{waiting_is}
+use Rattle.proxy_solo.proofs.Cores.{stands_hung_up}
 use Rattle.proxy_solo.specs.Cores.{hung_up, core_after, StepsWithWhatMayCome}
 use Rattle.many_history.specs.Events.{ManyEvent, Joined, Piece, Left, Took, ModemPiece, ModemGone, ModemBack, ModemTook, Now}
 use Rattle.many_history.specs.Devices.{Devices, HasDevices}
@@ -29,22 +30,6 @@ use Rattle.many_state.specs.Laws.{IsProxysCore}
 use Rattle.many_state.proofs.Same.{parts_same, seated_same, there_same, ended_same, some_if, got, was, each_has_as_many}
 
 -- ---- the core of one device ----
-
--- it stands for its events whomever it was asked for
-pub stands_hung_up : {Known T S : Type 0} (p : Protocol Known) (k : Kept Known T S) (events : List Event) (core : Core T S) → proxy.Stands p k events core → proxy.Stands p k events (hung_up core)
-stands_hung_up p k events core stands = record {
-  holds = record {
-    connections = stands.holds.connections;
-    beside = stands.holds.beside;
-    greatest = stands.holds.greatest;
-    limit = stands.holds.limit;
-    room = stands.holds.room;
-    names = stands.holds.names;
-  };
-  partings = (_, append-nil (map (parting_of p (history p events)) (dropped (history p events))));
-  rest = stands.rest;
-  sound = stands.sound;
-}
 
 module _ {Known T S : Type 0} (p : Protocol Known) (k : Kept Known T S) (h : Handlers T S) (steps : StepsWithWhatMayCome p k h)
     (next : (event : Event) (events : List Event) (core : Core T S) → CanStep h event core → proxy.Stands p k events core → proxy.StandsAfter p k (event ∷ events) (device.step h p.size event core)) where

@@ -10,6 +10,7 @@ use Rattle.link_io.specs.declared.link.Taken.TheVariants.{End}
 use Rattle.link_io.specs.Calls.{Call, EndsForGood, Opened, Paired, Sent, Took, WasQuiet, WasEnd, TakeFailed, Closed}
 use Rattle.link_session.specs.Marks.{bytes_in}
 use Rattle.link_session.specs.Peer.{Peer, LeadsTo, said, texts_in}
+use Rattle.link_session.proofs.Peers.{texts_in-append}
 use Rattle.link_session.proofs.Takes.{bytes_in-append}
 use Rattle.peer_link.specs.Linked.{IsAtPeer, IsNoEnd}
 
@@ -27,19 +28,6 @@ splits_last {A} (z ∷ xs) x (y ∷ front) more is =
       | inl (none, all) ↦ inl (none, ap (λ (l : List A). y ∷ l) all ∙ ap (λ (w : A). w ∷ (xs ++ x ∷ [])) (sym head))
       | inr (rest, are) ↦ inr (rest, ap (λ (l : List A). z ∷ l) are ∙ ap (λ (w : A). w ∷ (front ++ rest)) head)
     ]
-
-texts_in-append : (xs ys : List Call) → texts_in (xs ++ ys) ≡ texts_in xs ++ texts_in ys
-unfolding texts_in
-texts_in-append [] ys = refl
-texts_in-append (Sent text true ∷ xs) ys = ap (λ (l : List (List ℕ)). text ∷ l) (texts_in-append xs ys)
-texts_in-append (Sent text false ∷ xs) ys = texts_in-append xs ys
-texts_in-append (Took piece ∷ xs) ys = texts_in-append xs ys
-texts_in-append (WasQuiet ∷ xs) ys = texts_in-append xs ys
-texts_in-append (WasEnd ∷ xs) ys = texts_in-append xs ys
-texts_in-append (TakeFailed ∷ xs) ys = texts_in-append xs ys
-texts_in-append (Opened address ok ∷ xs) ys = texts_in-append xs ys
-texts_in-append (Paired ok ∷ xs) ys = texts_in-append xs ys
-texts_in-append (Closed ∷ xs) ys = texts_in-append xs ys
 
 module _ (peer : Peer) where
   said-append : (before xs ys : List (List ℕ)) → said peer before (xs ++ ys) ≡ said peer before xs ++ said peer (before ++ xs) ys

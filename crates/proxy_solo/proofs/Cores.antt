@@ -19,7 +19,8 @@ module _ {Known T S : Type 0} (p : Protocol Known) (k : Kept Known T S) where
       ∙ ap (λ (r : Rendering). r.waiting) (sym (same L))
       ∙ sym (waiting_is p k _ own alone c owed_own)
 
-  stands_hung_up : (events : List Event) (core : Core T S) → Stands p k events core → Stands p k events (hung_up core)
+  -- it stands for its events whomever it was asked for
+  pub stands_hung_up : (events : List Event) (core : Core T S) → Stands p k events core → Stands p k events (hung_up core)
   stands_hung_up events core stands = record {
     holds = record {
       connections = stands.holds.connections;

@@ -16,7 +16,7 @@ pub use kind::MessageKind;
 pub use laws::written_is_read;
 pub use number::set_number;
 pub use qmux::Qmux;
-pub use reply::{Reply, result_reply};
+pub use reply::{Reply, reply_to, result_reply, result_tlv};
 pub use short::ShortBytes;
 pub use writing::{LONGEST_TLVS, NewMessage, Sender};
 

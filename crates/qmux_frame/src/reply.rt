@@ -23,8 +23,8 @@ pub fn result_reply(head: &Head, error: u16) -> Reply
     reply
 }
 
-// What answers a message with this head, but for its TLVs.
-fn reply_to(head: &Head) -> NewMessage
+/// What answers a message with this head, but for its TLVs.
+pub fn reply_to(head: &Head) -> NewMessage
     ensures reply { result ≡ reply_to head.now }
     ensures fits { result.service ≡ 0 → result.number ≤ 255 }
 {
@@ -50,7 +50,8 @@ fn short_number(head: &Head) -> u16
     }
 }
 
-fn result_tlv(error: u16) -> [u8; 7]
+/// The Result TLV with this error, where 0 is success.
+pub fn result_tlv(error: u16) -> [u8; 7]
     ensures { result ≡ result_tlv error }
 {
     let status = u8::from(error != 0);

@@ -8,7 +8,7 @@ use Rattle.proxy_history.specs.Connections.{contains}
 use Rattle.proxy_history.specs.ClientIds.{Grant, KeptId, is_of, held, kept, holder_in, holder, is_other}
 use Rattle.proxy_history.specs.Modem.{is_away}
 use Rattle.proxy_history.specs.View.{Entry, Sent, Response, Refused, Indication, OpenedWith, Shut, Collected, NoAnswer, entry_if, view}
-use Rattle.proxy_solo.specs.Law.{tells_of_others}
+use Rattle.proxy_solo.proofs.Undisturbed.{AreUndisturbed}
 use Rattle.qmux_frame.specs.Control.{is_sync, is_proxy_open}
 use Rattle.qmi_proxy.specs.Setup.{Setup}
 use Rattle.qmi_proxy.specs.Errors.{malformed_message, no_error, internal, invalid_client_id}
@@ -19,6 +19,7 @@ use Rattle.proxy_history.specs.Requests.{has_share}
 use Rattle.qmi_proxy.specs.Limits.{share_limit}
 use Rattle.qmi_proxy.specs.Spaces.{space_of}
 use Rattle.qmi_proxy.specs.Text.{blank, view_of}
+use Rattle.rig_laws.proofs.Undisturbed.{undisturbed_entry, undisturbed_joining}
 use Rattle.rig_runs.specs.Lines.{refuses, passes_share, AreForShares}
 
 module _ (s : Setup) where
@@ -42,17 +43,6 @@ module _ (s : Setup) where
   AreHarmless (fact ∷ past) = IsHarmless fact past × AreHarmless past
 
   -- ---- nobody is told of others ----
-
-  abbrev pub AreUndisturbed : List Entry → Type 0
-  AreUndisturbed entries = AllByRecursion (λ entry. tells_of_others entry ≡ false) entries
-
-  undisturbed_entry : (b : Bool) (entry : Entry) (entries : List Entry) → tells_of_others entry ≡ false → AreUndisturbed entries → AreUndisturbed (entry_if b entry entries)
-  undisturbed_entry true entry entries here rest = (here, rest)
-  undisturbed_entry false entry entries here rest = rest
-
-  undisturbed_joining : (b : Bool) (entries : List Entry) → AreUndisturbed entries → AreUndisturbed (if b then [] else entries)
-  undisturbed_joining true entries rest = tt
-  undisturbed_joining false entries rest = rest
 
   pub undisturbed : (c : ℕ) (past : List Fact) → AreHarmless past → AreUndisturbed (view_of c past)
   unfolding view

@@ -23,7 +23,8 @@ use Rattle.rig_runs.specs.Rig.{played, ended}
 use Rattle.rig_runs.specs.Lines.{is_let_alone, gets_the_same, AreForShares, counted, equal, Summary, summary, line, lines_of}
 use Rattle.rig_laws.specs.Laws.{OfEachRig, EventsMayCome, NobodyIsDisturbed, EachGetsTheSame, RefusalsAreForShares, LastLinesSayAll}
 use Rattle.rig_laws.proofs.Lists.{in_range, filter-all, length-range, each_of}
-use Rattle.rig_laws.proofs.Harmless.{AreHarmless, AreUndisturbed, undisturbed, refused_for_shares}
+use Rattle.proxy_solo.proofs.Undisturbed.{AreUndisturbed}
+use Rattle.rig_laws.proofs.Harmless.{AreHarmless, undisturbed, refused_for_shares}
 use Rattle.rig_laws.proofs.Plain.{ArePlain, AtEach, IsHarmlessNow}
 use Rattle.rig_laws.proofs.Events.{AllAreServed}
 use Rattle.rig_laws.proofs.Time.{rig_time}
@@ -33,7 +34,7 @@ same_bytes : (bytes : List ℕ) → bytes_eq bytes bytes ≡ true
 same_bytes [] = refl
 same_bytes (byte ∷ bytes) = and_from (byte == byte) (bytes_eq bytes bytes) (eq-eqb byte byte refl) (same_bytes bytes)
 
-let_alone : (entries : List Entry) → AreUndisturbed setup entries → list_all (λ entry. not (tells_of_others entry)) entries ≡ true
+let_alone : (entries : List Entry) → AreUndisturbed entries → list_all (λ entry. not (tells_of_others entry)) entries ≡ true
 let_alone [] all = refl
 let_alone (entry ∷ entries) all = and_from (not (tells_of_others entry)) (list_all (λ e. not (tells_of_others e)) entries) (not_from_false (tells_of_others entry) all.0) (let_alone entries all.1)
 
@@ -53,7 +54,7 @@ module _ (clients turns number : ℕ) (some : 1 ≤ clients) (within : clients �
   sound : AreSound setup events
   sound = usual.stands.going.sound
 
-  nobody : (c : ℕ) → AreUndisturbed setup (view_of c (history setup events))
+  nobody : (c : ℕ) → AreUndisturbed (view_of c (history setup events))
   nobody c = undisturbed setup c (history setup events) usual.stands.going.calm.harmless
 
   all_are_counted : counted setup clients events ≡ range_with_len 1 clients

@@ -1,4 +1,5 @@
 pub mod Lists
+pub mod Undisturbed
 pub mod Harmless
 pub mod Calm
 pub mod Room

@@ -50,7 +50,7 @@ module _ (s : Setup) (there : s.starts_away ≡ false) (clients : ℕ) (modem : 
     pub requests : List Request
     pub going : Going s joined opened requests [] stage.events
     pub served : AllAreServed s stage.events
-    pub pairs : Pairs stage.held requests
+    pub pairs : Pairs Suits stage.held requests
 
   abbrev after : List Event → List Event
   after events = clients_take (proxy_of s) (range_with_len 1 clients) events
@@ -62,7 +62,7 @@ module _ (s : Setup) (there : s.starts_away ≡ false) (clients : ℕ) (modem : 
     pub held_is : stage.held ≡ held
     pub asked_is : stage.asked ≡ asked
 
-  meets_quietly : (joined opened : ℕ) (requests : List Request) (event : Event) (stage : Stage) → joined ≤ clients → Going s joined opened requests [] (event ∷ stage.events) → Pairs stage.held requests
+  meets_quietly : (joined opened : ℕ) (requests : List Request) (event : Event) (stage : Stage) → joined ≤ clients → Going s joined opened requests [] (event ∷ stage.events) → Pairs Suits stage.held requests
       → HasMet joined opened stage.held stage.asked (meet cast event stage)
   unfolding cut_from ask_all
   meets_quietly joined opened requests event stage within going pairs =
@@ -73,7 +73,7 @@ module _ (s : Setup) (there : s.starts_away ≡ false) (clients : ℕ) (modem : 
       subst (HasMet joined opened stage.held stage.asked) (sym is)
       (record { stands = record { requests = requests; going = done.going; served = done.served; pairs = pairs }; held_is = refl; asked_is = refl })
 
-  meets_asking : (joined opened : ℕ) (requests : List Request) (r : Request) (event : Event) (stage : Stage) (reply : List ℕ) → joined ≤ clients → Going s joined opened (requests ++ r ∷ []) (wire r) (event ∷ stage.events) → Pairs stage.held requests
+  meets_asking : (joined opened : ℕ) (requests : List Request) (r : Request) (event : Event) (stage : Stage) (reply : List ℕ) → joined ≤ clients → Going s joined opened (requests ++ r ∷ []) (wire r) (event ∷ stage.events) → Pairs Suits stage.held requests
       → IsMessage size_of (wire r) → (cut size_of (modem stage.asked (wire r))).messages ≡ reply ∷ [] → Suits reply r
       → HasMet joined opened (stage.held ++ reply ∷ []) (wire r ∷ stage.asked) (meet cast event stage)
   unfolding ask_all
@@ -87,7 +87,7 @@ module _ (s : Setup) (there : s.starts_away ≡ false) (clients : ℕ) (modem : 
       ∙ ap (λ (messages : List (List ℕ)). ask_all cast messages settled) (one_message (wire r) is_message)
       ∙ ap (λ (messages : List (List ℕ)). let end : Stage = record { events = settled.events; asked = wire r ∷ stage.asked; held = stage.held ++ messages } in end) replies in
       subst (HasMet joined opened (stage.held ++ reply ∷ []) (wire r ∷ stage.asked)) (sym is)
-      (record { stands = record { requests = requests ++ r ∷ []; going = done.going; served = done.served; pairs = one_more stage.held requests reply r pairs suits }; held_is = refl; asked_is = refl })
+      (record { stands = record { requests = requests ++ r ∷ []; going = done.going; served = done.served; pairs = one_more Suits stage.held requests reply r pairs suits }; held_is = refl; asked_is = refl })
 
   -- ---- clients join and open the device ----
 
@@ -122,13 +122,13 @@ module _ (s : Setup) (there : s.starts_away ≡ false) (clients : ℕ) (modem : 
 
   -- so few wait in all that none are as many
   pub few_held : (joined opened c : ℕ) (m : List ℕ) (stage : Stage) → Stands joined opened stage → length stage.held < share_limit → fills_share s c m stage.events ≡ false
-  few_held joined opened c m stage stands few = few_fill_none s c m stands.going (let same = as_many stage.held stands.requests stands.pairs in omega (arith, same, few))
+  few_held joined opened c m stage stands few = few_fill_none s c m stands.going (let same = as_many Suits stage.held stands.requests stands.pairs in omega (arith, same, few))
 
   pub asks_stage : (joined opened c : ℕ) (m : List ℕ) (stage : Stage) → Stands joined opened stage → 1 ≤ c → c ≤ opened → opened ≤ joined → joined ≤ clients → length stage.held ≤ 199 → IsRequestOf c m → fills_share s c m stage.events ≡ false
       → ((number : ℕ) → number ≤ top_of (space_of m) → RepliesWell stage.asked c m number) → HasSaid joined opened m stage (say cast c stage m)
   asks_stage joined opened c m stage stands low high order within few is free replies =
       let asked : HasAsked s joined opened stands.requests c m (Piece c m ∷ stage.events) =
-      asks s c m there stands.going low high order (let same = as_many stage.held stands.requests stands.pairs in omega (arith, same, few)) is free in
+      asks s c m there stands.going low high order (let same = as_many Suits stage.held stands.requests stands.pairs in omega (arith, same, few)) is free in
       let well : RepliesWell stage.asked c m asked.r.number = replies asked.r.number asked.number in
       let sent : wire asked.r ≡ with_number asked.r.number m = ap (λ (l : List ℕ). with_number asked.r.number l) asked.message in
       let met : HasMet joined opened (stage.held ++ well.reply ∷ []) (wire asked.r ∷ stage.asked) (say cast c stage m) =
@@ -143,7 +143,7 @@ module _ (s : Setup) (there : s.starts_away ≡ false) (clients : ℕ) (modem : 
   pub arrives : (joined opened : ℕ) (front : List (List ℕ)) (m : List ℕ) (back : List (List ℕ)) (stage : Stage) → Stands joined opened stage → joined ≤ clients → stage.held ≡ front ++ m ∷ back
       → HasMet joined opened (front ++ back) stage.asked (arrive cast m (record stage { held = front ++ back }))
   arrives joined opened front m back stage stands within held =
-      let found : Found front m back stands.requests = find front m back stands.requests (subst (λ (l : List (List ℕ)). Pairs l stands.requests) held stands.pairs) in
+      let found : Found Suits front m back stands.requests = find Suits front m back stands.requests (subst (λ (l : List (List ℕ)). Pairs Suits l stands.requests) held stands.pairs) in
       let without : Stage = record { events = stage.events; asked = stage.asked; held = front ++ back } in
       let going : Going s joined opened (found.before ++ found.behind) [] (ModemPiece m ∷ stage.events) =
       answers s m found.before found.r found.behind found.suits (subst (λ (l : List Request). Going s joined opened l [] stage.events) found.whole stands.going) stands.served in
@@ -155,4 +155,4 @@ module _ (s : Setup) (there : s.starts_away ≡ false) (clients : ℕ) (modem : 
   pub passes : (joined opened time : ℕ) (stage : Stage) → Stands joined opened stage → joined ≤ clients → length stage.held ≤ 200 → HasMet joined opened stage.held stage.asked (pass cast time stage)
   passes joined opened time stage stands within few =
       meets_quietly joined opened stands.requests (Now (cast.proxy.time stage.events + time)) stage within
-      (goes_on s (cast.proxy.time stage.events + time) stands.going stands.served (let same = as_many stage.held stands.requests stands.pairs in omega (arith, same, few))) stands.pairs
+      (goes_on s (cast.proxy.time stage.events + time) stands.going stands.served (let same = as_many Suits stage.held stands.requests stands.pairs in omega (arith, same, few))) stands.pairs

@@ -10,7 +10,7 @@ use Rattle.proxy_history.specs.Facts.{Fact, Verdict, Own, Share, Foreign, Away, 
 use Rattle.proxy_history.specs.Connections.{contains}
 use Rattle.proxy_history.specs.View.{Entry, Sent, Response, Refused, OpenedWith, Collected, NoAnswer, entry_if, view}
 use Rattle.proxy_history.specs.Wording.{told_by}
-use Rattle.proxy_solo.specs.Law.{tells_of_others}
+use Rattle.proxy_solo.proofs.Undisturbed.{AreUndisturbed}
 use Rattle.mbim_frame.specs.Numbers.{u32_at}
 use Rattle.proxy_history.specs.Requests.{has_share}
 use Rattle.mbim_frame.specs.declared.kind.MessageKind.TheVariants.{Open}
@@ -24,6 +24,7 @@ use Rattle.rig_runs.specs.Mbim.{setup}
 use Rattle.rig_runs.specs.MbimExamples.{configuration, open_2}
 use Rattle.rig_runs.specs.Counts.{IsForShare}
 use Rattle.rig_runs.specs.MbimLines.{tells_refusal, refuses, passes_share, AreForShares}
+use Rattle.rig_laws.proofs.Undisturbed.{undisturbed_entry, undisturbed_joining}
 use Rattle.rig_laws_mbim.proofs.Messages.{configuring, configuration_is, opening_is}
 
 -- a command that comes whole
@@ -53,17 +54,6 @@ AreHarmless [] = Unit {0}
 AreHarmless (fact ∷ past) = IsHarmless fact past × AreHarmless past
 
 -- ---- nobody is told of others ----
-
-abbrev pub AreUndisturbed : List Entry → Type 0
-AreUndisturbed entries = AllByRecursion (λ entry. tells_of_others entry ≡ false) entries
-
-undisturbed_entry : (b : Bool) (entry : Entry) (entries : List Entry) → tells_of_others entry ≡ false → AreUndisturbed entries → AreUndisturbed (entry_if b entry entries)
-undisturbed_entry true entry entries here rest = (here, rest)
-undisturbed_entry false entry entries here rest = rest
-
-undisturbed_joining : (b : Bool) (entries : List Entry) → AreUndisturbed entries → AreUndisturbed (if b then [] else entries)
-undisturbed_joining true entries rest = tt
-undisturbed_joining false entries rest = rest
 
 pub undisturbed : (c : ℕ) (past : List Fact) → AreHarmless past → AreUndisturbed (view_of c past)
 unfolding view

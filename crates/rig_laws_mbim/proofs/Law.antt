@@ -20,7 +20,8 @@ use Rattle.rig_runs.specs.Mbim.{setup, mbim_rig}
 use Rattle.rig_runs.specs.MbimLines.{counted, equal, summary}
 use Rattle.rig_laws_mbim.specs.Law.{all_equal, EndsWithLine, IsFair, EachRunIsFair}
 use Rattle.rig_laws.proofs.Lists.{filter-all, length-range, each_of}
-use Rattle.rig_laws_mbim.proofs.Harmless.{AreUndisturbed, undisturbed, refused_for_shares}
+use Rattle.proxy_solo.proofs.Undisturbed.{AreUndisturbed}
+use Rattle.rig_laws_mbim.proofs.Harmless.{undisturbed, refused_for_shares}
 use Rattle.rig_laws_mbim.proofs.Playing.{rig_stands}
 
 all_are : (entries : List Entry) → AreUndisturbed entries → list_all (λ entry. not (tells_of_others entry)) entries ≡ true

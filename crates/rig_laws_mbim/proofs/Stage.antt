@@ -28,7 +28,8 @@ use Rattle.rig_runs.specs.MbimExamples.{configuration, open_2}
 use Rattle.rig_laws_mbim.proofs.Messages.{query, cid_for, query_is, query_number_is, answer, answer_is, opened_modem, own_open_under, opened, modem_is_opened, open_number_is}
 use Rattle.rig_laws_mbim.proofs.Calm.{Progress, shut, opening, ready, one_more_configured, queue_is}
 use Rattle.rig_laws_mbim.proofs.Hears.{Suits}
-use Rattle.rig_laws_mbim.proofs.Pairs.{Pairs, Found, as_many, one_more, find, all_are_commands}
+use Rattle.rig_laws.proofs.Pairs.{Pairs, Found, as_many, one_more, find}
+use Rattle.rig_laws_mbim.proofs.Pairs.{all_are_commands}
 use Rattle.rig_laws_mbim.proofs.Events.{Going, AllAreServed, HasOpened, HasAsked, joins, configures, finds_open, opens_modem, fills_share, is_refused, asks, answers, opens, goes_on}
 use Rattle.rig_laws_mbim.proofs.Taking.{AreServed, clients_are_served, modem_is_served}
 
@@ -55,7 +56,7 @@ module _ (clients : ℕ) where
     pub requests : List Request
     pub going : Going w requests [] stage.events
     pub served : AllAreServed stage.events
-    pub pairs : Pairs stage.held requests
+    pub pairs : Pairs Suits stage.held requests
     pub asked : WasAsked w.modem stage.asked
 
   abbrev after : List Event → List Event
@@ -68,7 +69,7 @@ module _ (clients : ℕ) where
     pub stands : Stands w stage
     pub held : length stage.held ≡ count
 
-  meets_quietly : (w : Progress) (requests : List Request) (event : Event) (stage : Stage) → w.joined ≤ clients → Going w requests [] (event ∷ stage.events) → Pairs stage.held requests → WasAsked w.modem stage.asked
+  meets_quietly : (w : Progress) (requests : List Request) (event : Event) (stage : Stage) → w.joined ≤ clients → Going w requests [] (event ∷ stage.events) → Pairs Suits stage.held requests → WasAsked w.modem stage.asked
       → HasMet w (length stage.held) (meet (cast clients) event stage)
   unfolding cut_from ask_all
   meets_quietly w requests event stage within going pairs asked =
@@ -130,7 +131,7 @@ module _ (clients : ℕ) where
     pub held : stage.held ≡ opened r.number ∷ []
     pub asked : state_after (machine default_profile) stage.asked ≡ opened_modem
 
-  none_in_use : (held : List (List ℕ)) (requests : List Request) → held ≡ [] → Pairs held requests → requests ≡ []
+  none_in_use : (held : List (List ℕ)) (requests : List Request) → held ≡ [] → Pairs Suits held requests → requests ≡ []
   none_in_use [] [] none pairs = refl
   none_in_use [] (r ∷ requests) none pairs = absurd pairs
   none_in_use (m ∷ held) requests none pairs = absurd (let clash : length (m ∷ held) ≡ 0 = ap length none in omega (arith, clash))
@@ -177,13 +178,13 @@ module _ (clients : ℕ) where
   pub refuses_stage : (joined configured opened c choice own : ℕ) (stage : Stage) → Stands (ready joined configured opened) stage → 1 ≤ c → c ≤ opened → opened ≤ joined → joined ≤ clients → length stage.held ≤ 199
       → fills_share c stage.events ≡ true → HasMet (ready joined configured opened) (length stage.held) (say (cast clients) c stage (query (cid_for choice) own))
   refuses_stage joined configured opened c choice own stage stands low high order within few full =
-      let same = as_many stage.held stands.requests stands.pairs in
+      let same = as_many Suits stage.held stands.requests stands.pairs in
       meets_quietly (ready joined configured opened) stands.requests (Piece c (query (cid_for choice) own)) stage within (is_refused c choice own stands.going stands.served low high order (omega (arith, same, few)) full) stands.pairs stands.asked
 
   pub asks_stage : (joined configured opened c choice own : ℕ) (stage : Stage) → Stands (ready joined configured opened) stage → 1 ≤ c → c ≤ opened → opened ≤ joined → joined ≤ clients → length stage.held ≤ 199
       → fills_share c stage.events ≡ false → HasMet (ready joined configured opened) (length stage.held + 1) (say (cast clients) c stage (query (cid_for choice) own))
   asks_stage joined configured opened c choice own stage stands low high order within few free =
-      let same = as_many stage.held stands.requests stands.pairs in
+      let same = as_many Suits stage.held stands.requests stands.pairs in
       let asked : HasAsked joined configured opened choice stands.requests (Piece c (query (cid_for choice) own) ∷ stage.events) = asks c choice own stands.going low high order (omega (arith, same, few)) free in
       let r : Request = asked.r in
       let q = query_is choice in
@@ -206,7 +207,7 @@ module _ (clients : ℕ) where
           requests = stands.requests ++ r ∷ [];
           going = met.going;
           served = met.served;
-          pairs = subst (λ (l : List (List ℕ)). Pairs l (stands.requests ++ r ∷ [])) (sym met.held) (one_more stage.held stands.requests reply r stands.pairs suits);
+          pairs = subst (λ (l : List (List ℕ)). Pairs Suits l (stands.requests ++ r ∷ [])) (sym met.held) (one_more Suits stage.held stands.requests reply r stands.pairs suits);
           asked = then_state;
         };
         held = ap length met.held ∙ length-append stage.held (reply ∷ []);
@@ -218,7 +219,7 @@ module _ (clients : ℕ) where
       → HasMet (ready joined configured opened) (length (front ++ back)) (arrive (cast clients) m (record stage { held = front ++ back }))
   arrives joined configured opened front m back stage stands within held =
       let w : Progress = ready joined configured opened in
-      let found : Found front m back stands.requests = find front m back stands.requests (subst (λ (l : List (List ℕ)). Pairs l stands.requests) held stands.pairs) in
+      let found : Found Suits front m back stands.requests = find Suits front m back stands.requests (subst (λ (l : List (List ℕ)). Pairs Suits l stands.requests) held stands.pairs) in
       let without : Stage = record { events = stage.events; asked = stage.asked; held = front ++ back } in
       let going : Going w (found.before ++ found.behind) [] (ModemPiece m ∷ stage.events) =
       answers m found.before found.r found.behind found.suits (subst (λ (l : List Request). Going w l [] stage.events) found.whole stands.going) stands.served in
@@ -230,6 +231,6 @@ module _ (clients : ℕ) where
 
   pub passes : (joined configured opened time : ℕ) (stage : Stage) → Stands (ready joined configured opened) stage → joined ≤ clients → length stage.held ≤ 200 → HasMet (ready joined configured opened) (length stage.held) (pass (cast clients) time stage)
   passes joined configured opened time stage stands within few =
-      let same = as_many stage.held stands.requests stands.pairs in
+      let same = as_many Suits stage.held stands.requests stands.pairs in
       meets_quietly (ready joined configured opened) stands.requests (Now ((cast clients).proxy.time stage.events + time)) stage within
       (goes_on ((cast clients).proxy.time stage.events + time) stands.going stands.served (omega (arith, same, few)) (all_are_commands stage.held stands.requests stands.pairs)) stands.pairs stands.asked

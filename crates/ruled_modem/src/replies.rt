@@ -5,11 +5,11 @@ ghost use Rattle.qmux_frame.specs.Writing.{message_text};
 ghost use Rattle.ruled_modem.specs.Replies as spec;
 
 use crate::requests::{command_in, request_in};
-use kit_bytes::{Kind, Octets, u16_bytes, u32_bytes};
+use kit_bytes::{Kind, Octets, u32_bytes};
 use mbim_fragments::split;
 use mbim_frame::{CommandHead, DoneHead, MHead};
 use modem_rules::{LONGEST_DATA, RequestKind, RuleData};
-use qmux_frame::{Head, MessageKind, NewMessage, Sender};
+use qmux_frame::{Head, MessageKind, NewMessage, Sender, reply_to, result_tlv};
 use std::alloc::{AllocError, Global};
 use uuid::Uuid;
 
@@ -54,34 +54,6 @@ fn response(alloc: Global, head: &Head, error: u16, tlvs: &[u8]) -> Result<Octet
     let mut all = Octets::from_slice(alloc, &result_tlv(error))?;
     all.extend_from_slice(tlvs)?;
     reply_to(head).write(alloc, all.as_slice())
-}
-
-fn result_tlv(error: u16) -> [u8; 7]
-    ensures { result ≡ result_tlv error }
-{
-    let status = u8::from(error != 0);
-    let [low, high] = u16_bytes(error);
-    [0x02, 0x04, 0x00, status, 0x00, low, high]
-}
-
-// What answers a message with this head, but for its TLVs.
-fn reply_to(head: &Head) -> NewMessage
-    ensures reply { result ≡ reply_to head.now }
-    ensures fits { result.service ≡ 0 → result.number ≤ 255 }
-{
-    let number = if head.service == 0 {
-        head.number % 256
-    } else {
-        head.number
-    };
-    NewMessage {
-        sender: Sender::Modem,
-        service: head.service,
-        client: head.client,
-        flags: MessageKind::Response.flags(head.service),
-        number,
-        message: head.message,
-    }
 }
 
 // The reply to a command with this status and buffer.

@@ -17,7 +17,7 @@ use crate::services::NAS;
 use kit_bytes::Octets;
 use modem_profile::Profile;
 use qmi_services::{Message, message_at};
-use qmux_frame::{Head, MessageKind, NewMessage, Sender, result_reply};
+use qmux_frame::{Head, MessageKind, NewMessage, Sender, reply_to, result_reply};
 use std::alloc::{AllocError, Global};
 
 // The Result TLV of a success.
@@ -53,27 +53,6 @@ pub(crate) fn failure(alloc: Global, head: &Head, error: u16) -> Result<Octets, 
 {
     let reply = result_reply(head, error);
     Octets::from_slice(alloc, reply.bytes())
-}
-
-// What answers a message with this head, but for its TLVs.
-fn reply_to(head: &Head) -> NewMessage
-    ensures reply { result ≡ reply_to head.now }
-    ensures fits { result.service ≡ 0 → result.number ≤ 255 }
-{
-    // Service 0 has numbers of one byte.
-    let number = if head.service == 0 {
-        head.number % 256
-    } else {
-        head.number
-    };
-    NewMessage {
-        sender: Sender::Modem,
-        service: head.service,
-        client: head.client,
-        flags: MessageKind::Response.flags(head.service),
-        number,
-        message: head.message,
-    }
 }
 
 /// The Serving System indication in this operating mode, which goes to every client.

@@ -1,41 +1,14 @@
 -- The messages of a piece are asked one at a time. Lists of requests have the newest first.
-use Rattle.std.proofs.Common.{◌≡◌, ℕ, ◌+◌, Bool, true, false, not, ◌||◌, if◌then◌else◌, List, [], ◌∷◌, ◌++◌, take, drop, refl, ap, sym, ◌∙◌, subst}
+use Rattle.std.proofs.Common.{◌≡◌, ℕ, ◌+◌, Bool, true, false, not, ◌||◌, if◌then◌else◌, List, [], ◌∷◌, refl, ap, sym, ◌∙◌, subst}
 use Rattle.framing.specs.declared.framing.Size.{Size}
-use Rattle.framing.specs.declared.framing.Size.TheVariants.{Unknown, Known, Invalid}
-use Rattle.framing.specs.Framing.{IsMessage, IsShort, IsKept, IsPositive, is_invalid}
-use Rattle.framing.specs.Cutting.{Cutting, cut, behind}
-use Rattle.framing.proofs.Cuts.{cut-first}
+use Rattle.framing.specs.Framing.{is_invalid}
+use Rattle.framing.specs.Cutting.{cut}
 use Rattle.served_sim.specs.Conduct.{Conduct}
 use Rattle.sim_serving.specs.Clients.{Owed, heeded, hangs_up, asks, promised}
 use Rattle.sim_serving.specs.Core.{Replies}
 use Rattle.sim_serving.specs.Hearing.{Answers, is_good, with_messages, with_owed}
 use Rattle.sim_serving.proofs.Asking.{asks-first}
 use Rattle.sim_serving.proofs.Owing.{owed-first, owed-none}
-
-pub partial_is : (size : Size) (count : ℕ) → IsShort size count → is_invalid size ≡ false
-partial_is Unknown count short = refl
-partial_is (Known length) count short = refl
-partial_is Invalid count short = absurd short
-
--- the bytes begin with this message
-pub record Begins (size : List ℕ → Size) (rest after m : List ℕ) : Type 0 where
-  pub count : ℕ
-  pub message : m ≡ take count rest
-  pub after_it : after ≡ drop count rest
-  pub whole : IsMessage size (take count rest)
-
-module _ (size : List ℕ → Size) (kept : (front more : List ℕ) → IsKept (size front) (size (front ++ more))) (positive : (bytes : List ℕ) → IsPositive (size bytes)) {rest after m : List ℕ} (b : Begins size rest after m) where
-  cut_is : cut size rest ≡ behind (m ∷ []) (cut size after)
-  cut_is =
-      cut-first size kept positive rest b.count b.whole
-      ∙ ap (λ (l : List ℕ). behind (l ∷ []) (cut size (drop b.count rest))) (sym b.message)
-      ∙ ap (λ (l : List ℕ). behind (m ∷ []) (cut size l)) (sym b.after_it)
-
-  pub rest_one : (cut size after).rest ≡ (cut size rest).rest
-  rest_one = ap (λ (c : Cutting). c.rest) (sym cut_is)
-
-  pub messages_one : (cut size rest).messages ≡ m ∷ (cut size after).messages
-  messages_one = ap (λ (c : Cutting). c.messages) cut_is
 
 -- of all these messages those that are left are still to be asked, behind the others
 pub record IsAsking {S : Type 0} (keeps : ℕ → Conduct → List (List ℕ) → S → Type 0) (ticks : ℕ) (conduct : Conduct) (before : List (List ℕ)) (all : List (List ℕ)) (old : Replies) (left : List (List ℕ)) (sim : S) (new : Replies) : Type 0 where

@@ -1,12 +1,8 @@
 -- The messages of a piece are shown one at a time.
-use Rattle.std.proofs.Common.{◌≡◌, ℕ, ◌+◌, ◌-◌, ◌^◌, ◌<◌, min, List, [], ◌∷◌, ◌++◌, length, take, drop, append_assoc, length-append, refl, ap, sym, ◌∙◌, subst, arith}
+use Rattle.std.proofs.Common.{◌≡◌, ℕ, ◌+◌, ◌-◌, ◌^◌, ◌<◌, min, List, [], ◌∷◌, ◌++◌, length, append_assoc, length-append, refl, ap, sym, ◌∙◌, subst, arith}
 use Rattle.std.proofs.lemmas.List.{append-nil}
 use Rattle.std.specs.List.{concat}
 use Rattle.kit_bytes.proofs.Lists.{concat-push}
-use Rattle.framing.specs.declared.framing.Size.{Size}
-use Rattle.framing.specs.Framing.{IsMessage, IsKept, IsPositive}
-use Rattle.framing.specs.Cutting.{Cutting, cut, behind}
-use Rattle.framing.proofs.Cuts.{cut-first}
 use Rattle.stream_lines.specs.Lines.{Showing, lines_behind, place_behind}
 use Rattle.stream_lines.specs.Pieces.{ShowsAll}
 
@@ -17,26 +13,6 @@ lines-append shown before (m ∷ messages) more =
     ap (λ (l : List ℕ). shown before m ++ l) (lines-append shown (before ++ m ∷ []) messages more
     ∙ ap (λ (l : List (List ℕ)). lines_behind shown (before ++ m ∷ []) messages ++ lines_behind shown l more) (append_assoc before (m ∷ []) messages))
     ∙ sym (append_assoc (shown before m) (lines_behind shown (before ++ m ∷ []) messages) (lines_behind shown (before ++ m ∷ messages) more))
-
--- the bytes begin with this message
-pub record Begins (size : List ℕ → Size) (rest after m : List ℕ) : Type 0 where
-  pub count : ℕ
-  pub message : m ≡ take count rest
-  pub after_it : after ≡ drop count rest
-  pub whole : IsMessage size (take count rest)
-
-module _ (size : List ℕ → Size) (kept : (front more : List ℕ) → IsKept (size front) (size (front ++ more))) (positive : (bytes : List ℕ) → IsPositive (size bytes)) {rest after m : List ℕ} (b : Begins size rest after m) where
-  cut_is : cut size rest ≡ behind (m ∷ []) (cut size after)
-  cut_is =
-      cut-first size kept positive rest b.count b.whole
-      ∙ ap (λ (l : List ℕ). behind (l ∷ []) (cut size (drop b.count rest))) (sym b.message)
-      ∙ ap (λ (l : List ℕ). behind (m ∷ []) (cut size l)) (sym b.after_it)
-
-  pub rest_one : (cut size after).rest ≡ (cut size rest).rest
-  rest_one = ap (λ (c : Cutting). c.rest) (sym cut_is)
-
-  pub messages_one : (cut size rest).messages ≡ m ∷ (cut size after).messages
-  messages_one = ap (λ (c : Cutting). c.messages) cut_is
 
 -- of all these messages those that are left are still to be shown, behind the others; so many bytes are left with them
 pub record IsShowing {S : Type 0} (shows : Showing → List (List ℕ) → S → Type 0) (shown : Showing) (before all : List (List ℕ)) (old : List ℕ) (left : List (List ℕ)) (room : ℕ) (state : S) (place : ℕ) (lines : List ℕ) : Type 0 where

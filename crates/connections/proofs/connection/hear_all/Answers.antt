@@ -5,7 +5,8 @@ use Rattle.framing.specs.Cutting.{Cutting, cut}
 use Rattle.framing.proofs.Standing.{part_is}
 use Rattle.framing.proofs.Cuts.{cut-partial, cut-bad}
 use Rattle.connections.specs.Hearing.{hears_all}
-use Rattle.connections.proofs.Heard.{Begins, partial_is, rest_one, messages_one, heard_one, over_one, heard_out}
+use Rattle.framing.proofs.First.{Begins, partial_is, rest_one, messages_one}
+use Rattle.connections.proofs.Heard.{heard_one, over_one, heard_out}
 use Rattle.connections.proofs.connection.hear_all.Goals as goal
 
 pub hear-requires : goal.hear-requires

@@ -4,7 +4,7 @@ use Rattle.framing.specs.Cutting.{Cutting, cut}
 use Rattle.framing.specs.Framing.{IsMessage, is_invalid}
 use Rattle.framing.proofs.Standing.{part_is}
 use Rattle.framing.proofs.Cuts.{cut-partial, cut-bad}
-use Rattle.connections.proofs.Heard.{Begins, rest_one, messages_one, partial_is}
+use Rattle.framing.proofs.First.{Begins, rest_one, messages_one, partial_is}
 use Rattle.proxy_state.proofs.Hearing.{heard_one, heard_none}
 use Rattle.proxy_core.specs.Meaning.{handlers_at, state_of}
 use Rattle.proxy_core.proofs.proxy.hear_all.Goals as goal

@@ -5,7 +5,8 @@ use Rattle.framing.specs.Cutting.{Cutting, cut}
 use Rattle.framing.proofs.Standing.{part_is}
 use Rattle.served_sim.specs.Conduct.{Conduct}
 use Rattle.framing.proofs.Cuts.{cut-partial, cut-bad}
-use Rattle.sim_serving.proofs.Hearing.{Begins, DoesSo, partial_is, rest_one, messages_one, asks_one, asks_until, asks_last, HasAsked, good_where}
+use Rattle.framing.proofs.First.{Begins, partial_is, rest_one, messages_one}
+use Rattle.sim_serving.proofs.Hearing.{DoesSo, asks_one, asks_until, asks_last, HasAsked, good_where}
 use Rattle.sim_serving.proofs.client.ask_all.Goals as goal
 
 pub ask-requires : goal.ask-requires

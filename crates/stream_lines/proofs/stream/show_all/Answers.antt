@@ -5,7 +5,8 @@ use Rattle.framing.specs.Cutting.{Cutting, cut}
 use Rattle.framing.proofs.Standing.{part_is}
 use Rattle.framing.proofs.Cuts.{cut-partial, cut-bad}
 use Rattle.stream_lines.proofs.Pieces.{partial_is}
-use Rattle.stream_lines.proofs.Showing.{Begins, rest_one, messages_one, shows_first, shows_one, shows_last}
+use Rattle.framing.proofs.First.{Begins, rest_one, messages_one}
+use Rattle.stream_lines.proofs.Showing.{shows_first, shows_one, shows_last}
 use Rattle.stream_lines.proofs.stream.show_all.Goals as goal
 
 pub show-requires : goal.show-requires
