@@ -125,18 +125,6 @@ module _ (hears : Hearer Client ModemSide) (c : ℕ) (piece : List ℕ) (t : Tab
   unfolding Leaves
   brought_merged stays = brought_to (connection_in c t.present) stays
 
-  -- nor how many may be there
-  pub brought_limit : (brings size_of hears c piece t side).table.limit ≡ t.limit
-  brought_limit = of (connection_in c t.present)
-    where
-      by : (h : Hearing Client ModemSide) (goes : Bool) → (brings_if size_of goes c h piece t).table.limit ≡ t.limit
-      by h true = refl
-      by h false = refl
-
-      of : (o : Option (Connection Client)) → (brings_to size_of hears o c piece t side).table.limit ≡ t.limit
-      of None = refl
-      of (Some k) = let h : Hearing Client ModemSide = hearing_of size_of hears piece k side in by h (goes_on size_of h piece k)
-
 -- ---- what is asked for with it ----
 
 unless : {A : Type 0} (free : Bool) (o : Option A) → (if free && not true then o else None) ≡ None

@@ -3,3 +3,4 @@ pub mod Lasting
 pub mod Events
 pub mod Standing
 pub mod Meets
+pub mod Limit

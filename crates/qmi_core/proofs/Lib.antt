@@ -1,6 +1,5 @@
 pub mod Granted
 pub mod Inside
-pub mod Limit
 pub mod Forwards
 pub mod Expires
 pub mod Tells

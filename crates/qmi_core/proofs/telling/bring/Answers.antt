@@ -3,7 +3,7 @@ use Rattle.connections.specs.Table.{Table}
 use Rattle.qmux_frame.specs.Frame.{size_of}
 use Rattle.qmi_state.specs.declared.client.Client.{Client}
 use Rattle.qmi_state.specs.Transitions.{hear_client}
-use Rattle.qmi_core.proofs.Limit.{brought_limit}
+use Rattle.proxy_core.proofs.Limit.{brought_limit}
 use Rattle.qmi_core.proofs.telling.bring.Goals as goal
 
 pub returns-then-not-bring-clause-limit : goal.returns-then-not-bring-clause-limit
