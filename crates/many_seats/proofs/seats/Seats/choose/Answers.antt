@@ -1,0 +1,29 @@
+use Rattle.std.proofs.Common.{◌≡◌, ℕ, ◌+◌, ◌<◌, List, length, get_or, set, ap, sym, subst, arith, None}
+use Rattle.many_history.specs.Many.{Seat}
+use Rattle.many_seats.specs.Seats.{Seating, chosen_in, one_undecided, HaveNames, IsSeat}
+use Rattle.many_seats.proofs.Placed.{undecided_set}
+use Rattle.many_seats.proofs.Names.{is_one, chosen_have}
+use Rattle.many_seats.proofs.seats.Seats.choose.Goals as goal
+
+pub invariant_of-self : goal.invariant_of-self
+invariant_of-self c =
+    let seats : List Seat = c.self.inside.present.items in
+    let names : List ℕ = c.self.inside.names.items in
+    let seat : Seat = c.index_mut-seat.result.now in
+    let within : c.args.place < length seats = subst (λ (s : Seating). c.args.place < length s.seats) (sym c.self.view_is) c.requires.within in
+    let device : c.args.device < length names = subst (λ (s : Seating). c.args.device < length s.names) (sym c.self.view_is) c.requires.device in
+    let none : chosen_in seat.place ≡ None = subst (λ (s : Seating). (k : Seat) → IsSeat k s.seats c.args.place → chosen_in k.place ≡ None) (sym c.self.view_is) c.requires.undecided seat c.index_mut-seat.ensures.value in
+    let new : Seat = c.choose.new.self in
+    let same = undecided_set seats c.args.place seat new within c.index_mut-seat.ensures.value in
+    let later = ap (λ (s : Seat). one_undecided s.place) c.choose.ensures in
+    let name : c.args.name ≡ get_or names c.args.device 0 + 1 = subst (λ (s : Seating). c.args.name ≡ get_or s.names c.args.device 0 + 1) (sym c.self.view_is) c.requires.name in
+    let after : List Seat = set seats c.args.place new in
+    record {
+      count = c.self.invariant.count;
+      few = c.self.invariant.few;
+      present_room = c.self.invariant.present_room;
+      dropped_room = c.self.invariant.dropped_room;
+      free_room = c.self.invariant.free_room;
+      names = subst (λ (n : ℕ). HaveNames (set names c.args.device n) after c.self.inside.greatest) (sym name) (chosen_have names seats after c.self.inside.greatest c.args.device 0 device (omega (arith, is_one seat.place none, same, later)) c.self.invariant.names);
+      fits = c.self.invariant.fits;
+    }
