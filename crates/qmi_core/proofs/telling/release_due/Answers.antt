@@ -1,4 +1,4 @@
-use Rattle.std.proofs.Common.{[], ◌∙◌, subst}
+use Rattle.std.proofs.Common.{◌∙◌, subst}
 use Rattle.connections.specs.Table.{opened}
 use Rattle.proxy_core.specs.Meaning.{state_of}
 use Rattle.qmi_core.specs.State.{NextReleased}
