@@ -6,11 +6,11 @@ use Rattle.mbim_services.specs.SubscribeLists.{is_same_list}
 use Rattle.mbim_proxy.specs.Forwarding.{own_subscribe}
 use Rattle.mbim_proxy.specs.Setup.{Setup}
 use Rattle.mbim_proxy.proofs.SameLists.{same_list_is}
-use Rattle.mbim_state.specs.Core.{ModemSide, MbimState, MbimCore, setup_of}
-use Rattle.mbim_state.specs.Transitions.{merged_in, is_free, number_at, send_under, finish, mbim_handlers}
+use Rattle.mbim_state.specs.Core.{ModemSide, MbimState, setup_of}
+use Rattle.mbim_state.specs.Transitions.{merged_in, is_free, number_at, send_under, finish}
 use Rattle.mbim_core.specs.Asks.{IsAskedForAll, TheModemIsAskedForAll}
 use Rattle.mbim_core.specs.Lawful.{is_lawful}
-use Rattle.mbim_core.specs.Meaning.{Lasting, setup_by, mbim_meaning}
+use Rattle.mbim_core.specs.Meaning.{setup_by, mbim_meaning}
 use Rattle.proxy_core.specs.Core.{handlers_in, lasting_in, meet}
 use Rattle.proxy_core.proofs.Lasting.{met}
 

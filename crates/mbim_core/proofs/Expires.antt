@@ -1,20 +1,16 @@
 -- The requests whose time has come are refused one after another.
 use Rattle.std.proofs.Common.{◌≡◌, ℕ, zero, suc, ◌<◌, ◌==◌, length, refl, ap, sym, ◌∙◌, arith, Some, None}
 use Rattle.std.proofs.lemmas.List.{length-map}
-use Rattle.mbim_frame.specs.declared.status.TheConstants.{FAILURE}
 use Rattle.number_space.specs.declared.space.Row.{Row}
 use Rattle.number_space.specs.Table.{settled_where, first_due, expires}
 use Rattle.number_space.proofs.Due.{waiting_count, count_expired, silenced_is, unchanged_is, DueRow}
 use Rattle.number_space.proofs.Due as rows
 use Rattle.mbim_proxy.specs.Setup.{Setup}
-use Rattle.mbim_proxy.specs.Text.{refusal_text}
-use Rattle.mbim_state.specs.Asked.{ask_by}
 use Rattle.mbim_state.specs.declared.asked.Asked.{Asked}
-use Rattle.mbim_state.specs.declared.asked.Asked.TheVariants as asked
-use Rattle.mbim_state.specs.Core.{known_by, Numbers, ModemSide, MbimState, setup_of, silences}
+use Rattle.mbim_state.specs.Core.{Numbers, ModemSide, MbimState, setup_of}
 use Rattle.mbim_state.specs.Transitions.{with_side, with_numbers, refuse_as, refuse, expire_in, expire}
 use Rattle.mbim_core.specs.Kept.{silenced, refused_keeps, refused}
-use Rattle.mbim_core.specs.Told.{rows_at, KeepsRequests, leaves_keeps, ended_keeps, told_leaves}
+use Rattle.mbim_core.specs.Told.{rows_at}
 
 pub refused_less : (s : Setup) (time : ℕ) (row : Row Asked) (x : MbimState) → first_due time (rows_at x) ≡ Some row
     → (waiting_count (rows_at (refuse s row x)) < waiting_count (rows_at x)) × (length (rows_at (refuse s row x)) ≡ length (rows_at x))

@@ -1,5 +1,5 @@
 -- What is at hand, as the table of the connections and what stands beside it change.
-use Rattle.std.proofs.Common.{◌≡◌, ℕ, Bool, true, false, ◌&&◌, List, map, ap, sym, ◌∙◌, subst}
+use Rattle.std.proofs.Common.{◌≡◌, ℕ, Bool, ◌&&◌, List, map, ap, sym, ◌∙◌, subst}
 use Rattle.std.proofs.lemmas.Simd.{map-map}
 use Rattle.kit_bytes.specs.Subscriptions.{Pair, merge}
 use Rattle.connections.specs.Table.{Connection, Table, connection_in, finds_room}

@@ -1,5 +1,5 @@
 -- What lasts over each event: the setup.
-use Rattle.std.proofs.Common.{◌≡◌, ℕ, zero, suc, Bool, true, false, List, [], ◌∷◌, ◌++◌, length, refl, ap, ◌∙◌, Option, Some, None, if◌then◌else◌}
+use Rattle.std.proofs.Common.{◌≡◌, ℕ, zero, suc, Bool, true, false, List, [], ◌∷◌, ◌++◌, length, refl, ap, ◌∙◌, Option, Some, None}
 use Rattle.framing.specs.Cutting.{cut}
 use Rattle.outbox.specs.Queue.{Queue}
 use Rattle.connections.specs.Table.{Connection, Table}

@@ -1,4 +1,4 @@
-use Rattle.std.proofs.Common.{◌≡◌, ◌<◌, [], false, length, ◌∙◌, arith}
+use Rattle.std.proofs.Common.{◌<◌, [], false, length, ◌∙◌, arith}
 use Rattle.mbim_proxy.specs.Setup.{mbim_setup}
 use Rattle.mbim_core.proofs.Shut.{shut_none, shut_end, shut_length, shut_next}
 use Rattle.mbim_core.proofs.teller.shut_all.Goals as goal

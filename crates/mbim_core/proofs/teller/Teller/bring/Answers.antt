@@ -1,4 +1,4 @@
-use Rattle.std.proofs.Common.{◌≡◌, false, true, ap, sym, ◌∙◌}
+use Rattle.std.proofs.Common.{false, true, ap, sym, ◌∙◌}
 use Rattle.std.proofs.lemmas.Bool.{and_parts}
 use Rattle.connections.specs.Table.{Table}
 use Rattle.mbim_frame.specs.Frame.{size_of}

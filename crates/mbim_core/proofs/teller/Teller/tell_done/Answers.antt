@@ -1,11 +1,11 @@
-use Rattle.std.proofs.Common.{◌≡◌, ℕ, List, ap, sym, ◌∙◌}
+use Rattle.std.proofs.Common.{◌≡◌, ℕ, List, ap, ◌∙◌}
 use Rattle.mbim_frame.specs.declared.kind.MessageKind.TheVariants.{CommandDone}
 use Rattle.mbim_frame.specs.Kinds.{kind_number}
 use Rattle.mbim_fragments.specs.Splitting.{split}
 use Rattle.mbim_proxy.specs.Text.{response_text}
 use Rattle.mbim_state.specs.Asked.{ask_by}
 use Rattle.mbim_state.specs.Core.{known_by, MbimState}
-use Rattle.mbim_state.specs.Transitions.{give_up, tell_answer}
+use Rattle.mbim_state.specs.Transitions.{give_up}
 use Rattle.mbim_core.specs.State.{state_of}
 use Rattle.mbim_core.proofs.Hands.{told_is}
 use Rattle.mbim_core.proofs.Texts.{done_text_is}

@@ -5,7 +5,7 @@ use Rattle.proxy_state.proofs.Telling.{tell_is}
 use Rattle.mbim_proxy.specs.Text.{response_text}
 use Rattle.mbim_state.specs.Asked.{ask_by}
 use Rattle.mbim_state.specs.Core.{known_by, MbimState}
-use Rattle.mbim_state.specs.Transitions.{give_up, tell_answer}
+use Rattle.mbim_state.specs.Transitions.{give_up}
 use Rattle.mbim_core.specs.State.{state_of}
 use Rattle.mbim_core.proofs.Hands.{told_is}
 use Rattle.mbim_core.proofs.Texts.{error_text_is}

@@ -1,4 +1,4 @@
-use Rattle.std.proofs.Common.{◌≡◌, ℕ, [], ap, sym, ◌∙◌}
+use Rattle.std.proofs.Common.{◌≡◌, ℕ, [], ap, ◌∙◌}
 use Rattle.mbim_frame.specs.declared.kind.MessageKind.TheVariants.{CommandDone}
 use Rattle.mbim_frame.specs.declared.status.TheConstants.{FAILURE}
 use Rattle.mbim_frame.specs.Kinds.{kind_number}
@@ -7,7 +7,7 @@ use Rattle.mbim_fragments.specs.Splitting.{split}
 use Rattle.mbim_proxy.specs.Text.{refusal_text}
 use Rattle.mbim_state.specs.Asked.{ask_by}
 use Rattle.mbim_state.specs.Core.{known_by, MbimState}
-use Rattle.mbim_state.specs.Transitions.{give_up, tell_refusal}
+use Rattle.mbim_state.specs.Transitions.{give_up}
 use Rattle.mbim_core.specs.State.{state_of}
 use Rattle.mbim_core.proofs.Hands.{told_is}
 use Rattle.mbim_core.proofs.Turns.{nobody_told, one_told}
