@@ -1,5 +1,5 @@
 -- For a connection that isn't there nothing waits, once whoever was dropped was asked for.
-use Rattle.std.proofs.Common.{◌≡◌, ℕ, Bool, true, false, cond, ◌||◌, ◌==◌, List, [], ◌∷◌, map, refl, ap, ◌∙◌, Option, Some, None}
+use Rattle.std.proofs.Common.{◌≡◌, ℕ, Bool, true, false, cond, ◌||◌, ◌==◌, List, [], ◌∷◌, map, refl, ap, ◌∙◌, Some, None}
 use Rattle.connections.specs.Table.{Connection, Dropped, connection_in, left_for, waiting_or}
 use Rattle.proxy_history.specs.Connections.{contains}
 use Rattle.proxy_state.specs.State.{Core}

@@ -2,8 +2,6 @@
 use Rattle.std.specs.Prelude.{ℕ, List, [], ◌∷◌, fold, Option, Some, None}
 use Rattle.std.specs.Option.{option_map}
 use Rattle.kit_io.specs.Record.{Noted}
-use Rattle.hub_io.specs.declared.settings.Limits.{Limits}
-use Rattle.kit_bytes.specs.declared.kind.Kind.{Kind}
 use Rattle.proxy_history.specs.Events as history
 use Rattle.core_bench.specs.Runs.{Run, with_event}
 use Rattle.core_bench.specs.declared.memory.BenchNote.{BenchNote}

@@ -1,5 +1,5 @@
 -- What is run on a bench. Lists of runs and of events have the newest first.
-use Rattle.std.specs.Prelude.{◌≡◌, ℕ, false, List, [], ◌∷◌, Option, Some, None}
+use Rattle.std.specs.Prelude.{◌≡◌, ℕ, List, [], ◌∷◌, Option, Some, None}
 use Rattle.std.specs.Str.{chars}
 use Rattle.kit_bytes.specs.declared.kind.Kind.{Kind}
 use Rattle.kit_bytes.specs.declared.kind.Kind.TheVariants.{Qmi, Mbim}
