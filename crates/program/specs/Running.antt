@@ -14,13 +14,14 @@ use Rattle.kit_io.specs.Causes.{Rose}
 use Rattle.kit_io.specs.Counts.{together}
 use Rattle.kit_bytes.specs.declared.Kind.{Kind}
 use Rattle.kit_bytes.specs.declared.Kind.TheVariants as kind
-use Rattle.qmi_requests.specs.declared.QmiRequest.{QmiRequest}
-use Rattle.mbim_requests.specs.declared.MbimRequest.{MbimRequest}
 use Rattle.device_core.specs.declared.plan.QmiPlan.{QmiPlan}
 use Rattle.mbim_session.specs.declared.plan.MbimPlan.{MbimPlan}
 use Rattle.tool_words.specs.declared.command.ToolCommand.{ToolCommand}
 use Rattle.tool_words.specs.declared.command.ToolCommand.TheVariants.{Qmicli, Mbimcli, PduSubmit, Describe, Proxy, Simulator, Pump, Rig, Transparency, Dissect, Version}
 use Rattle.tool_words.specs.declared.fault.UsageKind.{UsageKind}
+use Rattle.tool_words.specs.declared.link.LinkSettings.{LinkSettings}
+use Rattle.tool_words.specs.declared.mbimcli.MbimTask.{MbimTask}
+use Rattle.tool_words.specs.declared.qmicli.QmiTask.{QmiTask}
 use Rattle.tool_words.specs.declared.fault.UsageKind.TheVariants as usage
 use Rattle.sms_pdu.specs.Parts.{messages}
 use Rattle.sms_print.specs.Printed.{hex_lines}
@@ -69,9 +70,12 @@ pub record Untouched (before after : Told) : Type 0 where
 -- ---- the tools ----
 
 -- the way to the device, or to the proxy that has it or is to be started; paths are in characters
-abbrev pub way_to : Kind → Bool → (device socket bridge : List ℕ) → Path
-way_to kind true device socket bridge = ByProxy (AtSocket (encode_utf8_all socket)) (proxy_words kind (encode_utf8_all device) (encode_utf8_all socket) (encode_utf8_all bridge))
-way_to kind false device socket bridge = Direct (place_of (encode_utf8_all device) (encode_utf8_all bridge))
+abbrev pub way_by : (proxied : Bool) → Kind → (device socket bridge : List ℕ) → Path
+way_by true kind device socket bridge = ByProxy (AtSocket (encode_utf8_all socket)) (proxy_words kind (encode_utf8_all device) (encode_utf8_all socket) (encode_utf8_all bridge))
+way_by false kind device socket bridge = Direct (place_of (encode_utf8_all device) (encode_utf8_all bridge))
+
+abbrev pub way_to : (device : List ℕ) → LinkSettings → Path
+way_to device link = way_by link.proxied link.kind device link.socket link.bridge
 
 -- what a tool does is told by its link, its children and its output
 abbrev pub of_tool : Told → asking.Told
@@ -83,11 +87,11 @@ Asks path asked before after result =
     EndsAs status_of result (λ ends. AsksModem path asked before after ends)
     ⊎ ((result ≡ status.OutOfMemory) × Grows before.link [] after.link × Grows before.spawner [] after.spawner × Grows before.out [] after.out)
 
-abbrev pub qmi_plan : List ℕ → Bool → Option ℕ → Bool → (seconds : ℕ) → QmiRequest → QmiPlan
-qmi_plan device proxied cid keep seconds request = record { device = device; proxied = proxied; cid = cid; keep = keep; timeout = seconds; request = request }
+abbrev pub qmi_plan : QmiTask → QmiPlan
+qmi_plan task = record { device = task.device; proxied = task.link.proxied; cid = task.cid; keep = task.keep; timeout = task.link.timeout; request = task.request }
 
-abbrev pub mbim_plan : List ℕ → Bool → Bool → (seconds : ℕ) → MbimRequest → MbimPlan
-mbim_plan device proxied close seconds request = record { device = device; proxied = proxied; close = close; timeout = seconds; request = request }
+abbrev pub mbim_plan : MbimTask → MbimPlan
+mbim_plan task = record { device = task.device; proxied = task.link.proxied; close = task.close; timeout = task.link.timeout; request = task.request }
 
 -- a QMI modem is asked itself, or inside an MBIM modem
 abbrev pub AsksQmi : Kind → (decode : Bool) → QmiPlan → (path : Path) → asking.Told → asking.Told → Status → Type 0
@@ -98,14 +102,12 @@ AsksQmi kind.Mbim decode plan path before after result = Asks path (tunnel_asked
 
 -- a tool asks a modem, makes short messages or describes a file, a proxy or a simulated modem serves, one is kept running, a pump passes on, a rig runs a core on the bench, or a tool alone, a captured stream is shown, and the version is printed
 abbrev pub RunsCommand : ToolCommand → Told → Told → Status → Type 0
-RunsCommand (Qmicli device kind proxied cid keep timeout request decode socket bridge) before after result =
-    AsksQmi kind decode (qmi_plan device proxied cid keep timeout request) (way_to kind proxied device socket bridge) (of_tool before) (of_tool after) result
-RunsCommand (Mbimcli device proxied close timeout request decode socket bridge) before after result =
-    Asks (way_to kind.Mbim proxied device socket bridge) (mbim_asked decode (mbim_plan device proxied close timeout request)) (of_tool before) (of_tool after) result
+RunsCommand (Qmicli task) before after result = AsksQmi task.link.kind task.decode (qmi_plan task) (way_to task.device task.link) (of_tool before) (of_tool after) result
+RunsCommand (Mbimcli task) before after result = Asks (way_to task.device task.link) (mbim_asked task.decode (mbim_plan task)) (of_tool before) (of_tool after) result
 RunsCommand (PduSubmit number text reference) before after result = EndsAs status_of result (λ ends. PrintsText (hex_lines (messages number text reference)) before.out ends after.out)
 RunsCommand (Describe path) before after result = EndsAs status_of result (λ ends. Describes (encode_utf8_all path) before.files after.files before.out ends after.out)
-RunsCommand (Proxy kind device socket bridge empty exit_when_lost time release turns) before after result =
-    ServesProxy kind (asked_in device socket (record { empty = empty; lost = exit_when_lost }) time release turns) (place_of (encode_utf8_all device) (encode_utf8_all bridge)) before.hub before.spawner result after.hub after.hub_made after.spawner
+RunsCommand (Proxy task) before after result =
+    ServesProxy task.kind (asked_in task) (place_of (encode_utf8_all task.device) (encode_utf8_all task.bridge)) before.hub before.spawner result after.hub after.hub_made after.spawner
 RunsCommand (Simulator kind socket profile None turns None) before after result =
     EndsAs status_of_sim result (λ ends. sim.Simulates profile (sim.asked_in kind socket turns) (record { files = before.files; hub = before.hub }) (record { files = after.files; hub = after.hub }) ends)
 RunsCommand (Simulator kind socket profile (Some rules) turns None) before after result =
@@ -126,14 +128,14 @@ RunsWords (Err why) before after result = result ≡ status.Usage why
 
 -- the tools that ask a modem
 abbrev pub is_of_tool : ToolCommand → Bool
-is_of_tool (Qmicli device kind proxied cid keep timeout request decode socket bridge) = true
-is_of_tool (Mbimcli device proxied close timeout request decode socket bridge) = true
+is_of_tool (Qmicli task) = true
+is_of_tool (Mbimcli task) = true
 is_of_tool (PduSubmit number text reference) = true
 is_of_tool (Describe path) = true
 is_of_tool _ = false
 
 abbrev pub is_of_proxy : ToolCommand → Bool
-is_of_proxy (Proxy kind device socket bridge empty exit_when_lost time release turns) = true
+is_of_proxy (Proxy task) = true
 is_of_proxy _ = false
 
 abbrev pub is_of_simulator : ToolCommand → Bool
@@ -175,11 +177,11 @@ pub data NoObject : Type 0 where
 
 -- what a command has no use for is left as it was: hub, files and bench by one that asks a modem, all but output by one that makes short messages, all but files and output by one that describes a file, all but hub and children by a proxy, all but hub and files by a simulated modem, the files too where neither profile nor rules are named, all but children by one that is kept running, all but link and files by a pump, all but bench and output by a rig, all but files and output where a captured stream is shown, and all but the output where the version is printed
 abbrev pub CommandLeavesAlone : {L H P F O B : Type 0} → ToolCommand → Objects L H P F O B → Objects L H P F O B → Type 0
-CommandLeavesAlone (Qmicli device kind proxied cid keep timeout request decode socket bridge) before after = (after.hub ≡ before.hub) × (after.files ≡ before.files) × (after.bench ≡ before.bench)
-CommandLeavesAlone (Mbimcli device proxied close timeout request decode socket bridge) before after = (after.hub ≡ before.hub) × (after.files ≡ before.files) × (after.bench ≡ before.bench)
+CommandLeavesAlone (Qmicli task) before after = (after.hub ≡ before.hub) × (after.files ≡ before.files) × (after.bench ≡ before.bench)
+CommandLeavesAlone (Mbimcli task) before after = (after.hub ≡ before.hub) × (after.files ≡ before.files) × (after.bench ≡ before.bench)
 CommandLeavesAlone (PduSubmit number text reference) before after = (after.link ≡ before.link) × (after.hub ≡ before.hub) × (after.spawner ≡ before.spawner) × (after.files ≡ before.files) × (after.bench ≡ before.bench)
 CommandLeavesAlone (Describe path) before after = (after.link ≡ before.link) × (after.hub ≡ before.hub) × (after.spawner ≡ before.spawner) × (after.bench ≡ before.bench)
-CommandLeavesAlone (Proxy kind device socket bridge empty exit_when_lost time release turns) before after = (after.link ≡ before.link) × (after.files ≡ before.files) × (after.out ≡ before.out) × (after.bench ≡ before.bench)
+CommandLeavesAlone (Proxy task) before after = (after.link ≡ before.link) × (after.files ≡ before.files) × (after.out ≡ before.out) × (after.bench ≡ before.bench)
 CommandLeavesAlone (Simulator kind socket profile rules turns None) before after = (after.link ≡ before.link) × (after.spawner ≡ before.spawner) × (profile ≡ None → rules ≡ None → after.files ≡ before.files) × (after.out ≡ before.out) × (after.bench ≡ before.bench)
 CommandLeavesAlone (Simulator kind socket profile rules turns (Some most)) before after = (after.link ≡ before.link) × (after.hub ≡ before.hub) × (after.files ≡ before.files) × (after.out ≡ before.out) × (after.bench ≡ before.bench)
 CommandLeavesAlone (Pump read node bridge) before after = (after.hub ≡ before.hub) × (after.spawner ≡ before.spawner) × (after.out ≡ before.out) × (after.bench ≡ before.bench)
@@ -197,8 +199,8 @@ LeavesAlone (Err why) before after = after ≡ before
 
 -- on its way to a modem, or of a pump's
 abbrev pub CommandFailsOnLink : {L : Type 0} → ToolCommand → (L → ℕ) → (L → ℕ) → L → L → Type 0
-CommandFailsOnLink (Qmicli device kind proxied cid keep timeout request decode socket bridge) = LinkFails (way_to kind proxied device socket bridge)
-CommandFailsOnLink (Mbimcli device proxied close timeout request decode socket bridge) = LinkFails (way_to kind.Mbim proxied device socket bridge)
+CommandFailsOnLink (Qmicli task) = LinkFails (way_to task.device task.link)
+CommandFailsOnLink (Mbimcli task) = LinkFails (way_to task.device task.link)
 CommandFailsOnLink (Pump read node bridge) = λ faults open_faults before after. Rose (open_faults before) (open_faults after) ⊎ Rose (faults before) (faults after)
 CommandFailsOnLink _ = λ faults open_faults before after. ⊥
 

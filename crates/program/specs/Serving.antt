@@ -16,6 +16,7 @@ use Rattle.proxy_history.specs.Proxy.{Proxy}
 use Rattle.qmi_proxy.specs.Proxy as qmi
 use Rattle.mbim_proxy.specs.Setup.{mbim_setup}
 use Rattle.mbim_proxy.specs.Proxy as mbim
+use Rattle.tool_words.specs.declared.proxy.ProxyTask.{ProxyTask}
 use Rattle.program.specs.Status.{status_of_end, with_stops}
 use Rattle.program.specs.declared.opening.OpenFault.{OpenFault}
 use Rattle.program.specs.declared.opening.OpenFault.TheVariants as fault
@@ -36,11 +37,18 @@ pub record Asked : Type 0 where
   pub release : Option ℕ
   pub turns : ℕ
 
-abbrev pub asked_in : List ℕ → List ℕ → Until → ℕ → Option ℕ → ℕ → Asked
-asked_in device socket until time release turns = record { device = device; socket = socket; until = until; time = time; release = release; turns = turns }
+abbrev pub asked_in : ProxyTask → Asked
+asked_in task = record {
+  device = task.device;
+  socket = task.socket;
+  until = record { empty = task.empty; lost = task.exit_when_lost };
+  time = task.time;
+  release = task.release;
+  turns = task.turns;
+}
 
-abbrev pub asked_with : List ℕ → Settings → Asked
-asked_with socket settings = asked_in settings.device socket settings.until settings.time settings.release settings.turns
+abbrev pub asked_with : (socket : List ℕ) → Settings → Asked
+asked_with socket settings = record { device = settings.device; socket = socket; until = settings.until; time = settings.time; release = settings.release; turns = settings.turns }
 
 -- a proxy of this kind, for the device of this path; the modem is there at the opening
 abbrev pub proxy_for : Kind → (device : List ℕ) → (time_limit : ℕ) → (release : Option ℕ) → Proxy

@@ -90,13 +90,13 @@ fn run_command<O: Sink, L: Link, H: Hub, P: Spawner, F: Files, B: Bench>(
     ensures write_fault { result ≡ Status.WriteFault → Rose (O.faults out.old) (O.faults out.new) ⊎ Rose (F.write_faults files.old) (F.write_faults files.new) }
 {
     match command {
-        ToolCommand::Qmicli { .. }
-        | ToolCommand::Mbimcli { .. }
+        ToolCommand::Qmicli(_)
+        | ToolCommand::Mbimcli(_)
         | ToolCommand::PduSubmit { .. }
         | ToolCommand::Describe { .. } => {
             run_command_of_tool(alloc, command, out, link, spawner, files)
         }
-        ToolCommand::Proxy { .. } => run_command_of_proxy(alloc, command, hub, spawner),
+        ToolCommand::Proxy(_) => run_command_of_proxy(alloc, command, hub, spawner),
         ToolCommand::Simulator { .. } => {
             run_command_of_simulator(alloc, command, hub, spawner, files)
         }

@@ -1,4 +1,4 @@
-ghost use Rattle.std.specs.Prelude.{◌≡◌, ◌≤◌, ℕ, List, [], IfOk};
+ghost use Rattle.std.specs.Prelude.{◌≡◌, ◌≤◌, [], IfOk};
 ghost use Rattle.std.specs.Str.{encode_utf8_all};
 ghost use Rattle.kit_io.specs.Causes.{Rose};
 ghost use Rattle.hub_io.specs.Record.{Since};
@@ -18,24 +18,21 @@ use modem_ways::Device;
 use proxy_core::serve_proxy;
 use qmi_core::QmiHand;
 use std::alloc::{AllocError, Global};
+use tool_words::ProxyTask;
 
 // How the words of a proxy want it.
-fn settings_of(
-    alloc: Global,
-    device: &PathText,
-    until: Until,
-    time: u64,
-    release: Option<u64>,
-    turns: u64,
-) -> Result<Settings, AllocError>
-    ensures { IfOk result (λ settings. (socket : List ℕ) → asked_with socket settings ≡ asked_in device.now socket until time release turns) }
+fn settings_of(alloc: Global, task: &ProxyTask) -> Result<Settings, AllocError>
+    ensures { IfOk result (λ settings. asked_with task.now.socket settings ≡ asked_in task.now) }
 {
     Ok(Settings {
-        device: Text::from_str(alloc, device.value().as_str())?,
-        time,
-        release,
-        until,
-        turns,
+        device: Text::from_str(alloc, task.device.value().as_str())?,
+        time: task.time,
+        release: task.release,
+        until: Until {
+            empty: task.empty,
+            lost: task.exit_when_lost,
+        },
+        turns: task.turns,
     })
 }
 
@@ -44,24 +41,20 @@ fn settings_of(
 #[tactic(auto, using(crate::proofs::Opened::without_memory))]
 pub fn proxy_modem<H: Hub, P: Spawner>(
     alloc: Global,
-    kind: Kind,
-    device: &PathText,
-    socket: &PathText,
-    bridge: &PathText,
-    until: Until,
-    time: u64,
-    release: Option<u64>,
-    turns: u64,
+    task: &ProxyTask,
     hub: &mut H,
     spawner: &mut P,
 ) -> Status
-    ensures serves { ServesProxy kind (asked_in device.now socket.now until time release turns) (place_of (encode_utf8_all device.now) (encode_utf8_all bridge.now)) (H.calls hub.old) (P.calls spawner.old) result (H.calls hub.new) (H.made hub.new) (P.calls spawner.new) }
+    ensures serves { ServesProxy task.now.kind (asked_in task.now) (place_of (encode_utf8_all task.now.device) (encode_utf8_all task.now.bridge)) (H.calls hub.old) (P.calls spawner.old) result (H.calls hub.new) (H.made hub.new) (P.calls spawner.new) }
     ensures own { IsOfProxy result }
     ensures hub_fault { result ≡ Status.HubFault → Rose (H.faults hub.old) (H.faults hub.new) }
     ensures start_fault { result ≡ Status.StartFault → Rose (P.faults spawner.old) (P.faults spawner.new) }
 {
-    match settings_of(alloc, device, until, time, release, turns) {
-        Ok(settings) => serve(alloc, kind, socket, bridge, &settings, hub, spawner),
+    match settings_of(alloc, task) {
+        Ok(settings) => {
+            let (socket, bridge) = (&task.socket, &task.bridge);
+            serve(alloc, task.kind, socket, bridge, &settings, hub, spawner)
+        }
         Err(AllocError) => Status::OutOfMemory,
     }
 }

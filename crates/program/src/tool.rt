@@ -2,7 +2,6 @@ ghost use Rattle.std.specs.Prelude.{◌≡◌, IfOk, IsTrue};
 ghost use Rattle.std.specs.Str.{encode_utf8_all};
 ghost use Rattle.kit_io.specs.Causes.{Rose};
 ghost use Rattle.kit_io.specs.Counts.{together};
-ghost use Rattle.kit_bytes.specs.declared.Kind.TheVariants as kinds;
 ghost use Rattle.modem_ways.specs.Reaching.{LinkFails};
 ghost use Rattle.modem_ways.specs.Ways.{path_in};
 ghost use Rattle.sms_pdu.specs.Parts.{can_be_sent, messages};
@@ -22,30 +21,22 @@ use file_io::Files;
 use kit_bytes::{Kind, PathText, Text};
 use kit_io::Sink;
 use link_io::Link;
-use mbim_requests::MbimRequest;
 use mbim_session::MbimPlan;
 use modem_ways::Way;
-use qmi_requests::QmiRequest;
 use sms_print::Decoding;
 use std::alloc::{AllocError, Global};
 use tool_runs::{Session, TunnelPlan, ask, describe, mbim_decoding, qmi_decoding, submit};
+use tool_words::{LinkSettings, MbimTask, QmiTask};
 
-// The way of a tool to its modem.
-fn way_to(
-    alloc: Global,
-    kind: Kind,
-    proxied: bool,
-    device: &PathText,
-    socket: &PathText,
-    bridge: &PathText,
-) -> Result<Way, AllocError>
-    ensures { IfOk result (λ way. path_in way ≡ way_to kind proxied device.now socket.now bridge.now) }
+// The way of a tool to the device of its modem.
+fn way_to(alloc: Global, device: &PathText, settings: &LinkSettings) -> Result<Way, AllocError>
+    ensures { IfOk result (λ way. path_in way ≡ way_to device.now settings.now) }
 {
     let device = device.value().as_str();
-    let bridge = bridge.value().as_str();
-    if proxied {
-        let socket = socket.value().as_str();
-        return Way::by_proxy(alloc, kind, device, socket, bridge);
+    let bridge = settings.bridge.value().as_str();
+    if settings.proxied {
+        let socket = settings.socket.value().as_str();
+        return Way::by_proxy(alloc, settings.kind, device, socket, bridge);
     }
     Way::direct(alloc, device, bridge)
 }
@@ -54,79 +45,63 @@ fn way_to(
 // that carries its messages.
 pub fn ask_qmi<O: Sink, L: Link, P: Spawner>(
     alloc: Global,
-    device: PathText,
-    kind: Kind,
-    proxied: bool,
-    cid: Option<u8>,
-    keep: bool,
-    timeout: u16,
-    request: QmiRequest,
-    decode: bool,
-    socket: &PathText,
-    bridge: &PathText,
+    task: QmiTask,
     out: &mut O,
     link: &mut L,
     spawner: &mut P,
 ) -> Status
-    ensures asks { AsksQmi kind decode (qmi_plan device proxied cid keep timeout request) (way_to kind proxied device socket.now bridge.now)
+    ensures asks { AsksQmi task.link.kind task.decode (qmi_plan task) (way_to task.device task.link)
         (record { link = L.calls link.old; spawner = P.calls spawner.old; out = O.taken out.old; made = together (L.made link.old) (O.made out.old) })
         (record { link = L.calls link.new; spawner = P.calls spawner.new; out = O.taken out.new; made = together (L.made link.new) (O.made out.new) })
         result }
     ensures own { IsOfTool result }
-    ensures link_fault { result ≡ Status.LinkFault → LinkFails (way_to kind proxied device socket.now bridge.now) L.faults L.open_faults link.old link.new }
+    ensures link_fault { result ≡ Status.LinkFault → LinkFails (way_to task.device task.link) L.faults L.open_faults link.old link.new }
     ensures start_fault { result ≡ Status.StartFault → Rose (P.faults spawner.old) (P.faults spawner.new) }
     ensures write_fault { result ≡ Status.WriteFault → Rose (O.faults out.old) (O.faults out.new) }
 {
+    let settings = task.link;
     let plan = QmiPlan {
-        device,
-        proxied,
-        cid,
-        keep,
-        timeout,
-        request,
+        device: task.device,
+        proxied: settings.proxied,
+        cid: task.cid,
+        keep: task.keep,
+        timeout: settings.timeout,
+        request: task.request,
     };
-    ask_of_kind(
-        alloc, kind, plan, decode, socket, bridge, out, link, spawner,
-    )
+    ask_of_kind(alloc, plan, &settings, task.decode, out, link, spawner)
 }
 
 // Asks a QMI modem at a device of its own, or inside the MBIM modem at one.
 fn ask_of_kind<O: Sink, L: Link, P: Spawner>(
     alloc: Global,
-    kind: Kind,
     plan: QmiPlan,
+    settings: &LinkSettings,
     decode: bool,
-    socket: &PathText,
-    bridge: &PathText,
     out: &mut O,
     link: &mut L,
     spawner: &mut P,
 ) -> Status
-    ensures asks { AsksQmi kind decode plan (way_to kind plan.proxied plan.device socket.now bridge.now)
+    ensures asks { AsksQmi settings.now.kind decode plan (way_to plan.device settings.now)
         (record { link = L.calls link.old; spawner = P.calls spawner.old; out = O.taken out.old; made = together (L.made link.old) (O.made out.old) })
         (record { link = L.calls link.new; spawner = P.calls spawner.new; out = O.taken out.new; made = together (L.made link.new) (O.made out.new) })
         result }
     ensures own { IsOfTool result }
-    ensures link_fault { result ≡ Status.LinkFault → LinkFails (way_to kind plan.proxied plan.device socket.now bridge.now) L.faults L.open_faults link.old link.new }
+    ensures link_fault { result ≡ Status.LinkFault → LinkFails (way_to plan.device settings.now) L.faults L.open_faults link.old link.new }
     ensures start_fault { result ≡ Status.StartFault → Rose (P.faults spawner.old) (P.faults spawner.new) }
     ensures write_fault { result ≡ Status.WriteFault → Rose (O.faults out.old) (O.faults out.new) }
 {
     let decoding = qmi_decoding(decode);
-    match kind {
+    match settings.kind {
         Kind::Qmi => {
-            let (device, proxied) = (&plan.device, plan.proxied);
-            let status = ask_device(
-                alloc, kind, proxied, device, socket, bridge, &plan, decoding, out, link, spawner,
-            );
+            let device = &plan.device;
+            let status = ask_device(alloc, device, settings, &plan, decoding, out, link, spawner);
             drop(plan);
             status
         }
         Kind::Mbim => {
             let plan = TunnelPlan { qmi: plan };
-            let (device, proxied) = (&plan.qmi.device, plan.qmi.proxied);
-            let status = ask_device(
-                alloc, kind, proxied, device, socket, bridge, &plan, decoding, out, link, spawner,
-            );
+            let device = &plan.qmi.device;
+            let status = ask_device(alloc, device, settings, &plan, decoding, out, link, spawner);
             drop(plan);
             status
         }
@@ -136,47 +111,32 @@ fn ask_of_kind<O: Sink, L: Link, P: Spawner>(
 // Asks an MBIM modem what the words of `mbimcli` want, over the link that leads to it.
 pub fn ask_mbim<O: Sink, L: Link, P: Spawner>(
     alloc: Global,
-    device: PathText,
-    proxied: bool,
-    close: bool,
-    timeout: u16,
-    request: MbimRequest,
-    decode: bool,
-    socket: &PathText,
-    bridge: &PathText,
+    task: MbimTask,
     out: &mut O,
     link: &mut L,
     spawner: &mut P,
 ) -> Status
-    ensures asks { Asks (way_to kinds.Mbim proxied device socket.now bridge.now) (mbim_asked decode (mbim_plan device proxied close timeout request))
+    ensures asks { Asks (way_to task.device task.link) (mbim_asked task.decode (mbim_plan task))
         (record { link = L.calls link.old; spawner = P.calls spawner.old; out = O.taken out.old; made = together (L.made link.old) (O.made out.old) })
         (record { link = L.calls link.new; spawner = P.calls spawner.new; out = O.taken out.new; made = together (L.made link.new) (O.made out.new) })
         result }
     ensures own { IsOfTool result }
-    ensures link_fault { result ≡ Status.LinkFault → LinkFails (way_to kinds.Mbim proxied device socket.now bridge.now) L.faults L.open_faults link.old link.new }
+    ensures link_fault { result ≡ Status.LinkFault → LinkFails (way_to task.device task.link) L.faults L.open_faults link.old link.new }
     ensures start_fault { result ≡ Status.StartFault → Rose (P.faults spawner.old) (P.faults spawner.new) }
     ensures write_fault { result ≡ Status.WriteFault → Rose (O.faults out.old) (O.faults out.new) }
 {
+    let settings = task.link;
     let plan = MbimPlan {
-        device,
-        proxied,
-        close,
-        timeout,
-        request,
+        device: task.device,
+        proxied: settings.proxied,
+        close: task.close,
+        timeout: settings.timeout,
+        request: task.request,
     };
+    let decoding = mbim_decoding(task.decode, &plan.request);
     let device = &plan.device;
     let status = ask_device(
-        alloc,
-        Kind::Mbim,
-        proxied,
-        device,
-        socket,
-        bridge,
-        &plan,
-        mbim_decoding(decode, &plan.request),
-        out,
-        link,
-        spawner,
+        alloc, device, &settings, &plan, decoding, out, link, spawner,
     );
     drop(plan);
     status
@@ -185,27 +145,24 @@ pub fn ask_mbim<O: Sink, L: Link, P: Spawner>(
 // Asks the modem at a device, which is reached as the words of a tool say, and prints its answer.
 fn ask_device<S: Session, O: Sink, L: Link, P: Spawner>(
     alloc: Global,
-    kind: Kind,
-    proxied: bool,
     device: &PathText,
-    socket: &PathText,
-    bridge: &PathText,
+    settings: &LinkSettings,
     plan: &S,
     decoding: Decoding,
     out: &mut O,
     link: &mut L,
     spawner: &mut P,
 ) -> Status
-    ensures asks { Asks (way_to kind proxied device.now socket.now bridge.now) (asked_of S.session S.refused (shown decoding S.printed S.bodies) plan.now)
+    ensures asks { Asks (way_to device.now settings.now) (asked_of S.session S.refused (shown decoding S.printed S.bodies) plan.now)
         (record { link = L.calls link.old; spawner = P.calls spawner.old; out = O.taken out.old; made = together (L.made link.old) (O.made out.old) })
         (record { link = L.calls link.new; spawner = P.calls spawner.new; out = O.taken out.new; made = together (L.made link.new) (O.made out.new) })
         result }
     ensures own { IsOfTool result }
-    ensures link_fault { result ≡ Status.LinkFault → LinkFails (way_to kind proxied device.now socket.now bridge.now) L.faults L.open_faults link.old link.new }
+    ensures link_fault { result ≡ Status.LinkFault → LinkFails (way_to device.now settings.now) L.faults L.open_faults link.old link.new }
     ensures start_fault { result ≡ Status.StartFault → Rose (P.faults spawner.old) (P.faults spawner.new) }
     ensures write_fault { result ≡ Status.WriteFault → Rose (O.faults out.old) (O.faults out.new) }
 {
-    let Ok(way) = way_to(alloc, kind, proxied, device, socket, bridge) else {
+    let Ok(way) = way_to(alloc, device, settings) else {
         return Status::OutOfMemory;
     };
     ask_modem(alloc, &way, plan, decoding, out, link, spawner)

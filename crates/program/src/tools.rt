@@ -17,7 +17,7 @@ use crate::tool::{ask_mbim, ask_qmi, describe_file, submit_text};
 use child_io::Spawner;
 use core_bench::Bench;
 use file_io::Files;
-use hub_io::{Hub, Until};
+use hub_io::Hub;
 use kit_io::Sink;
 use link_io::Link;
 use std::alloc::Global;
@@ -85,34 +85,8 @@ pub fn run_command_of_tool<O: Sink, L: Link, P: Spawner, F: Files>(
     ensures hub_fault { ¬ (result ≡ Status.HubFault) }
 {
     match command {
-        ToolCommand::Qmicli {
-            device,
-            kind,
-            proxied,
-            cid,
-            keep,
-            timeout,
-            request,
-            decode,
-            socket,
-            bridge,
-        } => ask_qmi(
-            alloc, device, kind, proxied, cid, keep, timeout, request, decode, &socket, &bridge,
-            out, link, spawner,
-        ),
-        ToolCommand::Mbimcli {
-            device,
-            proxied,
-            close,
-            timeout,
-            request,
-            decode,
-            socket,
-            bridge,
-        } => ask_mbim(
-            alloc, device, proxied, close, timeout, request, decode, &socket, &bridge, out, link,
-            spawner,
-        ),
+        ToolCommand::Qmicli(task) => ask_qmi(alloc, task, out, link, spawner),
+        ToolCommand::Mbimcli(task) => ask_mbim(alloc, task, out, link, spawner),
         ToolCommand::PduSubmit {
             number,
             text,
@@ -176,24 +150,10 @@ pub fn run_command_of_proxy<H: Hub, P: Spawner>(
     ensures write_fault { ¬ (result ≡ Status.WriteFault) }
 {
     match command {
-        ToolCommand::Proxy {
-            kind,
-            device,
-            socket,
-            bridge,
-            empty,
-            exit_when_lost,
-            time,
-            release,
-            turns,
-        } => {
-            let until = Until {
-                empty,
-                lost: exit_when_lost,
-            };
-            proxy_modem(
-                alloc, kind, &device, &socket, &bridge, until, time, release, turns, hub, spawner,
-            )
+        ToolCommand::Proxy(task) => {
+            let status = proxy_modem(alloc, &task, hub, spawner);
+            drop(task);
+            status
         }
         other => {
             drop(other);

@@ -12,7 +12,7 @@ use Rattle.tool_words.specs.Answers.{Answers, or_value}
 use Rattle.tool_words.specs.Command.{command_in, read_if_named, tool_app, tool_asked, tool_named}
 use Rattle.tool_words.specs.Dissect.{dissect_asked, dissect_if_given, dissect_spelling, dissect_values}
 use Rattle.tool_words.specs.Given.{is_given, value_given, word_given}
-use Rattle.tool_words.specs.Link.{link_in}
+use Rattle.tool_words.specs.Link.{device_in, link_in}
 use Rattle.tool_words.specs.MbimCommands.{mbim_line, mbim_spelling, reads_messages as mbim_reads}
 use Rattle.tool_words.specs.Mbimcli.{mbim_asks, mbim_setting_spelling, mbimcli_asked, mbimcli_values}
 use Rattle.tool_words.specs.ModemTools.{asked_by, modem_tool_asked}
@@ -147,7 +147,10 @@ described-fits file = Fits-map _ (option_and_then path_in file) (λ path. tt)
 
 qmi_asked-fits : (link : LinkSettings) (cid : Option ℕ) (decode : Bool) (command : QmiCommand) (rows : List Row) → Fits (qmi_asked link cid decode command rows)
 unfolding qmi_asked
-qmi_asked-fits link cid decode command rows = Fits-each _ ((qmi_line command).request (value_given qmi_spelling rows command)) (λ request _. Fits-map _ link.device (λ device. tt))
+qmi_asked-fits link cid decode command rows =
+    Fits-each _ (device_in rows) (λ named _.
+    Fits-each _ named (λ device _.
+    Fits-each _ ((qmi_line command).request (value_given qmi_spelling rows command)) (λ request _. tt)))
 
 asked_for-fits : (link : LinkSettings) (cid : Option ℕ) (decode : Bool) (reference : ℕ) (command : QmiCommand) (rows : List Row) → Fits (asked_for link cid decode reference command rows)
 unfolding asked_for
@@ -175,8 +178,10 @@ mbimcli-fits : (command : MbimCommand) (rows : List Row) → Fits (mbimcli_value
 unfolding mbimcli_values
 mbimcli-fits command rows =
     Fits-each _ (link_in kind.Mbim rows) (λ link _.
+    Fits-each _ (device_in rows) (λ named _.
+    Fits-each _ named (λ device _.
     Fits-each _ (flag_of (is_given mbim_setting_spelling rows mbim_setting.DecodeSms) (mbim_reads command)) (λ decode _.
-    Fits-each _ ((mbim_line command).request (value_given mbim_spelling rows command)) (λ request _. Fits-map _ link.device (λ device. tt))))
+    Fits-each _ ((mbim_line command).request (value_given mbim_spelling rows command)) (λ request _. tt)))))
 
 -- ---- what the words ask for ----
 

@@ -25,11 +25,14 @@ link_options = option.Device ∷ option.DeviceOpenProxy ∷ option.Socket ∷ op
 abbrev pub timeout_in : Option (List ℕ) → Option ℕ
 timeout_in = number_or 30 1 600
 
+-- the device that is named, if its path reads
+unfoldable pub device_in : List Row → Option (Option (List ℕ))
+device_in rows = optional path_in (value_given link_spelling rows option.Device)
+
 -- the settings of a tool for modems of this kind, if each of them reads
 unfoldable pub link_in : Kind → List Row → Option LinkSettings
 link_in kind rows = do
-  device ← optional path_in (value_given link_spelling rows option.Device)
   socket ← path_or (proxy_socket kind) (value_given link_spelling rows option.Socket)
   bridge ← path_or bridge_socket (value_given link_spelling rows option.Bridge)
   timeout ← timeout_in (value_given link_spelling rows option.Timeout)
-  Some (record { device = device; kind = kind; proxied = is_given link_spelling rows option.DeviceOpenProxy; socket = socket; bridge = bridge; timeout = timeout })
+  Some (record { kind = kind; proxied = is_given link_spelling rows option.DeviceOpenProxy; socket = socket; bridge = bridge; timeout = timeout })

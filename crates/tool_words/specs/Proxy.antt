@@ -68,7 +68,17 @@ proxy_values kind rows = do
   device ← option_and_then path_in (value_given proxy_spelling rows option.Device)
   socket ← path_or (proxy_socket kind) (value_given proxy_spelling rows option.Socket)
   bridge ← path_or bridge_socket (value_given proxy_spelling rows option.Bridge)
-  Some (Proxy kind device socket bridge (empty_time (is_given proxy_spelling rows option.NoExit) seconds) (is_given proxy_spelling rows option.ExitWhenLost) time release turns)
+  Some (Proxy (record {
+    kind = kind;
+    device = device;
+    socket = socket;
+    bridge = bridge;
+    empty = empty_time (is_given proxy_spelling rows option.NoExit) seconds;
+    exit_when_lost = is_given proxy_spelling rows option.ExitWhenLost;
+    time = time;
+    release = release;
+    turns = turns;
+  }))
 
 -- ---- what the words ask for ----
 

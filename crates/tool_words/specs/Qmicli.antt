@@ -4,10 +4,9 @@ use Rattle.clap.specs.Simple.{App}
 use Rattle.clap.specs.Walk.{Row}
 use Rattle.kit_bytes.specs.declared.Kind.{Kind}
 use Rattle.kit_bytes.specs.declared.Kind.TheVariants.{Mbim, Qmi}
-use Rattle.qmi_requests.specs.declared.QmiRequest.{QmiRequest}
 use Rattle.sms_pdu.specs.Parts.{can_be_sent}
 use Rattle.tool_words.specs.Given.{is_given, value_given}
-use Rattle.tool_words.specs.Link.{link_in}
+use Rattle.tool_words.specs.Link.{device_in, link_in}
 use Rattle.tool_words.specs.ModemTools.{modem_tool, modem_tool_asked}
 use Rattle.tool_words.specs.QmiCommands.{makes_messages, qmi_asks, qmi_commands, qmi_line, qmi_spelling, reads_messages}
 use Rattle.tool_words.specs.Spelling.{Spelling, flag, valued}
@@ -55,15 +54,13 @@ unfoldable pub reference_in : (makes : Bool) → Option (List ℕ) → Option �
 reference_in makes (Some text) = if makes then number_8_in text else None
 reference_in makes None = Some 0
 
--- a request is sent to the device
-abbrev pub qmi_sent : LinkSettings → Option ℕ → Bool → Bool → QmiRequest → Option ToolCommand
-qmi_sent link cid keep decode request = option_map (λ device. Qmicli device link.kind link.proxied cid keep link.timeout request decode link.socket link.bridge) link.device
-
--- that of a command
+-- the request of a command is sent to the device, which must be named
 unfoldable pub qmi_asked : LinkSettings → Option ℕ → Bool → QmiCommand → List Row → Option ToolCommand
 qmi_asked link cid decode command rows = do
+  named ← device_in rows
+  device ← named
   request ← (qmi_line command).request (value_given qmi_spelling rows command)
-  qmi_sent link cid (is_given qmi_setting_spelling rows setting.ClientNoReleaseCid) decode request
+  Some (Qmicli (record { device = device; link = link; cid = cid; keep = is_given qmi_setting_spelling rows setting.ClientNoReleaseCid; request = request; decode = decode }))
 
 -- what a command asks for: a request, the messages of a text, or the tables of a file
 unfoldable pub asked_for : LinkSettings → Option ℕ → Bool → ℕ → QmiCommand → List Row → Option ToolCommand

@@ -5,10 +5,10 @@ ghost use Rattle.tool_words.specs.Command.{command_in, tool_app, tool_asked, too
 ghost use Rattle.tool_words.specs.Rig.{IsWithinLimits};
 
 use crate::dissect::{dissect_asked, dissect_reader};
-use crate::mbimcli::{mbimcli_asked, mbimcli_reader};
-use crate::proxy::{proxy_asked, proxy_name, proxy_reader};
+use crate::mbimcli::{MbimTask, mbimcli_asked, mbimcli_reader};
+use crate::proxy::{ProxyTask, proxy_asked, proxy_name, proxy_reader};
 use crate::pump::pump_asked;
-use crate::qmicli::{qmicli_asked, qmicli_reader};
+use crate::qmicli::{QmiTask, qmicli_asked, qmicli_reader};
 use crate::reader::read_words;
 use crate::rig::{rig_asked, rig_reader};
 use crate::simulator::{simulator_asked, simulator_reader};
@@ -16,47 +16,15 @@ use crate::version::version_asked;
 use crate::{UsageKind, WordFault};
 use clap::{ArgMatches, Command};
 use kit_bytes::{Kind, PathText, Text};
-use mbim_requests::MbimRequest;
-use qmi_requests::QmiRequest;
 use std::alloc::{AllocError, Global};
 
 /// What the program is to do.
 #[derive(Debug, Drop)]
 pub enum ToolCommand {
     /// Sends a request to a QMI modem and prints its answer.
-    Qmicli {
-        device: PathText,
-        /// The kind of the modem: one that speaks MBIM carries the messages.
-        kind: Kind,
-        /// Whether the device is reached through the proxy behind the socket.
-        proxied: bool,
-        /// The client id that the request is sent with, in place of an allocated one.
-        cid: Option<u8>,
-        /// Whether an allocated client id is kept.
-        keep: bool,
-        /// For how many seconds without a byte each answer is waited for.
-        timeout: u16,
-        request: QmiRequest,
-        /// Whether the messages in the answer are told in words.
-        decode: bool,
-        socket: PathText,
-        bridge: PathText,
-    },
+    Qmicli(QmiTask),
     /// The same with an MBIM modem.
-    Mbimcli {
-        device: PathText,
-        /// Whether the device is reached through the proxy behind the socket.
-        proxied: bool,
-        /// Whether the modem is closed afterwards.
-        close: bool,
-        /// For how many seconds without a byte each answer is waited for.
-        timeout: u16,
-        request: MbimRequest,
-        /// Whether the messages in the answer are told in words.
-        decode: bool,
-        socket: PathText,
-        bridge: PathText,
-    },
+    Mbimcli(MbimTask),
     /// Prints the bodies of the short messages that carry a text to a number.
     PduSubmit {
         number: Text,
@@ -69,23 +37,7 @@ pub enum ToolCommand {
         file: PathText,
     },
     /// Serves a modem to the clients of a socket.
-    Proxy {
-        kind: Kind,
-        device: PathText,
-        socket: PathText,
-        bridge: PathText,
-        /// After how many milliseconds without a client it ends.
-        empty: Option<u64>,
-        /// Whether it ends once the device is lost.
-        exit_when_lost: bool,
-        /// After how many milliseconds a request expires.
-        time: u64,
-        /// For how many milliseconds a client id is kept whose holder went, before the proxy releases it;
-        /// it never does where there is none.
-        release: Option<u64>,
-        /// After how many events it ends.
-        turns: u64,
-    },
+    Proxy(ProxyTask),
     /// Serves a simulated modem to the clients of a socket.
     Simulator {
         kind: Kind,

@@ -26,6 +26,10 @@ mod version;
 
 pub use command::{ToolCommand, command_of};
 pub use fault::{UsageKind, WordFault};
+pub use link::LinkSettings;
 pub use mbim_commands::{MbimCommand, mbimcli_commands};
+pub use mbimcli::MbimTask;
 pub use plain::PlainCommand;
+pub use proxy::ProxyTask;
 pub use qmi_commands::{QmiCommand, qmicli_commands};
+pub use qmicli::QmiTask;

@@ -1,6 +1,6 @@
 ghost use Rattle.std.specs.Prelude.{◌≡◌, option_map};
 ghost use Rattle.clap.specs.Words.{found_of, rows_of};
-ghost use Rattle.tool_words.specs.Link.{link_in, link_options, link_spelling, timeout_in};
+ghost use Rattle.tool_words.specs.Link.{device_in, link_in, link_options, link_spelling, timeout_in};
 ghost use Rattle.tool_words.specs.Values.{Gives};
 
 use crate::WordFault;
@@ -52,10 +52,9 @@ pub fn link_options() -> &'static [LinkOption]
     LINK_OPTIONS.as_slice()
 }
 
-/// How a tool reaches its modem, with defaults filled in.
+/// How a tool reaches the device of its modem, and how long it waits there, with defaults filled in.
 #[derive(Debug, Drop)]
 pub struct LinkSettings {
-    pub device: Option<PathText>,
     /// The kind of the modem.
     pub kind: Kind,
     /// Whether the device is reached through the proxy behind the socket.
@@ -73,6 +72,14 @@ fn timeout(text: Option<&str>) -> Result<u16, WordFault>
     Ok(seconds as u16)
 }
 
+/// The device that the words name, if they name one.
+#[tactic(auto, unfolding(crate::specs::Link::device_in))]
+pub fn device_given(alloc: Global, matches: &ArgMatches<'_>) -> Result<Option<PathText>, WordFault>
+    ensures { Gives (device_in (rows_of (found_of matches.now))) result }
+{
+    path_if_given(alloc, value_given(matches, LinkOption::Device))
+}
+
 /// The settings that the words give to a tool for modems of this kind.
 #[tactic(auto, unfolding(crate::specs::Link::link_in))]
 pub fn link_given(
@@ -83,15 +90,12 @@ pub fn link_given(
     ensures { Gives (link_in kind (rows_of (found_of matches.now))) result }
 {
     let proxied = is_given(matches, LinkOption::DeviceOpenProxy);
-    let device = value_given(matches, LinkOption::Device);
-    let device = path_if_given(alloc, device)?;
     let socket = value_given(matches, LinkOption::Socket);
     let socket = path_or(alloc, proxy_socket(kind), socket)?;
     let bridge = value_given(matches, LinkOption::Bridge);
     let bridge = path_or(alloc, bridge_socket(), bridge)?;
     let timeout = timeout(value_given(matches, LinkOption::Timeout))?;
     Ok(LinkSettings {
-        device,
         kind,
         proxied,
         socket,

@@ -1,20 +1,33 @@
 ghost use Rattle.std.specs.Prelude.{◌≡◌, IfOk};
 ghost use Rattle.clap.specs.Words.{app_of, found_of, rows_of};
 ghost use Rattle.tool_words.specs.Answers.{Answers};
-ghost use Rattle.tool_words.specs.Mbimcli.{mbim_asks, mbim_sent, mbim_setting_spelling, mbim_settings, mbimcli_app, mbimcli_asked, mbimcli_values};
+ghost use Rattle.tool_words.specs.Mbimcli.{mbim_asks, mbim_setting_spelling, mbim_settings, mbimcli_app, mbimcli_asked, mbimcli_values};
 ghost use Rattle.tool_words.specs.Values.{Gives};
 
 use crate::given::{is_given, value_given};
-use crate::link::{LinkSettings, link_given};
+use crate::link::{LinkSettings, device_given, link_given};
 use crate::mbim_commands::{MbimCommand, mbimcli_commands, reads_messages, request};
 use crate::modem_tools::{ModemCommand, modem_tool, modem_tool_asked};
 use crate::options::{OptionSpelling, ToolOption, flag};
 use crate::values::{flag_of, or_fault};
 use crate::{ToolCommand, WordFault};
 use clap::{ArgMatches, Command};
-use kit_bytes::Kind;
+use kit_bytes::{Kind, PathText};
 use mbim_requests::MbimRequest;
 use std::alloc::{AllocError, Global};
+
+/// A request that an MBIM modem is asked for.
+#[derive(Debug, Drop)]
+pub struct MbimTask {
+    pub device: PathText,
+    /// How the device is reached.
+    pub link: LinkSettings,
+    /// Whether the modem is closed afterwards.
+    pub close: bool,
+    pub request: MbimRequest,
+    /// Whether the messages in the answer are told in words.
+    pub decode: bool,
+}
 
 /// An option of `mbimcli` that says how its command is run, beside those of the link.
 #[derive(Clone, Copy, Debug, PartialEq, Eq)]
@@ -50,27 +63,6 @@ pub fn mbimcli_reader<'a>(alloc: Global) -> Result<Command<'a>, AllocError>
     modem_tool(alloc, "mbimcli", settings(), mbimcli_commands())
 }
 
-fn sending(
-    link: LinkSettings,
-    stays: bool,
-    decode: bool,
-    request: MbimRequest,
-) -> Result<ToolCommand, WordFault>
-    ensures { Gives (mbim_sent link stays decode request) result }
-{
-    let device = or_fault(link.device)?;
-    Ok(ToolCommand::Mbimcli {
-        device,
-        proxied: link.proxied,
-        close: !stays,
-        timeout: link.timeout,
-        request,
-        decode,
-        socket: link.socket,
-        bridge: link.bridge,
-    })
-}
-
 impl ModemCommand for MbimCommand {
     ghost asks = { mbim_asks };
 
@@ -83,11 +75,18 @@ impl ModemCommand for MbimCommand {
     #[tactic(auto, unfolding(crate::specs::Mbimcli::mbimcli_values))]
     fn values(self, alloc: Global, matches: &ArgMatches<'_>) -> Result<ToolCommand, WordFault> {
         let link = link_given(alloc, Kind::Mbim, matches)?;
+        let device = or_fault(device_given(alloc, matches)?)?;
         let decode = is_given(matches, MbimSetting::DecodeSms);
         let decode = flag_of(decode, reads_messages(self))?;
         let request = request(alloc, self, value_given(matches, self))?;
         let stays = is_given(matches, MbimSetting::NoClose);
-        sending(link, stays, decode, request)
+        Ok(ToolCommand::Mbimcli(MbimTask {
+            device,
+            link,
+            close: !stays,
+            request,
+            decode,
+        }))
     }
 }
 

@@ -24,6 +24,27 @@ pub fn proxy_name(kind: Kind) -> &'static str
     }
 }
 
+/// A proxy that serves a device.
+#[derive(Debug, Drop)]
+pub struct ProxyTask {
+    /// The kind of the modem.
+    pub kind: Kind,
+    pub device: PathText,
+    pub socket: PathText,
+    pub bridge: PathText,
+    /// After how many milliseconds without a client it ends.
+    pub empty: Option<u64>,
+    /// Whether it ends once the device is lost.
+    pub exit_when_lost: bool,
+    /// After how many milliseconds a request expires.
+    pub time: u64,
+    /// For how many milliseconds a client id is kept whose holder went, before the proxy releases it;
+    /// it never does where there is none.
+    pub release: Option<u64>,
+    /// After how many events it ends.
+    pub turns: u64,
+}
+
 /// An option of a proxy.
 #[derive(Clone, Copy, Debug, PartialEq, Eq)]
 pub enum ProxyOption {
@@ -142,7 +163,7 @@ fn values(alloc: Global, kind: Kind, matches: &ArgMatches<'_>) -> Result<ToolCom
     let socket = path_or(alloc, proxy_socket(kind), socket)?;
     let bridge = value_given(matches, ProxyOption::Bridge);
     let bridge = path_or(alloc, bridge_socket(), bridge)?;
-    Ok(ToolCommand::Proxy {
+    Ok(ToolCommand::Proxy(ProxyTask {
         kind,
         device,
         socket,
@@ -152,7 +173,7 @@ fn values(alloc: Global, kind: Kind, matches: &ArgMatches<'_>) -> Result<ToolCom
         time,
         release,
         turns,
-    })
+    }))
 }
 
 /// What the words of a proxy ask for.

@@ -2,11 +2,11 @@ ghost use Rattle.std.specs.Prelude.{◌≡◌, IfOk, option_map};
 ghost use Rattle.clap.specs.Words.{app_of, found_of, rows_of};
 ghost use Rattle.tool_words.specs.Answers.{Answers};
 ghost use Rattle.tool_words.specs.QmiCommands.{qmi_asks};
-ghost use Rattle.tool_words.specs.Qmicli.{asked_for, asked_with, described, modem_kind, qmi_asked, qmi_sent, qmi_setting_spelling, qmi_settings, qmicli_app, qmicli_asked, qmicli_values, reference_in, submitted};
+ghost use Rattle.tool_words.specs.Qmicli.{asked_for, asked_with, described, modem_kind, qmi_asked, qmi_setting_spelling, qmi_settings, qmicli_app, qmicli_asked, qmicli_values, reference_in, submitted};
 ghost use Rattle.tool_words.specs.Values.{Gives, number_within, optional};
 
 use crate::given::{is_given, value_given};
-use crate::link::{LinkSettings, link_given};
+use crate::link::{LinkSettings, device_given, link_given};
 use crate::modem_tools::{ModemCommand, modem_tool, modem_tool_asked};
 use crate::options::{OptionSpelling, ToolOption, flag, valued};
 use crate::qmi_commands::{
@@ -15,10 +15,25 @@ use crate::qmi_commands::{
 use crate::values::{at_comma, flag_of, number_8, number_within, or_fault, path, text_of};
 use crate::{ToolCommand, UsageKind, WordFault};
 use clap::{ArgMatches, Command};
-use kit_bytes::Kind;
+use kit_bytes::{Kind, PathText};
 use qmi_requests::QmiRequest;
 use sms_pdu::can_be_sent;
 use std::alloc::{AllocError, Global};
+
+/// A request that a QMI modem is asked for.
+#[derive(Debug, Drop)]
+pub struct QmiTask {
+    pub device: PathText,
+    /// How the device is reached; a modem of the other kind carries the messages.
+    pub link: LinkSettings,
+    /// The client id that the request is sent with, in place of an allocated one.
+    pub cid: Option<u8>,
+    /// Whether an allocated client id is kept.
+    pub keep: bool,
+    pub request: QmiRequest,
+    /// Whether the messages in the answer are told in words.
+    pub decode: bool,
+}
 
 /// An option of `qmicli` that says how its command is run, beside those of the link.
 #[derive(Clone, Copy, Debug, PartialEq, Eq)]
@@ -115,30 +130,6 @@ fn reference_in(makes: bool, text: Option<&str>) -> Result<u8, WordFault>
     }
 }
 
-fn sending(
-    link: LinkSettings,
-    cid: Option<u8>,
-    keep: bool,
-    decode: bool,
-    request: QmiRequest,
-) -> Result<ToolCommand, WordFault>
-    ensures { Gives (qmi_sent link cid keep decode request) result }
-{
-    let device = or_fault(link.device)?;
-    Ok(ToolCommand::Qmicli {
-        device,
-        kind: link.kind,
-        proxied: link.proxied,
-        cid,
-        keep,
-        timeout: link.timeout,
-        request,
-        decode,
-        socket: link.socket,
-        bridge: link.bridge,
-    })
-}
-
 #[tactic(auto, unfolding(crate::specs::Qmicli::qmi_asked))]
 fn asking(
     alloc: Global,
@@ -150,9 +141,17 @@ fn asking(
 ) -> Result<ToolCommand, WordFault>
     ensures { Gives (qmi_asked link cid decode command (rows_of (found_of matches.now))) result }
 {
+    let device = or_fault(device_given(alloc, matches)?)?;
     let request = request(alloc, command, value_given(matches, command))?;
     let keep = is_given(matches, QmiSetting::ClientNoReleaseCid);
-    sending(link, cid, keep, decode, request)
+    Ok(ToolCommand::Qmicli(QmiTask {
+        device,
+        link,
+        cid,
+        keep,
+        request,
+        decode,
+    }))
 }
 
 // What a command asks for: a request, the messages of a text, or the tables of a file.

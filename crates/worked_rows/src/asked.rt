@@ -11,8 +11,8 @@ pub fn asked(alloc: Global, words: &[String]) -> Result<String, RowFault> {
 /// The request that words ask for, as text, where they ask a modem.
 pub fn requested(alloc: Global, words: &[String]) -> Result<Option<String>, RowFault> {
     match command_of(alloc, words) {
-        Ok(ToolCommand::Qmicli { request, .. }) => Ok(Some(format!(in alloc; "{request:?}")?)),
-        Ok(ToolCommand::Mbimcli { request, .. }) => Ok(Some(format!(in alloc; "{request:?}")?)),
+        Ok(ToolCommand::Qmicli(task)) => Ok(Some(format!(in alloc; "{:?}", task.request)?)),
+        Ok(ToolCommand::Mbimcli(task)) => Ok(Some(format!(in alloc; "{:?}", task.request)?)),
         _ => Ok(None),
     }
 }

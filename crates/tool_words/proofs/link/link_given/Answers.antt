@@ -7,8 +7,6 @@ unfolding link_in
 returns c =
     rw (
       ← c.is_given-proxied.ensures,
-      ← c.value_given-device.ensures,
-      c.in_ok-device.ensures,
       ← c.proxy_socket.ensures,
       ← c.value_given-socket.ensures,
       c.in_ok-socket.ensures,
