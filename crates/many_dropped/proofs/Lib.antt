@@ -1,0 +1,4 @@
+pub mod Open
+pub mod One
+pub mod Sitting
+pub mod Dropping
