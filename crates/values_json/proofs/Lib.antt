@@ -1,0 +1,10 @@
+pub mod Views
+pub mod Octets
+pub mod Members
+pub mod Back
+pub mod Read
+pub mod Beside
+pub mod Shallow
+pub mod Walks
+pub mod Answered
+pub mod Computed
