@@ -1,0 +1,35 @@
+-- Worked examples of answers and indications, against their text in JSON.
+-- Source: RFC 8259, section 4; libqmi's data/qmi-service-nas.json has TLVs of these forms.
+use Rattle.std.specs.Prelude.{◌≡◌, ℕ, List, [], ◌∷◌, codes, option_map, Some, None}
+use Rattle.qmi_shapes.specs.Form.{unsigned, signed}
+use Rattle.message_tables.specs.Tlvs.{TlvForm}
+use Rattle.values_json.specs.Showing.{by_qmicli}
+use Rattle.values_json.specs.Lines.{json_line}
+use Rattle.json_answers.specs.Messages.{answer_json, indication_json}
+
+abbrev pub forms : List TlvForm
+forms = record { kind = 16; name = codes "Strength"; form = signed 1 } ∷ record { kind = 17; name = codes "Level"; form = unsigned 2 } ∷ record { kind = 18; name = codes "Mode"; form = unsigned 1 } ∷ []
+
+-- a TLV that the table has, a second one of its type, one whose value doesn't read, one that the table lacks, and a word
+abbrev pub tlvs : List ℕ
+tlvs =
+    2 ∷ 4 ∷ 0 ∷ 0 ∷ 0 ∷ 0 ∷ 0 ∷ 16 ∷ 1 ∷ 0 ∷ 181 ∷ 16 ∷ 1 ∷ 0 ∷ 9 ∷ 17 ∷ 1 ∷ 0 ∷ 5 ∷ 171 ∷ 2 ∷ 0 ∷ 1 ∷ 205 ∷ 18 ∷ 1 ∷ 0 ∷ 1 ∷ []
+
+abbrev pub AnswerHasItsTlvs : Type 0
+AnswerHasItsTlvs =
+    option_map json_line (answer_json by_qmicli forms tlvs)
+    ≡ Some (codes "{\"0x11\":\"05\",\"0xAB\":\"01CD\",\"Mode\":1,\"Mode word\":\"low-power\",\"Strength\":-75,\"result\":\"ok\"}\n")
+
+-- a failure has its error, and what else it tells
+abbrev pub FailureHasItsError : Type 0
+FailureHasItsError =
+    option_map json_line (answer_json by_qmicli forms (2 ∷ 4 ∷ 0 ∷ 1 ∷ 0 ∷ 14 ∷ 0 ∷ 18 ∷ 1 ∷ 0 ∷ 9 ∷ [])) ≡ Some (codes "{\"Mode\":9,\"error\":14,\"result\":\"denied\"}\n")
+
+-- bytes that aren't whole TLVs have no result
+abbrev pub BrokenHasNoLine : Type 0
+BrokenHasNoLine = option_map json_line (answer_json by_qmicli forms (2 ∷ 4 ∷ 0 ∷ 0 ∷ 0 ∷ 0 ∷ 0 ∷ 16 ∷ [])) ≡ None
+
+-- in an indication the type of the Result TLV is one as any other
+abbrev pub IndicationHasItsName : Type 0
+IndicationHasItsName =
+    json_line (indication_json by_qmicli (codes "Event Report") forms (2 ∷ 1 ∷ 0 ∷ 7 ∷ 16 ∷ 1 ∷ 0 ∷ 5 ∷ [])) ≡ codes "{\"0x02\":\"07\",\"Strength\":5,\"indication\":\"Event Report\"}\n"

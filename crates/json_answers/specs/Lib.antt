@@ -1,0 +1,3 @@
+pub mod Tlvs
+pub mod Messages
+pub mod Examples

@@ -1,0 +1,106 @@
+ghost use Rattle.std.specs.Prelude.{◌≡◌, map, option_map, Some, IfOk};
+ghost use Rattle.std.specs.List.{AllByRecursion};
+ghost use Rattle.message_tables.specs.View.{tlv_view};
+ghost use Rattle.message_tables.specs.WellMade.{IsSoundTlv};
+ghost use Rattle.serde_json.specs.Read.{read};
+ghost use Rattle.serde_json.specs.View.{members_view};
+ghost use Rattle.values_json.specs.Lines.{json_line, json_text};
+ghost use Rattle.json_answers.specs.Messages.{answer_by, answer_json, answer_members, ending_of, indication_json, indication_members};
+
+use crate::put_tlvs;
+use kit_bytes::{Octets, Text};
+use message_tables::TlvShape;
+use serde_json::{Map, Value, put};
+use std::alloc::{AllocError, Global};
+use tlv_codec::{Outcome, outcome_in};
+use values_json::{Ending, Shows, object_line, put_ending};
+
+/// The line of an answer by its table: its TLVs, and then its result; or none where it has no result.
+pub fn answer_line<S: Shows>(
+    alloc: Global,
+    shows: &S,
+    forms: &[TlvShape],
+    tlvs: &[u8],
+) -> Result<Option<Octets>, AllocError>
+    requires { AllByRecursion IsSoundTlv (map tlv_view forms.now) }
+    ensures { IfOk result (λ line. line ≡ option_map json_line (answer_json (S.showing shows.now) (map tlv_view forms.now) tlvs.now)) }
+{
+    match outcome_in(tlvs) {
+        Some(outcome) => Ok(Some(line_of(alloc, shows, forms, tlvs, outcome)?)),
+        None => Ok(None),
+    }
+}
+
+/// The line of an indication by its table: its TLVs, and its name.
+pub fn indication_line<S: Shows>(
+    alloc: Global,
+    shows: &S,
+    name: &Text,
+    forms: &[TlvShape],
+    tlvs: &[u8],
+) -> Result<Octets, AllocError>
+    requires { AllByRecursion IsSoundTlv (map tlv_view forms.now) }
+    ensures text { IfOk result (λ line. line ≡ json_line (indication_json (S.showing shows.now) name.now (map tlv_view forms.now) tlvs.now)) }
+    ensures reads_back { IfOk result (λ _. read (json_text (indication_json (S.showing shows.now) name.now (map tlv_view forms.now) tlvs.now)) ≡ Some (indication_json (S.showing shows.now) name.now (map tlv_view forms.now) tlvs.now)) }
+{
+    let members = indication_members(alloc, shows, name, forms, tlvs)?;
+    object_line(alloc, members)
+}
+
+fn indication_members<S: Shows>(
+    alloc: Global,
+    shows: &S,
+    name: &Text,
+    forms: &[TlvShape],
+    tlvs: &[u8],
+) -> Result<Map<String, Value>, AllocError>
+    requires { AllByRecursion IsSoundTlv (map tlv_view forms.now) }
+    ensures { IfOk result (λ members. members_view members.entries ≡ indication_members (S.showing shows.now) name.now (map tlv_view forms.now) tlvs.now) }
+{
+    let mut members = Map::new(alloc);
+    put_tlvs(alloc, shows, false, forms, tlvs, &mut members)?;
+    let name = Value::try_from_str(alloc, name.as_str())?;
+    put(&mut members, alloc, "indication", name)?;
+    Ok(members)
+}
+
+fn line_of<S: Shows>(
+    alloc: Global,
+    shows: &S,
+    forms: &[TlvShape],
+    tlvs: &[u8],
+    outcome: Outcome,
+) -> Result<Octets, AllocError>
+    requires { AllByRecursion IsSoundTlv (map tlv_view forms.now) }
+    ensures text { IfOk result (λ line. line ≡ json_line (answer_by (S.showing shows.now) (map tlv_view forms.now) tlvs.now outcome)) }
+    ensures reads_back { IfOk result (λ _. read (json_text (answer_by (S.showing shows.now) (map tlv_view forms.now) tlvs.now outcome)) ≡ Some (answer_by (S.showing shows.now) (map tlv_view forms.now) tlvs.now outcome)) }
+{
+    let members = answer_members(alloc, shows, forms, tlvs, outcome)?;
+    object_line(alloc, members)
+}
+
+fn answer_members<S: Shows>(
+    alloc: Global,
+    shows: &S,
+    forms: &[TlvShape],
+    tlvs: &[u8],
+    outcome: Outcome,
+) -> Result<Map<String, Value>, AllocError>
+    requires { AllByRecursion IsSoundTlv (map tlv_view forms.now) }
+    ensures { IfOk result (λ members. members_view members.entries ≡ answer_members (S.showing shows.now) (map tlv_view forms.now) tlvs.now outcome) }
+{
+    let mut members = Map::new(alloc);
+    put_tlvs(alloc, shows, true, forms, tlvs, &mut members)?;
+    put_ending(alloc, ending_of(outcome), &mut members)?;
+    Ok(members)
+}
+
+fn ending_of(outcome: Outcome) -> Ending
+    ensures { result ≡ ending_of outcome }
+{
+    if outcome.status == 0 {
+        Ending::Success
+    } else {
+        Ending::Denied(u32::from(outcome.error))
+    }
+}
