@@ -1,5 +1,5 @@
 -- Whoever is dropped was dropped by its device's proxy. Lists of events have the newest first.
-use Rattle.std.proofs.Common.{◌≡◌, ℕ, ◌+◌, ◌<◌, ◌≤◌, Bool, true, false, cond, ◌&&◌, ◌==◌, nat_lt, List, [], ◌∷◌, ◌++◌, length, refl, ap, sym, ◌∙◌, subst, arith, Option, Some, None}
+use Rattle.std.proofs.Common.{◌≡◌, ℕ, ◌+◌, ◌<◌, ◌≤◌, Bool, true, false, not, cond, ◌&&◌, ◌==◌, nat_lt, List, [], ◌∷◌, ◌++◌, length, refl, ap, sym, ◌∙◌, subst, arith, Option, Some, None}
 use Rattle.std.proofs.lemmas.Bool.{eqb-true}
 use Rattle.std.proofs.lemmas.Bool.Decides.{nat_tests}
 use Rattle.kit_bytes.proofs.Lists.{all_push, all_filter}
@@ -16,7 +16,7 @@ use Rattle.proxy_history.specs.Adding.{IsOrderly}
 use Rattle.many_history.specs.Events.{ManyEvent, Joined, Piece, Left, Took, ModemPiece, ModemGone, ModemBack, ModemTook, Now}
 use Rattle.many_history.specs.Devices.{Devices, choice_of_cut, choice_on}
 use Rattle.many_history.specs.Many.{Place, Undecided, At, Seat, place_of, placed, without, in_pieces, says, arrival, events_if, only_at, on_choice, on_piece, on_leaving, on_taking, parts, joined_if, chosen_if, said_by, seated, refused_unless, there, ended, is_there_at, names_in, own_after, seats_before, many, own}
-use Rattle.many_history.specs.Seated.{is_at, sits}
+use Rattle.many_history.specs.Seated.{is_at, sits, IsOfDevice}
 use Rattle.many_history.specs.Coming.{AreSound}
 use Rattle.many_history.proofs.There.{seats_are_there}
 use Rattle.many_history.proofs.Places.{placed_of}
@@ -162,7 +162,56 @@ module _ {Known : Type 0} (s : Devices Known) (Asks : ℕ → Request → List F
       event_drops (ModemTook e count) d name sat gone = one_drops e (one.ModemTook count) (λ n. refl) d name sat gone
       event_drops (Now time) d name sat gone = dropped_or_there (s.protocol d) (Asks d) (O d) name (one.Now time) (events d) refl (were d name sat) gone
 
-  -- ---- who hasn't chosen ----
+  -- ---- what holds of each place ----
+
+  module _ (P : Place → Type 0) (begins : P (Undecided [])) (goes_on : (stream : List ℕ) → choice_on s stream ≡ None → P (Undecided stream)) (chooses : (d name : ℕ) → d < s.count → P (At d name)) where
+    hold_chosen : (choice : Option ℕ) (c : ℕ) (stream : List ℕ) (names : ℕ → ℕ) (seats : List Seat) → choice_on s stream ≡ choice → Hold P seats → Hold P (chosen_if choice c stream names seats)
+    hold_chosen None c stream names seats is all = all_placed P c (Undecided stream) seats (goes_on stream is) all
+    hold_chosen (Some d) c stream names seats is all = all_placed P c (At d (names d + 1)) seats (chooses d (names d + 1) (chosen_is_there stream d is)) all
+
+    hold_said : (place : Option Place) (c : ℕ) (piece : List ℕ) (names : ℕ → ℕ) (seats : List Seat) → Hold P seats → Hold P (said_by s place c piece names seats)
+    hold_said None c piece names seats all = all
+    hold_said (Some (Undecided before)) c piece names seats all = hold_chosen (choice_on s (before ++ piece)) c (before ++ piece) names seats refl all
+    hold_said (Some (At d name)) c piece names seats all = all
+
+    hold_joined : (b : Bool) (c : ℕ) (seats : List Seat) → Hold P seats → Hold P (joined_if b c seats)
+    hold_joined true c seats all = all_push (λ (seat : Seat). P seat.place) seats (record { conn = c; place = Undecided [] }) all begins
+    hold_joined false c seats all = all
+
+    hold_seated : (event : ManyEvent) (names : ℕ → ℕ) (seats : List Seat) → Hold P seats → Hold P (seated s event names seats)
+    hold_seated (Joined c) names seats all = hold_joined (nat_lt (length seats) s.limit) c seats all
+    hold_seated (Piece c bytes) names seats all = hold_said (place_of c seats) c bytes names seats all
+    hold_seated (Left c) names seats all = all_without P c seats all
+    hold_seated _ names seats all = all
+
+    hold_seats : (events : List ManyEvent) → Hold P (many s events).seats
+    unfolding many
+    hold_seats [] = tt
+    hold_seats (event ∷ events) =
+        let m = many s events in
+        all_filter (λ (seat : Seat). P seat.place) (λ (seat : Seat). is_there_at s (own_after s event m) seat.place) (seats_before s event m) (hold_seated event (names_in m.own) m.seats (hold_seats events))
+
+    hold_ended : (event : ManyEvent) (events : List ManyEvent) → (let m = many s events in Hold P (ended (is_there_at s (own_after s event m)) (seats_before s event m)))
+    hold_ended event events =
+        let m = many s events in
+        all_filter (λ (seat : Seat). P seat.place) (λ (seat : Seat). not (is_there_at s (own_after s event m) seat.place)) (seats_before s event m) (hold_seated event (names_in m.own) m.seats (hold_seats events))
+
+    hold_dropped : (events : List ManyEvent) → Hold P (many s events).dropped
+    unfolding many
+    hold_dropped [] = tt
+    hold_dropped (Joined c ∷ events) = by (nat_lt (length (many s events).seats) s.limit)
+      where
+        by : (b : Bool) → (let m = many s events in Hold P (refused_unless b c ++ ended (is_there_at s (own_after s (Joined c) m)) (seats_before s (Joined c) m)))
+        by true = hold_ended (Joined c) events
+        by false = (begins, hold_ended (Joined c) events)
+    hold_dropped (Piece c bytes ∷ events) = hold_ended (Piece c bytes) events
+    hold_dropped (Left c ∷ events) = hold_ended (Left c) events
+    hold_dropped (Took c count ∷ events) = hold_ended (Took c count) events
+    hold_dropped (ModemPiece d bytes ∷ events) = hold_ended (ModemPiece d bytes) events
+    hold_dropped (ModemGone d ∷ events) = hold_ended (ModemGone d) events
+    hold_dropped (ModemBack d ∷ events) = hold_ended (ModemBack d) events
+    hold_dropped (ModemTook d count ∷ events) = hold_ended (ModemTook d count) events
+    hold_dropped (Now time ∷ events) = hold_ended (Now time) events
 
   abbrev IsUnchosen : Place → Type 0
   IsUnchosen (Undecided bytes) = choice_on s bytes ≡ None
@@ -172,31 +221,12 @@ module _ {Known : Type 0} (s : Devices Known) (Asks : ℕ → Request → List F
   unfolding cut_from
   nothing_said = ap (λ (b : Bool). let o : Option ℕ = cond b (Some 0) None in o) T.begins
 
-  chosen_unchosen : (choice : Option ℕ) (c : ℕ) (stream : List ℕ) (names : ℕ → ℕ) (seats : List Seat) → choice_on s stream ≡ choice → Hold IsUnchosen seats → Hold IsUnchosen (chosen_if choice c stream names seats)
-  chosen_unchosen None c stream names seats is all = all_placed IsUnchosen c (Undecided stream) seats is all
-  chosen_unchosen (Some d) c stream names seats is all = all_placed IsUnchosen c (At d (names d + 1)) seats tt all
-
-  said_unchosen : (place : Option Place) (c : ℕ) (piece : List ℕ) (names : ℕ → ℕ) (seats : List Seat) → Hold IsUnchosen seats → Hold IsUnchosen (said_by s place c piece names seats)
-  said_unchosen None c piece names seats all = all
-  said_unchosen (Some (Undecided before)) c piece names seats all = chosen_unchosen (choice_on s (before ++ piece)) c (before ++ piece) names seats refl all
-  said_unchosen (Some (At d name)) c piece names seats all = all
-
-  joined_unchosen : (b : Bool) (c : ℕ) (seats : List Seat) → Hold IsUnchosen seats → Hold IsUnchosen (joined_if b c seats)
-  joined_unchosen true c seats all = all_push (λ (seat : Seat). IsUnchosen seat.place) seats (record { conn = c; place = Undecided [] }) all nothing_said
-  joined_unchosen false c seats all = all
-
-  seated_unchosen : (event : ManyEvent) (names : ℕ → ℕ) (seats : List Seat) → Hold IsUnchosen seats → Hold IsUnchosen (seated s event names seats)
-  seated_unchosen (Joined c) names seats all = joined_unchosen (nat_lt (length seats) s.limit) c seats all
-  seated_unchosen (Piece c bytes) names seats all = said_unchosen (place_of c seats) c bytes names seats all
-  seated_unchosen (Left c) names seats all = all_without IsUnchosen c seats all
-  seated_unchosen _ names seats all = all
-
   unchosen_seats : (events : List ManyEvent) → Hold IsUnchosen (many s events).seats
-  unfolding many
-  unchosen_seats [] = tt
-  unchosen_seats (event ∷ events) =
-      let m = many s events in
-      all_filter (λ (seat : Seat). IsUnchosen seat.place) (λ (seat : Seat). is_there_at s (own_after s event m) seat.place) (seats_before s event m) (seated_unchosen event (names_in m.own) m.seats (unchosen_seats events))
+  unchosen_seats events = hold_seats IsUnchosen nothing_said (λ stream none. none) (λ d name there. tt) events
+
+  -- whoever was dropped was at a device that there is
+  pub dropped_of : (events : List ManyEvent) (c d name : ℕ) → place_of c (many s events).dropped ≡ Some (At d name) → d < s.count
+  dropped_of events c d name at = placed_of (IsOfDevice s.count) c (many s events).dropped (At d name) (hold_dropped (IsOfDevice s.count) tt (λ stream none. tt) (λ e n there. there) events) at
 
   -- ---- no two have one place ----
 
