@@ -8,4 +8,5 @@ mod texts;
 
 pub use answer::qmi_text;
 pub use print::{print_field, print_titled};
-pub use shown::service_word;
+pub use shown::{Shown, service_word, shown_for, word};
+pub use texts::push_address;

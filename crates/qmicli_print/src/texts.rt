@@ -24,9 +24,9 @@ pub fn push_number(
     push_worded(text, number, wording.shown(word(shown, number)))
 }
 
-// Adds a number as an IPv4 address, the top byte first.
+/// Adds a number as an IPv4 address, the top byte first.
 #[tactic(auto, unfolding(crate::specs::Texts::address_text))]
-fn push_address(text: &mut Octets, number: u64) -> Result<(), AllocError>
+pub fn push_address(text: &mut Octets, number: u64) -> Result<(), AllocError>
     ensures { OnOk result (text.new ≡ text.old ++ address_text number) }
 {
     let address = [

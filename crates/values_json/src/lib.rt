@@ -17,6 +17,6 @@ pub use laws::{
     words_stand_beside,
 };
 pub use lines::object_line;
-pub use shows::{Plainly, Shows};
+pub use shows::{AsPrinted, Plainly, Shows};
 pub use texts::put_hexadecimal;
 pub use values::{json_of, put_field};

@@ -1,6 +1,7 @@
-ghost use Rattle.values_json.specs.Showing.{plainly};
+ghost use Rattle.values_json.specs.Showing.{by_qmicli, plainly};
 
 use kit_bytes::Octets;
+use qmicli_print::{push_address, shown_for, word};
 use std::alloc::{AllocError, Global};
 
 /// What a printed text shows of the fields of a name beside or in place of their values.
@@ -37,5 +38,30 @@ impl Shows for Plainly {
 
     fn has_digits(&self, _name: &str) -> bool {
         false
+    }
+}
+
+/// As `qmicli` prints them: with a word, or an IPv4 address.
+#[derive(Clone, Copy, Debug)]
+pub struct AsPrinted;
+
+impl Shows for AsPrinted {
+    ghost showing = { λ _. by_qmicli };
+
+    fn word(&self, alloc: Global, name: &str, number: u64) -> Result<Option<Octets>, AllocError> {
+        let shown = shown_for(name);
+        if shown.is_address() {
+            let mut address = Octets::new(alloc);
+            push_address(&mut address, number)?;
+            return Ok(Some(address));
+        }
+        match word(shown, number) {
+            Some(word) => Ok(Some(Octets::from_slice(alloc, word.as_bytes())?)),
+            None => Ok(None),
+        }
+    }
+
+    fn has_digits(&self, name: &str) -> bool {
+        shown_for(name).is_bytes()
     }
 }
