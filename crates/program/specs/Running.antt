@@ -16,9 +16,13 @@ use Rattle.kit_bytes.specs.declared.Kind.{Kind}
 use Rattle.kit_bytes.specs.declared.Kind.TheVariants as kind
 use Rattle.device_core.specs.declared.plan.QmiPlan.{QmiPlan}
 use Rattle.mbim_session.specs.declared.plan.MbimPlan.{MbimPlan}
+use Rattle.qmi_services.specs.declared.answers.QmiEnd.{QmiEnd}
+use Rattle.tunnel_session.specs.declared.ends.TunnelEnd.{TunnelEnd}
 use Rattle.tool_words.specs.declared.command.ToolCommand.{ToolCommand}
 use Rattle.tool_words.specs.declared.command.ToolCommand.TheVariants.{Qmicli, Mbimcli, PduSubmit, Describe, Proxy, Simulator, Pump, Rig, Transparency, Dissect, Version}
 use Rattle.tool_words.specs.declared.fault.UsageKind.{UsageKind}
+use Rattle.tool_words.specs.declared.form.AnswerForm.{AnswerForm}
+use Rattle.tool_words.specs.declared.form.AnswerForm.TheVariants as form
 use Rattle.tool_words.specs.declared.link.LinkSettings.{LinkSettings}
 use Rattle.tool_words.specs.declared.mbimcli.MbimTask.{MbimTask}
 use Rattle.tool_words.specs.declared.qmicli.QmiTask.{QmiTask}
@@ -30,6 +34,7 @@ use Rattle.tool_runs.specs.Asking as asking
 use Rattle.tool_runs.specs.Qmi.{qmi_asked}
 use Rattle.tool_runs.specs.Mbim.{mbim_asked}
 use Rattle.tool_runs.specs.Tunnel.{tunnel_asked}
+use Rattle.tool_runs.specs.Json.{qmi_json, tunnel_json}
 use Rattle.tool_runs.specs.Describing.{Describes}
 use Rattle.dissect.specs.Tables.{Dissects}
 use Rattle.sim_keeping.specs.Keeping.{KeepsOrLacksMemory}
@@ -94,15 +99,25 @@ abbrev pub mbim_plan : MbimTask → MbimPlan
 mbim_plan task = record { device = task.device; proxied = task.link.proxied; close = task.close; timeout = task.link.timeout; request = task.request }
 
 -- a QMI modem is asked itself, or inside an MBIM modem
-abbrev pub AsksQmi : Kind → (decode : Bool) → QmiPlan → (path : Path) → asking.Told → asking.Told → Status → Type 0
-AsksQmi kind.Qmi decode plan path before after result = Asks path (qmi_asked decode plan) before after result
-AsksQmi kind.Mbim decode plan path before after result = Asks path (tunnel_asked decode plan) before after result
+abbrev pub itself_asked : AnswerForm → QmiPlan → Asked QmiEnd
+itself_asked form.Lines plan = qmi_asked false plan
+itself_asked form.Decoded plan = qmi_asked true plan
+itself_asked form.Json plan = qmi_json plan
+
+abbrev pub inside_asked : AnswerForm → QmiPlan → Asked TunnelEnd
+inside_asked form.Lines plan = tunnel_asked false plan
+inside_asked form.Decoded plan = tunnel_asked true plan
+inside_asked form.Json plan = tunnel_json plan
+
+abbrev pub AsksQmi : Kind → AnswerForm → QmiPlan → (path : Path) → asking.Told → asking.Told → Status → Type 0
+AsksQmi kind.Qmi form plan path before after result = Asks path (itself_asked form plan) before after result
+AsksQmi kind.Mbim form plan path before after result = Asks path (inside_asked form plan) before after result
 
 -- ---- what the words ask for ----
 
 -- a tool asks a modem, makes short messages or describes a file, a proxy or a simulated modem serves, one is kept running, a pump passes on, a rig runs a core on the bench, or a tool alone, a captured stream is shown, and the version is printed
 abbrev pub RunsCommand : ToolCommand → Told → Told → Status → Type 0
-RunsCommand (Qmicli task) before after result = AsksQmi task.link.kind task.decode (qmi_plan task) (way_to task.device task.link) (of_tool before) (of_tool after) result
+RunsCommand (Qmicli task) before after result = AsksQmi task.link.kind task.form (qmi_plan task) (way_to task.device task.link) (of_tool before) (of_tool after) result
 RunsCommand (Mbimcli task) before after result = Asks (way_to task.device task.link) (mbim_asked task.decode (mbim_plan task)) (of_tool before) (of_tool after) result
 RunsCommand (PduSubmit number text reference) before after result = EndsAs status_of result (λ ends. PrintsText (hex_lines (messages number text reference)) before.out ends after.out)
 RunsCommand (Describe path) before after result = EndsAs status_of result (λ ends. Describes (encode_utf8_all path) before.files after.files before.out ends after.out)

@@ -11,7 +11,7 @@ ghost use Rattle.tool_runs.specs.Describing.{Describes};
 ghost use Rattle.tool_runs.specs.Qmi.{qmi_asked};
 ghost use Rattle.tool_runs.specs.Mbim.{mbim_asked};
 ghost use Rattle.tool_runs.specs.Tunnel.{tunnel_asked};
-ghost use Rattle.program.specs.Running.{Asks, AsksQmi, way_to, qmi_plan, mbim_plan};
+ghost use Rattle.program.specs.Running.{Asks, AsksQmi, inside_asked, itself_asked, way_to, qmi_plan, mbim_plan};
 ghost use Rattle.program.specs.Status.{IsOfTool, EndsAs, status_of};
 
 use crate::status::Status;
@@ -25,8 +25,10 @@ use mbim_session::MbimPlan;
 use modem_ways::Way;
 use sms_print::Decoding;
 use std::alloc::{AllocError, Global};
-use tool_runs::{Session, TunnelPlan, ask, describe, mbim_decoding, qmi_decoding, submit};
-use tool_words::{LinkSettings, MbimTask, QmiTask};
+use tool_runs::{
+    JsonPlan, JsonTunnelPlan, Session, TunnelPlan, ask, describe, mbim_decoding, submit,
+};
+use tool_words::{AnswerForm, LinkSettings, MbimTask, QmiTask};
 
 // The way of a tool to the device of its modem.
 fn way_to(alloc: Global, device: &PathText, settings: &LinkSettings) -> Result<Way, AllocError>
@@ -50,7 +52,7 @@ pub fn ask_qmi<O: Sink, L: Link, P: Spawner>(
     link: &mut L,
     spawner: &mut P,
 ) -> Status
-    ensures asks { AsksQmi task.link.kind task.decode (qmi_plan task) (way_to task.device task.link)
+    ensures asks { AsksQmi task.link.kind task.form (qmi_plan task) (way_to task.device task.link)
         (record { link = L.calls link.old; spawner = P.calls spawner.old; out = O.taken out.old; made = together (L.made link.old) (O.made out.old) })
         (record { link = L.calls link.new; spawner = P.calls spawner.new; out = O.taken out.new; made = together (L.made link.new) (O.made out.new) })
         result }
@@ -68,7 +70,7 @@ pub fn ask_qmi<O: Sink, L: Link, P: Spawner>(
         timeout: settings.timeout,
         request: task.request,
     };
-    ask_of_kind(alloc, plan, &settings, task.decode, out, link, spawner)
+    ask_of_kind(alloc, plan, &settings, task.form, out, link, spawner)
 }
 
 // Asks a QMI modem at a device of its own, or inside the MBIM modem at one.
@@ -76,12 +78,12 @@ fn ask_of_kind<O: Sink, L: Link, P: Spawner>(
     alloc: Global,
     plan: QmiPlan,
     settings: &LinkSettings,
-    decode: bool,
+    form: AnswerForm,
     out: &mut O,
     link: &mut L,
     spawner: &mut P,
 ) -> Status
-    ensures asks { AsksQmi settings.now.kind decode plan (way_to plan.device settings.now)
+    ensures asks { AsksQmi settings.now.kind form plan (way_to plan.device settings.now)
         (record { link = L.calls link.old; spawner = P.calls spawner.old; out = O.taken out.old; made = together (L.made link.old) (O.made out.old) })
         (record { link = L.calls link.new; spawner = P.calls spawner.new; out = O.taken out.new; made = together (L.made link.new) (O.made out.new) })
         result }
@@ -90,17 +92,91 @@ fn ask_of_kind<O: Sink, L: Link, P: Spawner>(
     ensures start_fault { result ≡ Status.StartFault → Rose (P.faults spawner.old) (P.faults spawner.new) }
     ensures write_fault { result ≡ Status.WriteFault → Rose (O.faults out.old) (O.faults out.new) }
 {
-    let decoding = qmi_decoding(decode);
     match settings.kind {
-        Kind::Qmi => {
-            let device = &plan.device;
+        Kind::Qmi => ask_itself(alloc, plan, settings, form, out, link, spawner),
+        Kind::Mbim => ask_inside(alloc, plan, settings, form, out, link, spawner),
+    }
+}
+
+// Asks a QMI modem at a device of its own.
+fn ask_itself<O: Sink, L: Link, P: Spawner>(
+    alloc: Global,
+    plan: QmiPlan,
+    settings: &LinkSettings,
+    form: AnswerForm,
+    out: &mut O,
+    link: &mut L,
+    spawner: &mut P,
+) -> Status
+    ensures asks { Asks (way_to plan.device settings.now) (itself_asked form plan)
+        (record { link = L.calls link.old; spawner = P.calls spawner.old; out = O.taken out.old; made = together (L.made link.old) (O.made out.old) })
+        (record { link = L.calls link.new; spawner = P.calls spawner.new; out = O.taken out.new; made = together (L.made link.new) (O.made out.new) })
+        result }
+    ensures own { IsOfTool result }
+    ensures link_fault { result ≡ Status.LinkFault → LinkFails (way_to plan.device settings.now) L.faults L.open_faults link.old link.new }
+    ensures start_fault { result ≡ Status.StartFault → Rose (P.faults spawner.old) (P.faults spawner.new) }
+    ensures write_fault { result ≡ Status.WriteFault → Rose (O.faults out.old) (O.faults out.new) }
+{
+    match form {
+        AnswerForm::Lines => {
+            let (device, decoding) = (&plan.device, Decoding::Nothing);
             let status = ask_device(alloc, device, settings, &plan, decoding, out, link, spawner);
             drop(plan);
             status
         }
-        Kind::Mbim => {
+        AnswerForm::Decoded => {
+            let (device, decoding) = (&plan.device, Decoding::Each);
+            let status = ask_device(alloc, device, settings, &plan, decoding, out, link, spawner);
+            drop(plan);
+            status
+        }
+        AnswerForm::Json => {
+            let plan = JsonPlan { qmi: plan };
+            let (device, decoding) = (&plan.qmi.device, Decoding::Nothing);
+            let status = ask_device(alloc, device, settings, &plan, decoding, out, link, spawner);
+            drop(plan);
+            status
+        }
+    }
+}
+
+// Asks a QMI modem inside the MBIM modem at a device.
+fn ask_inside<O: Sink, L: Link, P: Spawner>(
+    alloc: Global,
+    plan: QmiPlan,
+    settings: &LinkSettings,
+    form: AnswerForm,
+    out: &mut O,
+    link: &mut L,
+    spawner: &mut P,
+) -> Status
+    ensures asks { Asks (way_to plan.device settings.now) (inside_asked form plan)
+        (record { link = L.calls link.old; spawner = P.calls spawner.old; out = O.taken out.old; made = together (L.made link.old) (O.made out.old) })
+        (record { link = L.calls link.new; spawner = P.calls spawner.new; out = O.taken out.new; made = together (L.made link.new) (O.made out.new) })
+        result }
+    ensures own { IsOfTool result }
+    ensures link_fault { result ≡ Status.LinkFault → LinkFails (way_to plan.device settings.now) L.faults L.open_faults link.old link.new }
+    ensures start_fault { result ≡ Status.StartFault → Rose (P.faults spawner.old) (P.faults spawner.new) }
+    ensures write_fault { result ≡ Status.WriteFault → Rose (O.faults out.old) (O.faults out.new) }
+{
+    match form {
+        AnswerForm::Lines => {
             let plan = TunnelPlan { qmi: plan };
-            let device = &plan.qmi.device;
+            let (device, decoding) = (&plan.qmi.device, Decoding::Nothing);
+            let status = ask_device(alloc, device, settings, &plan, decoding, out, link, spawner);
+            drop(plan);
+            status
+        }
+        AnswerForm::Decoded => {
+            let plan = TunnelPlan { qmi: plan };
+            let (device, decoding) = (&plan.qmi.device, Decoding::Each);
+            let status = ask_device(alloc, device, settings, &plan, decoding, out, link, spawner);
+            drop(plan);
+            status
+        }
+        AnswerForm::Json => {
+            let plan = JsonTunnelPlan { qmi: plan };
+            let (device, decoding) = (&plan.qmi.device, Decoding::Nothing);
             let status = ask_device(alloc, device, settings, &plan, decoding, out, link, spawner);
             drop(plan);
             status

@@ -2,5 +2,6 @@ pub mod Asking
 pub mod Qmi
 pub mod Mbim
 pub mod Tunnel
+pub mod Json
 pub mod Describing
 pub mod Calling

@@ -3,6 +3,7 @@
 
 mod asking;
 mod describing;
+mod json;
 mod laws;
 mod mbim;
 mod qmi;
@@ -13,9 +14,9 @@ mod tunnel;
 
 pub use asking::ask;
 pub use describing::describe;
+pub use json::{JsonPlan, JsonTunnelPlan};
 pub use laws::links_are_closed_once;
 pub use mbim::mbim_decoding;
-pub use qmi::qmi_decoding;
 pub use run_end::RunEnd;
 pub use session::{Refusal, Session};
 pub use submitting::submit;

@@ -1,8 +1,7 @@
 ghost use Rattle.device_core.specs.Session.{Session as QmiSession};
 ghost use Rattle.qmicli_print.specs.Answer.{end_text};
 ghost use Rattle.sms_answers.specs.Qmi.{qmi_bodies};
-ghost use Rattle.std.specs.Prelude.{◌≡◌};
-ghost use Rattle.tool_runs.specs.Qmi.{qmi_decoding, refused};
+ghost use Rattle.tool_runs.specs.Qmi.{refused};
 
 use crate::session::{Refusal, Session};
 use device_core::{QmiPlan, qmi_session};
@@ -12,7 +11,6 @@ use link_session::SessionFault;
 use qmi_services::{QmiAnswer, QmiEnd};
 use qmicli_print::qmi_text;
 use sms_answers::qmi_bodies;
-use sms_print::Decoding;
 use std::alloc::{AllocError, Global};
 
 impl Session for QmiPlan {
@@ -46,16 +44,5 @@ impl Session for QmiPlan {
 
     fn bodies(alloc: Global, end: &QmiEnd) -> Result<Vec<Octets>, AllocError> {
         qmi_bodies(alloc, end)
-    }
-}
-
-/// What is told of a message that was read, if that is wanted.
-pub fn qmi_decoding(decode: bool) -> Decoding
-    ensures { result ≡ qmi_decoding decode }
-{
-    if decode {
-        Decoding::Each
-    } else {
-        Decoding::Nothing
     }
 }

@@ -11,6 +11,7 @@ use Rattle.kit_bytes.specs.declared.Kind.TheVariants as kind
 use Rattle.tool_words.specs.Answers.{Answers, or_value}
 use Rattle.tool_words.specs.Command.{command_in, read_if_named, tool_app, tool_asked, tool_named}
 use Rattle.tool_words.specs.Dissect.{dissect_asked, dissect_if_given, dissect_spelling, dissect_values}
+use Rattle.tool_words.specs.Form.{form_of}
 use Rattle.tool_words.specs.Given.{is_given, value_given, word_given}
 use Rattle.tool_words.specs.Link.{device_in, link_in}
 use Rattle.tool_words.specs.MbimCommands.{mbim_line, mbim_spelling, reads_messages as mbim_reads}
@@ -33,6 +34,7 @@ use Rattle.tool_words.specs.declared.dissect.DissectOption.TheVariants as dissec
 use Rattle.tool_words.specs.declared.fault.UsageKind.{UsageKind}
 use Rattle.tool_words.specs.declared.fault.UsageKind.TheVariants as usage
 use Rattle.tool_words.specs.declared.fault.WordFault.{WordFault}
+use Rattle.tool_words.specs.declared.form.AnswerForm.{AnswerForm}
 use Rattle.tool_words.specs.declared.link.LinkSettings.{LinkSettings}
 use Rattle.tool_words.specs.declared.mbim_commands.MbimCommand.{MbimCommand}
 use Rattle.tool_words.specs.declared.mbimcli.MbimSetting.TheVariants as mbim_setting
@@ -145,28 +147,30 @@ submitted-fits reference value = Fits-each _ (option_and_then (split_at 44) valu
 described-fits : (file : Option (List ℕ)) → Fits (described file)
 described-fits file = Fits-map _ (option_and_then path_in file) (λ path. tt)
 
-qmi_asked-fits : (link : LinkSettings) (cid : Option ℕ) (decode : Bool) (command : QmiCommand) (rows : List Row) → Fits (qmi_asked link cid decode command rows)
+qmi_asked-fits : (link : LinkSettings) (cid : Option ℕ) (form : AnswerForm) (command : QmiCommand) (rows : List Row) → Fits (qmi_asked link cid form command rows)
 unfolding qmi_asked
-qmi_asked-fits link cid decode command rows =
+qmi_asked-fits link cid form command rows =
     Fits-each _ (device_in rows) (λ named _.
     Fits-each _ named (λ device _.
     Fits-each _ ((qmi_line command).request (value_given qmi_spelling rows command)) (λ request _. tt)))
 
-asked_for-fits : (link : LinkSettings) (cid : Option ℕ) (decode : Bool) (reference : ℕ) (command : QmiCommand) (rows : List Row) → Fits (asked_for link cid decode reference command rows)
+asked_for-fits : (link : LinkSettings) (cid : Option ℕ) (form : AnswerForm) (reference : ℕ) (command : QmiCommand) (rows : List Row) → Fits (asked_for link cid form reference command rows)
 unfolding asked_for
-asked_for-fits link cid decode reference command rows =
+asked_for-fits link cid form reference command rows =
     let value : Option (List ℕ) = value_given qmi_spelling rows command in
     let otherwise : Fits (cond (makes_messages command) (submitted reference value) (described value)) =
     cond_both (makes_messages command) (submitted reference value) (described value) Fits (λ _. submitted-fits reference value) (λ _. described-fits value)
     in
-    cond_both (qmi_asks command) (qmi_asked link cid decode command rows) (cond (makes_messages command) (submitted reference value) (described value)) Fits
-    (λ _. qmi_asked-fits link cid decode command rows) (λ _. otherwise)
+    cond_both (qmi_asks command) (qmi_asked link cid form command rows) (cond (makes_messages command) (submitted reference value) (described value)) Fits
+    (λ _. qmi_asked-fits link cid form command rows) (λ _. otherwise)
 
 asked_with-fits : (link : LinkSettings) (cid : Option ℕ) (command : QmiCommand) (rows : List Row) → Fits (asked_with link cid command rows)
 unfolding asked_with
 asked_with-fits link cid command rows =
     Fits-each _ (flag_of (is_given qmi_setting_spelling rows setting.DecodeSms) (reads_messages command)) (λ decode _.
-    Fits-each _ (reference_in (makes_messages command) (value_given qmi_setting_spelling rows setting.Reference)) (λ reference _. asked_for-fits link cid decode reference command rows))
+    Fits-each _ (flag_of (is_given qmi_setting_spelling rows setting.Json) (qmi_asks command)) (λ json _.
+    Fits-each _ (form_of decode json) (λ form _.
+    Fits-each _ (reference_in (makes_messages command) (value_given qmi_setting_spelling rows setting.Reference)) (λ reference _. asked_for-fits link cid form reference command rows))))
 
 qmicli-fits : (command : QmiCommand) (rows : List Row) → Fits (qmicli_values command rows)
 unfolding qmicli_values

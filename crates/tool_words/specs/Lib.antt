@@ -1,5 +1,6 @@
 pub mod Spelling
 pub mod Reading
+pub mod Form
 pub mod Given
 pub mod Sole
 pub mod Values

@@ -5,6 +5,7 @@ use Rattle.clap.specs.Walk.{Row}
 use Rattle.kit_bytes.specs.declared.Kind.{Kind}
 use Rattle.kit_bytes.specs.declared.Kind.TheVariants.{Mbim, Qmi}
 use Rattle.sms_pdu.specs.Parts.{can_be_sent}
+use Rattle.tool_words.specs.Form.{form_of}
 use Rattle.tool_words.specs.Given.{is_given, value_given}
 use Rattle.tool_words.specs.Link.{device_in, link_in}
 use Rattle.tool_words.specs.ModemTools.{modem_tool, modem_tool_asked}
@@ -14,6 +15,7 @@ use Rattle.tool_words.specs.Values.{◌>>=◌, flag_of, number_8_in, number_with
 use Rattle.tool_words.specs.declared.command.ToolCommand.{ToolCommand}
 use Rattle.tool_words.specs.declared.command.ToolCommand.TheVariants.{Describe, PduSubmit, Qmicli}
 use Rattle.tool_words.specs.declared.fault.UsageKind.{UsageKind}
+use Rattle.tool_words.specs.declared.form.AnswerForm.{AnswerForm}
 use Rattle.tool_words.specs.declared.link.LinkSettings.{LinkSettings}
 use Rattle.tool_words.specs.declared.qmi_commands.QmiCommand.{QmiCommand}
 use Rattle.tool_words.specs.declared.qmicli.QmiSetting.{QmiSetting}
@@ -21,16 +23,17 @@ use Rattle.tool_words.specs.declared.qmicli.QmiSetting.TheVariants as setting
 
 -- ---- its options ----
 
--- --device-open-mbim, --client-cid N, --client-no-release-cid, --decode-sms and --reference N, beside those of the link
+-- --device-open-mbim, --client-cid N, --client-no-release-cid, --decode-sms, --json and --reference N, beside those of the link
 abbrev pub qmi_setting_spelling : QmiSetting → Spelling
 qmi_setting_spelling setting.DeviceOpenMbim = flag (codes "device-open-mbim")
 qmi_setting_spelling setting.ClientCid = valued (codes "client-cid")
 qmi_setting_spelling setting.ClientNoReleaseCid = flag (codes "client-no-release-cid")
 qmi_setting_spelling setting.DecodeSms = flag (codes "decode-sms")
+qmi_setting_spelling setting.Json = flag (codes "json")
 qmi_setting_spelling setting.Reference = valued (codes "reference")
 
 unfoldable pub qmi_settings : List QmiSetting
-qmi_settings = setting.DeviceOpenMbim ∷ setting.ClientCid ∷ setting.ClientNoReleaseCid ∷ setting.DecodeSms ∷ setting.Reference ∷ []
+qmi_settings = setting.DeviceOpenMbim ∷ setting.ClientCid ∷ setting.ClientNoReleaseCid ∷ setting.DecodeSms ∷ setting.Json ∷ setting.Reference ∷ []
 
 unfoldable pub qmicli_app : App
 qmicli_app = modem_tool (codes "qmicli") qmi_setting_spelling qmi_settings qmi_spelling qmi_commands
@@ -55,17 +58,17 @@ reference_in makes (Some text) = if makes then number_8_in text else None
 reference_in makes None = Some 0
 
 -- the request of a command is sent to the device, which must be named
-unfoldable pub qmi_asked : LinkSettings → Option ℕ → Bool → QmiCommand → List Row → Option ToolCommand
-qmi_asked link cid decode command rows = do
+unfoldable pub qmi_asked : LinkSettings → Option ℕ → AnswerForm → QmiCommand → List Row → Option ToolCommand
+qmi_asked link cid form command rows = do
   named ← device_in rows
   device ← named
   request ← (qmi_line command).request (value_given qmi_spelling rows command)
-  Some (Qmicli (record { device = device; link = link; cid = cid; keep = is_given qmi_setting_spelling rows setting.ClientNoReleaseCid; request = request; decode = decode }))
+  Some (Qmicli (record { device = device; link = link; cid = cid; keep = is_given qmi_setting_spelling rows setting.ClientNoReleaseCid; request = request; form = form }))
 
 -- what a command asks for: a request, the messages of a text, or the tables of a file
-unfoldable pub asked_for : LinkSettings → Option ℕ → Bool → ℕ → QmiCommand → List Row → Option ToolCommand
-asked_for link cid decode reference command rows =
-    if qmi_asks command then qmi_asked link cid decode command rows
+unfoldable pub asked_for : LinkSettings → Option ℕ → AnswerForm → ℕ → QmiCommand → List Row → Option ToolCommand
+asked_for link cid form reference command rows =
+    if qmi_asks command then qmi_asked link cid form command rows
     else if makes_messages command then submitted reference (value_given qmi_spelling rows command)
     else described (value_given qmi_spelling rows command)
 
@@ -73,8 +76,10 @@ asked_for link cid decode reference command rows =
 unfoldable pub asked_with : LinkSettings → Option ℕ → QmiCommand → List Row → Option ToolCommand
 asked_with link cid command rows = do
   decode ← flag_of (is_given qmi_setting_spelling rows setting.DecodeSms) (reads_messages command)
+  json ← flag_of (is_given qmi_setting_spelling rows setting.Json) (qmi_asks command)
+  form ← form_of decode json
   reference ← reference_in (makes_messages command) (value_given qmi_setting_spelling rows setting.Reference)
-  asked_for link cid decode reference command rows
+  asked_for link cid form reference command rows
 
 -- the kind of the modem, which is MBIM where that is to carry the messages
 unfoldable pub modem_kind : List Row → Kind

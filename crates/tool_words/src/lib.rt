@@ -5,6 +5,7 @@ mod command;
 mod defaults;
 mod dissect;
 mod fault;
+mod form;
 mod given;
 mod keys;
 mod link;
@@ -26,6 +27,7 @@ mod version;
 
 pub use command::{ToolCommand, command_of};
 pub use fault::{UsageKind, WordFault};
+pub use form::AnswerForm;
 pub use link::LinkSettings;
 pub use mbim_commands::{MbimCommand, mbimcli_commands};
 pub use mbimcli::MbimTask;

@@ -5,6 +5,7 @@ ghost use Rattle.tool_words.specs.QmiCommands.{qmi_asks};
 ghost use Rattle.tool_words.specs.Qmicli.{asked_for, asked_with, described, modem_kind, qmi_asked, qmi_setting_spelling, qmi_settings, qmicli_app, qmicli_asked, qmicli_values, reference_in, submitted};
 ghost use Rattle.tool_words.specs.Values.{Gives, number_within, optional};
 
+use crate::form::{AnswerForm, form_of};
 use crate::given::{is_given, value_given};
 use crate::link::{LinkSettings, device_given, link_given};
 use crate::modem_tools::{ModemCommand, modem_tool, modem_tool_asked};
@@ -31,8 +32,7 @@ pub struct QmiTask {
     /// Whether an allocated client id is kept.
     pub keep: bool,
     pub request: QmiRequest,
-    /// Whether the messages in the answer are told in words.
-    pub decode: bool,
+    pub form: AnswerForm,
 }
 
 /// An option of `qmicli` that says how its command is run, beside those of the link.
@@ -42,14 +42,16 @@ pub enum QmiSetting {
     ClientCid,
     ClientNoReleaseCid,
     DecodeSms,
+    Json,
     Reference,
 }
 
-static QMI_SETTINGS: [QmiSetting; 5] = [
+static QMI_SETTINGS: [QmiSetting; 6] = [
     QmiSetting::DeviceOpenMbim,
     QmiSetting::ClientCid,
     QmiSetting::ClientNoReleaseCid,
     QmiSetting::DecodeSms,
+    QmiSetting::Json,
     QmiSetting::Reference,
 ];
 
@@ -62,6 +64,7 @@ impl ToolOption for QmiSetting {
             QmiSetting::ClientCid => valued("client-cid"),
             QmiSetting::ClientNoReleaseCid => flag("client-no-release-cid"),
             QmiSetting::DecodeSms => flag("decode-sms"),
+            QmiSetting::Json => flag("json"),
             QmiSetting::Reference => valued("reference"),
         }
     }
@@ -135,11 +138,11 @@ fn asking(
     alloc: Global,
     link: LinkSettings,
     cid: Option<u8>,
-    decode: bool,
+    form: AnswerForm,
     command: QmiCommand,
     matches: &ArgMatches<'_>,
 ) -> Result<ToolCommand, WordFault>
-    ensures { Gives (qmi_asked link cid decode command (rows_of (found_of matches.now))) result }
+    ensures { Gives (qmi_asked link cid form command (rows_of (found_of matches.now))) result }
 {
     let device = or_fault(device_given(alloc, matches)?)?;
     let request = request(alloc, command, value_given(matches, command))?;
@@ -150,7 +153,7 @@ fn asking(
         cid,
         keep,
         request,
-        decode,
+        form,
     }))
 }
 
@@ -160,15 +163,15 @@ fn asked_for(
     alloc: Global,
     link: LinkSettings,
     cid: Option<u8>,
-    decode: bool,
+    form: AnswerForm,
     reference: u8,
     command: QmiCommand,
     matches: &ArgMatches<'_>,
 ) -> Result<ToolCommand, WordFault>
-    ensures { Gives (asked_for link cid decode reference command (rows_of (found_of matches.now))) result }
+    ensures { Gives (asked_for link cid form reference command (rows_of (found_of matches.now))) result }
 {
     if asks(command) {
-        asking(alloc, link, cid, decode, command, matches)
+        asking(alloc, link, cid, form, command, matches)
     } else if makes_messages(command) {
         submission(alloc, reference, value_given(matches, command))
     } else {
@@ -189,9 +192,11 @@ fn asked_with(
 {
     let decode = is_given(matches, QmiSetting::DecodeSms);
     let decode = flag_of(decode, reads_messages(command))?;
+    let json = flag_of(is_given(matches, QmiSetting::Json), asks(command))?;
+    let form = form_of(decode, json)?;
     let reference = value_given(matches, QmiSetting::Reference);
     let reference = reference_in(makes_messages(command), reference)?;
-    asked_for(alloc, link, cid, decode, reference, command, matches)
+    asked_for(alloc, link, cid, form, reference, command, matches)
 }
 
 // The kind of the modem, which is MBIM where that is to carry the messages.
