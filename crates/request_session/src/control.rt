@@ -1,0 +1,105 @@
+//! Requests to service 0.
+
+ghost use Rattle.std.specs.Prelude.{◌≡◌, ◌≤◌, Ok, Err, IfOk};
+ghost use Rattle.kit_io.specs.Causes.{Rose};
+ghost use Rattle.qmi_requests.specs.declared.QmiRequest.TheVariants.{Release};
+ghost use Rattle.qmux_frame.specs.Frame.{size_of};
+ghost use Rattle.link_session.specs.Waiting.{Heard};
+ghost use Rattle.link_session.specs.Hearing.{AsksFor, IsGiven, Stands, placed_in};
+ghost use Rattle.device_core.specs.Requests.{Request, asked};
+ghost use Rattle.device_core.specs.Session.{Reads};
+ghost use Rattle.device_core.specs.Hearing.{KeepsNothing, RepliesTo};
+
+use crate::client::Client;
+use device_core::{Wanted, read, request_message};
+use link_io::Link;
+use link_session::{Found, Incoming, Reply, SessionFault, exchange};
+use qmi_requests::QmiRequest;
+use qmi_services::{QmiAnswer, service_of};
+use qmux_frame::Qmux;
+use std::alloc::Global;
+
+/// Sends a request with this number, and waits for its answer.
+fn exchange_control<L: Link>(
+    alloc: Global,
+    link: &mut L,
+    incoming: &mut Incoming<Qmux>,
+    body: &QmiRequest,
+    number: u8,
+    timeout: u16,
+) -> Result<Found, SessionFault>
+    ensures asks { (heard : Heard) → Stands size_of incoming.old heard
+        → AsksFor (asked timeout (record { body = body.now; client = 0; number = number })) KeepsNothing heard result incoming.new (L.calls link.old) (L.calls link.new) }
+    ensures given { IfOk result (IsGiven size_of incoming.new) }
+    ensures link_fault { result ≡ Err SessionFault.LinkFault → Rose (L.faults link.old) (L.faults link.new) }
+    ensures later { L.faults link.old ≤ L.faults link.new }
+    ensures later_open { L.open_faults link.old ≤ L.open_faults link.new }
+{
+    let message = request_message(alloc, body, 0, number)?;
+    let mut wanted = Wanted {
+        service: service_of(body),
+        client: 0,
+        number,
+    };
+    exchange(link, incoming, message.as_slice(), &mut wanted, timeout)
+}
+
+/// Sends a request with this number, and reads its answer.
+fn ask<L: Link>(
+    alloc: Global,
+    link: &mut L,
+    incoming: &mut Incoming<Qmux>,
+    body: &QmiRequest,
+    number: u8,
+    timeout: u16,
+) -> Result<Reply<QmiAnswer>, SessionFault>
+    ensures asks { (heard : Heard) → Stands size_of incoming.old heard
+        → RepliesTo timeout (record { body = body.now; client = 0; number = number }) heard result incoming.new (L.calls link.old) (L.calls link.new) }
+    ensures given { IfOk result (λ reply. IsGiven size_of incoming.new reply.found × Reads body.now (placed_in incoming.new reply.found) (Ok reply.answer)) }
+    ensures link_fault { result ≡ Err SessionFault.LinkFault → Rose (L.faults link.old) (L.faults link.new) }
+    ensures later { L.faults link.old ≤ L.faults link.new }
+    ensures later_open { L.open_faults link.old ≤ L.open_faults link.new }
+{
+    let found = exchange_control(alloc, link, incoming, body, number, timeout)?;
+    let answer = read(alloc, body, found.place, incoming.bytes(found))?;
+    Ok(Reply { found, answer })
+}
+
+/// Sends a request with this number, and reads its answer.
+pub(crate) fn ask_control<L: Link>(
+    alloc: Global,
+    link: &mut L,
+    incoming: &mut Incoming<Qmux>,
+    body: QmiRequest,
+    number: u8,
+    timeout: u16,
+) -> Result<Reply<QmiAnswer>, SessionFault>
+    ensures asks { (heard : Heard) → Stands size_of incoming.old heard
+        → RepliesTo timeout (record { body = body; client = 0; number = number }) heard result incoming.new (L.calls link.old) (L.calls link.new) }
+    ensures given { IfOk result (λ reply. IsGiven size_of incoming.new reply.found × Reads body (placed_in incoming.new reply.found) (Ok reply.answer)) }
+    ensures link_fault { result ≡ Err SessionFault.LinkFault → Rose (L.faults link.old) (L.faults link.new) }
+    ensures later { L.faults link.old ≤ L.faults link.new }
+    ensures later_open { L.open_faults link.old ≤ L.open_faults link.new }
+{
+    ask(alloc, link, incoming, &body, number, timeout)
+}
+
+/// Gives a client id of a service back. What the answer says isn't read.
+pub(crate) fn release<L: Link>(
+    alloc: Global,
+    link: &mut L,
+    incoming: &mut Incoming<Qmux>,
+    service: u8,
+    client: Client,
+    timeout: u16,
+) -> Result<Found, SessionFault>
+    ensures asks { (heard : Heard) → Stands size_of incoming.old heard
+        → AsksFor (asked timeout (record { body = Release service client.id; client = 0; number = client.next })) KeepsNothing heard result incoming.new (L.calls link.old) (L.calls link.new) }
+    ensures given { IfOk result (IsGiven size_of incoming.new) }
+    ensures link_fault { result ≡ Err SessionFault.LinkFault → Rose (L.faults link.old) (L.faults link.new) }
+    ensures later { L.faults link.old ≤ L.faults link.new }
+    ensures later_open { L.open_faults link.old ≤ L.open_faults link.new }
+{
+    let body = QmiRequest::Release(service, client.id);
+    exchange_control(alloc, link, incoming, &body, client.next, timeout)
+}
