@@ -19,19 +19,19 @@ events-append (Reopened ∷ later) earlier = ap (λ (l : List Event). ModemBack 
 events-append (_ ∷ later) earlier = events-append later earlier
 
 -- `Since` goes from call to call: it starts with no call, grows by one, and joins what was recorded in two spans
-pub since-starts : (now : Option (List Call)) (P : List Call → Type 0) → P [] → Since now now P
+pub since-starts : {A : Type 0} (now : Option (List A)) (P : List A → Type 0) → P [] → Since now now P
 since-starts None P p = tt
 since-starts (Some calls) P p = ([], refl, p)
 
-pub since-grows : (start before now : Option (List Call)) (call : Call) (P Q : List Call → Type 0)
-    → ((calls : List Call) → P calls → Q (call ∷ calls)) → Since start before P → Records before call now → Since start now Q
+pub since-grows : {A : Type 0} (start before now : Option (List A)) (call : A) (P Q : List A → Type 0)
+    → ((calls : List A) → P calls → Q (call ∷ calls)) → Since start before P → Records before call now → Since start now Q
 since-grows start before None call P Q more since records = tt
 since-grows start None (Some now) call P Q more since records = absurd records
 since-grows None (Some before) (Some now) call P Q more since records = absurd since
 since-grows (Some start) (Some before) (Some now) call P Q more since records = (call ∷ since.0, records ∙ ap (λ l. call ∷ l) since.1, more since.0 since.2)
 
-pub since-joins : (start before now : Option (List Call)) (P Q R : List Call → Type 0)
-    → ((earlier later : List Call) → P earlier → Q later → R (later ++ earlier)) → Since start before P → Since before now Q → Since start now R
+pub since-joins : {A : Type 0} (start before now : Option (List A)) (P Q R : List A → Type 0)
+    → ((earlier later : List A) → P earlier → Q later → R (later ++ earlier)) → Since start before P → Since before now Q → Since start now R
 since-joins start before None P Q R join first then_rest = tt
 since-joins start None (Some now) P Q R join first then_rest = absurd then_rest
 since-joins None (Some before) (Some now) P Q R join first then_rest = absurd first

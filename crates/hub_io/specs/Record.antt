@@ -41,16 +41,16 @@ events (SendModemFailed bytes ∷ calls) = ModemGone ∷ events calls
 events (Reopened ∷ calls) = ModemBack ∷ events calls
 events (_ ∷ calls) = events calls
 
--- ---- a record that grows, until its hub tells nothing any more: the newer record is None from then on ----
+-- ---- a record of calls that grows, until its hub tells nothing any more: the newer record is None from then on ----
 
 -- the calls recorded since then have this property, where the hub tells them
-abbrev pub Since : Option (List Call) → Option (List Call) → (List Call → Type 0) → Type 0
+abbrev pub Since : {A : Type 0} → Option (List A) → Option (List A) → (List A → Type 0) → Type 0
 Since old None P = Unit {0}
 Since None (Some new) P = ⊥
-Since (Some old) (Some new) P = (calls : List Call) × (new ≡ calls ++ old) × P calls
+Since {A = A} (Some old) (Some new) P = (calls : List A) × (new ≡ calls ++ old) × P calls
 
 -- this one call was recorded since then
-abbrev pub Records : Option (List Call) → Call → Option (List Call) → Type 0
+abbrev pub Records : {A : Type 0} → Option (List A) → A → Option (List A) → Type 0
 Records old call None = Unit {0}
 Records None call (Some new) = ⊥
 Records (Some old) call (Some new) = new ≡ call ∷ old
