@@ -14,11 +14,11 @@ use Rattle.proxy_serving.specs.Serving as one_serving
 use Rattle.proxy_serving.specs.Ends as one_end
 use Rattle.many_history.specs.Events.{ManyEvent}
 use Rattle.many_history.specs.Events as many_event
-use Rattle.many_serving.specs.Record.{unnamed, unnamed_call, unnamed_calls, ManyCall, events}
-use Rattle.many_serving.specs.Record as many_call
+use Rattle.many_io.specs.Record.{unnamed, unnamed_call, unnamed_calls, ManyCall, events}
+use Rattle.many_io.specs.Record as many_call
 use Rattle.many_serving.specs.Serving.{AllIsDone}
 use Rattle.many_serving.specs.Ends as several
-use Rattle.many_serving.specs.One.{call_of}
+use Rattle.many_io.specs.One.{call_of}
 use Rattle.many_serving.proofs.One.{all, calls_are, met_is, q, all_offered, done, served}
 
 -- ---- calls of which each is of the only device ----

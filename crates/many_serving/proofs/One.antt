@@ -10,10 +10,11 @@ use Rattle.hub_io.specs.Record.{Call, Told, ToldRoom, ToldModemRoom, ToldStop, N
 use Rattle.hub_io.specs.Record as one_call
 use Rattle.proxy_serving.specs.Serving as one_serving
 use Rattle.proxy_serving.specs.Ends as one_end
-use Rattle.many_serving.specs.Record.{unnamed, unnamed_call, unnamed_calls, first_of, ManyCall, events}
+use Rattle.many_io.specs.Record.{unnamed, unnamed_call, unnamed_calls, first_of, ManyCall, events}
 use Rattle.many_serving.specs.Proxy.{ManyProxy}
 use Rattle.many_serving.specs.Serving as several
-use Rattle.many_serving.specs.One.{devices_of, of_device_0, call_of, only_of}
+use Rattle.many_io.specs.One.{devices_of, of_device_0, call_of}
+use Rattle.many_serving.specs.One.{only_of}
 
 unnamed_is : (event : Event) → unnamed (of_device_0 event) ≡ event
 unnamed_is (one.Joined c) = refl

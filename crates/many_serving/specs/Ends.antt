@@ -6,7 +6,7 @@ use Rattle.hub_io.specs.declared.settings.ServeEnd.TheVariants as end
 use Rattle.hub_io.specs.declared.settings.Until.{Until}
 use Rattle.proxy_serving.specs.Serving.{turns_in, IsNoEnd, is_nobody}
 use Rattle.many_history.specs.Events.{ManyEvent, Now}
-use Rattle.many_serving.specs.Record.{ManyCall, Told, ToldStop, NextFailed, HungUp, events, unnamed_calls}
+use Rattle.many_io.specs.Record.{ManyCall, Told, ToldStop, NextFailed, HungUp, events, unnamed_calls}
 use Rattle.many_serving.specs.Proxy.{ManyProxy}
 use Rattle.many_serving.specs.Serving.{AllIsDone, AllIsOffered, Serves}
 
@@ -23,14 +23,14 @@ is_idle p None past = false
 is_idle p (Some limit) past = is_nobody (p.present past) && nat_le (emptied_at p past + limit) (p.time past)
 
 -- the first so many devices are away
-abbrev pub are_away : ManyProxy → ℕ → List ManyEvent → Bool
-are_away p zero past = true
-are_away p (suc count) past = p.is_away count past && are_away p count past
+abbrev pub are_away : (ℕ → Bool) → ℕ → Bool
+are_away away zero = true
+are_away away (suc count) = away count && are_away away count
 
 -- all devices are away, where their loss is to end the serving
 abbrev pub is_lost : ManyProxy → Bool → List ManyEvent → Bool
 is_lost p false past = false
-is_lost p true past = are_away p p.devices past
+is_lost p true past = are_away (λ d. p.is_away d past) p.devices
 
 -- it is over since nobody has been there for long enough
 abbrev pub IsEmptied : ManyProxy → Until → List ManyEvent → Type 0

@@ -3,7 +3,7 @@ use Rattle.std.specs.Prelude.{◌≡◌, ◌⊎◌, ℕ, zero, suc, ◌+◌, ◌
 use Rattle.std.specs.List.{AllByRecursion}
 use Rattle.proxy_serving.specs.Serving.{IsFront, taken_by, is_blocked, hang_ups, IsNoOpening}
 use Rattle.many_history.specs.Events.{ModemGone, ModemBack, Now}
-use Rattle.many_serving.specs.Record.{ManyCall, Told, ToldRoom, ToldModemRoom, ToldStop, NextFailed, Sent, SendFailed, SentModem, SendModemFailed, Reopened, ReopenFailed, events, unnamed_calls}
+use Rattle.many_io.specs.Record.{ManyCall, Told, ToldRoom, ToldModemRoom, ToldStop, NextFailed, Sent, SendFailed, SentModem, SendModemFailed, Reopened, ReopenFailed, events, unnamed_calls}
 use Rattle.many_serving.specs.Proxy.{ManyProxy}
 
 -- each sending was handed a front, not empty, of what waited
