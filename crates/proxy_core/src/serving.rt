@@ -9,7 +9,8 @@ ghost use Rattle.proxy_core.specs.Shows.{shows_of};
 use crate::protocol::Protocol;
 use crate::proxy::Core;
 use hub_io::{Event, Hub, Limits, ServeEnd, Settings};
-use proxy_serving::{ProxyCore, serve};
+use proxy_serving::ProxyCore;
+use serving_loop::serve;
 use std::alloc::{AllocError, Global};
 
 impl<P: Protocol> ProxyCore for Core<P> {

@@ -1,11 +1,1 @@
-pub mod Carrying
-pub mod Offering
 pub mod Ends
-pub mod Offers
-pub mod Faces
-pub mod Known
-pub mod Takings
-pub mod Going
-pub mod Places
-pub mod Modem
-pub mod Turns

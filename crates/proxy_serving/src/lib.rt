@@ -1,13 +1,6 @@
-//! Serving the clients of any proxy over a hub: what it comes to, and the loop that does it.
+//! What serving the clients of a proxy over a hub comes to, and what the core of one tells for it.
 #![tactic(auto)]
 
-mod blocked;
-mod next;
-mod offer;
 mod proxy_core;
-mod server;
-mod serving;
 
-pub use blocked::Blocked;
 pub use proxy_core::ProxyCore;
-pub use serving::serve;

@@ -11,8 +11,9 @@ ghost use Rattle.sim_serving.specs.Shows.{shows_of};
 
 use crate::sim_core::SimCore;
 use hub_io::{Event, Hub, ServeEnd, Until};
-use proxy_serving::{ProxyCore, serve};
+use proxy_serving::ProxyCore;
 use served_sim::{Plain, ServedSim};
+use serving_loop::serve;
 use sim_modem::Sim;
 use std::alloc::{AllocError, Global};
 

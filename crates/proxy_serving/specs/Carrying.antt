@@ -1,7 +1,0 @@
--- How what is known of a hub's record is carried from call to call. A record has the newest call first.
-use Rattle.std.specs.Prelude.{List, ◌++◌, Option}
-use Rattle.hub_io.specs.Record.{Call, Since}
-
--- where `Before` holds of a record, `After` holds of it with what was recorded since then, where the hub tells it
-pub record Carries (old : Option (List Call)) (Before : List Call → Type 0) (new : Option (List Call)) (After : List Call → Type 0) : Type 0 where
-  pub since : Since old new (λ later. (earlier : List Call) → Before earlier → After (later ++ earlier))

@@ -1,0 +1,82 @@
+-- A core of a proxy of one device keeps and shows what one of several has to.
+use Rattle.std.proofs.Common.{◌≡◌, ℕ, List, [], ◌∷◌, ◌++◌, map, Option, Some, None, refl, sym, ◌∙◌, ap, subst}
+use Rattle.std.specs.Option.{option_map}
+use Rattle.std.proofs.lemmas.List.{append_cancel_right, map-append}
+use Rattle.proxy_history.specs.Events.{Event}
+use Rattle.proxy_history.specs.Proxy.{Proxy}
+use Rattle.hub_io.specs.Record.{Call, Since}
+use Rattle.hub_io.specs.declared.settings.ServeEnd.{ServeEnd}
+use Rattle.hub_io.specs.declared.settings.Until.{Until}
+use Rattle.proxy_serving.specs.Face.{Face}
+use Rattle.proxy_serving.specs.Face as one_face
+use Rattle.proxy_serving.specs.Ends as one_end
+use Rattle.many_history.specs.Events.{ManyEvent, Joined, Piece, Left, Took, ModemPiece, ModemGone, ModemBack, ModemTook, Now}
+use Rattle.many_io.specs.Record.{ManyCall, unnamed, unnamed_calls}
+use Rattle.many_io.specs.One.{call_of}
+use Rattle.many_serving.specs.Proxy.{ManyProxy}
+use Rattle.many_serving.specs.One.{only_of}
+use Rattle.many_serving.specs.Ends.{EndsFor}
+use Rattle.many_serving.proofs.One.{calls_are}
+use Rattle.many_serving.proofs.Ends.{ends_for}
+use Rattle.serving_loop.specs.Face.{ManyFace, CanMeet, MayCome, NextDropped}
+use Rattle.serving_loop.specs.One.{only_face, KeepsAsOne}
+
+-- ---- what it may be told, and what it tells ----
+
+pub can_step : (event : ManyEvent) (face : Face) → CanMeet event (only_face face) → one_face.CanMeet (unnamed event) face
+can_step event face can = record { hung_up = can.hung_up; may_come = may_come event can.may_come }
+  where
+    may_come : (event : ManyEvent) → MayCome event (only_face face) → one_face.MayCome (unnamed event) face
+    may_come (Joined c) may = may
+    may_come (Piece c bytes) may = may
+    may_come (Left c) may = tt
+    may_come (Took c count) may = may
+    may_come (ModemPiece d bytes) may = may.1
+    may_come (ModemGone d) may = tt
+    may_come (ModemBack d) may = tt
+    may_come (ModemTook d count) may = may.1
+    may_come (Now time) may = tt
+
+pub next_as_one : {C : Type 0} (face : C → Face) (old new : C) (o : Option ℕ) → one_face.NextDropped face old new o → NextDropped (λ core. only_face (face core)) old new o
+next_as_one face old new None next = next
+next_as_one face old new (Some c) next = record { dropped = next.dropped; devices = refl; away = record { same = λ d within. next.away }; greatest = next.greatest }
+
+-- ---- what it keeps ----
+
+module _ {C : Type 0} (keeps : Proxy → List Event → C → Type 0) where
+  pub kept_as_one : (p : Proxy) (past : List ManyEvent) (core : C) → keeps p (map unnamed past) core → KeepsAsOne keeps (only_of p) past core
+  kept_as_one p past core kept = record { proxy = p; same = refl; kept = kept }
+
+  -- what a later one keeps, where each proxy's keeping goes on
+  pub keeps_on : (p : ManyProxy) (past later : List ManyEvent) (old new : C) → ((q : Proxy) → keeps q (map unnamed past) old → keeps q (map unnamed later) new) → KeepsAsOne keeps p past old → KeepsAsOne keeps p later new
+  keeps_on p past later old new goes kept = record { proxy = kept.proxy; same = kept.same; kept = goes kept.proxy kept.kept }
+
+-- ---- what was recorded since then ----
+
+front_is : (front calls : List ManyCall) → map call_of (unnamed_calls (front ++ calls)) ≡ front ++ calls → map call_of (unnamed_calls calls) ≡ calls → map call_of (unnamed_calls front) ≡ front
+front_is front calls both back =
+    append_cancel_right (map call_of (unnamed_calls front)) front calls
+    (ap (λ (l : List ManyCall). map call_of (unnamed_calls front) ++ l) (sym back) ∙ sym (ap (map call_of) (unnamed_append front calls) ∙ map-append call_of (unnamed_calls front) (unnamed_calls calls)) ∙ both)
+  where
+    unnamed_append : (xs ys : List ManyCall) → unnamed_calls (xs ++ ys) ≡ unnamed_calls xs ++ unnamed_calls ys
+    unnamed_append xs ys = map-append _ xs ys
+
+all_is : (calls : List Call) → map call_of (unnamed_calls (map call_of calls)) ≡ map call_of calls
+all_is calls = ap (map call_of) (calls_are calls)
+
+-- the serving of one as one of several ended for the reason for which that of one ends
+pub served_as_one : (old new : Option (List Call)) (p : Proxy) (until : Until) (turns : ℕ) (lacks : Event → Type 0) (why : ServeEnd)
+    → Since (option_map (map call_of) old) (option_map (map call_of) new) (EndsFor (λ event. lacks (unnamed event)) (only_of p) until turns why) → Since old new (one_end.EndsFor lacks p until turns why)
+served_as_one old None p until turns lacks why since = tt
+served_as_one None (Some new) p until turns lacks why since = absurd since
+served_as_one (Some old) (Some new) p until turns lacks why since =
+    let calls : List ManyCall = since.0 in
+    let whole : map call_of new ≡ calls ++ map call_of old = since.1 in
+    let same : map call_of (unnamed_calls calls) ≡ calls =
+    front_is calls (map call_of old) (subst (λ (l : List ManyCall). map call_of (unnamed_calls l) ≡ l) whole (all_is new)) (all_is old) in
+    let ends : EndsFor (λ event. lacks (unnamed event)) (only_of p) until turns why (map call_of (unnamed_calls calls)) =
+    subst (EndsFor (λ event. lacks (unnamed event)) (only_of p) until turns why) (sym same) since.2 in (
+      unnamed_calls calls,
+      sym (calls_are new) ∙ ap unnamed_calls whole ∙ map-append _ calls (map call_of old) ∙ ap (λ (l : List Call). unnamed_calls calls ++ l) (calls_are old),
+      ends_for p until turns lacks why (unnamed_calls calls) ends,
+    )

@@ -1,0 +1,13 @@
+pub mod Carrying
+pub mod Offering
+pub mod Ends
+pub mod Offers
+pub mod Faces
+pub mod Known
+pub mod Takings
+pub mod Going
+pub mod Places
+pub mod Away
+pub mod Modem
+pub mod Turns
+pub mod AsOne

@@ -1,0 +1,24 @@
+use Rattle.many_serving.specs.Proxy.{ManyProxy}
+use Rattle.std.proofs.Common.{◌≡◌, ◌≤◌, ℕ, [], Option}
+use Rattle.hub_io.specs.declared.settings.Until.{Until}
+use Rattle.serving_loop.specs.Carrying.{Carries}
+use Rattle.serving_loop.specs.Cores.{IsKnown}
+use Rattle.serving_loop.specs.Server.{devices_there}
+use Rattle.serving_loop.specs.Progress.{HasOffered}
+use Rattle.serving_loop.proofs.offer.offer_all.Given as goal
+
+abbrev pub invariant-loop : goal.invariant-loop
+invariant-loop g l = record {
+  carried : (p : ManyProxy) (until : Until) (turns : ℕ) →
+      Carries (g.H.ManyHub.calls l.initial.hub) (HasOffered g.C.ManyProxyCore.keeps g.C.ManyProxyCore.face p until turns 0 l.initial.server) (g.H.ManyHub.calls l.hub) (HasOffered g.C.ManyProxyCore.keeps g.C.ManyProxyCore.face p until turns 0 l.server);
+  asked : (g.C.ManyProxyCore.face l.server.core).dropped ≡ [];
+  known : IsKnown g.C.ManyProxyCore.keeps l.server.core;
+  devices : (g.C.ManyProxyCore.face l.server.core).devices ≡ (g.C.ManyProxyCore.face l.initial.server.core).devices;
+  greatest : (g.C.ManyProxyCore.face l.server.core).greatest ≡ (g.C.ManyProxyCore.face l.initial.server.core).greatest;
+  later : g.H.ManyHub.faults l.initial.hub ≤ g.H.ManyHub.faults l.hub;
+  names : g.H.ManyHub.greatest l.hub ≡ g.H.ManyHub.greatest l.initial.hub;
+  hub : g.H.ManyHub.devices l.hub ≡ g.H.ManyHub.devices l.initial.hub;
+}
+
+abbrev pub decreases-loop : goal.decreases-loop
+decreases-loop g l = let face = g.C.ManyProxyCore.face l.server.core in devices_there face.away face.devices

@@ -1,0 +1,7 @@
+pub mod Carrying
+pub mod Face
+pub mod Cores
+pub mod One
+pub mod Shows
+pub mod Server
+pub mod Progress

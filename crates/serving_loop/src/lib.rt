@@ -1,0 +1,16 @@
+//! The loop that serves the clients of a proxy of any devices over a hub: each one is offered what
+//! waits for it before the hub is asked for more.
+#![tactic(auto)]
+
+mod blocked;
+mod many_core;
+mod next;
+mod offer;
+mod one;
+mod server;
+mod serving;
+
+pub use blocked::Blocked;
+pub use many_core::ManyProxyCore;
+pub use one::serve;
+pub use serving::serve_devices;
