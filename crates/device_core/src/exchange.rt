@@ -19,7 +19,7 @@ use std::alloc::Global;
 
 /// Sends a request with this client id and this number, and waits for its answer, for so many
 /// seconds.
-pub(crate) fn exchange<L: Link>(
+pub fn exchange<L: Link>(
     alloc: Global,
     link: &mut L,
     incoming: &mut Incoming<Qmux>,
@@ -46,7 +46,7 @@ pub(crate) fn exchange<L: Link>(
 
 /// Sends a request with this client id and this number, and reads its answer, which is waited for
 /// for so many seconds.
-pub(crate) fn ask<L: Link>(
+pub fn ask<L: Link>(
     alloc: Global,
     link: &mut L,
     incoming: &mut Incoming<Qmux>,

@@ -11,6 +11,7 @@ mod session;
 mod wanted;
 
 pub use answer::{allocated, read};
+pub use exchange::{ask, exchange};
 pub use laws::{
     sessions_end_as_at_peers, sessions_send_their_requests, verdicts_are_of_what_is_read,
 };
