@@ -20,7 +20,7 @@ ghost use Rattle.std.specs.Prelude.{◌≡◌, []};
 use std::alloc::{AllocError, Global};
 use std::io;
 use std::time::Instant;
-use subscriptions::{ClientList, LONGEST_CLIENT_LIST, Merge, PairList, Subscriptions};
+use subscriptions::{ClientList, LONGEST_CLIENT_LIST, LONGEST_LIST, Pair, PairList, Subscriptions, normalize};
 use uuid::Uuid;
 
 const CHANGES: u32 = 2_000;
@@ -73,9 +73,8 @@ fn compare(
     list: &mut PairList,
     table: &mut Subscriptions,
 ) -> io::Result<()> {
-    let mut merge = Merge::open(rt.alloc())?;
-    let mut anew = PairList::open(rt.alloc())?;
-    time_both(rt, name, apart, lists, list, table, &mut merge, &mut anew)?;
+    let mut anew = Vec::with_capacity(rt.alloc(), LONGEST_LIST)?;
+    time_both(rt, name, apart, lists, list, table, &mut anew)?;
     Ok(())
 }
 
@@ -86,8 +85,7 @@ fn time_both(
     lists: &[ClientList],
     list: &mut PairList,
     table: &mut Subscriptions,
-    merge: &mut Merge,
-    anew: &mut PairList,
+    anew: &mut Vec<Pair>,
 ) -> io::Result<()> {
     let mut counted = Times::none();
     let mut merged = Times::none();
@@ -98,11 +96,11 @@ fn time_both(
         let _ = table.set(u64::from(client) + 1, list);
         counted.add(start.elapsed(rt)?.as_nanos());
         let start = Instant::now(rt)?;
-        put_together(lists, merge, anew);
+        put_together(lists, anew);
         merged.add(start.elapsed(rt)?.as_nanos());
     }
     set_all(table, list, apart);
-    let same = table.merged_list().pairs() == anew.pairs();
+    let same = table.merged_list().pairs() == anew.as_slice();
     let pairs = anew.len();
     println!(rt; "{name}: {pairs} pairs, counted {} ns at best and {} in the mean, anew {} and {}, the same: {same}", counted.least, counted.mean(), merged.least, merged.mean())?;
     Ok(())
@@ -157,14 +155,12 @@ fn write_list(list: &mut PairList, client: u8, change: u32, apart: bool) {
     list.push(Uuid::from_bytes([service; 16]), Some(1_000 + change % 2));
 }
 
-fn put_together(lists: &[ClientList], merge: &mut Merge, merged: &mut PairList) {
-    merge.clear();
-    if lists.len() <= 64 {
-        for place in 0..lists.len() {
-            merge.add(&lists[place]);
-        }
+fn put_together(lists: &[ClientList], pairs: &mut Vec<Pair>) {
+    pairs.clear();
+    for list in lists {
+        let _ = pairs.extend_from_slice(list.pairs());
     }
-    merge.finish(merged);
+    normalize(pairs);
 }
 P
 cat >"$program/proofs/join_all/Invariants.antt" <<'P'

@@ -52,6 +52,12 @@ is_too_long list = nat_lt 30 (length list)
 abbrev pub sets : ℕ → List Pair → List Client → List Client
 sets conn list clients = if is_too_long list then clients else changed conn (with_list list) clients
 
+abbrev pub with_both : Bool → List Pair → Client → Client
+with_both shown list client = record client { shown = shown; list = list }
+
+abbrev pub updates : ℕ → Bool → List Pair → List Client → List Client
+updates conn shown list clients = changed conn (with_both shown list) clients
+
 -- ---- lists ----
 
 abbrev pub list_in : Option Client → List Pair

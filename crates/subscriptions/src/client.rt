@@ -1,7 +1,7 @@
-ghost use Rattle.std.specs.Prelude.{◌≡◌, ◌+◌, ◌≤◌, length};
+ghost use Rattle.std.specs.Prelude.{◌≡◌, ◌+◌, ◌≤◌, false, length};
 ghost use Rattle.kit_bytes.specs.Indications.{wants};
 ghost use Rattle.kit_bytes.specs.Subscriptions.{Pair as TablePair};
-ghost use Rattle.subscriptions.specs.Clients.{is_of, newcomer, share, with_shown, with_list};
+ghost use Rattle.subscriptions.specs.Clients.{is_of, newcomer, share, with_shown, with_list, with_both};
 ghost use Rattle.subscriptions.specs.Counts.{AreRecounted, count_of, times_in, total};
 
 use crate::client_list::{ClientList, LONGEST_CLIENT_LIST};
@@ -100,6 +100,31 @@ impl Client {
             counts.remove(&self.list);
         }
         self.list = next;
+    }
+
+    /// It subscribes to this list from now on, which counts or doesn't. Says whether that is new.
+    pub fn update(&mut self, shown: bool, list: &ClientList, counts: &mut Counts) -> bool
+        requires there { (pair : TablePair) → times_in pair (share self.old) ≤ count_of pair counts.old }
+        requires few { total counts.old ≤ LONGEST_LIST }
+        ensures client { self.new ≡ with_both shown list.now self.old }
+        ensures counts { AreRecounted self.old self.new counts.old counts.new }
+        ensures same { result ≡ false → (self.new ≡ self.old) × (counts.new ≡ counts.old) }
+        ensures short { length list.now ≤ LONGEST_CLIENT_LIST }
+    {
+        let same = self.list.is_same(list);
+        if same && shown == self.shown {
+            return false;
+        }
+        // in this order a pair of both lists stays in its place
+        if shown {
+            counts.add(list);
+        }
+        if self.shown {
+            counts.remove(&self.list);
+        }
+        self.shown = shown;
+        self.list.copy(list);
+        true
     }
 
     /// Whether it subscribes to the CID of the service of this UUID.

@@ -1,6 +1,9 @@
 ghost use Rattle.std.specs.Prelude.{◌≡◌, ◌≤◌, ◌&&◌, ◌==◌, bytes_eq, length};
+ghost use Rattle.std.specs.Cmp.Lexicographic.{slice_cmp};
+ghost use Rattle.std.specs.Ordering.{is_eq};
 ghost use Rattle.kit_bytes.specs.Indications.{is_cid, wants};
 ghost use Rattle.kit_bytes.specs.Services.{starting_list};
+ghost use Rattle.kit_bytes.specs.Subscriptions.{pair_cmp};
 ghost use Rattle.subscriptions.specs.Lists.{IsNormal};
 
 use crate::pair_list::{Pair, PairList};
@@ -62,6 +65,14 @@ impl ClientList {
         let _ = self.pairs.try_extend_from_slice(list.pairs());
     }
 
+    /// Takes the pairs of another client's list.
+    pub fn copy(&mut self, list: &ClientList)
+        ensures { self.new ≡ list.now }
+    {
+        self.pairs.clear();
+        let _ = self.pairs.try_extend_from_slice(list.pairs());
+    }
+
     /// All pairs.
     pub fn pairs(&self) -> &[Pair]
         ensures pairs { result.now ≡ self.now }
@@ -69,6 +80,14 @@ impl ClientList {
         ensures few { length result.now ≤ LONGEST_CLIENT_LIST }
     {
         self.pairs.as_slice()
+    }
+
+    /// Whether it has the same pairs.
+    pub fn is_same(&self, list: &ClientList) -> bool
+        ensures same { result ≡ is_eq (slice_cmp pair_cmp self.now list.now) }
+        ensures few { length list.now ≤ LONGEST_CLIENT_LIST }
+    {
+        self.pairs().cmp(list.pairs()).is_eq()
     }
 
     /// Whether it has the CID of the service of this UUID.

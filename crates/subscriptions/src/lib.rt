@@ -5,7 +5,6 @@ mod client;
 mod client_list;
 mod counts;
 mod laws;
-mod merge;
 mod pair_list;
 mod subscriptions;
 
@@ -15,6 +14,5 @@ pub use laws::{
     clients_are_what_calls_say, hidden_clients_dont_count, merges_are_of_the_shown,
     merges_are_short, merges_want_what_lists_want, normal_forms_want_the_same,
 };
-pub use merge::Merge;
 pub use pair_list::{LONGEST_LIST, Pair, PairList, normalize};
 pub use subscriptions::{CLIENT_LIMIT, Subscriptions, TooMany};

@@ -101,16 +101,6 @@ impl PairList {
         drop_covered(&mut self.pairs);
     }
 
-    // The normal form of these pairs.
-    pub(crate) fn merge(&mut self, pairs: &[Pair])
-        requires { length pairs.now ≤ LONGEST_LIST }
-        ensures { self.new ≡ normal_form pairs.now }
-    {
-        self.pairs.clear();
-        append(&mut self.pairs, pairs);
-        normalize(&mut self.pairs);
-    }
-
     /// Takes the pairs of a client's list.
     pub fn copy(&mut self, list: &ClientList)
         ensures { self.new ≡ list.now }
@@ -135,15 +125,6 @@ impl PairList {
     {
         &self.pairs
     }
-}
-
-// Adds pairs behind those of a list that has the room for them, which takes no memory.
-pub(crate) fn append(pairs: &mut Vec<Pair>, more: &[Pair])
-    requires { vec_len pairs.old + length more.now ≤ vec_capacity pairs.old }
-    ensures items { pairs.new.items ≡ pairs.old.items ++ more.now }
-    ensures capacity { vec_capacity pairs.old ≤ vec_capacity pairs.new }
-{
-    let _ = pairs.extend_from_slice(more);
 }
 
 /// Brings pairs into normal form, in their own memory.

@@ -1,10 +1,10 @@
-ghost use Rattle.std.specs.Prelude.{◌≡◌, ◌<◌, ◌≤◌, [], position, length, vec_len, vec_capacity, is_err, IfOk};
+ghost use Rattle.std.specs.Prelude.{◌≡◌, ◌<◌, ◌≤◌, [], position, length, vec_len, vec_capacity, is_err, false, IfOk};
 ghost use Rattle.kit_bytes.specs.Indications.{wants};
-ghost use Rattle.subscriptions.specs.Clients.{is_of, is_too_long, joins, leaves, list_of, merged, sets, shows};
+ghost use Rattle.subscriptions.specs.Clients.{is_of, is_too_long, joins, leaves, list_of, merged, sets, shows, updates};
 ghost use Rattle.subscriptions.specs.Counts.{CountShown};
 
 use crate::client::Client;
-use crate::client_list::LONGEST_CLIENT_LIST;
+use crate::client_list::{ClientList, LONGEST_CLIENT_LIST};
 use crate::counts::Counts;
 use crate::pair_list::PairList;
 use std::alloc::{AllocError, Global};
@@ -107,6 +107,23 @@ impl Subscriptions {
             self.counts.write(&mut self.merged);
         }
         Ok(())
+    }
+
+    /// The client subscribes to this list from now on, which counts in the merge or doesn't. Says
+    /// whether that is new.
+    pub fn update(&mut self, conn: u64, shown: bool, list: &ClientList) -> bool
+        ensures updated { self.new ≡ updates conn shown list.now self.old }
+        ensures same { result ≡ false → self.new ≡ self.old }
+    {
+        let Some(place) = find(&self.clients, conn) else {
+            return false;
+        };
+        let client = &mut self.clients[place];
+        if !client.update(shown, list, &mut self.counts) {
+            return false;
+        }
+        self.counts.write(&mut self.merged);
+        true
     }
 
     /// Whether the client subscribes to the CID of the service of this UUID.
