@@ -79,6 +79,7 @@ impl<F: Framing, T: Renews + Drop> Connections<F, T> {
         requires hung_up { self.old.dropped ≡ [] }
         ensures joined { self.new ≡ joins name T.fresh self.old }
         ensures let_in { result ≡ nat_lt (length self.old.present) self.old.limit }
+        ensures regular { IsRegular self.old }
     {
         self.greatest = name;
         let Some(place) = self.free.pop() else {
@@ -95,6 +96,7 @@ impl<F: Framing, T: Drop> Connections<F, T> {
     pub fn leave(&mut self, name: u64) -> bool
         ensures left { self.new ≡ leaves name self.old }
         ensures there { result ≡ is_some (connection_in name self.old.present) }
+        ensures regular { IsRegular self.old }
     {
         let Some(place) = self.find(name) else {
             return false;

@@ -1,5 +1,5 @@
 -- What a protocol owes, so that its cores keep what its definitions say. A list of facts has the newest first.
-use Rattle.std.specs.Prelude.{◌≡◌, ℕ, ◌≤◌, List, [], ◌∷◌, ◌++◌, length}
+use Rattle.std.specs.Prelude.{◌≡◌, ℕ, ◌≤◌, List, [], length}
 use Rattle.hub_io.specs.declared.settings.Limits.{Limits as Opening}
 use Rattle.outbox.specs.Queue.{Queue}
 use Rattle.proxy_history.specs.Events.{Event}
@@ -15,7 +15,7 @@ use Rattle.proxy_state.specs.State.{State, Core, Handlers}
 use Rattle.proxy_state.specs.Stands as stands
 use Rattle.proxy_state.specs.Faithful.{IsFaithful}
 use Rattle.proxy_state.proofs.Greatest.{KeepsGreatest}
-use Rattle.proxy_core.specs.Meaning.{Named, Meaning}
+use Rattle.proxy_core.specs.Meaning.{Meaning}
 
 module _ {T S P : Type 0} (d : Meaning T S P) where
   -- what lasts is as it was, whatever is handled
@@ -45,8 +45,6 @@ module _ {T S P : Type 0} (d : Meaning T S P) where
     pub begins : (l : d.Lasting) → (d.handlers l).fresh ≡ fresh
     pub lasts : (l : d.Lasting) → KeepsLasting (d.handlers l)
     pub greatest : (l : d.Lasting) → KeepsGreatest (d.handlers l) size
-    -- one that has just joined has no part in what is at hand
-    pub joining : (c : ℕ) (clients : List (Named T)) (beside : S) (hand : P) → d.agrees clients beside hand → d.agrees (clients ++ record { name = c; client = fresh } ∷ []) beside hand
     -- ---- the definitions ----
     pub framing : (s : d.Setup) → (d.protocol s).size ≡ size
     pub waits_for_modem : (l : d.Lasting) (s : d.Setup) (messages : List (List ℕ)) (past : List Fact) → (d.handlers l).modem_queue ((d.kept s).beside messages past) ≡ modem.modem_queue (d.protocol s).wire past

@@ -1,6 +1,7 @@
 -- What a protocol means for a core. `T` is what is kept of a client, `S` what is kept beside the connections, and `P` what the protocol has at hand.
 -- A list of facts has the newest first.
-use Rattle.std.specs.Prelude.{◌≡◌, ℕ, List, map}
+use Rattle.std.specs.Prelude.{◌≡◌, ℕ, ◌<◌, ◌==◌, false, List, length, map}
+use Rattle.std.specs.List.{AllByRecursion}
 use Rattle.hub_io.specs.declared.settings.Limits.{Limits}
 use Rattle.connections.specs.Table.{Connection, Table}
 use Rattle.proxy_history.specs.Facts.{Fact}
@@ -16,6 +17,10 @@ pub record Named (T : Type 0) : Type 0 where
 -- in order of joining
 abbrev pub clients_in : {T : Type 0} → List (Connection T) → List (Named T)
 clients_in present = map (λ k. record { name = k.name; client = k.client }) present
+
+-- none of these has the name
+abbrev pub AreOthers : {T : Type 0} → (name : ℕ) → List (Named T) → Type 0
+AreOthers name clients = AllByRecursion (λ k. (name == k.name) ≡ false) clients
 
 abbrev pub state_of : {T S : Type 0} → Table T → S → State T S
 state_of table beside = record { table = table; beside = beside }
@@ -46,6 +51,12 @@ pub record Meaning (T S P : Type 0) : Type 1 where
 module _ {T S P : Type 0} (d : Meaning T S P) where
   abbrev pub handlers_at : S → Handlers T S
   handlers_at beside = d.handlers (d.lasting beside)
+
+  -- there is room for one client more
+  pub record HasRoom (beside : S) (hand : P) : Type 0 where
+    pub clients : List (Named T)
+    pub few : length clients < 64
+    pub agrees : d.agrees clients beside hand
 
   -- what holds of the connections, of what is beside them and of what is at hand between two events
   pub record Agrees (table : Table T) (beside : S) (hand : P) : Type 0 where

@@ -3,7 +3,7 @@ ghost use Rattle.std.specs.Str.{encode_utf8_all};
 ghost use Rattle.framing.specs.Framing.{IsMessage};
 ghost use Rattle.outbox.specs.Fronts.{IsFrontOf};
 ghost use Rattle.proxy_state.specs.Step as proxy;
-ghost use Rattle.proxy_core.specs.Meaning.{Named, Meaning, Agrees, handlers_at, state_of};
+ghost use Rattle.proxy_core.specs.Meaning.{Named, Meaning, Agrees, AreOthers, HasRoom, handlers_at, state_of};
 ghost use Rattle.proxy_core.specs.Lawful.{IsLawful};
 
 use connections::{Connections, Hears, Renews};
@@ -47,10 +47,16 @@ pub trait Protocol: Drop {
     fn parts(side: &Self::Side) -> (&[u8], &[u8])
         ensures { result.0.now ++ result.1.now ≡ (handlers_at meaning side.now).modem_queue side.now };
 
+    /// A client joined, behind the others that are there.
+    fn join(&mut self, side: &Self::Side, name: u64)
+        requires { HasRoom meaning side.now self.old }
+        ensures { (clients : List (Named Self.Client)) → AreOthers name clients →
+            meaning.agrees clients side.now self.old → meaning.agrees (clients ++ record { name = name; client = Self.Client.fresh } ∷ []) side.now self.new };
+
     /// The connection of this name is gone.
     fn give_up(&mut self, side: &mut Self::Side, name: u64)
         ensures beside { side.new ≡ (handlers_at meaning side.old).give_up name side.old }
-        ensures agrees { (front behind : List (Named Self.Client)) (client : Self.Client) →
+        ensures agrees { (front behind : List (Named Self.Client)) (client : Self.Client) → AreOthers name front → AreOthers name behind →
             meaning.agrees (front ++ record { name = name; client = client } ∷ behind) side.old self.old → meaning.agrees (front ++ behind) side.new self.new };
 
     /// The modem is back.

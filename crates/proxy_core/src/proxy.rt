@@ -116,7 +116,9 @@ impl<P: Protocol> Core<P> {
         requires hung_up { self.old.state.table.dropped ≡ [] }
         ensures { self.new ≡ meet P.meaning P.Frame.size (history.Joined name) self.old }
     {
-        self.connections.join(name);
+        if self.connections.join(name) {
+            self.hand.join(&self.side, name);
+        }
     }
 
     // A client is gone.

@@ -29,7 +29,6 @@ is_lawful = record {
   begins = λ l. refl;
   lasts = λ l. lasts;
   greatest = λ l. keeps_greatest;
-  joining = λ c clients side hand A. tt;
   framing = λ s. refl;
   waits_for_modem = λ l s messages past. refl;
   few_wait = λ s events. few_wait_for_modem (qmi_protocol s) (Asks s) (history (qmi_protocol s) events) (requests_are_asked (qmi_protocol s) (Asks s) (orderly s) events);

@@ -65,6 +65,8 @@ impl Protocol for QmiHand {
         side.traffic.parts()
     }
 
+    fn join(&mut self, _side: &ModemSide, _name: u64) {}
+
     fn give_up(&mut self, side: &mut ModemSide, name: u64) {
         side.give_up(name);
     }

@@ -7,7 +7,7 @@ use Rattle.connections.proofs.Tables.{left_is, left_some, left_none}
 use Rattle.connections.proofs.connections.Connections.leave.Goals as goal
 
 pub returns-in_default : goal.returns-in_default
-returns-in_default g c = let all = left_none c.args.self.now c.args.name c.in_default.ensures.place in record { left = all.0; there = all.1 }
+returns-in_default g c = let all = left_none c.args.self.now c.args.name c.in_default.ensures.place in record { left = all.0; there = all.1; regular = c.in_default.ensures.regular }
 
 pub invariant_of-self : goal.invariant_of-self
 invariant_of-self g c =
@@ -33,4 +33,5 @@ pub returns : goal.returns
 returns g c = record {
   left = left_is c.self.view_is c.args.name c.in-Some.place c.in-Some.ensures.place c.remove-connection.result c.remove-connection.ensures.value c.remove-connection.new.self.items c.remove-connection.ensures.items;
   there = left_some c.self.view_is c.args.name c.in-Some.place c.in-Some.ensures.place c.remove-connection.result c.remove-connection.ensures.value;
+  regular = c.find.ensures.regular;
 }

@@ -8,7 +8,7 @@ use Rattle.proxy_core.proofs.proxy.Core.leave.Goals as goal
 
 pub invariant_of-self : goal.invariant_of-self
 invariant_of-self g c = record {
-  agrees = left_there g.P.Protocol.meaning c.self.invariant.agrees c.args.name c.give_up.new.side c.give_up.new.self c.give_up.ensures.agrees c.leave.new.self (sym c.leave.ensures.there ∙ c.if-leave.true) c.leave.ensures.left;
+  agrees = left_there g.P.Protocol.meaning c.self.invariant.agrees c.args.name c.leave.ensures.regular.rising c.give_up.new.side c.give_up.new.self c.give_up.ensures.agrees c.leave.new.self (sym c.leave.ensures.there ∙ c.if-leave.true) c.leave.ensures.left;
   partial = c.self.invariant.partial;
 }
 
