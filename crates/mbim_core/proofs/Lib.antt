@@ -5,8 +5,8 @@ pub mod Shut
 pub mod Tells
 pub mod Turns
 pub mod Texts
-pub mod Gathering
 pub mod Brought
-pub mod Merged
+pub mod Asked
+pub mod Subscribed
 pub mod Hands
 pub mod Asks

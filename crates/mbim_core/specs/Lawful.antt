@@ -46,17 +46,6 @@ lasts s = record {
   finish = λ x. ap lasting_of (sent s (merged_in x.table.present) (number_of_list s (merged_in x.table.present) x.beside) x.beside);
 }
 
--- ---- what is at hand ----
-
--- one that has just joined isn't open
-newcomer_hidden : (c : ℕ) (clients : List (Named Client)) → filter (λ (k : Named Client). k.client.opened) (clients ++ record { name = c; client = newcomer } ∷ []) ≡ filter (λ (k : Named Client). k.client.opened) clients
-newcomer_hidden c [] = refl
-newcomer_hidden c (k ∷ clients) = by k.client.opened (newcomer_hidden c clients)
-  where
-    by : (b : Bool) {some all : List (Named Client)} → some ≡ all → (if b then k ∷ some else some) ≡ (if b then k ∷ all else all)
-    by true is = ap (λ (l : List (Named Client)). k ∷ l) is
-    by false is = is
-
 -- ---- the bytes that the proxy may ask the modem by itself ----
 
 -- the open clients' lists, together
@@ -86,10 +75,6 @@ is_lawful = record {
   begins = λ l. refl;
   lasts = λ l. lasts (setup_by l);
   greatest = λ l. keeps_greatest (setup_by l);
-  joining = λ c clients side hand A. record {
-    current = λ e. A.current e ∙ sym (ap (λ (l : List (Named Client)). merge (map (λ (k : Named Client). k.client.list) l)) (newcomer_hidden c clients));
-    asked = A.asked;
-  };
   framing = λ s. refl;
   waits_for_modem = λ l s messages past. refl;
   few_wait = λ s events. few_wait_for_modem (mbim_protocol s) (Asks s) (history (mbim_protocol s) events) (requests_are_asked (mbim_protocol s) (Asks s) (orderly s) events);

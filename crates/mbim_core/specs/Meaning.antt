@@ -1,7 +1,7 @@
 -- What MBIM means for a core. A list of facts has the newest first.
-use Rattle.std.specs.Prelude.{◌≡◌, ℕ, Bool, true, false, List, length, map, filter, if◌then◌else◌}
+use Rattle.std.specs.Prelude.{◌≡◌, ℕ, Bool, true, false, List, length, map, if◌then◌else◌}
 use Rattle.hub_io.specs.declared.settings.Limits.{Limits}
-use Rattle.kit_bytes.specs.Subscriptions.{Pair, merge}
+use Rattle.subscriptions.specs.Clients.{Client as Subscriber, merged}
 use Rattle.mbim_services.specs.SubscribeLists.{is_same_list}
 use Rattle.mbim_proxy.specs.Setup.{Setup, mbim_setup}
 use Rattle.mbim_proxy.specs.Known.{Known}
@@ -16,19 +16,17 @@ use Rattle.proxy_core.specs.Meaning.{Named, Meaning}
 -- ---- what it has at hand ----
 
 pub record AtHand : Type 0 where
-  -- the lists of the open clients, together
-  pub merged : List Pair
-  -- they are so still
-  pub current : Bool
-  -- the modem was last asked for that
+  -- what each client subscribes to, in order of joining
+  pub subscribed : List Subscriber
+  -- the modem was last asked for all that the open ones subscribe to
   pub asked : Bool
 
-abbrev pub merged_of : List (Named Client) → List Pair
-merged_of clients = merge (map (λ (k : Named Client). k.client.list) (filter (λ (k : Named Client). k.client.opened) clients))
+abbrev pub subscriber : Named Client → Subscriber
+subscriber k = record { conn = k.name; shown = k.client.opened; list = k.client.list }
 
 pub record IsAtHand (clients : List (Named Client)) (side : ModemSide) (hand : AtHand) : Type 0 where
-  pub current : hand.current ≡ true → hand.merged ≡ merged_of clients
-  pub asked : hand.asked ≡ true → hand.merged ≡ side.last_list
+  pub subscribed : hand.subscribed ≡ map subscriber clients
+  pub asked : hand.asked ≡ true → merged hand.subscribed ≡ side.last_list
 
 -- ---- what lasts ----
 

@@ -57,24 +57,3 @@ wants_in head side k = k.client.opened && wants k.client.list head.uuid head.cid
 -- those from this place on that are open and want the indication get it
 abbrev pub indicated_from : IndicationHead → (body : List ℕ) → ℕ → MbimState → MbimState
 indicated_from head body i x = tell_from give_up (λ client. split (kind_number IndicateStatus) 0 client.fragment body) (λ client. client) (wants_in head) i x
-
--- ---- the end of each event ----
-
--- the lists of the open clients, one behind the other
-abbrev pub gathered : List (Connection Client) → List Pair
-gathered present = flat_map (λ list. list) (map (λ (k : Connection Client). k.client.list) (open_ones present))
-
--- what a client has in it: its list where it is open
-abbrev pub wish : Connection Client → Option (List Pair)
-wish k = if k.client.opened then Some k.client.list else None
-
-abbrev pub wish_in : Option (Connection Client) → Option (List Pair)
-wish_in None = None
-wish_in (Some k) = wish k
-
-abbrev pub wish_of : (name : ℕ) → List (Connection Client) → Option (List Pair)
-wish_of name present = wish_in (connection_in name present)
-
--- as it was noted
-abbrev pub noted : (opened : Bool) → (list : List Pair) → Option (List Pair)
-noted opened list = if opened then Some list else None

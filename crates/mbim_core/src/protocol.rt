@@ -65,8 +65,12 @@ impl Protocol for MbimHand {
         side.parts()
     }
 
+    fn join(&mut self, _side: &ModemSide, name: u64) {
+        self.teller.join(name);
+    }
+
     fn give_up(&mut self, side: &mut ModemSide, name: u64) {
-        self.teller.forget();
+        self.teller.leave(name);
         side.give_up(name);
     }
 

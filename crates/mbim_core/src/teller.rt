@@ -1,5 +1,5 @@
-ghost use Rattle.std.specs.Prelude.{◌≡◌, ◌+◌, ◌<◌, ◌≤◌, ◌==◌, ◌++◌, ℕ, List, [], true, false, length, position, Some, IfOk, IsTrue};
-ghost use Rattle.connections.specs.Table.{Table, connection_in, finds_room};
+ghost use Rattle.std.specs.Prelude.{◌≡◌, ◌+◌, ◌<◌, ◌≤◌, ◌==◌, ◌++◌, ℕ, List, [], true, false, length, map, position, Some, IfOk};
+ghost use Rattle.connections.specs.Table.{Connection, Table, IsRegular, connection_in, finds_room};
 ghost use Rattle.mbim_frame.specs.declared.kind.MessageKind.TheVariants.{CommandDone, OpenDone, FunctionError, IndicateStatus};
 ghost use Rattle.mbim_frame.specs.Bodies.{is_done, is_indication};
 ghost use Rattle.mbim_frame.specs.Frame.{size_of};
@@ -9,66 +9,88 @@ ghost use Rattle.mbim_frame.specs.Writing.{unsplit};
 ghost use Rattle.mbim_fragments.specs.Splitting.{split};
 ghost use Rattle.mbim_proxy.specs.Setup.{Setup};
 ghost use Rattle.mbim_proxy.specs.FromModem.{heard_if, IsDone, IsIndication};
+ghost use Rattle.proxy_state.specs.Chosen.{StandsAt};
 ghost use Rattle.proxy_state.specs.Step as proxy;
 ghost use Rattle.proxy_state.specs.Telling.{tell};
 ghost use Rattle.mbim_state.specs.Core.{Client as TableClient, setup_of};
-ghost use Rattle.mbim_state.specs.Transitions.{give_up, mbim_handlers, tell_answer, tell_refusal, ends_opening, hear_as, hear_modem, refuse_as, expire, shut_all, lose, tick, merged_in, finish};
+ghost use Rattle.mbim_state.specs.Transitions.{give_up, mbim_handlers, tell_answer, tell_refusal, ends_opening, hear_as, hear_modem, refuse_as, expire, shut_all, lose, tick, finish};
 ghost use Rattle.mbim_core.specs.Answer.{heard_of};
-ghost use Rattle.mbim_core.specs.Hand.{hand_of, forgotten, IsOf};
-ghost use Rattle.mbim_core.specs.State.{state_of, opened_from, indicated_from, gathered, noted, wish_of, Settles, IsDoneWith, IsIndicationWith};
+ghost use Rattle.mbim_core.specs.Hand.{hand_of, nobody_at_hand, joined, left, left_unless, subscriber_at, Follows, IsOf};
+ghost use Rattle.mbim_core.specs.State.{state_of, opened_from, indicated_from, Settles, IsDoneWith, IsIndicationWith};
 
 use crate::answer::Answer;
 use connections::Connections;
 use framing::LONGEST_PIECE;
 use kit_bytes::u32_at;
-use mbim_clients::{Client, ModemSide, Writer, is_same};
+use mbim_clients::{Client, ModemSide, Writer};
 use mbim_fragments::{Body, LONGEST_BODY, unsplit_head};
 use mbim_frame::{
     DoneHead, IndicationHead, MHead, Mbim, MessageKind, open_done, set_number, status,
 };
 use mbim_state::{Asked, CommandName};
 use std::alloc::{AllocError, Global};
-use subscriptions::{Merge, PairList};
+use subscriptions::{CLIENT_LIMIT, Subscriptions};
 
 /// Tells the clients what comes of the modem, and asks it for the merge of their lists.
 #[derive(Drop)]
 pub struct Teller {
     // writes what a client is to get of the modem
     writer: Writer,
-    // all that the open clients subscribe to
-    merge: Merge,
-    merged: PairList,
-    // that is the merge of the open clients' lists as they are
-    current: bool,
+    // what each client subscribes to, and all that the open ones subscribe to together
+    subscriptions: Subscriptions,
     // the modem was last asked for that
     asked: bool,
-    // what a client subscribed to before it was heard
-    noted: PairList,
 }
 
 impl Teller {
-    /// Nothing is put together yet.
+    /// Nobody is there, and the modem wasn't asked for a list.
     pub fn open(alloc: Global) -> Result<Self, AllocError>
-        ensures current { IfOk result (λ teller. teller.current ≡ false) }
-        ensures asked { IfOk result (λ teller. teller.asked ≡ false) }
+        ensures { IfOk result (λ teller. hand_of teller ≡ nobody_at_hand) }
     {
-        let (writer, merge) = open_room(alloc)?;
-        let (merged, noted) = open_lists(alloc)?;
         Ok(Teller {
-            writer,
-            merge,
-            merged,
-            current: false,
+            writer: Writer::open(alloc)?,
+            subscriptions: Subscriptions::open(alloc)?,
             asked: false,
-            noted,
         })
     }
 
-    /// A client is gone: the lists are to be put together again.
-    pub fn forget(&mut self)
-        ensures { hand_of self.new ≡ forgotten (hand_of self.old) }
+    /// A client joined.
+    pub fn join(&mut self, name: u64)
+        requires { length self.old.subscriptions < CLIENT_LIMIT }
+        ensures { hand_of self.new ≡ joined name (hand_of self.old) }
     {
-        self.current = false;
+        self.subscriptions.joined(name);
+    }
+
+    /// A client is gone.
+    pub fn leave(&mut self, name: u64)
+        ensures { hand_of self.new ≡ left name (hand_of self.old) }
+    {
+        self.subscriptions.leave(name);
+        self.asked = false;
+    }
+
+    // The client of this place subscribes from now on to what it is heard to, and is open or not.
+    fn follow(&mut self, connections: &Connections<Mbim, Client>, place: usize)
+        requires { place < length connections.now.present }
+        ensures follows { (k : Connection TableClient) → StandsAt k connections.now.present place → Follows k (hand_of self.old) (hand_of self.new) }
+        ensures regular { IsRegular connections.now }
+    {
+        let name = connections.name_at(place);
+        let client = connections.client_at(place);
+        let is_new = self
+            .subscriptions
+            .update(name, client.opened(), client.list());
+        self.asked &= !is_new;
+    }
+
+    // A client that was dropped is gone.
+    fn leave_unless(&mut self, stays: bool, name: u64)
+        ensures { hand_of self.new ≡ left_unless stays name (hand_of self.old) }
+    {
+        if !stays {
+            self.leave(name);
+        }
     }
 
     /// A piece of a client's stream.
@@ -84,14 +106,14 @@ impl Teller {
         ensures told { state_of connections.new side.new ≡ proxy.bring (mbim_handlers (setup_of side.old)) size_of name piece.now (state_of connections.old side.old) }
         ensures agrees { IsOf connections.new side.new (hand_of self.new) }
     {
-        let was_open = note(connections, name, &mut self.noted);
         if !connections.bring(name, piece, side) {
-            self.current = false;
+            self.leave(name);
             side.give_up(name);
             return;
         }
-        let same = is_as_noted(connections, name, was_open, &self.noted);
-        self.current &= same;
+        if let Some(place) = connections.find(name) {
+            self.follow(connections, place);
+        }
     }
 
     /// The clock shows this time.
@@ -151,8 +173,7 @@ impl Teller {
         ensures agrees { IsOf connections.new side.new (hand_of self.new) }
     {
         self.expire(connections, side, u64::MAX);
-        self.current = false;
-        shut_all(connections);
+        self.shut_all(connections);
         side.lose();
     }
 
@@ -317,7 +338,7 @@ impl Teller {
             max,
             body,
         );
-        self.current &= stays;
+        self.leave_unless(stays, name);
     }
 
     // A client gets the error in place of the answer to its command, under its own number.
@@ -339,7 +360,7 @@ impl Teller {
         error.copy_from_slice(message);
         set_number(&mut error, command.number);
         let stays = put(connections, side, name, &error);
-        self.current &= stays;
+        self.leave_unless(stays, name);
     }
 
     // A client is told that no answer to its command comes.
@@ -366,7 +387,7 @@ impl Teller {
         self.writer.done(command.number, max, &done);
         let text = self.writer.text();
         let stays = put(connections, side, name, text);
-        self.current &= stays;
+        self.leave_unless(stays, name);
     }
 
     // The proxy's own request to open the modem ends with this status, which each client that waits
@@ -409,12 +430,13 @@ impl Teller {
             return index + 1;
         };
         let done = open_done(number, status);
-        self.current = false;
         if !put(connections, side, name, &done) {
+            self.leave(name);
             return index;
         }
         let client = connections.client_mut(index);
         client.end_opening(status);
+        self.follow(connections, index);
         index + 1
     }
 
@@ -492,7 +514,7 @@ impl Teller {
         if put(connections, side, name, text) {
             return index + 1;
         }
-        self.current = false;
+        self.leave(name);
         index
     }
 
@@ -503,26 +525,23 @@ impl Teller {
         ensures told { state_of connections.new side.new ≡ finish (setup_of side.old) (state_of connections.old side.old) }
         ensures agrees { IsOf connections.new side.new (hand_of self.new) }
     {
-        if self.current && self.asked {
+        if self.asked {
             return;
         }
-        self.put_together(connections);
-        self.asked = side.send_list(&self.merged);
+        self.asked = side.send_list(self.subscriptions.merged_list());
     }
 
-    // The lists of the open clients are put together, where they aren't.
-    fn put_together(&mut self, connections: &Connections<Mbim, Client>)
-        requires limit { connections.now.limit ≤ 64 }
-        requires current { self.old.current ≡ true → self.old.merged ≡ merged_in connections.now.present }
-        ensures merged { self.new.merged ≡ merged_in connections.now.present }
-        ensures current { self.new.current ≡ true }
+    // No client is open any more.
+    fn shut_all(&mut self, connections: &mut Connections<Mbim, Client>)
+        ensures shut { (s : Setup) → connections.new ≡ record connections.old { present = shut_all s connections.old.present } }
+        ensures follows { self.old.subscriptions ≡ map subscriber_at connections.old.present → self.new.subscriptions ≡ map subscriber_at connections.new.present }
+        ensures asked { self.new.asked ≡ true → (self.old.asked ≡ true) × (self.new.subscriptions ≡ self.old.subscriptions) }
     {
-        if self.current {
-            return;
+        for place in 0..connections.present() {
+            let client = connections.client_mut(place);
+            client.shut();
+            self.follow(connections, place);
         }
-        gather(connections, &mut self.merge);
-        self.merge.finish(&mut self.merged);
-        self.current = true;
     }
 }
 
@@ -543,25 +562,6 @@ fn settle(side: &mut ModemSide, answer: Answer, number: u32) -> Option<(u64, Ask
     Some((name, asked))
 }
 
-// No client is open any more.
-fn shut_all(connections: &mut Connections<Mbim, Client>)
-    ensures { (s : Setup) → connections.new ≡ record connections.old { present = shut_all s connections.old.present } }
-{
-    for place in 0..connections.present() {
-        let client = connections.client_mut(place);
-        client.shut();
-    }
-}
-
-// Room for what is written, and for what is put together.
-fn open_room(alloc: Global) -> Result<(Writer, Merge), AllocError> {
-    Ok((Writer::open(alloc)?, Merge::open(alloc)?))
-}
-
-fn open_lists(alloc: Global) -> Result<(PairList, PairList), AllocError> {
-    Ok((PairList::open(alloc)?, PairList::open(alloc)?))
-}
-
 // A client gets these bytes, or is dropped where they find no room. Says whether it wasn't dropped.
 fn put(
     connections: &mut Connections<Mbim, Client>,
@@ -571,6 +571,7 @@ fn put(
 ) -> bool
     ensures told { state_of connections.new side.new ≡ tell give_up (λ _. bytes.now) (λ client. client) name (state_of connections.old side.old) }
     ensures stays { result ≡ finds_room bytes.now (connection_in name connections.old.present) }
+    ensures regular { IsRegular connections.old }
     ensures limit { connections.new.limit ≡ connections.old.limit }
     ensures setup { setup_of side.new ≡ setup_of side.old }
     ensures list { side.new.last_list ≡ side.old.last_list }
@@ -633,49 +634,4 @@ fn put_done(
         return put(connections, side, name, writer.text());
     };
     put_at(connections, side, place, name, &head, body)
-}
-
-// The lists of the open clients, one behind the other.
-fn gather(connections: &Connections<Mbim, Client>, merge: &mut Merge)
-    requires { connections.now.limit ≤ 64 }
-    ensures { merge.new ≡ gathered connections.now.present }
-{
-    merge.clear();
-    for place in 0..connections.present() {
-        let client = connections.client_at(place);
-        if client.opened() {
-            merge.add(client.list());
-        }
-    }
-}
-
-// Notes what a client subscribes to, and says whether it is there and open.
-fn note(connections: &Connections<Mbim, Client>, name: u64, list: &mut PairList) -> bool
-    ensures { noted result list.new ≡ wish_of name connections.now.present }
-{
-    let Some(place) = connections.find(name) else {
-        return false;
-    };
-    let client = connections.client_at(place);
-    list.copy(client.list());
-    client.opened()
-}
-
-// Whether a client subscribes to what was noted.
-fn is_as_noted(
-    connections: &Connections<Mbim, Client>,
-    name: u64,
-    was_open: bool,
-    list: &PairList,
-) -> bool
-    ensures { IsTrue result → noted was_open list.now ≡ wish_of name connections.now.present }
-{
-    let Some(place) = connections.find(name) else {
-        return !was_open;
-    };
-    let client = connections.client_at(place);
-    if !client.opened() {
-        return !was_open;
-    }
-    was_open && is_same(client.list().pairs(), list.pairs())
 }

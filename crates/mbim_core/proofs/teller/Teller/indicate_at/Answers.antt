@@ -1,8 +1,9 @@
-use Rattle.std.proofs.Common.{Bool, true, false, ◌&&◌, ap, sym, ◌∙◌}
+use Rattle.std.proofs.Common.{Bool, true, false, ap, sym, ◌∙◌}
 use Rattle.mbim_state.specs.Core.{Client, MbimState}
 use Rattle.mbim_state.specs.Transitions.{give_up}
+use Rattle.mbim_core.specs.Hand.{hand_of, left_unless}
 use Rattle.mbim_core.specs.State.{state_of}
-use Rattle.mbim_core.proofs.Hands.{told_is, forgotten_is}
+use Rattle.mbim_core.proofs.Hands.{told_is}
 use Rattle.mbim_core.proofs.Texts.{indication_text, indication_written, is_receiver, opened_not, opened_wants}
 use Rattle.mbim_core.proofs.Turns.{SeenAt, passed, dropped, got}
 use Rattle.mbim_core.proofs.teller.Teller.indicate_at.Goals as goal
@@ -32,11 +33,10 @@ returns-then-put c =
     (opened_wants c.args.head.now client (sym c.opened.ensures ∙ c.if-not-opened.false) true (sym c.wants.ensures ∙ c.if-not-wants.false)) c.text-text.result.now written
     (state_of c.put.new.connections c.put.new.side) c.put.ensures.told (sym c.if-put.true ∙ c.put.ensures.stays)
     in
-    let still = told_is _ _ _ c.requires.agrees c.text-text.result.now c.name_at-name.result _ _ _ c.put.ensures.told c.put.ensures.stays c.put.ensures.limit c.put.ensures.list in
     record {
       told = turned.0;
       fewer = turned.1;
-      agrees = record { limit = still.limit; current = λ is. still.current (ap (λ (b : Bool). b && c.put.result) is ∙ c.if-put.true); asked = still.asked };
+      agrees = told_is _ _ _ c.requires.agrees c.put.ensures.regular.rising c.text-text.result.now c.name_at-name.result _ _ c.put.result _ (ap (λ (b : Bool). left_unless b c.name_at-name.result (hand_of c.args.self.now)) (sym c.if-put.true)) c.put.ensures.told c.put.ensures.stays c.put.ensures.limit c.put.ensures.list;
     }
 
 pub returns : goal.returns
@@ -49,4 +49,4 @@ returns c =
     (opened_wants c.args.head.now client (sym c.opened.ensures ∙ c.if-not-opened.false) true (sym c.wants.ensures ∙ c.if-not-wants.false)) c.text-text.result.now written
     (state_of c.put.new.connections c.put.new.side) c.put.ensures.told (sym c.if-put.false ∙ c.put.ensures.stays)
     in
-    record { told = turned.0; fewer = turned.1; agrees = forgotten_is _ _ _ c.requires.agrees _ _ c.put.ensures.limit c.put.ensures.list }
+    record { told = turned.0; fewer = turned.1; agrees = told_is _ _ _ c.requires.agrees c.put.ensures.regular.rising c.text-text.result.now c.name_at-name.result _ _ c.put.result _ (c.leave.ensures ∙ ap (λ (b : Bool). left_unless b c.name_at-name.result (hand_of c.args.self.now)) (sym c.if-put.false)) c.put.ensures.told c.put.ensures.stays c.put.ensures.limit c.put.ensures.list }

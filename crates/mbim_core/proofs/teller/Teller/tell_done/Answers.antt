@@ -28,4 +28,4 @@ returns-clause-told c = λ m D.
     ∙ one_told give_up (λ client. response_text (known_by client) (ask_by c.args.command.now) m) c.args.name was c.in-Some.place c.in-Some.ensures.place c.client_at.result.now c.client_at.ensures text written
 
 pub returns-clause-agrees : goal.returns-clause-agrees
-returns-clause-agrees c = told_is _ _ _ c.requires.agrees (split (kind_number CommandDone) c.args.command.now.number c.fragment-max.result c.args.body.now) c.args.name _ _ c.put_done-stays.result c.put_done-stays.ensures.told c.put_done-stays.ensures.stays c.put_done-stays.ensures.limit c.put_done-stays.ensures.list
+returns-clause-agrees c = told_is _ _ _ c.requires.agrees c.in-Some.ensures.regular.rising (split (kind_number CommandDone) c.args.command.now.number c.fragment-max.result c.args.body.now) c.args.name _ _ c.put_done-stays.result _ c.leave_unless.ensures c.put_done-stays.ensures.told c.put_done-stays.ensures.stays c.put_done-stays.ensures.limit c.put_done-stays.ensures.list

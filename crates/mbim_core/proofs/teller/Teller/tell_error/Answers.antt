@@ -23,4 +23,4 @@ returns-clause-told c =
     ∙ sym (tell_is give_up (λ client. response_text (known_by client) (ask_by c.args.command.now) m) c.args.name error was (λ k at. sym (error_text_is m c.requires.kind k.client c.args.command.now)))
 
 pub returns-clause-agrees : goal.returns-clause-agrees
-returns-clause-agrees c = told_is _ _ _ c.requires.agrees c.set_number.new.message c.args.name _ _ c.put-stays.result c.put-stays.ensures.told c.put-stays.ensures.stays c.put-stays.ensures.limit c.put-stays.ensures.list
+returns-clause-agrees c = told_is _ _ _ c.requires.agrees c.put-stays.ensures.regular.rising c.set_number.new.message c.args.name _ _ c.put-stays.result _ c.leave_unless.ensures c.put-stays.ensures.told c.put-stays.ensures.stays c.put-stays.ensures.limit c.put-stays.ensures.list

@@ -28,4 +28,4 @@ returns-clause-told c =
     ∙ one_told give_up (λ client. refusal_text (known_by client) (ask_by c.args.command.now)) c.args.name was c.in-Some.place c.in-Some.ensures.place c.client_at.result.now c.client_at.ensures c.text-text.result.now written
 
 pub returns-clause-agrees : goal.returns-clause-agrees
-returns-clause-agrees c = told_is _ _ _ c.requires c.text-text.result.now c.args.name _ _ c.put-stays.result c.put-stays.ensures.told c.put-stays.ensures.stays c.put-stays.ensures.limit c.put-stays.ensures.list
+returns-clause-agrees c = told_is _ _ _ c.requires c.in-Some.ensures.regular.rising c.text-text.result.now c.args.name _ _ c.put-stays.result _ c.leave_unless.ensures c.put-stays.ensures.told c.put-stays.ensures.stays c.put-stays.ensures.limit c.put-stays.ensures.list
