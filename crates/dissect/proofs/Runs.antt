@@ -10,9 +10,8 @@ use Rattle.mbim_frame.specs.Head.{kind_of, is_kind}
 use Rattle.mbim_frame.specs.Kinds.{kind_number, kind_numbered}
 use Rattle.mbim_frame.proofs.Numbered.{kinds_are_told}
 use Rattle.mbim_fragments.specs.declared.assembly.Took.{Took}
-use Rattle.mbim_fragments.specs.declared.assembly.TheConstants.{LONGEST_BODY}
 use Rattle.mbim_fragments.specs.Assembling.{Assembled, assembled_of, assembled_after, joining_behind, body_given}
-use Rattle.mbim_fragments.specs.Runs.{Joining, More, Whole, OutOfSequence, TooLong, told, joining, run_of, run_after}
+use Rattle.mbim_fragments.specs.Runs.{Joining, More, Whole, OutOfSequence, TooLong, told, joining, run_of, run_after, longest_body}
 use Rattle.mbim_fragments.proofs.Runs.{run_goes_on}
 use Rattle.mbim_fragments.proofs.Standing.{assemblies_stand_for_runs}
 use Rattle.mbim_frame.specs.declared.head.MHead.{MHead}
@@ -29,15 +28,15 @@ left_one test m is = ap (λ (b : Bool). if b then m ∷ [] else []) is
 
 module _ (kind : MessageKind) (before : List (List ℕ)) (m : List ℕ) where
   -- a fragment of the kind goes to its run
-  pub run_goes : is_fragment kind m ≡ true → run_behind kind (before ++ m ∷ []) ≡ run_after LONGEST_BODY (run_behind kind before) m
+  pub run_goes : is_fragment kind m ≡ true → run_behind kind (before ++ m ∷ []) ≡ run_after longest_body (run_behind kind before) m
   run_goes is =
-      ap (run_of LONGEST_BODY) (filter-append (is_fragment kind) before (m ∷ []) ∙ ap (λ (l : List (List ℕ)). filter (is_fragment kind) before ++ l) (kept_one (is_fragment kind) m is))
-      ∙ run_goes_on LONGEST_BODY (filter (is_fragment kind) before) m
+      ap (run_of longest_body) (filter-append (is_fragment kind) before (m ∷ []) ∙ ap (λ (l : List (List ℕ)). filter (is_fragment kind) before ++ l) (kept_one (is_fragment kind) m is))
+      ∙ run_goes_on longest_body (filter (is_fragment kind) before) m
 
   -- what is no fragment of the kind leaves its run
   pub run_stays : is_fragment kind m ≡ false → run_behind kind (before ++ m ∷ []) ≡ run_behind kind before
   run_stays is =
-      ap (run_of LONGEST_BODY)
+      ap (run_of longest_body)
       (filter-append (is_fragment kind) before (m ∷ []) ∙ ap (λ (l : List (List ℕ)). filter (is_fragment kind) before ++ l) (left_one (is_fragment kind) m is) ∙ append-nil (filter (is_fragment kind) before))
 
 -- ---- which messages are fragments ----
@@ -83,19 +82,19 @@ module _ (kind : MessageKind) (before : List (List ℕ)) (m : List ℕ) {old : A
   stands_still is = stands ∙ ap assembled_of (sym (run_stays kind before m is))
 
   -- it took one
-  pub stands_on : {new : Assembled} → is_fragment kind m ≡ true → new ≡ assembled_after LONGEST_BODY old m → new ≡ assembled_of (run_behind kind (before ++ m ∷ []))
+  pub stands_on : {new : Assembled} → is_fragment kind m ≡ true → new ≡ assembled_after longest_body old m → new ≡ assembled_of (run_behind kind (before ++ m ∷ []))
   stands_on is left =
-      left ∙ ap (λ (a : Assembled). assembled_after LONGEST_BODY a m) stands ∙ (assemblies_stand_for_runs LONGEST_BODY (run_behind kind before) m).left ∙ ap assembled_of (sym (run_goes kind before m is))
+      left ∙ ap (λ (a : Assembled). assembled_after longest_body a m) stands ∙ (assemblies_stand_for_runs longest_body (run_behind kind before) m).left ∙ ap assembled_of (sym (run_goes kind before m is))
 
-  pub joined_is : (took : Took) (body earlier : List ℕ) → took ≡ told (joining_behind LONGEST_BODY old m) → body ≡ body_given (joining_behind LONGEST_BODY old m) earlier
-      → took_lines kind took body ≡ joined_lines kind (joining LONGEST_BODY (run_behind kind before) m)
+  pub joined_is : (took : Took) (body earlier : List ℕ) → took ≡ told (joining_behind longest_body old m) → body ≡ body_given (joining_behind longest_body old m) earlier
+      → took_lines kind took body ≡ joined_lines kind (joining longest_body (run_behind kind before) m)
   joined_is took body earlier took_is body_is =
-      let came_to : Joining = joining_behind LONGEST_BODY old m in
+      let came_to : Joining = joining_behind longest_body old m in
       ap (λ (t : Took). took_lines kind t body) took_is
       ∙ ap (λ (l : List ℕ). took_lines kind (told came_to) l) body_is
       ∙ told_lines kind came_to earlier
-      ∙ ap (λ (a : Assembled). joined_lines kind (joining_behind LONGEST_BODY a m)) stands
-      ∙ ap (joined_lines kind) (assemblies_stand_for_runs LONGEST_BODY (run_behind kind before) m).joining_is
+      ∙ ap (λ (a : Assembled). joined_lines kind (joining_behind longest_body a m)) stands
+      ∙ ap (joined_lines kind) (assemblies_stand_for_runs longest_body (run_behind kind before) m).joining_is
 
 -- ---- messages ----
 
@@ -113,13 +112,13 @@ lines_of shown before m old head_text more new place head shown_is place_is head
 pub inner_short : (kind : Option MessageKind) (before : List (List ℕ)) (m : List ℕ) → nat_le 20 (length m) ≡ false → tail_lines (tail_of m) ≡ inner_lines kind before m
 inner_short None before m short = refl
 inner_short (Some kind) before m short =
-    ap (λ (b : Bool). if b then joined_lines kind (joining LONGEST_BODY (run_behind kind before) m) else tail_lines (tail_of m)) (sym (no_second (is_split kind) (nat_le 20 (length m)) short))
+    ap (λ (b : Bool). if b then joined_lines kind (joining longest_body (run_behind kind before) m) else tail_lines (tail_of m)) (sym (no_second (is_split kind) (nat_le 20 (length m)) short))
 
 -- a fragment
 pub inner_joined : (kind : MessageKind) (before : List (List ℕ)) (m : List ℕ) → is_split kind ≡ true → nat_le 20 (length m) ≡ true → Some kind ≡ kind_numbered (kind_of m)
-    → joined_lines kind (joining LONGEST_BODY (run_behind kind before) m) ≡ inner_lines (kind_numbered (kind_of m)) before m
+    → joined_lines kind (joining longest_body (run_behind kind before) m) ≡ inner_lines (kind_numbered (kind_of m)) before m
 inner_joined kind before m split long found =
-    ap (λ (b : Bool). if b then joined_lines kind (joining LONGEST_BODY (run_behind kind before) m) else tail_lines (tail_of m)) (sym (both_true (is_split kind) (nat_le 20 (length m)) split long))
+    ap (λ (b : Bool). if b then joined_lines kind (joining longest_body (run_behind kind before) m) else tail_lines (tail_of m)) (sym (both_true (is_split kind) (nat_le 20 (length m)) split long))
     ∙ ap (λ (k : Option MessageKind). inner_lines k before m) found
 
 pub is_long : (m : List ℕ) → 20 ≤ length m → nat_le 20 (length m) ≡ true

@@ -11,8 +11,7 @@ use Rattle.mbim_frame.specs.Head.{head_of, kind_of, tail_of, is_kind}
 use Rattle.mbim_frame.specs.Bodies.{read_command, read_done, read_indication, buffer_of, indicated_buffer_of}
 use Rattle.mbim_fragments.specs.declared.assembly.Took.{Took}
 use Rattle.mbim_fragments.specs.declared.assembly.Took.TheVariants as took
-use Rattle.mbim_fragments.specs.declared.assembly.TheConstants.{LONGEST_BODY}
-use Rattle.mbim_fragments.specs.Runs.{Joining, More, Whole, OutOfSequence, TooLong, joining, run_of}
+use Rattle.mbim_fragments.specs.Runs.{Joining, More, Whole, OutOfSequence, TooLong, joining, run_of, longest_body}
 use Rattle.mbim_fields.specs.Layout.{Layout}
 use Rattle.mbim_fields.specs.Value.{Value}
 use Rattle.mbim_fields.specs.Reading.{Read, read}
@@ -118,7 +117,7 @@ is_fragment kind message = is_kind kind message && nat_le 20 (length message)
 
 -- those that are there behind these messages
 abbrev pub run_behind : MessageKind → List (List ℕ) → List (List ℕ)
-run_behind kind before = run_of LONGEST_BODY (filter (is_fragment kind) before)
+run_behind kind before = run_of longest_body (filter (is_fragment kind) before)
 
 abbrev pub joined_lines : MessageKind → Joining → List ℕ
 joined_lines kind More = []
@@ -142,7 +141,7 @@ tail_lines (byte ∷ bytes) = codes "  " ++ hex (byte ∷ bytes) ++ codes "\n"
 abbrev pub inner_lines : Option MessageKind → List (List ℕ) → List ℕ → List ℕ
 inner_lines None before message = tail_lines (tail_of message)
 inner_lines (Some kind) before message =
-    if is_split kind && nat_le 20 (length message) then joined_lines kind (joining LONGEST_BODY (run_behind kind before) message)
+    if is_split kind && nat_le 20 (length message) then joined_lines kind (joining longest_body (run_behind kind before) message)
     else tail_lines (tail_of message)
 
 -- what a message shows behind those before it

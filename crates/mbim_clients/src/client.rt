@@ -1,8 +1,7 @@
 ghost use Rattle.std.specs.Prelude.{◌≡◌, ◌≤◌, true, min, max, length};
 ghost use Rattle.kit_bytes.specs.Indications.{wants};
-ghost use Rattle.mbim_fragments.specs.declared.assembly.TheConstants.{LONGEST_BODY};
 ghost use Rattle.mbim_fragments.specs.Assembling.{joining_behind, assembled_after, body_given};
-ghost use Rattle.mbim_fragments.specs.Runs.{told};
+ghost use Rattle.mbim_fragments.specs.Runs.{told, longest_body};
 ghost use Rattle.proxy_history.specs.View.{OpenedWith, Shut};
 ghost use Rattle.mbim_proxy.specs.Setup.{Setup};
 ghost use Rattle.mbim_proxy.specs.OwnReplies.{reply_to_close};
@@ -178,9 +177,9 @@ impl Client {
     /// Takes the next fragment of a command, and gives the command that the last one completes.
     pub(crate) fn take(&mut self, fragment: &[u8], whole: &mut Body) -> Took
         requires { 20 ≤ length fragment.now }
-        ensures told { result ≡ told (joining_behind LONGEST_BODY self.old.begun fragment.now) }
-        ensures left { self.new ≡ record self.old { begun = assembled_after LONGEST_BODY self.old.begun fragment.now } }
-        ensures given { whole.new ≡ body_given (joining_behind LONGEST_BODY self.old.begun fragment.now) whole.old }
+        ensures told { result ≡ told (joining_behind longest_body self.old.begun fragment.now) }
+        ensures left { self.new ≡ record self.old { begun = assembled_after longest_body self.old.begun fragment.now } }
+        ensures given { whole.new ≡ body_given (joining_behind longest_body self.old.begun fragment.now) whole.old }
     {
         self.begun.take(fragment, whole)
     }

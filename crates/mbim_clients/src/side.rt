@@ -1,8 +1,8 @@
 ghost use Rattle.std.specs.Prelude.{◌≡◌, ◌++◌, ◌≤◌, false, [], max, length, option_map, IfOk};
 ghost use Rattle.number_space.specs.declared.space.Row.{Row};
 ghost use Rattle.number_space.specs.Table.{row_of, first_due, answers, expires};
-ghost use Rattle.mbim_fragments.specs.declared.assembly.TheConstants.{LONGEST_BODY};
 ghost use Rattle.mbim_fragments.specs.Assembling.{fresh, joining_behind, assembled_after, body_given};
+ghost use Rattle.mbim_fragments.specs.Runs.{longest_body};
 ghost use Rattle.mbim_services.specs.SubscribeLists.{is_same_list};
 ghost use Rattle.mbim_proxy.specs.Setup.{mbim_setup};
 ghost use Rattle.mbim_state.specs.declared.asked.Asked.{Asked as TableAsked};
@@ -196,9 +196,9 @@ impl ModemSide {
     /// Hears a fragment of an answer of the modem, and says whether it completes a body, which it gives.
     pub fn join_answer(&mut self, fragment: &[u8], whole: &mut Body) -> bool
         requires { 20 ≤ length fragment.now }
-        ensures side { self.new ≡ record self.old { begun = record self.old.begun { answer = assembled_after LONGEST_BODY self.old.begun.answer fragment.now } } }
-        ensures whole { result ≡ is_whole (joining_behind LONGEST_BODY self.old.begun.answer fragment.now) }
-        ensures body { whole.new ≡ body_given (joining_behind LONGEST_BODY self.old.begun.answer fragment.now) whole.old }
+        ensures side { self.new ≡ record self.old { begun = record self.old.begun { answer = assembled_after longest_body self.old.begun.answer fragment.now } } }
+        ensures whole { result ≡ is_whole (joining_behind longest_body self.old.begun.answer fragment.now) }
+        ensures body { whole.new ≡ body_given (joining_behind longest_body self.old.begun.answer fragment.now) whole.old }
     {
         matches!(self.answer.take(fragment, whole), Took::Message)
     }
@@ -206,9 +206,9 @@ impl ModemSide {
     /// Hears a fragment of an indication, and says whether it completes a body, which it gives.
     pub fn join_indication(&mut self, fragment: &[u8], whole: &mut Body) -> bool
         requires { 20 ≤ length fragment.now }
-        ensures side { self.new ≡ record self.old { begun = record self.old.begun { indication = assembled_after LONGEST_BODY self.old.begun.indication fragment.now } } }
-        ensures whole { result ≡ is_whole (joining_behind LONGEST_BODY self.old.begun.indication fragment.now) }
-        ensures body { whole.new ≡ body_given (joining_behind LONGEST_BODY self.old.begun.indication fragment.now) whole.old }
+        ensures side { self.new ≡ record self.old { begun = record self.old.begun { indication = assembled_after longest_body self.old.begun.indication fragment.now } } }
+        ensures whole { result ≡ is_whole (joining_behind longest_body self.old.begun.indication fragment.now) }
+        ensures body { whole.new ≡ body_given (joining_behind longest_body self.old.begun.indication fragment.now) whole.old }
     {
         matches!(self.indication.take(fragment, whole), Took::Message)
     }

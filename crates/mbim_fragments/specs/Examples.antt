@@ -3,8 +3,7 @@ use Rattle.std.specs.Prelude.{◌≡◌, ℕ, List, [], ◌∷◌, ◌++◌, len
 use Rattle.std.specs.List.{range_with_len}
 use Rattle.mbim_frame.specs.declared.kind.MessageKind.TheVariants.{CommandDone}
 use Rattle.mbim_frame.specs.Kinds.{kind_number}
-use Rattle.mbim_fragments.specs.declared.assembly.TheConstants.{LONGEST_BODY}
-use Rattle.mbim_fragments.specs.Runs.{More, Whole, OutOfSequence, TooLong, joinings}
+use Rattle.mbim_fragments.specs.Runs.{More, Whole, OutOfSequence, TooLong, joinings, longest_body}
 use Rattle.mbim_fragments.specs.Splitting.{pieces, split}
 
 -- ---- joining ----
@@ -31,13 +30,13 @@ abbrev pub of_none : List ℕ
 of_none = 0x03 ∷ 0x00 ∷ 0x00 ∷ 0x00 ∷ 0x14 ∷ 0x00 ∷ 0x00 ∷ 0x00 ∷ 0x09 ∷ 0x00 ∷ 0x00 ∷ 0x00 ∷ 0x00 ∷ 0x00 ∷ 0x00 ∷ 0x00 ∷ 0x00 ∷ 0x00 ∷ 0x00 ∷ 0x00 ∷ []
 
 pub record FragmentsAreJoined : Type 0 where
-  pub in_order : joinings LONGEST_BODY (part_0 ∷ part_1 ∷ part_2 ∷ []) ≡ More ∷ More ∷ Whole (0xA0 ∷ 0xA1 ∷ 0xB0 ∷ 0xB1 ∷ 0xC0 ∷ 0xC1 ∷ []) ∷ []
+  pub in_order : joinings longest_body (part_0 ∷ part_1 ∷ part_2 ∷ []) ≡ More ∷ More ∷ Whole (0xA0 ∷ 0xA1 ∷ 0xB0 ∷ 0xB1 ∷ 0xC0 ∷ 0xC1 ∷ []) ∷ []
   -- a skipped fragment ends the run, and the one that was due doesn't go on with it
-  pub skipped : joinings LONGEST_BODY (part_0 ∷ part_2 ∷ part_1 ∷ []) ≡ More ∷ OutOfSequence ∷ OutOfSequence ∷ []
-  pub repeated : joinings LONGEST_BODY (part_0 ∷ part_0 ∷ []) ≡ More ∷ OutOfSequence ∷ []
-  pub other_number : joinings LONGEST_BODY (part_0 ∷ of_another ∷ []) ≡ More ∷ OutOfSequence ∷ []
-  pub other_total : joinings LONGEST_BODY (part_0 ∷ of_four ∷ []) ≡ More ∷ OutOfSequence ∷ []
-  pub no_total : joinings LONGEST_BODY (of_none ∷ []) ≡ OutOfSequence ∷ []
+  pub skipped : joinings longest_body (part_0 ∷ part_2 ∷ part_1 ∷ []) ≡ More ∷ OutOfSequence ∷ OutOfSequence ∷ []
+  pub repeated : joinings longest_body (part_0 ∷ part_0 ∷ []) ≡ More ∷ OutOfSequence ∷ []
+  pub other_number : joinings longest_body (part_0 ∷ of_another ∷ []) ≡ More ∷ OutOfSequence ∷ []
+  pub other_total : joinings longest_body (part_0 ∷ of_four ∷ []) ≡ More ∷ OutOfSequence ∷ []
+  pub no_total : joinings longest_body (of_none ∷ []) ≡ OutOfSequence ∷ []
   -- with room for 5 bytes
   pub too_long : joinings 5 (part_0 ∷ part_1 ∷ part_2 ∷ part_0 ∷ []) ≡ More ∷ More ∷ TooLong ∷ More ∷ []
 

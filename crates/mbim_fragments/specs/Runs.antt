@@ -7,6 +7,10 @@ use Rattle.mbim_fragments.specs.declared.assembly.Took.TheVariants as took
 use Rattle.mbim_frame.specs.Head.{number_of}
 use Rattle.mbim_frame.specs.Fragment.{total_of, current_of, body_of}
 
+-- a body has at most so many bytes
+abbrev pub longest_body : ℕ
+longest_body = 65536
+
 -- the parts of the body that fragments carry
 abbrev pub joined : List (List ℕ) → List ℕ
 joined fragments = flat_map body_of fragments

@@ -54,7 +54,7 @@ impl Model for Assembly {
 
 impl Assembly {
     ghost use Rattle.mbim_fragments.specs.Assembling.{assembled_after, body_given, fresh, joining_behind, progress_behind};
-    ghost use Rattle.mbim_fragments.specs.Runs.{told};
+    ghost use Rattle.mbim_fragments.specs.Runs.{told, longest_body};
 
     /// An assembly before the first fragment, with the room that it will ever need.
     pub fn open(alloc: Global) -> Result<Self, AllocError>
@@ -71,9 +71,9 @@ impl Assembly {
     #[inline(always)]
     pub fn take(&mut self, fragment: &[u8], whole: &mut Body) -> Took
         requires heads { 20 ≤ length fragment.now }
-        ensures told { result ≡ told (joining_behind LONGEST_BODY self.old fragment.now) }
-        ensures left { self.new ≡ assembled_after LONGEST_BODY self.old fragment.now }
-        ensures given { whole.new ≡ body_given (joining_behind LONGEST_BODY self.old fragment.now) whole.old }
+        ensures told { result ≡ told (joining_behind longest_body self.old fragment.now) }
+        ensures left { self.new ≡ assembled_after longest_body self.old fragment.now }
+        ensures given { whole.new ≡ body_given (joining_behind longest_body self.old fragment.now) whole.old }
     {
         if self.progress.is_some() || !is_unsplit(fragment) {
             return self.take_part(fragment, whole);
@@ -85,9 +85,9 @@ impl Assembly {
     #[inline(never)]
     fn take_part(&mut self, fragment: &[u8], whole: &mut Body) -> Took
         requires heads { 20 ≤ length fragment.now }
-        ensures told { result ≡ told (joining_behind LONGEST_BODY self.old fragment.now) }
-        ensures left { self.new ≡ assembled_after LONGEST_BODY self.old fragment.now }
-        ensures given { whole.new ≡ body_given (joining_behind LONGEST_BODY self.old fragment.now) whole.old }
+        ensures told { result ≡ told (joining_behind longest_body self.old fragment.now) }
+        ensures left { self.new ≡ assembled_after longest_body self.old fragment.now }
+        ensures given { whole.new ≡ body_given (joining_behind longest_body self.old fragment.now) whole.old }
     {
         let Some(progress) = self.progress_with(fragment) else {
             self.restart();

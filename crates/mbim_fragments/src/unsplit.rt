@@ -2,7 +2,7 @@ ghost use Rattle.std.specs.Prelude.{◌≡◌, ◌+◌, ◌≤◌, ◌==◌, ◌
 ghost use Rattle.mbim_frame.specs.Fragment.{total_of, current_of};
 ghost use Rattle.mbim_frame.specs.Writing.{unsplit};
 ghost use Rattle.mbim_fragments.specs.Assembling.{fresh, joining_behind, assembled_after, body_given};
-ghost use Rattle.mbim_fragments.specs.Runs.{told};
+ghost use Rattle.mbim_fragments.specs.Runs.{told, longest_body};
 ghost use Rattle.mbim_fragments.specs.Splitting.{split};
 
 use crate::assembly::{LONGEST_BODY, Took};
@@ -22,9 +22,9 @@ pub fn is_unsplit(fragment: &[u8]) -> bool
 pub fn take_unsplit(fragment: &[u8], whole: &mut Body) -> Took
     requires heads { 20 ≤ length fragment.now }
     requires only { (total_of fragment.now == 1 && current_of fragment.now == 0) ≡ true }
-    ensures told { result ≡ told (joining_behind LONGEST_BODY fresh fragment.now) }
-    ensures left { assembled_after LONGEST_BODY fresh fragment.now ≡ fresh }
-    ensures given { whole.new ≡ body_given (joining_behind LONGEST_BODY fresh fragment.now) whole.old }
+    ensures told { result ≡ told (joining_behind longest_body fresh fragment.now) }
+    ensures left { assembled_after longest_body fresh fragment.now ≡ fresh }
+    ensures given { whole.new ≡ body_given (joining_behind longest_body fresh fragment.now) whole.old }
 {
     let part = body_in(fragment);
     if LONGEST_BODY < part.len() {

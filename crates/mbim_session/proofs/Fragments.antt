@@ -8,8 +8,7 @@ use Rattle.std.proofs.lemmas.List.Elements.{filter-append}
 use Rattle.mbim_frame.specs.Fragment.{total_of}
 use Rattle.mbim_fragments.specs.declared.assembly.Took.{Took}
 use Rattle.mbim_fragments.specs.declared.assembly.Took.TheVariants as took
-use Rattle.mbim_fragments.specs.declared.assembly.TheConstants.{LONGEST_BODY}
-use Rattle.mbim_fragments.specs.Runs.{Joining, More, Whole, OutOfSequence, TooLong, is_due, joined, joining, run_with, told}
+use Rattle.mbim_fragments.specs.Runs.{Joining, More, Whole, OutOfSequence, TooLong, is_due, joined, joining, run_with, told, longest_body}
 use Rattle.mbim_fragments.specs.Assembling.{Assembled, assembled_of, assembled_after, body_given, joining_behind}
 use Rattle.mbim_fragments.proofs.Standing.{assemblies_stand_for_runs}
 use Rattle.mbim_frame.specs.declared.kind.MessageKind.TheVariants as kind
@@ -31,9 +30,9 @@ bytes-push : (pieces : List Placed) (message : Placed) → bytes_of (pieces ++ m
 bytes-push pieces message = map-append (λ (m : Placed). m.bytes) pieces (message ∷ [])
 
 joins_as_run : {assembly : Assembled} (pieces : List Placed) (message : Placed) → assembly ≡ assembled_of (bytes_of pieces)
-    → joining_behind LONGEST_BODY assembly message.bytes ≡ joining LONGEST_BODY (bytes_of pieces) message.bytes
+    → joining_behind longest_body assembly message.bytes ≡ joining longest_body (bytes_of pieces) message.bytes
 joins_as_run pieces message is =
-    ap (λ (a : Assembled). joining_behind LONGEST_BODY a message.bytes) is ∙ (assemblies_stand_for_runs LONGEST_BODY (bytes_of pieces) message.bytes).joining_is
+    ap (λ (a : Assembled). joining_behind longest_body a message.bytes) is ∙ (assemblies_stand_for_runs longest_body (bytes_of pieces) message.bytes).joining_is
 
 -- what the last one completes is what all of them carry
 whole_is_joined : (longest : ℕ) (run : List (List ℕ)) (fragment body : List ℕ) → joining longest run fragment ≡ Whole body → body ≡ joined (run ++ fragment ∷ [])
@@ -48,10 +47,10 @@ whole_is_joined longest run fragment body is =
 
 module _ {before : Assembled} (pieces : List Placed) (message : Placed) (is : before ≡ assembled_of (bytes_of pieces)) where
   -- more are to follow: the assembly stands for them with this one
-  pub stands_with : {after : Assembled} → took.More ≡ told (joining_behind LONGEST_BODY before message.bytes) → after ≡ assembled_after LONGEST_BODY before message.bytes → after ≡ assembled_of (bytes_of (pieces ++ message ∷ []))
+  pub stands_with : {after : Assembled} → took.More ≡ told (joining_behind longest_body before message.bytes) → after ≡ assembled_after longest_body before message.bytes → after ≡ assembled_of (bytes_of (pieces ++ message ∷ []))
   stands_with {after} told_is after_is =
-      let joins : joining LONGEST_BODY (bytes_of pieces) message.bytes ≡ More = told_more _ (told_is ∙ ap told (joins_as_run pieces message is)) in
-      after_is ∙ ap (λ (a : Assembled). assembled_after LONGEST_BODY a message.bytes) is ∙ (assemblies_stand_for_runs LONGEST_BODY (bytes_of pieces) message.bytes).left
+      let joins : joining longest_body (bytes_of pieces) message.bytes ≡ More = told_more _ (told_is ∙ ap told (joins_as_run pieces message is)) in
+      after_is ∙ ap (λ (a : Assembled). assembled_after longest_body a message.bytes) is ∙ (assemblies_stand_for_runs longest_body (bytes_of pieces) message.bytes).left
       ∙ ap (λ (j : Joining). assembled_of (run_with (bytes_of pieces) message.bytes j)) joins
       ∙ ap assembled_of (sym (bytes-push pieces message))
     where
@@ -62,12 +61,12 @@ module _ {before : Assembled} (pieces : List Placed) (message : Placed) (is : be
       told_more TooLong e = absurd (cc)
 
   -- it was the last
-  pub body_is : {given : List ℕ} (old : List ℕ) → took.Message ≡ told (joining_behind LONGEST_BODY before message.bytes) → given ≡ body_given (joining_behind LONGEST_BODY before message.bytes) old → given ≡ body_with pieces message
-  body_is {given} old told_is given_is = by (joining LONGEST_BODY (bytes_of pieces) message.bytes) refl (told_is ∙ ap told (joins_as_run pieces message is)) (given_is ∙ ap (λ (j : Joining). body_given j old) (joins_as_run pieces message is))
+  pub body_is : {given : List ℕ} (old : List ℕ) → took.Message ≡ told (joining_behind longest_body before message.bytes) → given ≡ body_given (joining_behind longest_body before message.bytes) old → given ≡ body_with pieces message
+  body_is {given} old told_is given_is = by (joining longest_body (bytes_of pieces) message.bytes) refl (told_is ∙ ap told (joins_as_run pieces message is)) (given_is ∙ ap (λ (j : Joining). body_given j old) (joins_as_run pieces message is))
     where
-      by : (j : Joining) → joining LONGEST_BODY (bytes_of pieces) message.bytes ≡ j → took.Message ≡ told j → given ≡ body_given j old → given ≡ body_with pieces message
+      by : (j : Joining) → joining longest_body (bytes_of pieces) message.bytes ≡ j → took.Message ≡ told j → given ≡ body_given j old → given ≡ body_with pieces message
       by More joins e body = absurd (cc)
-      by (Whole whole) joins e body = body ∙ whole_is_joined LONGEST_BODY (bytes_of pieces) message.bytes whole joins
+      by (Whole whole) joins e body = body ∙ whole_is_joined longest_body (bytes_of pieces) message.bytes whole joins
       by OutOfSequence joins e body = absurd (cc)
       by TooLong joins e body = absurd (cc)
 
@@ -91,20 +90,20 @@ meaning_told message OutOfSequence = refl
 meaning_told message TooLong = refl
 
 module _ {assembly : Assembled} (pieces : List Placed) (message : Placed) (is : assembly ≡ assembled_of (bytes_of pieces)) (whole : 20 ≤ length message.bytes) where
-  judged : (result : Took) → result ≡ told (joining_behind LONGEST_BODY assembly message.bytes) → judge_piece pieces message ≡ meaning_by message.place result
+  judged : (result : Took) → result ≡ told (joining_behind longest_body assembly message.bytes) → judge_piece pieces message ≡ meaning_by message.place result
   judged result told_is =
-      ap (λ (b : Bool). if b then meaning.Broken (begins_at pieces message) else meaning_of message (joining LONGEST_BODY (bytes_of pieces) message.bytes)) (le-ltb (length message.bytes) 20 whole)
-      ∙ meaning_told message (joining LONGEST_BODY (bytes_of pieces) message.bytes)
+      ap (λ (b : Bool). if b then meaning.Broken (begins_at pieces message) else meaning_of message (joining longest_body (bytes_of pieces) message.bytes)) (le-ltb (length message.bytes) 20 whole)
+      ∙ meaning_told message (joining longest_body (bytes_of pieces) message.bytes)
       ∙ ap (meaning_by message.place) (sym (told_is ∙ ap told (joins_as_run pieces message is)))
 
   -- it wasn't taken
-  pub hears-broken : (result : Took) → result ≡ told (joining_behind LONGEST_BODY assembly message.bytes) → (result ≡ took.OutOfSequence) ⊎ (result ≡ took.TooLong) → judge_piece pieces message ≡ meaning.Broken message.place
+  pub hears-broken : (result : Took) → result ≡ told (joining_behind longest_body assembly message.bytes) → (result ≡ took.OutOfSequence) ⊎ (result ≡ took.TooLong) → judge_piece pieces message ≡ meaning.Broken message.place
   hears-broken result told_is either =
       judged result told_is ∙ ⊎_elim (λ (is : result ≡ took.OutOfSequence). ap (meaning_by message.place) is) (λ (is : result ≡ took.TooLong). ap (meaning_by message.place) is) either
 
 -- more are to follow
 pub hears-more : (before : CommandAnswer) {after : CommandAnswer} (pieces : List Placed) (message : Placed) → HasPieces before pieces → 20 ≤ length message.bytes
-    → took.More ≡ told (joining_behind LONGEST_BODY before.assembly message.bytes) → after.assembly ≡ assembled_after LONGEST_BODY before.assembly message.bytes → after.first ≡ Some (unwrap_or before.first message.place)
+    → took.More ≡ told (joining_behind longest_body before.assembly message.bytes) → after.assembly ≡ assembled_after longest_body before.assembly message.bytes → after.first ≡ Some (unwrap_or before.first message.place)
     → Hears judge_piece (HasPieces after) (HasBody after) pieces message meaning.NoAnswer
 hears-more before pieces message has whole told_is after_is first_is = (
   judged pieces message has.run whole took.More told_is,
@@ -116,7 +115,7 @@ hears-more before pieces message has whole told_is after_is first_is = (
 
 -- it was the last
 pub hears-last : (before : CommandAnswer) {after : CommandAnswer} (old : List ℕ) (pieces : List Placed) (message : Placed) → HasPieces before pieces → 20 ≤ length message.bytes
-    → took.Message ≡ told (joining_behind LONGEST_BODY before.assembly message.bytes) → after.body ≡ body_given (joining_behind LONGEST_BODY before.assembly message.bytes) old → after.first ≡ Some (unwrap_or before.first message.place)
+    → took.Message ≡ told (joining_behind longest_body before.assembly message.bytes) → after.body ≡ body_given (joining_behind longest_body before.assembly message.bytes) old → after.first ≡ Some (unwrap_or before.first message.place)
     → Hears judge_piece (HasPieces after) (HasBody after) pieces message meaning.Answer
 hears-last before old pieces message has whole told_is given_is first_is = (
   judged pieces message has.run whole took.Message told_is,

@@ -11,8 +11,7 @@ use Rattle.mbim_frame.specs.Kinds.{kind_number}
 use Rattle.mbim_frame.specs.Head.{is_kind, number_of}
 use Rattle.mbim_frame.specs.Bodies.{command_text}
 use Rattle.mbim_frame.specs.Writing.{open_request, close_request}
-use Rattle.mbim_fragments.specs.declared.assembly.TheConstants.{LONGEST_BODY}
-use Rattle.mbim_fragments.specs.Runs.{Joining, More, Whole, OutOfSequence, TooLong, joining}
+use Rattle.mbim_fragments.specs.Runs.{Joining, More, Whole, OutOfSequence, TooLong, joining, longest_body}
 use Rattle.mbim_fragments.specs.Splitting.{split}
 use Rattle.mbim_requests.specs.declared.MbimRequest.{MbimRequest}
 use Rattle.mbim_services.specs.Requests.{sent_by, buffer_sent}
@@ -77,7 +76,7 @@ abbrev pub judge_piece : List Placed → Placed → Meaning
 judge_piece pieces message =
     if nat_lt (length message.bytes) 20
     then meaning.Broken (begins_at pieces message)
-    else meaning_of message (joining LONGEST_BODY (bytes_of pieces) message.bytes)
+    else meaning_of message (joining longest_body (bytes_of pieces) message.bytes)
 
 -- the fragments of the COMMAND_DONE of the request with this number, or a FUNCTION_ERROR for it
 abbrev pub judge_command : ℕ → Judge

@@ -10,8 +10,7 @@ use Rattle.mbim_frame.specs.Numbers.{u32_at}
 use Rattle.mbim_frame.specs.Head.{is_kind, number_of}
 use Rattle.mbim_frame.specs.Bodies.{read_command, buffer_of}
 use Rattle.mbim_frame.specs.Writing.{open_done, close_done, function_error}
-use Rattle.mbim_fragments.specs.declared.assembly.TheConstants.{LONGEST_BODY}
-use Rattle.mbim_fragments.specs.Runs.{Joining, More, Whole, OutOfSequence, TooLong}
+use Rattle.mbim_fragments.specs.Runs.{Joining, More, Whole, OutOfSequence, TooLong, longest_body}
 use Rattle.mbim_fragments.specs.Assembling as assembling
 use Rattle.mbim_fragments.specs.Assembling.{Assembled, joining_behind, assembled_after}
 use Rattle.modem_profile.specs.Profile.{Profile}
@@ -79,7 +78,7 @@ fresh p = record { begun = assembling.fresh; modem = started p }
 abbrev pub exchange_at_request : (message : List ℕ) → State → Request → Exchange
 exchange_at_request m s (Open longest) = says (opened longest s.modem) (open_done (number_of m) SUCCESS)
 exchange_at_request m s Close = says s.modem (close_done (number_of m) SUCCESS)
-exchange_at_request m s Command = exchange_at_joining (number_of m) s.modem (joining_behind LONGEST_BODY s.begun m)
+exchange_at_request m s Command = exchange_at_joining (number_of m) s.modem (joining_behind longest_body s.begun m)
 exchange_at_request m s Wrong = errs (number_of m) LENGTH_MISMATCH s.modem
 exchange_at_request m s Other = says s.modem []
 
@@ -88,7 +87,7 @@ exchange_at m s = exchange_at_request m s (request_of m)
 
 -- only a fragment of a command goes on with what has come
 abbrev pub begun_at_request : (message : List ℕ) → Assembled → Request → Assembled
-begun_at_request m begun Command = assembled_after LONGEST_BODY begun m
+begun_at_request m begun Command = assembled_after longest_body begun m
 begun_at_request m begun _ = begun
 
 abbrev pub state_at : (message : List ℕ) → State → State

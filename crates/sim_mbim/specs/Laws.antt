@@ -3,7 +3,7 @@ use Rattle.std.specs.Prelude.{◌≡◌, ℕ, ◌^◌, ◌<◌, ◌≤◌, Bool,
 use Rattle.std.specs.List.{AllByRecursion}
 use Rattle.std.specs.Str.{all_scalars}
 use Rattle.kit_bytes.specs.Subscriptions.{Pair, by_service}
-use Rattle.mbim_fragments.specs.declared.assembly.TheConstants.{LONGEST_BODY}
+use Rattle.mbim_fragments.specs.Runs.{longest_body}
 use Rattle.mbim_fields.specs.Value.{Value, number, octets}
 use Rattle.mbim_fields.specs.Canon.{canon}
 use Rattle.mbim_services.specs.Table as table
@@ -51,7 +51,7 @@ pub record AnswersHaveEncodings : Type 0 where
   pub sms_read : (kept : List (ℕ × List ℕ)) → length kept ≤ 100 → AllByRecursion IsMessage kept → HasEncoding table.sms_read (sms.list_of (map sms.message kept))
   pub sms_delete : HasEncoding table.sms_delete []
   pub sms_store_status : HasEncoding table.sms_store_status (zeros 2)
-  pub ussd_exchange : (scheme : ℕ) (payload : List ℕ) → scheme < 2 ^ 32 → length payload ≤ LONGEST_BODY → HasEncoding table.ussd_exchange (zero ∷ zero ∷ number scheme ∷ octets payload ∷ [])
+  pub ussd_exchange : (scheme : ℕ) (payload : List ℕ) → scheme < 2 ^ 32 → length payload ≤ longest_body → HasEncoding table.ussd_exchange (zero ∷ zero ∷ number scheme ∷ octets payload ∷ [])
   pub phonebook_configuration : HasEncoding table.phonebook_configuration (zeros 5)
   pub phonebook_read : (kept : List (ℕ × PhonebookEntry)) → length kept ≤ 100 → AllByRecursion IsEntry kept → HasEncoding table.phonebook_read (phonebook.list_of (map phonebook.entry kept))
   pub phonebook_delete : HasEncoding table.phonebook_delete []

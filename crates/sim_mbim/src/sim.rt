@@ -3,8 +3,8 @@ ghost use Rattle.kit_bytes.specs.Indications as indications;
 ghost use Rattle.mbim_frame.specs.Bodies.{read_command};
 ghost use Rattle.mbim_frame.specs.Head.{number_of};
 ghost use Rattle.mbim_frame.specs.Writing as writing;
-ghost use Rattle.mbim_fragments.specs.declared.assembly.TheConstants.{LONGEST_BODY};
 ghost use Rattle.mbim_fragments.specs.Assembling.{joining_behind, assembled_after};
+ghost use Rattle.mbim_fragments.specs.Runs.{longest_body};
 ghost use Rattle.sim_modem.specs.Sim.{answers};
 ghost use Rattle.sim_mbim.specs.Answers.{Keeps, fresh, machine, says, state_at, exchange_at, exchange_at_command, exchange_at_joining};
 ghost use Rattle.sim_mbim.specs.Writing as spec;
@@ -110,9 +110,9 @@ impl MbimSim {
     // What is said to a fragment of a command.
     fn hear_fragment(&mut self, number: u32, fragment: &[u8]) -> Result<Octets, AllocError>
         requires { 20 ≤ length fragment.now }
-        ensures text { IfOk result (λ text. text ≡ (exchange_at_joining number self.old.modem (joining_behind LONGEST_BODY self.old.begun fragment.now)).text) }
-        ensures modem { OnOk result (self.new.modem ≡ (exchange_at_joining number self.old.modem (joining_behind LONGEST_BODY self.old.begun fragment.now)).modem) }
-        ensures begun { OnOk result (self.new.begun ≡ assembled_after LONGEST_BODY self.old.begun fragment.now) }
+        ensures text { IfOk result (λ text. text ≡ (exchange_at_joining number self.old.modem (joining_behind longest_body self.old.begun fragment.now)).text) }
+        ensures modem { OnOk result (self.new.modem ≡ (exchange_at_joining number self.old.modem (joining_behind longest_body self.old.begun fragment.now)).modem) }
+        ensures begun { OnOk result (self.new.begun ≡ assembled_after longest_body self.old.begun fragment.now) }
     {
         match self.begun.take(fragment, &mut self.body) {
             Took::More => Ok(Octets::new(self.alloc)),

@@ -10,9 +10,8 @@ use Rattle.mbim_frame.specs.declared.bodies.CommandHead.{CommandHead}
 use Rattle.mbim_frame.specs.declared.status.TheConstants.{INVALID_PARAMETERS, SUCCESS}
 use Rattle.mbim_frame.specs.Bodies.{buffer_of, read_command}
 use Rattle.mbim_frame.specs.Head.{number_of}
-use Rattle.mbim_fragments.specs.declared.assembly.TheConstants.{LONGEST_BODY}
 use Rattle.mbim_fragments.specs.Assembling.{Assembled, joining_behind}
-use Rattle.mbim_fragments.specs.Runs.{Joining, Whole}
+use Rattle.mbim_fragments.specs.Runs.{Joining, Whole, longest_body}
 use Rattle.modem_profile.specs.Profile.{Profile}
 use Rattle.qmi_tunnel.specs.declared.service.TheConstants.{QMI_SERVICE, QMI_MESSAGE}
 use Rattle.sim_modem.specs.Sim.{Answering, HasMet, Machine, answers}
@@ -46,7 +45,7 @@ carried_whole joining = None
 
 -- by the command that a message completes, where these fragments came before
 abbrev pub carried_at : (message : List ℕ) → Assembled → Request → Option (List ℕ)
-carried_at m begun Command = carried_whole (joining_behind LONGEST_BODY begun m)
+carried_at m begun Command = carried_whole (joining_behind longest_body begun m)
 carried_at m begun request = None
 
 -- ---- what is answered ----

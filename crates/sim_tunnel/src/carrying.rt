@@ -1,8 +1,8 @@
 //! Which commands carry a QMI message, and what the QMI modem sends for it.
 
 ghost use Rattle.std.specs.Prelude.{◌≡◌, ◌≤◌, ℕ, List, length, option_copied, IfOk, OnOk};
-ghost use Rattle.mbim_fragments.specs.declared.assembly.TheConstants.{LONGEST_BODY};
 ghost use Rattle.mbim_fragments.specs.Assembling.{assembled_after, joining_behind};
+ghost use Rattle.mbim_fragments.specs.Runs.{longest_body};
 ghost use Rattle.sim_mbim.specs.Answers.{begun_at_request, request_of};
 ghost use Rattle.sim_modem.specs.Sim.{Answering};
 ghost use Rattle.sim_qmi.specs.Modem.{Keeps};
@@ -48,8 +48,8 @@ pub(crate) fn carried<'a>(
 // The same of a fragment of a command.
 fn take<'a>(begun: &mut Assembly, body: &'a mut Body, fragment: &[u8]) -> Option<&'a [u8]>
     requires { 20 ≤ length fragment.now }
-    ensures carried { option_copied result ≡ spec.carried_whole (joining_behind LONGEST_BODY begun.old fragment.now) }
-    ensures begun { begun.new ≡ assembled_after LONGEST_BODY begun.old fragment.now }
+    ensures carried { option_copied result ≡ spec.carried_whole (joining_behind longest_body begun.old fragment.now) }
+    ensures begun { begun.new ≡ assembled_after longest_body begun.old fragment.now }
 {
     match begun.take(fragment, body) {
         Took::Message => carried_in(body.as_slice()),
