@@ -1,5 +1,5 @@
 -- A core of a proxy of one device keeps and shows what one of several has to.
-use Rattle.std.proofs.Common.{◌≡◌, ℕ, List, [], ◌∷◌, ◌++◌, map, Option, Some, None, refl, sym, ◌∙◌, ap, subst}
+use Rattle.std.proofs.Common.{◌≡◌, ℕ, List, ◌++◌, map, Option, Some, None, refl, sym, ◌∙◌, ap, subst}
 use Rattle.std.specs.Option.{option_map}
 use Rattle.std.proofs.lemmas.List.{append_cancel_right, map-append}
 use Rattle.proxy_history.specs.Events.{Event}
@@ -18,7 +18,7 @@ use Rattle.many_serving.specs.One.{only_of}
 use Rattle.many_serving.specs.Ends.{EndsFor}
 use Rattle.many_serving.proofs.One.{calls_are}
 use Rattle.many_serving.proofs.Ends.{ends_for}
-use Rattle.serving_loop.specs.Face.{ManyFace, CanMeet, MayCome, NextDropped}
+use Rattle.serving_loop.specs.Face.{CanMeet, MayCome, NextDropped}
 use Rattle.serving_loop.specs.One.{only_face, KeepsAsOne}
 
 -- ---- what it may be told, and what it tells ----

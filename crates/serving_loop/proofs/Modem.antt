@@ -1,5 +1,5 @@
 -- The modems are offered what waits for them, and opened again. Lists of calls and of events have the newest first.
-use Rattle.std.proofs.Common.{◌≡◌, inl, inr, ℕ, zero, suc, ◌+◌, ◌<◌, ◌≤◌, ◌==◌, Bool, true, false, if◌then◌else◌, List, [], ◌∷◌, length, Some, refl, sym, ◌∙◌, ap, subst, arith}
+use Rattle.std.proofs.Common.{◌≡◌, inl, inr, ℕ, ◌+◌, ◌<◌, ◌≤◌, ◌==◌, Bool, true, false, if◌then◌else◌, List, [], ◌∷◌, length, refl, sym, ◌∙◌, ap, subst, arith}
 use Rattle.std.specs.List.{AllByRecursion}
 use Rattle.std.proofs.lemmas.Bool.{cond-true, cond-false, eqb-true}
 use Rattle.std.proofs.lemmas.Bool.Decides.{nat_tests}
@@ -14,7 +14,7 @@ use Rattle.many_serving.specs.Proxy.{ManyProxy}
 use Rattle.many_serving.specs.Serving.{IsOffered, IsModemOffered, is_modem_blocked, reopenings, due_reopenings}
 use Rattle.serving_loop.specs.Server.{emptied_after, remembering}
 use Rattle.serving_loop.specs.Progress.{HasOffered, OffersModems, IsReady, MayReopen}
-use Rattle.serving_loop.specs.Face.{ManyFace, SameAwayBut}
+use Rattle.serving_loop.specs.Face.{ManyFace}
 use Rattle.serving_loop.specs.Cores.{StandsAfter}
 use Rattle.serving_loop.specs.declared.server.Server.{Server}
 use Rattle.serving_loop.proofs.Faces.{emptied_is}
@@ -38,7 +38,7 @@ one_more_device P device devices before here d within ours =
 differs_before : (device d : ℕ) → d < device → (device == d) ≡ false
 differs_before device d before = grind (arith, nat_tests)
 
-differs_behind : (device d : ℕ) → device + 1 ≤ d → (device == d) ≡ false
+pub differs_behind : (device d : ℕ) → device + 1 ≤ d → (device == d) ≡ false
 differs_behind device d behind = grind (arith, nat_tests)
 
 module _ {C : Type 0} {keeps : ManyProxy → List ManyEvent → C → Type 0} {face : C → ManyFace} {p : ManyProxy} {until : Until} {turns device : ℕ} {server : Server C} {calls : List ManyCall} (all : OffersModems keeps face p until turns device server calls) (within : device < (face server.core).devices) where
@@ -149,13 +149,14 @@ due-reopen_failed p d e calls = refl
 same_name : (d : ℕ) → (d == d) ≡ true
 same_name d = grind (arith, nat_tests)
 
+-- no modem is missed
+pub none_missed : {C : Type 0} {keeps : ManyProxy → List ManyEvent → C → Type 0} {face : C → ManyFace} {p : ManyProxy} {until : Until} {turns : ℕ} {server : Server C} {calls : List ManyCall} → MayReopen keeps face p until turns (λ d. false) 0 server calls → HasOffered keeps face p until turns 0 server calls
+none_missed may = none_offered may.serving may.awake (λ d within. may.not_yet d (omega arith) within ∙ sym (may.due d (omega arith) within))
+
 module _ {C : Type 0} {keeps : ManyProxy → List ManyEvent → C → Type 0} {face : C → ManyFace} {p : ManyProxy} {until : Until} {turns : ℕ} {misses : ℕ → Bool} {server : Server C} {calls : List ManyCall} where
   -- no modem is left that is missed
   pub reopened_all : {device : ℕ} → MayReopen keeps face p until turns misses device server calls → (face server.core).devices ≡ device → HasOffered keeps face p until turns 0 server calls
   reopened_all may is = none_offered may.serving may.awake (λ d within. may.done d (omega (arith, within, is, may.serving.stands.shows.devices)) within)
-
-  pub none_missed : MayReopen keeps face p until turns (λ d. false) 0 server calls → HasOffered keeps face p until turns 0 server calls
-  none_missed may = none_offered may.serving may.awake (λ d within. may.not_yet d (omega arith) within ∙ sym (may.due d (omega arith) within))
 
   module _ {device : ℕ} (may : MayReopen keeps face p until turns misses device server calls) (within : device < (face server.core).devices) where
     device_ours : device < p.devices

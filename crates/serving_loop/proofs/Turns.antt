@@ -1,5 +1,4 @@
 -- What a turn comes to. Lists of calls and of events have the newest first.
-use Rattle.std.proofs.lemmas.Bool.{false≢true}
 use Rattle.std.proofs.lemmas.Option.{same_Some}
 use Rattle.std.proofs.Common.{◌≡◌, inl, inr, ℕ, zero, suc, ◌+◌, ◌<◌, ◌≤◌, Bool, true, false, ◌&&◌, if◌then◌else◌, List, [], ◌∷◌, ◌++◌, length, reverse, refl, sym, ◌∙◌, ap, subst, arith, Option, Some, None, Ok}
 use Rattle.std.specs.List.{AllByRecursion}
@@ -16,7 +15,7 @@ use Rattle.many_serving.specs.Serving.{Serves, IsOffered, is_modem_blocked, due_
 use Rattle.many_serving.specs.Ends.{NeverOver, IsGoingOn, IsEmptied, IsLost, is_idle, is_lost, are_away, emptied_at, hanging_up, EndsWith, EndsAtClock, EndsSpent, EndsFor, RanOut}
 use Rattle.serving_loop.specs.Carrying.{Carries}
 use Rattle.serving_loop.specs.Server.{emptied_after, is_idle_at, is_lost_at, end_at, misses_modem}
-use Rattle.serving_loop.specs.Progress.{IsServing, IsInTime, HasOffered, IsReady, IsOpened, HasTold, AfterMeeting, AfterTurn, EndsNow, MayBeTold, AfterEvent}
+use Rattle.serving_loop.specs.Progress.{IsServing, HasOffered, IsReady, IsOpened, HasTold, AfterMeeting, AfterTurn, EndsNow, MayBeTold, AfterEvent}
 use Rattle.serving_loop.specs.declared.server.Server.{Server}
 use Rattle.serving_loop.specs.Face.{ManyFace}
 use Rattle.serving_loop.specs.Cores.{Stands, StandsAfter}

@@ -18,7 +18,7 @@ use std::alloc::AllocError;
 
 // An event of a proxy of one device.
 fn of_the_only(event: ManyEvent<'_>) -> Event<'_>
-    ensures { one_event_of result ≡ unnamed (event_of event) }
+    ensures { one_event_of result ≡ unnamed (event_of event.entry) }
 {
     match event {
         ManyEvent::Joined(conn) => Event::Joined(conn),

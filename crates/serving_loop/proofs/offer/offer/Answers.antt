@@ -1,4 +1,4 @@
-use Rattle.std.proofs.Common.{◌≡◌, ℕ, ◌+◌, ◌<◌, true, false, ◌==◌, List, [], ◌∷◌, length, refl, ap, sym, subst, ◌∙◌, arith, rules}
+use Rattle.std.proofs.Common.{◌≡◌, ℕ, ◌+◌, ◌<◌, false, ◌==◌, List, [], ◌∷◌, length, refl, ap, sym, subst, ◌∙◌, arith, rules}
 use Rattle.std.proofs.lemmas.List.{nil_from_length}
 use Rattle.proxy_history.specs.Connections.{contains, without}
 use Rattle.many_io.specs.Record.{ManyCall, Sent, SendFailed, HungUp, events, unnamed_calls}

@@ -1,5 +1,5 @@
 use Rattle.many_serving.specs.Proxy.{ManyProxy}
-use Rattle.std.proofs.Common.{◌≡◌, ◌≤◌, ℕ, [], true, length, Option}
+use Rattle.std.proofs.Common.{◌≡◌, ◌≤◌, ℕ, [], true, length}
 use Rattle.proxy_history.specs.Connections.{contains}
 use Rattle.serving_loop.specs.Carrying.{Carries}
 use Rattle.serving_loop.specs.Face.{SameAway}

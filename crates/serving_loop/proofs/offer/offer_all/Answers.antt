@@ -1,5 +1,5 @@
 use Rattle.many_serving.specs.Proxy.{ManyProxy}
-use Rattle.std.proofs.Common.{◌≡◌, ℕ, ◌<◌, List, ◌++◌, Bool, true, false, refl, ap, sym, subst, ◌∙◌, arith, Option}
+use Rattle.std.proofs.Common.{◌≡◌, ℕ, List, ◌++◌, Bool, true, false, ap, sym, subst, ◌∙◌, arith, Option}
 use Rattle.hub_io.specs.Record.{Since}
 use Rattle.hub_io.specs.declared.settings.Until.{Until}
 use Rattle.many_history.specs.Events.{ManyEvent}
@@ -7,11 +7,10 @@ use Rattle.many_io.specs.Record.{ManyCall}
 use Rattle.many_serving.specs.Ends.{hanging_up}
 use Rattle.serving_loop.specs.Carrying.{Carries}
 use Rattle.serving_loop.specs.Face.{ManyFace}
-use Rattle.serving_loop.specs.Server.{devices_there}
 use Rattle.serving_loop.specs.Progress.{HasOffered, IsServing, AfterModems, AreHangUps}
 use Rattle.serving_loop.specs.declared.server.Server.{Server}
 use Rattle.serving_loop.proofs.Carrying.{Carries-none, Carries-then, Carries-with}
-use Rattle.serving_loop.proofs.Away.{no_more_there, same_there}
+use Rattle.serving_loop.proofs.Away.{same_there}
 use Rattle.serving_loop.proofs.Turns.{offered-hangs}
 use Rattle.serving_loop.proofs.offer.offer_all.Goals as goal
 
@@ -42,9 +41,9 @@ gone keeps face p until turns server now first only hangs =
     (Carries-then (Carries-with AreHangUps _ _ only (Carries-then (Carries-none Gone Serving _ (λ calls so. so.serving)) hangs))
     (Carries-none _ _ _ (λ calls all. hung_up_then keeps face p until turns server now calls all)))
 
-pub loop-preserved : goal.loop-preserved
-loop-preserved g c =
-    let i = c.loop.invariant in
+pub loop-hub-preserved : goal.loop-hub-preserved
+loop-hub-preserved g c =
+    let i = c.loop-hub.invariant in
     let clients = c.offer_clients.ensures in
     let modems = c.offer_modems.ensures in
     let hangs = c.hang_up_dropped.ensures in
@@ -63,8 +62,8 @@ loop-preserved g c =
       hub = hangs.hub ∙ modems.hub ∙ clients.hub ∙ i.hub;
     }
 
-pub loop-smaller : goal.loop-smaller
-loop-smaller g c =
+pub loop-hub-smaller : goal.loop-hub-smaller
+loop-hub-smaller g c =
     let less = c.offer_modems.ensures.fewer c.if-offer_modems.false in
     let clients = same_there c.offer_clients.ensures.devices c.offer_clients.ensures.away in
     let hangs = same_there c.hang_up_dropped.ensures.devices c.hang_up_dropped.ensures.away in
@@ -72,5 +71,5 @@ loop-smaller g c =
 
 pub returns-then-offer_modems-clause-carries : goal.returns-then-offer_modems-clause-carries
 returns-then-offer_modems-clause-carries g c = λ p until turns.
-    Carries-then (Carries-then (c.loop.invariant.carried p until turns) (c.offer_clients.ensures.carries p until turns))
+    Carries-then (Carries-then (c.loop-hub.invariant.carried p until turns) (c.offer_clients.ensures.carries p until turns))
     (modems_as g.C.ManyProxyCore.keeps g.C.ManyProxyCore.face p until turns c.offer_modems.new.server c.offer_modems.result true c.if-offer_modems.true (c.offer_modems.ensures.carries p until turns))

@@ -1,5 +1,5 @@
 use Rattle.many_serving.specs.Proxy.{ManyProxy}
-use Rattle.std.proofs.Common.{◌≡◌, ◌≤◌, ◌-◌, ℕ, [], length, Option}
+use Rattle.std.proofs.Common.{◌≡◌, ◌≤◌, ◌-◌, ℕ, [], length}
 use Rattle.serving_loop.specs.Carrying.{Carries}
 use Rattle.serving_loop.specs.Face.{SameAway}
 use Rattle.serving_loop.specs.Cores.{IsKnown}

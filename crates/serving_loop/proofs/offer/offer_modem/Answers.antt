@@ -1,16 +1,14 @@
-use Rattle.std.proofs.Common.{◌≡◌, ℕ, ◌+◌, ◌<◌, ◌==◌, true, false, List, [], ◌∷◌, length, refl, sym, subst, ◌∙◌, arith, rules}
+use Rattle.std.proofs.Common.{◌≡◌, ℕ, ◌+◌, ◌<◌, ◌==◌, false, List, [], ◌∷◌, length, refl, sym, subst, ◌∙◌, arith, rules}
 use Rattle.std.proofs.lemmas.List.{nil_from_length}
 use Rattle.proxy_history.specs.Connections.{contains}
 use Rattle.many_io.specs.Record.{ManyCall, SentModem, events}
-use Rattle.serving_loop.specs.Face.{SameAwayBut}
-use Rattle.serving_loop.specs.Progress.{OffersModems, StayAway}
+use Rattle.serving_loop.specs.Progress.{OffersModems}
 use Rattle.serving_loop.specs.declared.server.Server.{Server}
-use Rattle.serving_loop.proofs.Away.{stays-none, stays-but, stays-then, was_there}
+use Rattle.serving_loop.proofs.Away.{stays-but, stays-then, was_there}
 use Rattle.serving_loop.proofs.Carrying.{Carries-none, Carries-call, Carries-then}
 use Rattle.serving_loop.proofs.Offering.{contains-any}
 use Rattle.serving_loop.proofs.Places.{not_zero, lent_some, lent_within}
 use Rattle.serving_loop.proofs.Modem.{modem-blocked, modem-away, modem-empty, modem-sent_none, modem-sent, modem-failed}
-use Rattle.serving_loop.proofs.offer.offer_modem.Given.{Over}
 use Rattle.serving_loop.proofs.offer.offer_modem.Goals as goal
 
 pub returns-then-contains-clause-carries : goal.returns-then-contains-clause-carries
@@ -45,8 +43,8 @@ pub note-requires-clause-can : goal.note-requires-clause-can
 note-requires-clause-can g c =
     let i = c.loop-device.invariant in record { hung_up = i.asked; may_come = (i.within, lent_within c.in-Ok.count c.queued_modem-queue.ensures c.in-Ok.ensures.within) }
 
-pub note-in-Err-requires-clause-can : goal.note-in-Err-requires-clause-can
-note-in-Err-requires-clause-can g c = let i = c.loop-device.invariant in record { hung_up = i.asked; may_come = i.within }
+pub note-requires-in-Err-clause-can : goal.note-requires-in-Err-clause-can
+note-requires-in-Err-clause-can g c = let i = c.loop-device.invariant in record { hung_up = i.asked; may_come = i.within }
 
 pub loop-device-preserved : goal.loop-device-preserved
 loop-device-preserved g c =

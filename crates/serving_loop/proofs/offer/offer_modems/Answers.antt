@@ -1,4 +1,4 @@
-use Rattle.std.proofs.Common.{◌≡◌, ℕ, ◌+◌, List, Bool, true, false, refl, ap, sym, subst, ◌∙◌, arith, Option}
+use Rattle.std.proofs.Common.{◌≡◌, ℕ, List, Bool, true, false, refl, ap, subst, ◌∙◌, arith, Option}
 use Rattle.hub_io.specs.declared.settings.Until.{Until}
 use Rattle.many_history.specs.Events.{ManyEvent}
 use Rattle.many_io.specs.Record.{ManyCall}
@@ -6,7 +6,7 @@ use Rattle.many_serving.specs.Proxy.{ManyProxy}
 use Rattle.serving_loop.specs.Carrying.{Carries}
 use Rattle.serving_loop.specs.Face.{ManyFace}
 use Rattle.serving_loop.specs.Server.{devices_there}
-use Rattle.serving_loop.specs.Progress.{OffersModems, AfterModem}
+use Rattle.serving_loop.specs.Progress.{AfterModem}
 use Rattle.serving_loop.specs.declared.server.Server.{Server}
 use Rattle.serving_loop.proofs.Away.{stays-none, stays-then, fewer_there, no_more_there}
 use Rattle.serving_loop.proofs.Carrying.{Carries-none, Carries-then}

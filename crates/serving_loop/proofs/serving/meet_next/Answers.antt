@@ -1,4 +1,4 @@
-use Rattle.std.proofs.Common.{List, false, refl, subst, sym}
+use Rattle.std.proofs.Common.{List, refl, subst, sym}
 use Rattle.serving_loop.specs.Carrying.{Carries}
 use Rattle.many_io.specs.Record.{ManyCall}
 use Rattle.serving_loop.proofs.Carrying.{Carries-none}

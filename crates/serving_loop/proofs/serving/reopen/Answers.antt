@@ -1,5 +1,4 @@
-use Rattle.std.proofs.Common.{◌≡◌, ℕ, ◌+◌, ◌<◌, ◌≤◌, ◌==◌, Bool, true, false, sym, ◌∙◌, arith}
-use Rattle.std.proofs.lemmas.Bool.Decides.{nat_tests}
+use Rattle.std.proofs.Common.{sym, ◌∙◌, arith}
 use Rattle.many_io.specs.Record.{events}
 use Rattle.serving_loop.proofs.Carrying.{Carries-none, Carries-call}
 use Rattle.serving_loop.proofs.Modem.{not_missed, reopened, reopen_failed, differs_behind}

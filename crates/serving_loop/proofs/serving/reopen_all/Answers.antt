@@ -1,4 +1,4 @@
-use Rattle.std.proofs.Common.{◌≡◌, ℕ, refl, ◌∙◌, arith}
+use Rattle.std.proofs.Common.{refl, ◌∙◌, arith}
 use Rattle.serving_loop.proofs.Carrying.{Carries-none, Carries-then}
 use Rattle.serving_loop.proofs.Modem.{reopened_all}
 use Rattle.serving_loop.proofs.serving.reopen_all.Goals as goal

@@ -1,5 +1,5 @@
 use Rattle.many_serving.specs.Proxy.{ManyProxy}
-use Rattle.std.proofs.Common.{◌≡◌, ◌≤◌, ℕ, [], Option}
+use Rattle.std.proofs.Common.{◌≡◌, ◌≤◌, ℕ, []}
 use Rattle.hub_io.specs.declared.settings.Until.{Until}
 use Rattle.serving_loop.specs.Carrying.{Carries}
 use Rattle.serving_loop.specs.Cores.{IsKnown}

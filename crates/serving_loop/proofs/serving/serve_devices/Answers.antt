@@ -1,4 +1,4 @@
-use Rattle.std.proofs.Common.{◌≡◌, List, [], false, refl, sym, subst}
+use Rattle.std.proofs.Common.{◌≡◌, List, [], refl, sym, subst}
 use Rattle.many_history.specs.Events.{ManyEvent}
 use Rattle.serving_loop.proofs.Carrying.{since-carried}
 use Rattle.many_serving.specs.Proxy.{ManyProxy}

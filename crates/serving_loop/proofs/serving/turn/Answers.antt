@@ -1,7 +1,7 @@
-use Rattle.std.proofs.Common.{Some, None, ◌+◌, refl}
+use Rattle.std.proofs.Common.{ℕ, Some, None, ◌+◌, refl, sym, subst}
 use Rattle.std.proofs.lemmas.Result.{err_from_is_err_and}
 use Rattle.serving_loop.proofs.Carrying.{Carries-call, Carries-then}
-use Rattle.serving_loop.specs.Progress.{call_of}
+use Rattle.serving_loop.specs.Progress.{call_of, TellsNext}
 use Rattle.serving_loop.proofs.Turns.{told-failed, tells, meets}
 use Rattle.serving_loop.proofs.serving.turn.Goals as goal
 
@@ -28,3 +28,10 @@ returns-clause-carries g c = λ p turns.
     (Carries-then (tells g.C.ManyProxyCore.keeps g.C.ManyProxyCore.face p c.args.until turns c.args.server.now (call_of c.read-next.result) _ _ _ c.read-next.ensures.call c.in-Ok.ensures.calls)
     (meets g.C.ManyProxyCore.keeps g.C.ManyProxyCore.face g.C.ManyProxyCore.lacks_memory p c.args.until turns _ c.meet_next.new.server _ _ c.in_ok-end.field-0 None c.in_default.is (c.in_ok-end.ensures.carries p turns)))
     (c.offer_all.ensures.carries p c.args.until (turns + 1))
+
+pub meet_next-requires-clause-told : goal.meet_next-requires-clause-told
+meet_next-requires-clause-told g c =
+    let before = g.H.ManyHub.greatest c.args.hub.now in
+    let after = g.H.ManyHub.greatest c.next.new.self in
+    let told = c.in-Ok.ensures in
+    (before, c.requires.greatest, subst (λ (n : ℕ). TellsNext n before c.read-next.result after) (sym told.devices) (c.read-next.ensures.names _ before after told.device told.names))

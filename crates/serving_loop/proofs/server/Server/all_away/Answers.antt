@@ -1,4 +1,4 @@
-use Rattle.std.proofs.Common.{◌≡◌, ℕ, true, false, sym, ◌∙◌, ap, arith}
+use Rattle.std.proofs.Common.{◌≡◌, sym, ◌∙◌, ap, arith}
 use Rattle.many_serving.specs.Ends.{are_away}
 use Rattle.serving_loop.proofs.Away.{one_more_away, not_all_away}
 use Rattle.serving_loop.proofs.server.Server.all_away.Goals as goal
