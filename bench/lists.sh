@@ -10,7 +10,7 @@ folder=$(mktemp -d) || exit 70
 trap 'rm -rf "$folder"' EXIT
 trap 'exit 130' INT TERM
 program=$folder/crates/time_lists
-mkdir -p "$program/src" "$program/proofs/join_all" "$program/proofs/put_together"
+mkdir -p "$program/src" "$program/proofs/join_all"
 copied "$folder" kit_bytes subscriptions
 echo 'time_lists: subscriptions uuid' >>"$folder/crates.txt"
 cat >"$program/src/main.rt" <<'P'
@@ -181,13 +181,6 @@ loop-client-preserved c =
     let conn : ℕ = c.loop-client.client + 1 in
     let was : List Client = c.loop-client.table in
     omega (arith, ap (λ (l : List Client). length l) c.joined.ensures, length-append (leaves conn was) (newcomer conn ∷ []), filter_shorter (λ client. not (is_of conn client)) was, c.loop-client.invariant)
-P
-cat >"$program/proofs/put_together/Invariants.antt" <<'P'
-use Rattle.std.proofs.Common.{◌≤◌, ◌*◌, length}
-use Rattle.time_lists.proofs.put_together.Given as goal
-
-abbrev pub invariant-loop-place : goal.invariant-loop-place
-invariant-loop-place l = length l.merge ≤ 30 * l.place
 P
 cd "$program" || exit 70
 echo "proving and building; this takes some minutes .." >&2
