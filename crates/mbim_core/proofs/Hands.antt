@@ -1,6 +1,5 @@
 -- What is at hand, as the table of the connections and what stands beside it change.
 use Rattle.std.proofs.Common.{◌≡◌, ℕ, Bool, true, false, List, [], ◌∷◌, ◌++◌, map, filter, not, refl, ap, sym, ◌∙◌, subst, arith, if◌then◌else◌, Option, Some, None, cond, ◌==◌}
-use Rattle.std.specs.List.{AllByRecursion}
 use Rattle.std.proofs.lemmas.Bool.Decides.{nat_tests}
 use Rattle.std.proofs.lemmas.Simd.{map-map}
 use Rattle.std.proofs.lemmas.List.{map-append, append-nil}
@@ -11,14 +10,13 @@ use Rattle.connections.specs.Table.{Connection, Table, AreRising, connection_in,
 use Rattle.connections.specs.Hearing.{Hearing, hearing_of, heard, goes_on, Brought, brings_if, brings_to, brings}
 use Rattle.mbim_frame.specs.Frame.{size_of}
 use Rattle.subscriptions.specs.Clients.{Client as Subscriber, is_of, leaves, joins, newcomer as subscribes_first, merged}
-use Rattle.proxy_state.specs.Chosen.{StandsAt}
 use Rattle.proxy_state.specs.Telling.{tell, tell_to, tell_if}
 use Rattle.proxy_state.specs.Telling as telling
 use Rattle.proxy_core.specs.Meaning.{Named, clients_in, AreOthers, Agrees}
 use Rattle.mbim_clients.specs.Client.{newcomer}
 use Rattle.mbim_state.specs.Core.{Client, ModemSide, MbimState}
 use Rattle.mbim_state.specs.Transitions.{give_up}
-use Rattle.mbim_core.specs.Hand.{subscriber_at, joined, left, left_unless, Follows, IsOf}
+use Rattle.mbim_core.specs.Hand.{joined, left, left_unless, Follows, IsOf}
 use Rattle.mbim_core.specs.Meaning.{AtHand, IsAtHand, subscriber, mbim_meaning}
 use Rattle.mbim_core.proofs.Brought.{hears}
 use Rattle.mbim_core.proofs.Subscribed.{subscribed_in, followed_by, followed, followed_none, same_subscribed, left_subscribed}

@@ -1,5 +1,5 @@
 -- What tells the clients, against the table of their connections and what stands beside it.
-use Rattle.std.specs.Prelude.{◌≡◌, ℕ, Bool, true, false, List, [], map, if◌then◌else◌}
+use Rattle.std.specs.Prelude.{◌≡◌, ℕ, Bool, true, false, [], map, if◌then◌else◌}
 use Rattle.subscriptions.specs.Clients.{Client as Subscriber, joins, leaves, updates, merged}
 use Rattle.connections.specs.Table.{Connection, Table}
 use Rattle.mbim_state.specs.Core.{Client, ModemSide}

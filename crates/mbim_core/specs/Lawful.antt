@@ -1,5 +1,5 @@
 -- MBIM owes nothing of what a core needs. Lists of events and of facts have the newest first.
-use Rattle.std.proofs.Common.{◌≡◌, ℕ, max, Bool, true, false, List, [], ◌∷◌, ◌++◌, length, map, filter, refl, ap, sym, ◌∙◌, subst, if◌then◌else◌}
+use Rattle.std.proofs.Common.{◌≡◌, ℕ, max, false, List, length, map, refl, ap, sym, ◌∙◌, subst, if◌then◌else◌}
 use Rattle.std.proofs.lemmas.Simd.{map-map}
 use Rattle.kit_bytes.specs.Subscriptions.{Pair, merge}
 use Rattle.connections.specs.Table.{Connection}
@@ -29,7 +29,6 @@ use Rattle.mbim_state.proofs.Steps.{has_numbers}
 use Rattle.mbim_clients.specs.Client.{newcomer}
 use Rattle.mbim_core.specs.Meaning.{own_bytes, lasting_of, setup_by, mbim_meaning}
 use Rattle.mbim_core.specs.Kept.{heard_client, heard, lost, expired, sent}
-use Rattle.proxy_core.specs.Meaning.{Named}
 use Rattle.proxy_core.specs.Lawful.{KeepsLasting, HasLimits, IsLawful}
 
 -- ---- what lasts ----

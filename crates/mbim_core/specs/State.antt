@@ -1,9 +1,7 @@
 -- Words of the state beside those of `mbim_state`.
-use Rattle.std.specs.Prelude.{◌≡◌, ℕ, Bool, true, ◌&&◌, List, map, is_some, Option, Some, None, if◌then◌else◌}
-use Rattle.std.specs.List.{flat_map}
+use Rattle.std.specs.Prelude.{◌≡◌, ℕ, Bool, true, ◌&&◌, List, is_some, Option, Some, None}
 use Rattle.kit_bytes.specs.Indications.{wants}
-use Rattle.kit_bytes.specs.Subscriptions.{Pair}
-use Rattle.connections.specs.Table.{Connection, Table, connection_in}
+use Rattle.connections.specs.Table.{Connection, Table}
 use Rattle.mbim_frame.specs.declared.bodies.IndicationHead.{IndicationHead}
 use Rattle.mbim_frame.specs.declared.kind.MessageKind.TheVariants.{CommandDone, IndicateStatus}
 use Rattle.mbim_frame.specs.Fragment.{body_of}
@@ -17,7 +15,7 @@ use Rattle.mbim_proxy.specs.Setup.{Setup}
 use Rattle.mbim_proxy.specs.Step.{blank}
 use Rattle.mbim_state.specs.declared.asked.Asked.{Asked}
 use Rattle.mbim_state.specs.Core.{Client, ModemSide, MbimState}
-use Rattle.mbim_state.specs.Transitions.{give_up, after, text, is_for, answer, respond, open_ones}
+use Rattle.mbim_state.specs.Transitions.{give_up, after, text, is_for, answer, respond}
 
 abbrev pub state_of : Table Client → ModemSide → MbimState
 state_of table side = record { table = table; beside = side }

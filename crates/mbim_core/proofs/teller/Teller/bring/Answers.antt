@@ -1,4 +1,4 @@
-use Rattle.std.proofs.Common.{◌≡◌, ◌<◌, true, false, List, length, ap, sym, ◌∙◌}
+use Rattle.std.proofs.Common.{◌<◌, true, false, List, length, ap, sym, ◌∙◌}
 use Rattle.connections.specs.Table.{Connection, Table}
 use Rattle.connections.proofs.Named.{inside, found_at, none_found}
 use Rattle.mbim_frame.specs.Frame.{size_of}
