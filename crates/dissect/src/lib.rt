@@ -16,4 +16,5 @@ mod qmi_tlvs;
 pub use by_tables::dissect_by_tables;
 pub use capture::dissect;
 pub use capture_end::CaptureEnd;
+pub use qmi_message::push_tlvs;
 pub use stream_lines::DissectEnd;

@@ -143,8 +143,9 @@ fn push_title(text: &mut Octets, form: Option<&Message>) -> Result<(), AllocErro
     Ok(())
 }
 
-// Adds the lines of the TLVs, or their bytes where they aren't whole.
-fn push_tlvs(
+/// Adds the lines of the TLVs of a message of a kind by their table, or their bytes where they aren't
+/// whole.
+pub fn push_tlvs(
     alloc: Global,
     text: &mut Octets,
     kind: MessageKind,

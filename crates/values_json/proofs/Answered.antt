@@ -27,7 +27,7 @@ with_values-no_float showing [] so_far none = none
 with_values-no_float showing (field ∷ more) so_far none =
     with_values-no_float showing more (with_field showing (encode_utf8_all field.name) field.form field.value so_far) (with_field-no_float showing (encode_utf8_all field.name) field.form field.value so_far none)
 
-with_kept-no_float : (kept : Option (ℕ × ℕ)) (so_far : Members) → members_have_float so_far ≡ false → members_have_float (with_kept kept so_far) ≡ false
+pub with_kept-no_float : (kept : Option (ℕ × ℕ)) (so_far : Members) → members_have_float so_far ≡ false → members_have_float (with_kept kept so_far) ≡ false
 with_kept-no_float None so_far none = none
 with_kept-no_float (Some kept) so_far none =
     let service : Members = put (codes "service") (numeral (natural kept.0)) no_members in

@@ -76,9 +76,9 @@ fn put_values<S: Shows>(
     Ok(())
 }
 
-// Adds the service and the client id that are kept.
+/// Adds the service and the client id that are kept.
 #[tactic(auto, using(crate::proofs::Views::json_views))]
-fn put_kept(
+pub fn put_kept(
     alloc: Global,
     kept: Option<(u8, u8)>,
     members: &mut Map<String, Value>,

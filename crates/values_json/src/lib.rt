@@ -10,7 +10,7 @@ mod shows;
 mod texts;
 mod values;
 
-pub use answers::qmi_line;
+pub use answers::{put_kept, qmi_line};
 pub use ending::{Ending, put_ending};
 pub use laws::{
     json_gives_back_what_is_read, json_gives_values_back, json_nests_as_its_shape,
