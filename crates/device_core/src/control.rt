@@ -10,7 +10,7 @@ ghost use Rattle.device_core.specs.Session.{Reads};
 ghost use Rattle.link_session.specs.Hearing.{AsksFor, IsGiven, Stands, placed_in};
 ghost use Rattle.device_core.specs.Hearing.{KeepsNothing, RepliesTo};
 
-use crate::exchange::{ask, exchange};
+use crate::asking::{ask, exchange};
 use kit_bytes::PathText;
 use link_io::Link;
 use link_session::{Found, Incoming, Reply, SessionFault};

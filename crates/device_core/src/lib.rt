@@ -2,8 +2,8 @@
 #![tactic(auto)]
 
 mod answer;
+mod asking;
 mod control;
-mod exchange;
 mod laws;
 mod message;
 mod plan;
@@ -11,7 +11,7 @@ mod session;
 mod wanted;
 
 pub use answer::{allocated, read};
-pub use exchange::{ask, exchange};
+pub use asking::{ask, exchange};
 pub use laws::{
     sessions_end_as_at_peers, sessions_send_their_requests, verdicts_are_of_what_is_read,
 };

@@ -10,8 +10,8 @@ ghost use Rattle.link_session.specs.Hearing.{IsGiven, Stands, found_in};
 ghost use Rattle.device_core.specs.Hearing.{failure_in};
 
 use crate::answer::allocated;
+use crate::asking::ask;
 use crate::control::{allocate, open_proxy, release};
-use crate::exchange::ask;
 use crate::plan::QmiPlan;
 use link_io::Link;
 use link_session::{Found, Incoming, SessionFault};

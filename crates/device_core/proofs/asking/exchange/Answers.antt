@@ -1,6 +1,6 @@
 use Rattle.std.proofs.lemmas.Result.{err_from_is_err_and}
 use Rattle.link_session.proofs.Steps.{AsksFor-unmade}
-use Rattle.device_core.proofs.exchange.exchange.Goals as goal
+use Rattle.device_core.proofs.asking.exchange.Goals as goal
 
 pub returns-in_err-message-clause-asks : goal.returns-in_err-message-clause-asks
 returns-in_err-message-clause-asks g c = λ heard stands. let p = err_from_is_err_and c.from_residual.result c.from_residual.ensures.1 in rw (p.1, p.2) (AsksFor-unmade _ _ _ _ _)

@@ -1,6 +1,6 @@
 use Rattle.std.proofs.lemmas.Result.{err_from_is_err_and}
 use Rattle.link_session.proofs.Steps.{RepliesTo-fails, RepliesTo-reads, RepliesTo-unread}
-use Rattle.device_core.proofs.exchange.ask.Goals as goal
+use Rattle.device_core.proofs.asking.ask.Goals as goal
 
 pub returns-in_err-found-clause-asks : goal.returns-in_err-found-clause-asks
 returns-in_err-found-clause-asks g c = λ heard stands.
