@@ -13,7 +13,7 @@ use Rattle.mbim_fields.proofs.Writings.{fields_at, values_at}
 use Rattle.print_text.specs.declared.wording.Wording.{Wording}
 use Rattle.mbimcli_print.specs.Printed.{is_count, is_counted_by, form_text, fields_text}
 
-view-name : (f : Field) → (field_view f).name ≡ chars (out-Field f).0.now
+pub view-name : (f : Field) → (field_view f).name ≡ chars (out-Field f).0.now
 view-name f = search (rules, the_lemmas)
 
 -- ---- fields that count the elements of lists ----
@@ -22,7 +22,7 @@ is_count-any : (place : ℕ) (fields : List Field) → is_count place (layout_of
 is_count-any place [] = refl
 is_count-any place (f ∷ fields) = ap (λ (b : Bool). is_counted_by place (field_view f).form || b) (is_count-any place fields)
 
-counted : (i : ℕ) (fields : List Field)
+pub counted : (i : ℕ) (fields : List Field)
     → list_any (λ f. is_counted_by i (field_view f).form) (slice_range fields (i + 1) (length fields)) ≡ is_count i (layout_of (map field_view (drop (i + 1) fields)))
 counted i fields = ap (list_any (λ f. is_counted_by i (field_view f).form)) (between_to_end fields (i + 1) (length fields) (omega arith)) ∙ sym (is_count-any i (drop (i + 1) fields))
 

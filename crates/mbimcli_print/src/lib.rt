@@ -8,4 +8,6 @@ mod texts;
 mod words;
 
 pub use answer::{fields_text, mbim_text};
-pub use texts::uuid_text;
+pub use print::{counts, spelled};
+pub use texts::{Family, address_text, uuid_text};
+pub use words::word_for;

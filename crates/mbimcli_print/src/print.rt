@@ -310,15 +310,15 @@ pub fn print_fields(
     Ok(())
 }
 
-// The same name, which is known to be what its characters spell.
-fn spelled(name: &str) -> &str
+/// The same name, which is known to be what its characters spell.
+pub fn spelled(name: &str) -> &str
     ensures { result.now ≡ encode_utf8_all (chars name.now) }
 {
     name
 }
 
-// One of these fields has as many elements as the field at a place says.
-fn counts(place: usize, fields: &[Field]) -> bool
+/// Whether one of these fields has as many elements as the field at a place says.
+pub fn counts(place: usize, fields: &[Field]) -> bool
     ensures { result ≡ list_any (λ field. is_counted_by place (field_view field).form) fields.now }
 {
     fields.iter().any(|field| is_counted_by(place, field))

@@ -52,7 +52,7 @@ integer_back size (text _) narrow fit = absurd (cc)
 integer_back size (elements _) narrow fit = absurd (cc)
 integer_back size (members _) narrow fit = absurd (cc)
 
-octets_back : (octets : List ℕ) → AreBytes octets → octets_in (text_json octets) ≡ Some octets
+pub octets_back : (octets : List ℕ) → AreBytes octets → octets_in (text_json octets) ≡ Some octets
 unfolding octets_in hex_in digits_in text_json
 octets_back octets are =
     let step : (b : Bool) → is_utf8 octets ≡ b → octets_in (if b then quoted octets else object (member (codes "hex") (hexadecimal octets) no_members)) ≡ Some octets =

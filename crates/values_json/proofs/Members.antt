@@ -19,7 +19,7 @@ use Rattle.values_json.specs.Apart.{IsApart, AreNamedApart}
 
 -- ---- words ----
 
-longer : (key : List ℕ) → ¬ (key ≡ word_key key)
+pub longer : (key : List ℕ) → ¬ (key ≡ word_key key)
 longer key same = absurd (let sizes = ap length same ∙ length-append key (codes " word") in omega (arith, sizes))
 
 pub no_word : (showing : Showing) (key : List ℕ) (form : Form) (value : Value) → word_of (wordless showing) key form value ≡ None
@@ -38,7 +38,7 @@ with_no_word showing key form value so_far = ap (λ (word : Option (List ℕ)). 
 
 -- ---- what stands under a name ----
 
-with_word-other : (q key : List ℕ) (word : Option (List ℕ)) (so_far : Members) → ¬ (q ≡ word_key key) → get_member q (with_word key word so_far) ≡ get_member q so_far
+pub with_word-other : (q key : List ℕ) (word : Option (List ℕ)) (so_far : Members) → ¬ (q ≡ word_key key) → get_member q (with_word key word so_far) ≡ get_member q so_far
 with_word-other q key None so_far apart = refl
 with_word-other q key (Some word) so_far apart = get_member-put_other q (word_key key) (text_json word) so_far apart
 

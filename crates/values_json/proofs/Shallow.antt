@@ -17,7 +17,7 @@ use Rattle.values_json.proofs.Members.{put-shallow, put-no_float}
 
 -- ---- what holds of a value's JSON where it holds of null and of what a value of its form gives ----
 
-or_null_all : {A : Type 0} (P : Data → Type 0) (json : A → Data) (found : Option A) → P null → ((a : A) → P (json a)) → P (or_null json found)
+pub or_null_all : {A : Type 0} (P : Data → Type 0) (json : A → Data) (found : Option A) → P null → ((a : A) → P (json a)) → P (or_null json found)
 or_null_all P json None none each = none
 or_null_all P json (Some a) none each = each a
 
@@ -30,7 +30,7 @@ text_all P octets as_text as_digits =
 
 -- ---- depth ----
 
-text_shallow : (octets : List ℕ) → depth (text_json octets) ≤ 1
+pub text_shallow : (octets : List ℕ) → depth (text_json octets) ≤ 1
 text_shallow octets = text_all (λ d. depth d ≤ 1) octets (omega arith) (omega arith)
 
 with_word-shallow : (key : List ℕ) (word : Option (List ℕ)) (so_far : Members) → members_depth (with_word key word so_far) ≤ max 1 (members_depth so_far)
@@ -48,13 +48,13 @@ some_level (array prefix element) = omega arith
 some_level (sequence fields) = omega arith
 
 -- a member and its word
-member_shallow : (key : List ℕ) (json : Data) (word : Option (List ℕ)) (so_far : Members) (most : ℕ) → depth json ≤ most → 1 ≤ most → members_depth (with_word key word (put key json so_far)) ≤ max most (members_depth so_far)
+pub member_shallow : (key : List ℕ) (json : Data) (word : Option (List ℕ)) (so_far : Members) (most : ℕ) → depth json ≤ most → 1 ≤ most → members_depth (with_word key word (put key json so_far)) ≤ max most (members_depth so_far)
 member_shallow key json word so_far most less some =
     let added = put-shallow key json so_far in
     let worded = with_word-shallow key word (put key json so_far) in
     omega (arith, less, some, added, worded)
 
-items_shallow : (json : Value → Data) (most : ℕ) → ((v : Value) → depth (json v) ≤ most) → (values : List Value) → items_depth (items_of (map json values)) ≤ most
+pub items_shallow : {A : Type 0} (json : A → Data) (most : ℕ) → ((a : A) → depth (json a) ≤ most) → (values : List A) → items_depth (items_of (map json values)) ≤ most
 items_shallow json most good [] = omega arith
 items_shallow json most good (value ∷ more) = let here = good value in let later = items_shallow json most good more in omega (arith, here, later)
 
@@ -95,17 +95,17 @@ integer_whole : (z : ℤ) → has_float (numeral (of_integer z)) ≡ false
 integer_whole (pos n) = refl
 integer_whole (negsuc n) = refl
 
-text_no_float : (octets : List ℕ) → has_float (text_json octets) ≡ false
+pub text_no_float : (octets : List ℕ) → has_float (text_json octets) ≡ false
 text_no_float octets = text_all (λ d. has_float d ≡ false) octets refl refl
 
 with_word-no_float : (key : List ℕ) (word : Option (List ℕ)) (so_far : Members) → members_have_float so_far ≡ false → members_have_float (with_word key word so_far) ≡ false
 with_word-no_float key None so_far none = none
 with_word-no_float key (Some word) so_far none = put-no_float (word_key key) (text_json word) so_far (text_no_float word) none
 
-member-no_float : (key : List ℕ) (json : Data) (word : Option (List ℕ)) (so_far : Members) → has_float json ≡ false → members_have_float so_far ≡ false → members_have_float (with_word key word (put key json so_far)) ≡ false
+pub member-no_float : (key : List ℕ) (json : Data) (word : Option (List ℕ)) (so_far : Members) → has_float json ≡ false → members_have_float so_far ≡ false → members_have_float (with_word key word (put key json so_far)) ≡ false
 member-no_float key json word so_far one none = with_word-no_float key word (put key json so_far) (put-no_float key json so_far one none)
 
-items_no_float : (json : Value → Data) → ((v : Value) → has_float (json v) ≡ false) → (values : List Value) → items_have_float (items_of (map json values)) ≡ false
+pub items_no_float : {A : Type 0} (json : A → Data) → ((a : A) → has_float (json a) ≡ false) → (values : List A) → items_have_float (items_of (map json values)) ≡ false
 items_no_float json good [] = refl
 items_no_float json good (value ∷ more) = or_from (has_float (json value)) (items_have_float (items_of (map json more))) (good value) (items_no_float json good more)
 

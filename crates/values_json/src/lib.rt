@@ -18,5 +18,5 @@ pub use laws::{
 };
 pub use lines::object_line;
 pub use shows::{AsPrinted, Plainly, Shows};
-pub use texts::put_hexadecimal;
-pub use values::{json_of, put_field};
+pub use texts::{hexadecimal, put_hexadecimal, text_json};
+pub use values::{json_of, put_field, put_word};

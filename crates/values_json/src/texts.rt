@@ -15,7 +15,7 @@ use std::str;
 
 /// Bytes that are UTF-8 as a text, others as the hexadecimal digits of an object.
 #[tactic(auto, unfolding(crate::specs::Json::text_json))]
-pub(crate) fn text_json(alloc: Global, octets: &[u8]) -> Result<Value, AllocError>
+pub fn text_json(alloc: Global, octets: &[u8]) -> Result<Value, AllocError>
     ensures { IfOk result (λ json. view json ≡ text_json octets.now) }
 {
     match str::from_utf8(octets) {
@@ -35,7 +35,7 @@ fn hex_object(alloc: Global, octets: &[u8]) -> Result<Value, AllocError>
 
 /// The two hexadecimal digits of each byte.
 #[tactic(auto, using(crate::proofs::Views::json_views))]
-pub(crate) fn hexadecimal(alloc: Global, bytes: &[u8]) -> Result<Value, AllocError>
+pub fn hexadecimal(alloc: Global, bytes: &[u8]) -> Result<Value, AllocError>
     ensures { IfOk result (λ json. view json ≡ hexadecimal bytes.now) }
 {
     Ok(Value::String(hex::encode_upper(alloc, bytes)?))

@@ -207,8 +207,8 @@ fn word_of<S: Shows>(
     }
 }
 
-// Adds the word of a name, where there is one.
-fn put_word(
+/// Adds the word of a name, where there is one.
+pub fn put_word(
     alloc: Global,
     name: &str,
     word: Option<Octets>,
