@@ -1,5 +1,5 @@
 -- What a request of an object is, and its faults.
-use Rattle.std.proofs.Common.{◌≡◌, ℕ, true, false, List, length, map, nat_le, chars, Option, Some, None, Result, Ok, Err, refl, sym, ap, ◌∙◌, arith}
+use Rattle.std.proofs.Common.{◌≡◌, ◌≤◌, ℕ, Bool, true, false, List, length, map, nat_le, chars, Option, Some, None, Result, Ok, Err, refl, sym, ap, ◌∙◌, arith}
 use Rattle.std.proofs.lemmas.Bool.Decides.{nat_tests}
 use Rattle.serde_json.specs.Data.{Data, Members}
 use Rattle.serde_json.specs.Find.{as_object}
@@ -24,7 +24,7 @@ use Rattle.json_requests.specs.declared.fault.RequestFault.{RequestFault}
 use Rattle.json_requests.specs.declared.fault.RequestFault.TheVariants.{Tables, Json, NoTlv, Misfit, TooLong, OutOfMemory}
 use Rattle.json_requests.specs.Answers.{Gives, IsNoTlv}
 use Rattle.json_requests.specs.Faults.{of_named, of_value}
-use Rattle.json_requests.specs.Requests.{TlvValue, Asked, asked, asked_by, tlvs_given, bytes_given, bytes_of, request_of, request_with, request_by}
+use Rattle.json_requests.specs.Requests.{TlvValue, Asked, asked, asked_by, tlvs_given, bytes_given, bytes_of, if_short, names_of, request_of, request_by_members, request_with, request_by, unless_other}
 use Rattle.json_requests.specs.Written.{IsWritten}
 use Rattle.json_requests.specs.Laws.{ReadsBack}
 use Rattle.json_requests.proofs.ReadBack.{are_read_back}
@@ -78,6 +78,28 @@ pub reads_back : (message : MessageForm) (json : Option Data) (bytes : List ℕ)
     → (object : Data) × (json ≡ Some object) × ReadsBack message.input object bytes
 reads_back message None bytes sound is = absurd cc
 reads_back message (Some one) bytes sound is = (one, refl, are_read_back message.input one bytes sound.input sound.input_once is)
+
+-- a message has room for what is given
+if_short-short : (bytes given : List ℕ) → if_short bytes ≡ Ok given → length given ≤ LONGEST_TLVS
+if_short-short bytes given is = by (nat_le (length bytes) LONGEST_TLVS) refl
+  where
+    by : (b : Bool) → nat_le (length bytes) LONGEST_TLVS ≡ b → length given ≤ LONGEST_TLVS
+    by true fits = let same : bytes ≡ given = cc in let count = ap (λ (l : List ℕ). length l) same in grind (arith, nat_tests, count, fits)
+    by false over = absurd cc
+
+unless_other-short : (other : Option (List ℕ)) (values : Fitting (List TlvValue)) (given : List ℕ) → unless_other other (bytes_given values) ≡ Ok given → length given ≤ LONGEST_TLVS
+unless_other-short None (Ok values) given is = if_short-short (bytes_of values) given is
+unless_other-short None (Err path) given is = absurd cc
+unless_other-short (Some key) values given is = absurd cc
+
+by_members-short : (tlvs : List TlvForm) (members : Option Members) (values : Fitting (List TlvValue)) (given : List ℕ) → request_by_members tlvs members values ≡ Ok given → length given ≤ LONGEST_TLVS
+by_members-short tlvs None values given is = absurd cc
+by_members-short tlvs (Some members) values given is = unless_other-short (first_other (names_of tlvs) members) values given is
+
+pub is_short : (tlvs : List TlvForm) (json : Option Data) (given : List ℕ) → request_with tlvs json ≡ Ok given → length given ≤ LONGEST_TLVS
+unfolding request_of
+is_short tlvs None given is = absurd cc
+is_short tlvs (Some one) given is = by_members-short tlvs (as_object one) (tlvs_given tlvs one) given is
 
 -- ---- an object ----
 

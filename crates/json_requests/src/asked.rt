@@ -1,4 +1,4 @@
-ghost use Rattle.std.specs.Prelude.{◌≡◌, Some, IfOk};
+ghost use Rattle.std.specs.Prelude.{◌≡◌, ◌≤◌, Some, IfOk, length};
 ghost use Rattle.serde_json.specs.Data.{Data};
 ghost use Rattle.message_tables.specs.Tables.{value_of};
 ghost use Rattle.message_tables.specs.View.{message_view};
@@ -13,6 +13,7 @@ use crate::tlvs::request_tlvs;
 use kit_bytes::Octets;
 use message_tables::{Message, TableFault, json_value};
 use named_messages::read_message;
+use qmux_frame::LONGEST_TLVS;
 use std::alloc::Global;
 
 /// A message of tables, and the TLVs of a request of it.
@@ -31,6 +32,9 @@ pub fn request_by(
     json: &[u8],
 ) -> Result<Asked, RequestFault>
     ensures exact { Gives asked_view (request_by tables.now name.now json.now) result }
+    // A message has room for the TLVs, and the forms of the answer are sound.
+    ensures short { IfOk result (λ asked. length asked.tlvs ≤ LONGEST_TLVS) }
+    ensures sound { IfOk result (λ asked. IsSoundMessage (message_view asked.message)) }
     ensures reads_back { IfOk result (λ asked. (object : Data) × (value_of json.now ≡ Some object) × ReadsBack (message_view asked.message).input object asked.tlvs) }
 {
     let message = read_message(alloc, tables, name)?;

@@ -7,14 +7,14 @@ use Rattle.json_requests.specs.declared.fault.RequestFault.{RequestFault}
 use Rattle.json_requests.specs.Answers.{Gives}
 use Rattle.json_requests.specs.Requests.{Asked, asked, request_by, request_with}
 use Rattle.json_requests.specs.View.{asked_view}
-use Rattle.json_requests.proofs.Faults.{Gives-tables, Gives-asked, request_by_is, reads_back}
+use Rattle.json_requests.proofs.Faults.{Gives-tables, Gives-asked, is_short, request_by_is, reads_back}
 use Rattle.json_requests.proofs.asked.request_by.Goals as goal
 
 pub returns-in_err-message : goal.returns-in_err-message
 unfolding request_by
 returns-in_err-message c =
     let p = err_from_is_err_and c.from_residual.result c.from_residual.ensures.1 in
-    rw (p.1, p.2) (record { exact = Gives-tables asked_view (named_in c.args.name.now c.args.tables.now) c.args.json.now c.in_err-message.field-0.0 c.in_err-message.ensures.exact; reads_back = tt })
+    rw (p.1, p.2) (record { exact = Gives-tables asked_view (named_in c.args.name.now c.args.tables.now) c.args.json.now c.in_err-message.field-0.0 c.in_err-message.ensures.exact; short = tt; sound = tt; reads_back = tt })
 
 pub returns-in_err-tlvs : goal.returns-in_err-tlvs
 returns-in_err-tlvs c =
@@ -23,12 +23,15 @@ returns-in_err-tlvs c =
     let gives =
     Gives-asked (λ (octets : List ℕ). octets) asked_view message (request_with message.input (value_of c.args.json.now)) c.in_err-tlvs.field-0.0 c.in_err-tlvs.ensures in
     let is = request_by_is c.args.tables.now c.args.name.now c.args.json.now message c.in_ok-message.ensures.exact in
-    rw (p.1, p.2) (record { exact = subst (λ (stated : Result Asked RequestFault). Gives asked_view stated (Err c.in_err-tlvs.field-0.0)) (sym is) gives; reads_back = tt })
+    rw (p.1, p.2) (record { exact = subst (λ (stated : Result Asked RequestFault). Gives asked_view stated (Err c.in_err-tlvs.field-0.0)) (sym is) gives; short = tt; sound = tt; reads_back = tt })
 
 pub returns-clause-exact : goal.returns-clause-exact
 returns-clause-exact c =
     request_by_is c.args.tables.now c.args.name.now c.args.json.now (message_view c.in_ok-message.message) c.in_ok-message.ensures.exact
     ∙ ap (asked (message_view c.in_ok-message.message)) c.in_ok-tlvs.ensures
+
+pub returns-clause-short : goal.returns-clause-short
+returns-clause-short c = is_short (message_view c.in_ok-message.message).input (value_of c.args.json.now) c.in_ok-tlvs.tlvs c.in_ok-tlvs.ensures
 
 pub returns-clause-reads_back : goal.returns-clause-reads_back
 returns-clause-reads_back c = reads_back (message_view c.in_ok-message.message) (value_of c.args.json.now) c.in_ok-tlvs.tlvs c.in_ok-message.ensures.sound c.in_ok-tlvs.ensures
