@@ -11,59 +11,13 @@ ghost use Rattle.device_core.specs.Session.{Reads};
 ghost use Rattle.device_core.specs.Hearing.{KeepsNothing, RepliesTo};
 
 use crate::client::Client;
-use device_core::{Wanted, read, request_message};
+use device_core::{ask, exchange};
 use link_io::Link;
-use link_session::{Found, Incoming, Reply, SessionFault, exchange};
+use link_session::{Found, Incoming, Reply, SessionFault};
 use qmi_requests::QmiRequest;
-use qmi_services::{QmiAnswer, service_of};
+use qmi_services::QmiAnswer;
 use qmux_frame::Qmux;
 use std::alloc::Global;
-
-/// Sends a request with this number, and waits for its answer.
-fn exchange_control<L: Link>(
-    alloc: Global,
-    link: &mut L,
-    incoming: &mut Incoming<Qmux>,
-    body: &QmiRequest,
-    number: u8,
-    timeout: u16,
-) -> Result<Found, SessionFault>
-    ensures asks { (heard : Heard) → Stands size_of incoming.old heard
-        → AsksFor (asked timeout (record { body = body.now; client = 0; number = number })) KeepsNothing heard result incoming.new (L.calls link.old) (L.calls link.new) }
-    ensures given { IfOk result (IsGiven size_of incoming.new) }
-    ensures link_fault { result ≡ Err SessionFault.LinkFault → Rose (L.faults link.old) (L.faults link.new) }
-    ensures later { L.faults link.old ≤ L.faults link.new }
-    ensures later_open { L.open_faults link.old ≤ L.open_faults link.new }
-{
-    let message = request_message(alloc, body, 0, number)?;
-    let mut wanted = Wanted {
-        service: service_of(body),
-        client: 0,
-        number,
-    };
-    exchange(link, incoming, message.as_slice(), &mut wanted, timeout)
-}
-
-/// Sends a request with this number, and reads its answer.
-fn ask<L: Link>(
-    alloc: Global,
-    link: &mut L,
-    incoming: &mut Incoming<Qmux>,
-    body: &QmiRequest,
-    number: u8,
-    timeout: u16,
-) -> Result<Reply<QmiAnswer>, SessionFault>
-    ensures asks { (heard : Heard) → Stands size_of incoming.old heard
-        → RepliesTo timeout (record { body = body.now; client = 0; number = number }) heard result incoming.new (L.calls link.old) (L.calls link.new) }
-    ensures given { IfOk result (λ reply. IsGiven size_of incoming.new reply.found × Reads body.now (placed_in incoming.new reply.found) (Ok reply.answer)) }
-    ensures link_fault { result ≡ Err SessionFault.LinkFault → Rose (L.faults link.old) (L.faults link.new) }
-    ensures later { L.faults link.old ≤ L.faults link.new }
-    ensures later_open { L.open_faults link.old ≤ L.open_faults link.new }
-{
-    let found = exchange_control(alloc, link, incoming, body, number, timeout)?;
-    let answer = read(alloc, body, found.place, incoming.bytes(found))?;
-    Ok(Reply { found, answer })
-}
 
 /// Sends a request with this number, and reads its answer.
 pub(crate) fn ask_control<L: Link>(
@@ -81,7 +35,7 @@ pub(crate) fn ask_control<L: Link>(
     ensures later { L.faults link.old ≤ L.faults link.new }
     ensures later_open { L.open_faults link.old ≤ L.open_faults link.new }
 {
-    ask(alloc, link, incoming, &body, number, timeout)
+    ask(alloc, link, incoming, &body, 0, number, timeout)
 }
 
 /// Gives a client id of a service back. What the answer says isn't read.
@@ -101,5 +55,5 @@ pub(crate) fn release<L: Link>(
     ensures later_open { L.open_faults link.old ≤ L.open_faults link.new }
 {
     let body = QmiRequest::Release(service, client.id);
-    exchange_control(alloc, link, incoming, &body, client.next, timeout)
+    exchange(alloc, link, incoming, &body, 0, client.next, timeout)
 }
