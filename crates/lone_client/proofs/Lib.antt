@@ -1,3 +1,12 @@
-pub mod Calm
+pub mod QmiCalm
 pub mod Rounds
-pub mod Served
+pub mod QmiServed
+pub mod MbimCalm
+pub mod Saying
+pub mod Forwarding
+pub mod Hearing
+pub mod Closing
+pub mod Events
+pub mod Fragments
+pub mod Turns
+pub mod MbimServed

@@ -40,9 +40,9 @@ use Rattle.qmi_proxy.specs.Regular.{Regular, IsAsked}
 use Rattle.qmi_proxy.proofs.Regulars.{histories_are_regular}
 use Rattle.std.specs.List.{AllByRecursion}
 use Rattle.lone_client.specs.Relay.{Answering, Cast, Stage, sent_for, asked_then, taking, said, hear_each, heard, waiting, reply, ask}
-use Rattle.lone_client.specs.Law.{cast_of}
+use Rattle.lone_client.specs.QmiLaw.{cast_of}
 use Rattle.proxy_history.proofs.Pieces.{ends_message}
-use Rattle.lone_client.proofs.Calm.{Calm, queue_is, id_is_free, is_there, began, granted, freed, modem_drained_all, drained, judged, judged_own, forwarded, answered, noted}
+use Rattle.lone_client.proofs.QmiCalm.{Calm, queue_is, id_is_free, is_there, began, granted, freed, modem_drained_all, drained, judged, judged_own, forwarded, answered, noted}
 
 -- nothing refuses a message that no other client and no full queue is in the way of
 decided : (own share foreign away room : Bool) (number : Option ℕ) → own ≡ false → share ≡ false → foreign ≡ false → away ≡ false → room ≡ true

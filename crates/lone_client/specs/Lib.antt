@@ -1,2 +1,4 @@
 pub mod Relay
-pub mod Law
+pub mod QmiLaw
+pub mod Turns
+pub mod MbimLaw

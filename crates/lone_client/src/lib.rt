@@ -1,6 +1,6 @@
-//! Laws: what one client gets behind a QMI proxy whose modem answers at once, and what the proxy meets.
+//! Laws: what one client gets behind a proxy whose modem answers at once, and what the proxy meets.
 #![tactic(auto)]
 
 mod laws;
 
-pub use laws::lone_clients_are_answered;
+pub use laws::{lone_clients_are_answered, lone_clients_are_served};

@@ -16,10 +16,10 @@ use Rattle.mbim_session.specs.Session.{configuration}
 use Rattle.modem_profile.specs.Profile.{Profile}
 use Rattle.modem_profile.specs.Limits.{IsWithin}
 use Rattle.lone_client.specs.Relay.{Cast, relayed, through}
-use Rattle.lone_mbim_client.specs.Law as lone
-use Rattle.mbim_relay.specs.Law.{IsCommand, ReadTheSame}
-use Rattle.mbim_relay.specs.Runs.{direct_run, through_run, simulated_modem, time_limit}
-use Rattle.mbim_relay.proofs.Printed.{tools_print_the_same}
+use Rattle.lone_client.specs.MbimLaw as lone
+use Rattle.relays.specs.MbimLaw.{IsCommand, ReadTheSame}
+use Rattle.relays.specs.MbimRuns.{direct_run, through_run, simulated_modem, time_limit}
+use Rattle.relays.proofs.MbimPrinted.{tools_print_the_same}
 use Rattle.printed_ends.specs.Held.{IsHeld}
 use Rattle.printed_ends.specs.declared.held.Held.{Held}
 use Rattle.printed_ends.specs.declared.printed.Printed.{Printed}

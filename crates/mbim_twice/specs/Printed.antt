@@ -5,7 +5,7 @@ use Rattle.mbim_session.specs.declared.plan.MbimEnd.{MbimEnd}
 use Rattle.mbim_session.specs.declared.plan.MbimEnd.TheVariants.{Answer, FunctionError}
 use Rattle.mbim_session.specs.Peer.{LastWord, EndsWith}
 use Rattle.mbimcli_print.specs.Answer.{answer_text}
-use Rattle.mbim_relay.specs.Law.{status_in}
+use Rattle.twin_sessions.specs.MbimRuns.{status_in}
 use Rattle.printed_ends.specs.Printed as ends
 use Rattle.printed_ends.specs.declared.printed.Printed.{Printed}
 

@@ -5,7 +5,7 @@ use Rattle.core_bench.specs.Runs.{Run}
 use Rattle.mbim_session.specs.declared.plan.MbimPlan.{MbimPlan}
 use Rattle.modem_profile.specs.Profile.{Profile}
 use Rattle.lone_peers.specs.Peers.{opened}
-use Rattle.mbim_relay.specs.Runs.{relay}
+use Rattle.relays.specs.MbimRuns.{relay}
 
 abbrev pub run_of : Profile → MbimPlan → Run
 run_of profile plan = record (opened Mbim (encode_utf8_all plan.device)) { events = relay profile plan }

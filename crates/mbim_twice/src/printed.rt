@@ -1,5 +1,5 @@
 ghost use Rattle.std.specs.Prelude.{◌≡◌, Ok, OnOk, IfOk};
-ghost use Rattle.mbim_relay.specs.Law.{status_in};
+ghost use Rattle.twin_sessions.specs.MbimRuns.{status_in};
 ghost use Rattle.printed_ends.specs.Printed.{IsByPeer, status_by};
 ghost use Rattle.mbim_twice.specs.Printed.{IsOf};
 

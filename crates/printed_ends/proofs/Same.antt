@@ -3,7 +3,7 @@ use Rattle.std.specs.Prelude.{Result, Ok, Err}
 use Rattle.std.proofs.Common.{◌≡◌, ℕ, List, Option, refl, sym, ◌∙◌, ap}
 use Rattle.link_session.specs.declared.fault.SessionFault.{SessionFault}
 use Rattle.link_session.specs.declared.fault.SessionFault.TheVariants as fault
-use Rattle.twin_sessions.specs.Runs.{ComeToTheSame}
+use Rattle.twin_sessions.specs.Twice.{ComeToTheSame}
 use Rattle.printed_ends.specs.declared.printed.Printed.{Printed}
 use Rattle.printed_ends.specs.Printed.{IsByPeer, Prints, status_by, status_of, text_of}
 

@@ -11,12 +11,12 @@ use Rattle.tunnel_session.specs.declared.ends.TunnelEnd.{TunnelEnd}
 use Rattle.tunnel_session.specs.Peer.{LastWord, Unanswered, OfConfiguration, OfOpen, NoAnswer, OfAnswer, EndsWith}
 use Rattle.modem_profile.specs.Profile.{Profile}
 use Rattle.modem_profile.specs.Limits.{IsWithin}
-use Rattle.qmi_relay.specs.Runs.{direct_run}
-use Rattle.qmi_relay.proofs.Printed.{words_print}
-use Rattle.tunnel_relay.specs.Law.{Alike, as_carried}
-use Rattle.tunnel_relay.specs.Runs.{tunnel_run}
-use Rattle.tunnel_relay.proofs.Printed.{end_as, ends_as, ends_carried}
-use Rattle.tunnel_relay.proofs.Sessions.{sessions_end_alike}
+use Rattle.relays.specs.QmiRuns.{direct_run}
+use Rattle.relays.proofs.QmiPrinted.{words_print}
+use Rattle.relays.specs.TunnelLaw.{Alike, as_carried}
+use Rattle.relays.specs.TunnelRuns.{tunnel_run}
+use Rattle.relays.proofs.TunnelPrinted.{end_as, ends_as, ends_carried}
+use Rattle.relays.proofs.TunnelSessions.{sessions_end_alike}
 use Rattle.printed_ends.specs.Printed.{IsByPeer}
 use Rattle.printed_ends.specs.declared.printed.Printed.{Printed}
 use Rattle.printed_ends.proofs.Same.{prints_alike}

@@ -4,10 +4,10 @@ ghost use Rattle.tunnel_session.specs.Peer.{tunnel_at};
 ghost use Rattle.lone_peers.specs.Peers.{at_modem};
 ghost use Rattle.printed_ends.specs.Held.{IsHeld};
 ghost use Rattle.printed_ends.specs.declared.printed.Printed.{Printed};
-ghost use Rattle.qmi_relay.specs.Runs.{direct_run};
+ghost use Rattle.relays.specs.QmiRuns.{direct_run};
 ghost use Rattle.qmi_twice.specs.Printed as direct;
 ghost use Rattle.qmi_twice.specs.Twice.{IsTold};
-ghost use Rattle.tunnel_relay.specs.Runs.{carrying_modem, tunnel_run};
+ghost use Rattle.relays.specs.TunnelRuns.{carrying_modem, tunnel_run};
 ghost use Rattle.qmi_tunnelled.specs.Printed.{Prints};
 
 use crate::carrier::Carrier;

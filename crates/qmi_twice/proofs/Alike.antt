@@ -11,8 +11,8 @@ use Rattle.modem_profile.specs.Limits.{IsWithin}
 use Rattle.sim_modem.specs.Sim.{answers}
 use Rattle.sim_qmi.specs.Modem.{machine}
 use Rattle.lone_client.specs.Relay.{relayed}
-use Rattle.qmi_relay.specs.Runs.{direct_run, through_run}
-use Rattle.qmi_relay.proofs.Printed.{tools_print_the_same}
+use Rattle.relays.specs.QmiRuns.{direct_run, through_run}
+use Rattle.relays.proofs.QmiPrinted.{tools_print_the_same}
 use Rattle.printed_ends.specs.declared.printed.Printed.{Printed}
 use Rattle.printed_ends.proofs.Same.{prints_alike}
 use Rattle.lone_peers.specs.Peers.{cast_of, opened}

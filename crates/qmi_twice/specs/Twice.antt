@@ -10,8 +10,8 @@ use Rattle.device_core.specs.declared.plan.QmiPlan.{QmiPlan}
 use Rattle.modem_profile.specs.Profile.{Profile}
 use Rattle.sim_qmi.specs.State.{IsSound, fresh}
 use Rattle.lone_peers.specs.Peers.{opened}
-use Rattle.qmi_relay.specs.Law.{IsCommand}
-use Rattle.qmi_relay.specs.Runs.{relay}
+use Rattle.relays.specs.QmiLaw.{IsCommand}
+use Rattle.relays.specs.QmiRuns.{relay}
 
 -- a plan and a profile of which it is said: the plan has a command of the tool, and the profile's messages are bytes
 pub record IsTold (profile : Profile) (plan : QmiPlan) : Type 0 where

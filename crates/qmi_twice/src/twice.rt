@@ -9,7 +9,7 @@ ghost use Rattle.sim_modem.specs.Sim.{answers};
 ghost use Rattle.sim_qmi.specs.Modem.{machine};
 ghost use Rattle.device_core.specs.Peer.{session_at};
 ghost use Rattle.lone_client.specs.Relay.{through};
-ghost use Rattle.qmi_relay.specs.Runs.{direct_run, through_run};
+ghost use Rattle.relays.specs.QmiRuns.{direct_run, through_run};
 ghost use Rattle.printed_ends.specs.Held.{IsHeld};
 ghost use Rattle.lone_peers.specs.Peers.{at_modem, cast_of};
 ghost use Rattle.qmi_twice.specs.Printed.{Prints};

@@ -4,8 +4,8 @@ use Rattle.rig_runs.specs.Rig.{device}
 use Rattle.mbim_requests.specs.declared.MbimRequest.{MbimRequest}
 use Rattle.mbim_session.specs.declared.plan.MbimPlan.{MbimPlan}
 use Rattle.modem_profile.specs.Profile.{default_profile}
-use Rattle.mbim_relay.specs.Law as law
-use Rattle.mbim_relay.specs.Runs.{direct_run, through_run}
+use Rattle.relays.specs.MbimLaw as law
+use Rattle.relays.specs.MbimRuns.{direct_run, through_run}
 use Rattle.mbim_twice.specs.Printed.{Prints}
 use Rattle.mbim_twice.specs.Twice as twice
 use Rattle.transparency.specs.Trial.{Trial}

@@ -4,12 +4,12 @@ use Rattle.rig_runs.specs.Rig.{device}
 use Rattle.qmi_requests.specs.declared.QmiRequest.{QmiRequest}
 use Rattle.device_core.specs.declared.plan.QmiPlan.{QmiPlan}
 use Rattle.modem_profile.specs.Profile.{default_profile}
-use Rattle.qmi_relay.specs.Law as law
-use Rattle.qmi_relay.specs.Runs.{direct_run, through_run}
+use Rattle.relays.specs.QmiLaw as law
+use Rattle.relays.specs.QmiRuns.{direct_run, through_run}
 use Rattle.printed_ends.specs.declared.printed.Printed.{Printed}
 use Rattle.qmi_twice.specs.Printed.{Prints}
 use Rattle.qmi_twice.specs.Twice as twice
-use Rattle.tunnel_relay.specs.Runs.{tunnel_run}
+use Rattle.relays.specs.TunnelRuns.{tunnel_run}
 use Rattle.qmi_tunnelled.specs.Printed as tunnelled
 use Rattle.transparency.specs.Trial.{Trial}
 

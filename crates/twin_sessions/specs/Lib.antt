@@ -1,3 +1,7 @@
-pub mod Runs
-pub mod Serving
-pub mod Law
+pub mod Twice
+pub mod QmiRuns
+pub mod QmiServing
+pub mod QmiLaw
+pub mod MbimRuns
+pub mod MbimServing
+pub mod MbimLaw

@@ -1,4 +1,4 @@
-use Rattle.lone_client.proofs.Served.{lone_clients_are_answered}
+use Rattle.lone_client.proofs.QmiServed.{lone_clients_are_answered}
 use Rattle.lone_client.proofs.laws.lone_clients_are_answered.Goals as goal
 
 pub returns : goal.returns

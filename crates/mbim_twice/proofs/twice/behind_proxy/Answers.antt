@@ -5,7 +5,7 @@ use Rattle.mbim_frame.specs.Frame.{size_of}
 use Rattle.modem_profile.specs.Profile.{Profile}
 use Rattle.mbim_session.specs.Peer.{session_at}
 use Rattle.lone_client.specs.Relay.{through}
-use Rattle.mbim_relay.specs.Runs.{simulated_modem}
+use Rattle.relays.specs.MbimRuns.{simulated_modem}
 use Rattle.printed_ends.specs.Held.{IsHeld}
 use Rattle.lone_peers.specs.Peers.{cast_of}
 use Rattle.mbim_twice.specs.Printed.{Prints}

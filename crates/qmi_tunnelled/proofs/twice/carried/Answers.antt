@@ -2,7 +2,7 @@ use Rattle.std.proofs.Common.{subst}
 use Rattle.mbim_frame.specs.Frame.{size_of}
 use Rattle.modem_profile.specs.Profile.{Profile}
 use Rattle.tunnel_session.specs.Peer.{tunnel_at}
-use Rattle.tunnel_relay.specs.Runs.{carrying_modem}
+use Rattle.relays.specs.TunnelRuns.{carrying_modem}
 use Rattle.lone_client.specs.Relay.{asked_by}
 use Rattle.lone_peers.specs.Peers.{at_modem}
 use Rattle.printed_ends.specs.Held.{IsHeld}

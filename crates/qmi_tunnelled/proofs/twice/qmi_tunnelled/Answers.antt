@@ -1,5 +1,5 @@
 use Rattle.qmi_twice.specs.Twice.{AreShort}
-use Rattle.tunnel_relay.specs.Runs.{tunnel_run}
+use Rattle.relays.specs.TunnelRuns.{tunnel_run}
 use Rattle.qmi_tunnelled.proofs.Alike.{same_printed, unproxied}
 use Rattle.qmi_tunnelled.proofs.twice.qmi_tunnelled.Goals as goal
 

@@ -1,5 +1,5 @@
 use Rattle.std.proofs.Common.{◌≡◌}
-use Rattle.mbim_relay.specs.Runs.{direct_run, through_run}
+use Rattle.relays.specs.MbimRuns.{direct_run, through_run}
 use Rattle.mbim_session.specs.declared.plan.MbimPlan.{MbimPlan}
 use Rattle.mbim_twice.specs.Printed.{Prints}
 use Rattle.modem_profile.specs.Profile.{Profile, default_profile}

@@ -4,11 +4,11 @@ use Rattle.device_core.specs.declared.plan.QmiPlan.{QmiPlan}
 use Rattle.modem_profile.specs.Profile.{Profile, default_profile}
 use Rattle.printed_ends.specs.declared.printed.Printed.{Printed}
 use Rattle.qmi_requests.specs.declared.QmiRequest.{QmiRequest}
-use Rattle.qmi_relay.specs.Law.{IsCommand}
-use Rattle.qmi_relay.specs.Runs.{direct_run, through_run}
+use Rattle.relays.specs.QmiLaw.{IsCommand}
+use Rattle.relays.specs.QmiRuns.{direct_run, through_run}
 use Rattle.qmi_twice.specs.Printed.{Prints}
 use Rattle.qmi_twice.specs.Twice.{IsTold, run_of}
-use Rattle.tunnel_relay.specs.Runs.{tunnel_run}
+use Rattle.relays.specs.TunnelRuns.{tunnel_run}
 use Rattle.qmi_tunnelled.specs.Printed as tunnelled
 use Rattle.transparency.specs.Qmi.{PrintsCarried, PrintsThrough, plan_of}
 use Rattle.transparency.proofs.qmi.QmiRequestRunsTwice.run_twice.Goals as goal

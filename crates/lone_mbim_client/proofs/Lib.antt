@@ -1,9 +1,0 @@
-pub mod Calm
-pub mod Saying
-pub mod Forwarding
-pub mod Hearing
-pub mod Closing
-pub mod Events
-pub mod Fragments
-pub mod Turns
-pub mod Served

@@ -1,5 +1,0 @@
-use Rattle.lone_mbim_client.proofs.Served.{lone_clients_are_served}
-use Rattle.lone_mbim_client.proofs.laws.lone_clients_are_served.Goals as goal
-
-pub returns : goal.returns
-returns c = lone_clients_are_served

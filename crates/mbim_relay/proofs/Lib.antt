@@ -1,9 +1,0 @@
-pub mod Leaving
-pub mod Heard
-pub mod Lengths
-pub mod Fitting
-pub mod Naming
-pub mod Plans
-pub mod Served
-pub mod Printed
-pub mod Computed

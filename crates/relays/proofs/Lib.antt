@@ -1,0 +1,17 @@
+pub mod QmiServed
+pub mod QmiPrinted
+pub mod QmiComputed
+pub mod MbimLeaving
+pub mod MbimHeard
+pub mod MbimLengths
+pub mod MbimFitting
+pub mod MbimNaming
+pub mod MbimPlans
+pub mod MbimServed
+pub mod MbimPrinted
+pub mod MbimComputed
+pub mod TunnelCarrying
+pub mod TunnelSteps
+pub mod TunnelSessions
+pub mod TunnelPrinted
+pub mod TunnelComputed

@@ -1,0 +1,9 @@
+pub mod QmiRuns
+pub mod QmiLaw
+pub mod QmiExamples
+pub mod MbimRuns
+pub mod MbimLaw
+pub mod MbimExamples
+pub mod TunnelRuns
+pub mod TunnelLaw
+pub mod TunnelExamples
