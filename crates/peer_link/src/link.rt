@@ -11,7 +11,7 @@ use std::alloc::{AllocError, Global};
 use std::marker::Model;
 
 /// A call that was made on a link.
-#[derive(Debug, Drop)]
+#[derive(Drop)]
 pub(crate) enum Made {
     Sent(Octets),
     Took(Octets),
