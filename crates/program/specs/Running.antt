@@ -35,7 +35,7 @@ use Rattle.tool_runs.specs.Qmi.{qmi_asked}
 use Rattle.tool_runs.specs.Mbim.{mbim_asked}
 use Rattle.tool_runs.specs.Tunnel.{tunnel_asked}
 use Rattle.tool_runs.specs.Json.{qmi_json, tunnel_json}
-use Rattle.tool_runs.specs.Describing.{Describes}
+use Rattle.tool_runs.specs.Describing.{DescribesFile}
 use Rattle.dissect.specs.Tables.{Dissects}
 use Rattle.sim_keeping.specs.Keeping.{KeepsOrLacksMemory}
 use Rattle.sim_keeping.specs.Words.{start_words}
@@ -120,7 +120,7 @@ abbrev pub RunsCommand : ToolCommand → Told → Told → Status → Type 0
 RunsCommand (Qmicli task) before after result = AsksQmi task.link.kind task.form (qmi_plan task) (way_to task.device task.link) (of_tool before) (of_tool after) result
 RunsCommand (Mbimcli task) before after result = Asks (way_to task.device task.link) (mbim_asked task.decode (mbim_plan task)) (of_tool before) (of_tool after) result
 RunsCommand (PduSubmit number text reference) before after result = EndsAs status_of result (λ ends. PrintsText (hex_lines (messages number text reference)) before.out ends after.out)
-RunsCommand (Describe path) before after result = EndsAs status_of result (λ ends. Describes (encode_utf8_all path) before.files after.files before.out ends after.out)
+RunsCommand (Describe path message) before after result = EndsAs status_of result (λ ends. DescribesFile (encode_utf8_all path) message before.files after.files before.out ends after.out)
 RunsCommand (Proxy task) before after result =
     ServesProxy task.kind (asked_in task) (place_of (encode_utf8_all task.device) (encode_utf8_all task.bridge)) before.hub before.spawner result after.hub after.hub_made after.spawner
 RunsCommand (Simulator kind socket profile None turns None) before after result =
@@ -146,7 +146,7 @@ abbrev pub is_of_tool : ToolCommand → Bool
 is_of_tool (Qmicli task) = true
 is_of_tool (Mbimcli task) = true
 is_of_tool (PduSubmit number text reference) = true
-is_of_tool (Describe path) = true
+is_of_tool (Describe path message) = true
 is_of_tool _ = false
 
 abbrev pub is_of_proxy : ToolCommand → Bool
@@ -195,7 +195,7 @@ abbrev pub CommandLeavesAlone : {L H P F O B : Type 0} → ToolCommand → Objec
 CommandLeavesAlone (Qmicli task) before after = (after.hub ≡ before.hub) × (after.files ≡ before.files) × (after.bench ≡ before.bench)
 CommandLeavesAlone (Mbimcli task) before after = (after.hub ≡ before.hub) × (after.files ≡ before.files) × (after.bench ≡ before.bench)
 CommandLeavesAlone (PduSubmit number text reference) before after = (after.link ≡ before.link) × (after.hub ≡ before.hub) × (after.spawner ≡ before.spawner) × (after.files ≡ before.files) × (after.bench ≡ before.bench)
-CommandLeavesAlone (Describe path) before after = (after.link ≡ before.link) × (after.hub ≡ before.hub) × (after.spawner ≡ before.spawner) × (after.bench ≡ before.bench)
+CommandLeavesAlone (Describe path message) before after = (after.link ≡ before.link) × (after.hub ≡ before.hub) × (after.spawner ≡ before.spawner) × (after.bench ≡ before.bench)
 CommandLeavesAlone (Proxy task) before after = (after.link ≡ before.link) × (after.files ≡ before.files) × (after.out ≡ before.out) × (after.bench ≡ before.bench)
 CommandLeavesAlone (Simulator kind socket profile rules turns None) before after = (after.link ≡ before.link) × (after.spawner ≡ before.spawner) × (profile ≡ None → rules ≡ None → after.files ≡ before.files) × (after.out ≡ before.out) × (after.bench ≡ before.bench)
 CommandLeavesAlone (Simulator kind socket profile rules turns (Some most)) before after = (after.link ≡ before.link) × (after.hub ≡ before.hub) × (after.files ≡ before.files) × (after.out ≡ before.out) × (after.bench ≡ before.bench)

@@ -9,6 +9,8 @@ use Rattle.hub_io.specs.declared.settings.ServeEnd.TheVariants as end
 use Rattle.message_tables.specs.declared.fault.TableFault.{TableFault}
 use Rattle.message_tables.specs.declared.fault.TableFault.TheVariants as table
 use Rattle.message_tables.specs.Members.{member_text}
+use Rattle.named_messages.specs.declared.fault.NamedFault.{NamedFault}
+use Rattle.named_messages.specs.declared.fault.NamedFault.TheVariants as named
 use Rattle.modem_profile.specs.Members as profile_members
 use Rattle.modem_profile.specs.declared.fault.ProfileFault.{ProfileFault}
 use Rattle.modem_profile.specs.declared.fault.ProfileFault.TheVariants as profile
@@ -59,6 +61,17 @@ tables_line (Some (table.Twice at)) = object_line (codes "tables: twice") [] (de
 tables_line (Some (table.Deep at)) = object_line (codes "tables: deep") [] (decimal at)
 tables_line (Some table.OutOfMemory) = error_line (codes "out of memory") []
 
+-- why descriptions give no message of a name
+abbrev pub message_line : NamedFault → List ℕ
+message_line named.Json = error_line (codes "tables: json") []
+message_line named.Missing = error_line (codes "tables: no such message") []
+message_line named.Several = error_line (codes "tables: several such messages") []
+message_line (named.Member name) = error_line (codes "tables: member ") (member_text name)
+message_line named.Format = error_line (codes "tables: format") []
+message_line named.Twice = error_line (codes "tables: twice") []
+message_line named.Deep = error_line (codes "tables: deep") []
+message_line named.OutOfMemory = error_line (codes "out of memory") []
+
 -- why a profile isn't read; a file without a fault of its own is too long
 abbrev pub profile_line : Option ProfileFault → List ℕ
 profile_line None = error_line (codes "profile: long") []
@@ -86,6 +99,7 @@ line_of (status.Broken place) = error_line (codes "broken at ") (decimal place)
 line_of status.Flooded = error_line (codes "flooded") []
 line_of status.WriteFault = error_line (codes "write fault") []
 line_of (status.TableFault fault) = tables_line fault
+line_of (status.MessageFault fault) = message_line fault
 line_of status.ReadFault = error_line (codes "read fault") []
 line_of status.StartFault = error_line (codes "start fault") []
 line_of status.NoProxy = error_line (codes "no proxy") []
@@ -106,6 +120,7 @@ code_of (status.Broken place) = 6
 code_of status.Flooded = 7
 code_of status.WriteFault = 8
 code_of (status.TableFault fault) = 9
+code_of (status.MessageFault fault) = 9
 code_of status.ReadFault = 10
 code_of status.StartFault = 11
 code_of status.NoProxy = 12
@@ -125,6 +140,7 @@ status_of run.TimedOut = status.TimedOut
 status_of (run.Broken place) = status.Broken place
 status_of run.Flooded = status.Flooded
 status_of (run.TableFault fault) = status.TableFault fault
+status_of (run.MessageFault fault) = status.MessageFault fault
 status_of run.ReadFault = status.ReadFault
 status_of run.WriteFault = status.WriteFault
 status_of run.StartFault = status.StartFault

@@ -1,7 +1,7 @@
 ghost use Rattle.std.specs.Prelude.{◌≡◌, OnOk, Some};
 ghost use Rattle.kit_io.specs.Causes.{Rose, HasCause};
 ghost use Rattle.kit_io.specs.Told.{Grows};
-ghost use Rattle.program.specs.Status.{denied_text, error_line, line_of, object_line, profile_line, rules_line, tables_line};
+ghost use Rattle.program.specs.Status.{denied_text, error_line, line_of, message_line, object_line, profile_line, rules_line, tables_line};
 
 use crate::Status;
 use crate::status::kind_word;
@@ -10,6 +10,7 @@ use kit_io::{Sink, WriteFault, write_all_to};
 use message_tables::TableFault;
 use modem_profile::ProfileFault;
 use modem_rules::RulesFault;
+use named_messages::NamedFault;
 use tool_words::UsageKind;
 
 /// Refuses words that couldn't be read.
@@ -62,6 +63,7 @@ fn write_line<E: Sink>(status: Status, err: &mut E) -> Result<(), WriteFault>
         Status::WriteFault => write_error(b"write fault", b"", err),
         Status::TableFault { fault: None } => write_error(b"tables: long", b"", err),
         Status::TableFault { fault: Some(fault) } => write_fault_of_tables(fault, err),
+        Status::MessageFault { fault } => write_fault_of_message(fault, err),
         Status::ReadFault => write_error(b"read fault", b"", err),
         Status::StartFault => write_error(b"start fault", b"", err),
         Status::NoProxy => write_error(b"no proxy", b"", err),
@@ -121,6 +123,24 @@ fn write_fault_of_tables<E: Sink>(fault: TableFault, err: &mut E) -> Result<(), 
             write_object(b"tables: deep", b"", number.format(object).as_bytes(), err)
         }
         TableFault::OutOfMemory => write_error(b"out of memory", b"", err),
+    }
+}
+
+fn write_fault_of_message<E: Sink>(fault: NamedFault, err: &mut E) -> Result<(), WriteFault>
+    ensures line { OnOk result (Grows (E.taken err.old) (message_line fault) (E.taken err.new)) }
+    ensures cause { HasCause (E.faults err.old) (E.faults err.new) result }
+{
+    match fault {
+        NamedFault::Json => write_error(b"tables: json", b"", err),
+        NamedFault::Missing => write_error(b"tables: no such message", b"", err),
+        NamedFault::Several => write_error(b"tables: several such messages", b"", err),
+        NamedFault::Member(name) => {
+            write_error(b"tables: member ", name.as_str().as_bytes(), err)
+        }
+        NamedFault::Format => write_error(b"tables: format", b"", err),
+        NamedFault::Twice => write_error(b"tables: twice", b"", err),
+        NamedFault::Deep => write_error(b"tables: deep", b"", err),
+        NamedFault::OutOfMemory => write_error(b"out of memory", b"", err),
     }
 }
 

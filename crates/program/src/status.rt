@@ -7,6 +7,7 @@ use hub_io::ServeEnd;
 use message_tables::TableFault;
 use modem_profile::ProfileFault;
 use modem_rules::RulesFault;
+use named_messages::NamedFault;
 use pump::PumpEnd;
 use sim_keeping::KeepEnd;
 use sim_runs::SimEnd;
@@ -36,6 +37,8 @@ pub enum Status {
     WriteFault,
     /// The descriptions of messages aren't read, for this fault or since they are too long.
     TableFault { fault: Option<TableFault> },
+    /// The descriptions give no message of the name, for this fault.
+    MessageFault { fault: NamedFault },
     /// A file couldn't be read.
     ReadFault,
     /// A child wasn't started, or not stopped.
@@ -85,7 +88,7 @@ impl Status {
             Status::Broken { .. } => 6,
             Status::Flooded => 7,
             Status::WriteFault => 8,
-            Status::TableFault { .. } => 9,
+            Status::TableFault { .. } | Status::MessageFault { .. } => 9,
             Status::ReadFault => 10,
             Status::StartFault => 11,
             Status::NoProxy => 12,
@@ -141,6 +144,7 @@ impl From<RunEnd> for Status {
             RunEnd::Broken { place } => Status::Broken { place },
             RunEnd::Flooded => Status::Flooded,
             RunEnd::TableFault { fault } => Status::TableFault { fault },
+            RunEnd::MessageFault { fault } => Status::MessageFault { fault },
             RunEnd::ReadFault => Status::ReadFault,
             RunEnd::WriteFault => Status::WriteFault,
             RunEnd::StartFault => Status::StartFault,

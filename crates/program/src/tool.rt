@@ -1,4 +1,5 @@
 ghost use Rattle.std.specs.Prelude.{◌≡◌, IfOk, IsTrue};
+ghost use Rattle.std.specs.Option.{option_copied};
 ghost use Rattle.std.specs.Str.{encode_utf8_all};
 ghost use Rattle.kit_io.specs.Causes.{Rose};
 ghost use Rattle.kit_io.specs.Counts.{together};
@@ -7,7 +8,7 @@ ghost use Rattle.modem_ways.specs.Ways.{path_in};
 ghost use Rattle.sms_pdu.specs.Parts.{can_be_sent, messages};
 ghost use Rattle.sms_print.specs.Printed.{hex_lines};
 ghost use Rattle.tool_runs.specs.Asking.{AsksModem, asked_of, PrintsText, shown};
-ghost use Rattle.tool_runs.specs.Describing.{Describes};
+ghost use Rattle.tool_runs.specs.Describing.{DescribesFile};
 ghost use Rattle.tool_runs.specs.Qmi.{qmi_asked};
 ghost use Rattle.tool_runs.specs.Mbim.{mbim_asked};
 ghost use Rattle.tool_runs.specs.Tunnel.{tunnel_asked};
@@ -18,7 +19,7 @@ use crate::status::Status;
 use child_io::Spawner;
 use device_core::QmiPlan;
 use file_io::Files;
-use kit_bytes::{Kind, PathText, Text};
+use kit_bytes::{Kind, PathText, ShortText, Text};
 use kit_io::Sink;
 use link_io::Link;
 use mbim_session::MbimPlan;
@@ -26,7 +27,7 @@ use modem_ways::Way;
 use sms_print::Decoding;
 use std::alloc::{AllocError, Global};
 use tool_runs::{
-    JsonPlan, JsonTunnelPlan, Session, TunnelPlan, ask, describe, mbim_decoding, submit,
+    JsonPlan, JsonTunnelPlan, Session, TunnelPlan, ask, describe_file, mbim_decoding, submit,
 };
 use tool_words::{AnswerForm, LinkSettings, MbimTask, QmiTask};
 
@@ -285,19 +286,20 @@ pub fn submit_text<O: Sink>(
     Status::from(submit(alloc, number, text, reference, out))
 }
 
-// Prints what the descriptions in a file describe.
-pub fn describe_file<O: Sink, F: Files>(
+// Prints what the descriptions in a file describe, or what their message of a name takes and gives.
+pub fn print_description<O: Sink, F: Files>(
     alloc: Global,
     file: &PathText,
+    message: Option<&ShortText>,
     out: &mut O,
     files: &mut F,
 ) -> Status
-    ensures describes { EndsAs status_of result (λ ends. Describes (encode_utf8_all file.now) (F.calls files.old) (F.calls files.new) (O.taken out.old) ends (O.taken out.new)) }
+    ensures describes { EndsAs status_of result (λ ends. DescribesFile (encode_utf8_all file.now) (option_copied message.entry) (F.calls files.old) (F.calls files.new) (O.taken out.old) ends (O.taken out.new)) }
     ensures own { IsOfTool result }
     ensures link_fault { ¬ (result ≡ Status.LinkFault) }
     ensures start_fault { ¬ (result ≡ Status.StartFault) }
     ensures read_fault { result ≡ Status.ReadFault → Rose (F.read_faults files.old) (F.read_faults files.new) }
     ensures write_fault { result ≡ Status.WriteFault → Rose (O.faults out.old) (O.faults out.new) }
 {
-    Status::from(describe(alloc, file, out, files))
+    Status::from(describe_file(alloc, file, message, out, files))
 }

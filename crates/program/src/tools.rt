@@ -13,7 +13,7 @@ use crate::report::report;
 use crate::rigging::{print_rig, print_transparency};
 use crate::simulator::{keep_modem, simulate_modem, simulate_ruled_modem};
 use crate::status::Status;
-use crate::tool::{ask_mbim, ask_qmi, describe_file, submit_text};
+use crate::tool::{ask_mbim, ask_qmi, print_description, submit_text};
 use child_io::Spawner;
 use core_bench::Bench;
 use file_io::Files;
@@ -92,7 +92,9 @@ pub fn run_command_of_tool<O: Sink, L: Link, P: Spawner, F: Files>(
             text,
             reference,
         } => submit_text(alloc, &number, &text, reference, out),
-        ToolCommand::Describe { file } => describe_file(alloc, &file, out, files),
+        ToolCommand::Describe { file, message } => {
+            print_description(alloc, &file, message.as_ref(), out, files)
+        }
         other => {
             drop(other);
             OTHER

@@ -11,6 +11,10 @@ use Rattle.message_tables.specs.declared.fault.TableFault.{TableFault}
 use Rattle.message_tables.specs.declared.fault.TableFault.TheVariants as table
 use Rattle.message_tables.specs.Messages.{MessageForm}
 use Rattle.message_tables.specs.Tables.{tables_in}
+use Rattle.named_messages.specs.Reading.{named_in}
+use Rattle.named_messages.specs.declared.fault.NamedFault.{NamedFault}
+use Rattle.named_messages.specs.declared.fault.NamedFault.TheVariants as named
+use Rattle.described_messages.specs.Described.{message_text}
 use Rattle.qmicli_print.specs.declared.shown.Shown.TheVariants.{Service}
 use Rattle.qmicli_print.specs.Words.{word_of}
 use Rattle.print_text.specs.Texts.{hex_pair}
@@ -73,3 +77,32 @@ pub record Describes (path : List ℕ) (before after : Option (List Call)) (out 
   pub read : Result (List ℕ) FileFault
   pub reads : GrowsByFile path before read after
   pub says : SaysTables read out ends printed
+
+-- ---- the message of a name ----
+
+-- the descriptions have one message of this name, whose lines are these, or have this fault
+abbrev pub PrintsMessage : (text name : List ℕ) → Option (List ℕ) → RunEnd → Option (List ℕ) → Type 0
+PrintsMessage text name before run.Done after = (message : MessageForm) × (named_in name text ≡ Ok message) × Grows before (message_text message) after
+PrintsMessage text name before run.WriteFault after = (message : MessageForm) × (named_in name text ≡ Ok message) × GrowsByFront before (message_text message) after
+PrintsMessage text name before (run.MessageFault fault) after = (named_in name text ≡ Err fault) × Grows before [] after
+PrintsMessage text name before run.OutOfMemory after = Grows before [] after
+PrintsMessage text name before _ after = ⊥
+
+abbrev pub end_of_message : NamedFault → RunEnd
+end_of_message named.OutOfMemory = run.OutOfMemory
+end_of_message fault = run.MessageFault fault
+
+abbrev pub SaysMessage : Result (List ℕ) FileFault → (name : List ℕ) → Option (List ℕ) → RunEnd → Option (List ℕ) → Type 0
+SaysMessage (Ok text) name before ends after = PrintsMessage text name before ends after
+SaysMessage (Err why) name before ends after = (ends ≡ end_of_file why) × Grows before [] after
+
+-- the file at this path was read, and what its message of a name takes and gives was printed
+pub record DescribesMessage (path name : List ℕ) (before after : Option (List Call)) (out : Option (List ℕ)) (ends : RunEnd) (printed : Option (List ℕ)) : Type 0 where
+  pub read : Result (List ℕ) FileFault
+  pub reads : GrowsByFile path before read after
+  pub says : SaysMessage read name out ends printed
+
+-- all messages of a file are described, or the one of a name, which is in characters
+abbrev pub DescribesFile : (path : List ℕ) → Option (List ℕ) → Option (List Call) → Option (List Call) → Option (List ℕ) → RunEnd → Option (List ℕ) → Type 0
+DescribesFile path None before after out ends printed = Describes path before after out ends printed
+DescribesFile path (Some name) before after out ends printed = DescribesMessage path (encode_utf8_all name) before after out ends printed

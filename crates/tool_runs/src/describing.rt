@@ -17,7 +17,7 @@ use qmicli_print::service_word;
 use std::alloc::{AllocError, Global};
 
 /// Reads the descriptions in the file at a path, and prints a line for each message.
-pub fn describe<O: Sink, F: Files>(
+pub(crate) fn describe<O: Sink, F: Files>(
     alloc: Global,
     path: &PathText,
     out: &mut O,

@@ -4,6 +4,7 @@ use file_io::FileFault;
 use link_session::SessionFault;
 use message_tables::TableFault;
 use modem_ways::ReachFault;
+use named_messages::NamedFault;
 
 /// How a command ended.
 #[derive(Clone, Copy, Debug, PartialEq, Eq)]
@@ -25,6 +26,8 @@ pub enum RunEnd {
     Flooded,
     /// The descriptions of messages aren't read, for this fault or since they are too long.
     TableFault { fault: Option<TableFault> },
+    /// The descriptions give no message of the name, for this fault.
+    MessageFault { fault: NamedFault },
     /// Their file couldn't be read.
     ReadFault,
     /// The text couldn't be written.
@@ -104,6 +107,19 @@ impl From<TableFault> for RunEnd {
         match fault {
             TableFault::OutOfMemory => RunEnd::OutOfMemory,
             fault => RunEnd::TableFault { fault: Some(fault) },
+        }
+    }
+}
+
+impl From<NamedFault> for RunEnd {
+    ghost use Rattle.tool_runs.specs.Describing.{end_of_message};
+
+    ghost from_gives = { λ fault end. end ≡ end_of_message fault };
+
+    fn from(fault: NamedFault) -> Self {
+        match fault {
+            NamedFault::OutOfMemory => RunEnd::OutOfMemory,
+            fault => RunEnd::MessageFault { fault },
         }
     }
 }

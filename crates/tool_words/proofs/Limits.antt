@@ -1,5 +1,5 @@
 -- A rig that words ask for is within its limits, messages are made of a text that they send, and a capture is read a bounded number of times; nothing else has any limits.
-use Rattle.std.proofs.Common.{◌≡◌, ◌≤◌, ◌-◌, ◌^◌, ℕ, Bool, true, false, cond, List, [], ◌∷◌, Option, Some, None, option_map, Result, Ok, Err, refl, subst, chars, arith}
+use Rattle.std.proofs.Common.{◌≡◌, ◌≤◌, ◌-◌, ◌^◌, ℕ, Bool, true, false, cond, List, [], ◌∷◌, Option, Some, None, Result, Ok, Err, refl, subst, chars, arith}
 use Rattle.std.specs.Prelude.{IfOk, IfSome, codes, if◌then◌else◌, option_and_then}
 use Rattle.std.specs.Str.{bytes_eq}
 use Rattle.std.proofs.lemmas.Bool.{cond_both}
@@ -19,13 +19,13 @@ use Rattle.tool_words.specs.Mbimcli.{mbim_asks, mbim_setting_spelling, mbimcli_a
 use Rattle.tool_words.specs.ModemTools.{asked_by, modem_tool_asked}
 use Rattle.tool_words.specs.Proxy.{proxy_asked, proxy_spelling, proxy_values}
 use Rattle.tool_words.specs.Pump.{pump_asked, pump_if_named, pump_values, reads_named}
-use Rattle.tool_words.specs.QmiCommands.{makes_messages, qmi_asks, qmi_line, qmi_spelling, reads_messages}
+use Rattle.tool_words.specs.QmiCommands.{makes_messages, names_a_message, qmi_asks, qmi_line, qmi_spelling, reads_messages}
 use Rattle.tool_words.specs.Qmicli.{asked_for, asked_with, described, modem_kind, qmi_asked, qmi_setting_spelling, qmicli_asked, qmicli_values, reference_in, sent_to, submitted}
 use Rattle.tool_words.specs.Reading.{is_refused}
 use Rattle.tool_words.specs.Rig.{IsWithinLimits, clients_in, messages_in, rig_asked, rig_spelling, rig_values, transparency_values}
 use Rattle.tool_words.specs.Simulator.{simulator_asked, simulator_values}
 use Rattle.tool_words.specs.Version.{version_asked}
-use Rattle.tool_words.specs.Values.{flag_of, kind_or, number_or, number_within, optional, path_in, split_at, turns_in}
+use Rattle.tool_words.specs.Values.{flag_of, kind_or, number_or, number_within, optional, path_in, short_in, split_at, turns_in}
 use Rattle.tool_words.specs.declared.command.Tool.{Tool}
 use Rattle.tool_words.specs.declared.command.Tool.TheVariants as tool
 use Rattle.tool_words.specs.declared.command.ToolCommand.{ToolCommand}
@@ -55,10 +55,6 @@ IsFitting answer = IfOk answer IsWithinLimits
 Fits-each : {A : Type 0} (next : A → Option ToolCommand) (value : Option A) → ((a : A) → value ≡ Some a → Fits (next a)) → Fits (option_and_then next value)
 Fits-each next (Some a) fits = fits a refl
 Fits-each next None fits = tt
-
-Fits-map : {A : Type 0} (make : A → ToolCommand) (value : Option A) → ((a : A) → IsWithinLimits (make a)) → Fits (option_map make value)
-Fits-map make (Some a) fits = fits a
-Fits-map make None fits = tt
 
 IsFitting-value : (command : Option ToolCommand) → Fits command → IsFitting (or_value command)
 IsFitting-value (Some command) fits = fits
@@ -144,8 +140,12 @@ submitted-fits reference value = Fits-each _ (option_and_then (split_at 44) valu
 
 -- ---- requests and descriptions ----
 
-described-fits : (file : Option (List ℕ)) → Fits (described file)
-described-fits file = Fits-map _ (option_and_then path_in file) (λ path. tt)
+described-fits : (file name : Option (List ℕ)) → Fits (described file name)
+unfolding described
+described-fits file name =
+    Fits-each _ file (λ named _.
+    Fits-each _ (path_in named) (λ path _.
+    Fits-each _ (optional short_in name) (λ message _. tt)))
 
 qmi_asked-fits : (link : LinkSettings) (cid : Option ℕ) (form : AnswerForm) (command : QmiCommand) (rows : List Row) → Fits (qmi_asked link cid form command rows)
 unfolding qmi_asked
@@ -158,10 +158,11 @@ asked_for-fits : (link : LinkSettings) (cid : Option ℕ) (form : AnswerForm) (r
 unfolding asked_for
 asked_for-fits link cid form reference command rows =
     let value : Option (List ℕ) = value_given qmi_spelling rows command in
-    let otherwise : Fits (cond (makes_messages command) (submitted reference value) (described value)) =
-    cond_both (makes_messages command) (submitted reference value) (described value) Fits (λ _. submitted-fits reference value) (λ _. described-fits value)
+    let name : Option (List ℕ) = value_given qmi_setting_spelling rows setting.Request in
+    let otherwise : Fits (cond (makes_messages command) (submitted reference value) (described value name)) =
+    cond_both (makes_messages command) (submitted reference value) (described value name) Fits (λ _. submitted-fits reference value) (λ _. described-fits value name)
     in
-    cond_both (qmi_asks command) (qmi_asked link cid form command rows) (cond (makes_messages command) (submitted reference value) (described value)) Fits
+    cond_both (qmi_asks command) (qmi_asked link cid form command rows) (cond (makes_messages command) (submitted reference value) (described value name)) Fits
     (λ _. qmi_asked-fits link cid form command rows) (λ _. otherwise)
 
 asked_with-fits : (link : LinkSettings) (cid : Option ℕ) (command : QmiCommand) (rows : List Row) → Fits (asked_with link cid command rows)
@@ -170,7 +171,8 @@ asked_with-fits link cid command rows =
     Fits-each _ (flag_of (is_given qmi_setting_spelling rows setting.DecodeSms) (reads_messages command)) (λ decode _.
     Fits-each _ (flag_of (is_given qmi_setting_spelling rows setting.Json) (qmi_asks command)) (λ json _.
     Fits-each _ (form_of decode json) (λ form _.
-    Fits-each _ (reference_in (makes_messages command) (value_given qmi_setting_spelling rows setting.Reference)) (λ reference _. asked_for-fits link cid form reference command rows))))
+    Fits-each _ (flag_of (is_given qmi_setting_spelling rows setting.Request) (names_a_message command)) (λ named _.
+    Fits-each _ (reference_in (makes_messages command) (value_given qmi_setting_spelling rows setting.Reference)) (λ reference _. asked_for-fits link cid form reference command rows)))))
 
 qmicli-fits : (command : QmiCommand) (rows : List Row) → Fits (qmicli_values command rows)
 unfolding qmicli_values

@@ -106,3 +106,8 @@ reads_messages _ = false
 abbrev pub makes_messages : QmiCommand → Bool
 makes_messages command.PduSubmit = true
 makes_messages _ = false
+
+-- a message of a file may be named
+abbrev pub names_a_message : QmiCommand → Bool
+names_a_message command.DescribeTables = true
+names_a_message _ = false

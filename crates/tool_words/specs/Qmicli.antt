@@ -1,5 +1,5 @@
 -- The words of qmicli.
-use Rattle.std.specs.Prelude.{ℕ, List, [], ◌∷◌, Option, Some, None, Bool, Result, chars, codes, if◌then◌else◌, option_and_then, option_map}
+use Rattle.std.specs.Prelude.{ℕ, List, [], ◌∷◌, Option, Some, None, Bool, Result, chars, codes, if◌then◌else◌, option_and_then}
 use Rattle.clap.specs.Simple.{App}
 use Rattle.clap.specs.Walk.{Row}
 use Rattle.kit_bytes.specs.declared.Kind.{Kind}
@@ -9,9 +9,9 @@ use Rattle.tool_words.specs.Form.{form_of}
 use Rattle.tool_words.specs.Given.{is_given, value_given}
 use Rattle.tool_words.specs.Link.{device_in, link_in}
 use Rattle.tool_words.specs.ModemTools.{modem_tool, modem_tool_asked}
-use Rattle.tool_words.specs.QmiCommands.{makes_messages, qmi_asks, qmi_commands, qmi_line, qmi_spelling, reads_messages}
+use Rattle.tool_words.specs.QmiCommands.{makes_messages, names_a_message, qmi_asks, qmi_commands, qmi_line, qmi_spelling, reads_messages}
 use Rattle.tool_words.specs.Spelling.{Spelling, flag, valued}
-use Rattle.tool_words.specs.Values.{◌>>=◌, flag_of, number_8_in, number_within, optional, path_in, split_at}
+use Rattle.tool_words.specs.Values.{◌>>=◌, flag_of, number_8_in, number_within, optional, path_in, short_in, split_at}
 use Rattle.tool_words.specs.declared.command.ToolCommand.{ToolCommand}
 use Rattle.tool_words.specs.declared.command.ToolCommand.TheVariants.{Describe, PduSubmit, Qmicli}
 use Rattle.tool_words.specs.declared.fault.UsageKind.{UsageKind}
@@ -23,7 +23,7 @@ use Rattle.tool_words.specs.declared.qmicli.QmiSetting.TheVariants as setting
 
 -- ---- its options ----
 
--- --device-open-mbim, --client-cid N, --client-no-release-cid, --decode-sms, --json and --reference N, beside those of the link
+-- --device-open-mbim, --client-cid N, --client-no-release-cid, --decode-sms, --json, --reference N and --request NAME, beside those of the link
 abbrev pub qmi_setting_spelling : QmiSetting → Spelling
 qmi_setting_spelling setting.DeviceOpenMbim = flag (codes "device-open-mbim")
 qmi_setting_spelling setting.ClientCid = valued (codes "client-cid")
@@ -31,18 +31,25 @@ qmi_setting_spelling setting.ClientNoReleaseCid = flag (codes "client-no-release
 qmi_setting_spelling setting.DecodeSms = flag (codes "decode-sms")
 qmi_setting_spelling setting.Json = flag (codes "json")
 qmi_setting_spelling setting.Reference = valued (codes "reference")
+qmi_setting_spelling setting.Request = valued (codes "request")
 
 unfoldable pub qmi_settings : List QmiSetting
-qmi_settings = setting.DeviceOpenMbim ∷ setting.ClientCid ∷ setting.ClientNoReleaseCid ∷ setting.DecodeSms ∷ setting.Json ∷ setting.Reference ∷ []
+qmi_settings =
+    setting.DeviceOpenMbim ∷ setting.ClientCid ∷ setting.ClientNoReleaseCid ∷ setting.DecodeSms ∷ setting.Json ∷ setting.Reference
+    ∷ setting.Request ∷ []
 
 unfoldable pub qmicli_app : App
 qmicli_app = modem_tool (codes "qmicli") qmi_setting_spelling qmi_settings qmi_spelling qmi_commands
 
 -- ---- what the words ask for ----
 
--- the tables of a file are printed
-abbrev pub described : Option (List ℕ) → Option ToolCommand
-described file = option_map (λ path. Describe path) (option_and_then path_in file)
+-- the tables of a file are printed, or what the message of a name takes and gives, where one is named
+unfoldable pub described : (file name : Option (List ℕ)) → Option ToolCommand
+described file name = do
+  named ← file
+  path ← path_in named
+  message ← optional short_in name
+  Some (Describe path message)
 
 -- the messages are made that carry a text to a number, if any are
 abbrev pub sent_to : (reference : ℕ) (number text : List ℕ) → Option ToolCommand
@@ -70,7 +77,7 @@ unfoldable pub asked_for : LinkSettings → Option ℕ → AnswerForm → ℕ �
 asked_for link cid form reference command rows =
     if qmi_asks command then qmi_asked link cid form command rows
     else if makes_messages command then submitted reference (value_given qmi_spelling rows command)
-    else described (value_given qmi_spelling rows command)
+    else described (value_given qmi_spelling rows command) (value_given qmi_setting_spelling rows setting.Request)
 
 -- the same, with the settings that only some commands have
 unfoldable pub asked_with : LinkSettings → Option ℕ → QmiCommand → List Row → Option ToolCommand
@@ -78,6 +85,7 @@ asked_with link cid command rows = do
   decode ← flag_of (is_given qmi_setting_spelling rows setting.DecodeSms) (reads_messages command)
   json ← flag_of (is_given qmi_setting_spelling rows setting.Json) (qmi_asks command)
   form ← form_of decode json
+  named ← flag_of (is_given qmi_setting_spelling rows setting.Request) (names_a_message command)
   reference ← reference_in (makes_messages command) (value_given qmi_setting_spelling rows setting.Reference)
   asked_for link cid form reference command rows
 

@@ -15,7 +15,7 @@ use crate::simulator::{simulator_asked, simulator_reader};
 use crate::version::version_asked;
 use crate::{UsageKind, WordFault};
 use clap::{ArgMatches, Command};
-use kit_bytes::{Kind, PathText, Text};
+use kit_bytes::{Kind, PathText, ShortText, Text};
 use std::alloc::{AllocError, Global};
 
 /// What the program is to do.
@@ -35,6 +35,8 @@ pub enum ToolCommand {
     /// Prints the messages that a file describes.
     Describe {
         file: PathText,
+        /// The name of the one message whose TLVs are printed, if one is named.
+        message: Option<ShortText>,
     },
     /// Serves a modem to the clients of a socket.
     Proxy(ProxyTask),

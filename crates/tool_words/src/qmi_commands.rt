@@ -1,6 +1,6 @@
 ghost use Rattle.std.specs.Prelude.{◌≡◌, None, Some, map, option_map};
 ghost use Rattle.tool_words.specs.Keys.{keyed};
-ghost use Rattle.tool_words.specs.QmiCommands.{ip_type_in, makes_messages, mode_in, network_of, qmi_asks, qmi_commands, qmi_line, qmi_spelling, reads_messages, start_network_in, stored_in};
+ghost use Rattle.tool_words.specs.QmiCommands.{ip_type_in, makes_messages, mode_in, names_a_message, network_of, qmi_asks, qmi_commands, qmi_line, qmi_spelling, reads_messages, start_network_in, stored_in};
 ghost use Rattle.tool_words.specs.Values.{Gives, optional};
 
 use crate::keys::{parts_in, text_of_key, value_of};
@@ -127,6 +127,13 @@ pub fn makes_messages(command: QmiCommand) -> bool
     ensures { result ≡ makes_messages command }
 {
     matches!(command, QmiCommand::PduSubmit)
+}
+
+/// Whether a message of a file may be named beside a command.
+pub fn names_a_message(command: QmiCommand) -> bool
+    ensures { result ≡ names_a_message command }
+{
+    matches!(command, QmiCommand::DescribeTables)
 }
 
 impl PlainCommand for QmiCommand {

@@ -11,9 +11,11 @@ use crate::link::{LinkSettings, device_given, link_given};
 use crate::modem_tools::{ModemCommand, modem_tool, modem_tool_asked};
 use crate::options::{OptionSpelling, ToolOption, flag, valued};
 use crate::qmi_commands::{
-    QmiCommand, asks, makes_messages, qmicli_commands, reads_messages, request,
+    QmiCommand, asks, makes_messages, names_a_message, qmicli_commands, reads_messages, request,
 };
-use crate::values::{at_comma, flag_of, number_8, number_within, or_fault, path, text_of};
+use crate::values::{
+    at_comma, flag_of, number_8, number_within, or_fault, path, short_if_given, text_of,
+};
 use crate::{ToolCommand, UsageKind, WordFault};
 use clap::{ArgMatches, Command};
 use kit_bytes::{Kind, PathText};
@@ -44,15 +46,17 @@ pub enum QmiSetting {
     DecodeSms,
     Json,
     Reference,
+    Request,
 }
 
-static QMI_SETTINGS: [QmiSetting; 6] = [
+static QMI_SETTINGS: [QmiSetting; 7] = [
     QmiSetting::DeviceOpenMbim,
     QmiSetting::ClientCid,
     QmiSetting::ClientNoReleaseCid,
     QmiSetting::DecodeSms,
     QmiSetting::Json,
     QmiSetting::Reference,
+    QmiSetting::Request,
 ];
 
 impl ToolOption for QmiSetting {
@@ -66,6 +70,7 @@ impl ToolOption for QmiSetting {
             QmiSetting::DecodeSms => flag("decode-sms"),
             QmiSetting::Json => flag("json"),
             QmiSetting::Reference => valued("reference"),
+            QmiSetting::Request => valued("request"),
         }
     }
 }
@@ -96,11 +101,17 @@ fn cid_if_given(text: Option<&str>) -> Result<Option<u8>, WordFault>
     }
 }
 
-fn description(alloc: Global, file: Option<&str>) -> Result<ToolCommand, WordFault>
-    ensures { Gives (described (option_map (λ t. t.now) file.entry)) result }
+#[tactic(auto, unfolding(crate::specs::Qmicli::described))]
+fn description(
+    alloc: Global,
+    file: Option<&str>,
+    name: Option<&str>,
+) -> Result<ToolCommand, WordFault>
+    ensures { Gives (described (option_map (λ t. t.now) file.entry) (option_map (λ t. t.now) name.entry)) result }
 {
     let file = path(alloc, or_fault(file)?)?;
-    Ok(ToolCommand::Describe { file })
+    let message = short_if_given(alloc, name)?;
+    Ok(ToolCommand::Describe { file, message })
 }
 
 #[tactic(auto, unfolding(crate::specs::Qmicli::submitted))]
@@ -175,7 +186,8 @@ fn asked_for(
     } else if makes_messages(command) {
         submission(alloc, reference, value_given(matches, command))
     } else {
-        description(alloc, value_given(matches, command))
+        let name = value_given(matches, QmiSetting::Request);
+        description(alloc, value_given(matches, command), name)
     }
 }
 
@@ -194,6 +206,8 @@ fn asked_with(
     let decode = flag_of(decode, reads_messages(command))?;
     let json = flag_of(is_given(matches, QmiSetting::Json), asks(command))?;
     let form = form_of(decode, json)?;
+    let named = is_given(matches, QmiSetting::Request);
+    flag_of(named, names_a_message(command))?;
     let reference = value_given(matches, QmiSetting::Reference);
     let reference = reference_in(makes_messages(command), reference)?;
     asked_for(alloc, link, cid, form, reference, command, matches)
