@@ -1,2 +1,5 @@
 pub mod Printed
 pub mod Held
+pub mod Qmi
+pub mod Mbim
+pub mod Carried

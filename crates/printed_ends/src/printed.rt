@@ -45,6 +45,14 @@ pub fn print_fault(alloc: Global, why: SessionFault) -> Result<Printed, AllocErr
     }
 }
 
+/// What is printed where a modem refuses, and nothing is to be said of it.
+pub(crate) fn refused(alloc: Global) -> Printed
+    ensures text { result.text ≡ [] }
+    ensures status { result.status ≡ 1 }
+{
+    nothing(alloc, 1)
+}
+
 fn nothing(alloc: Global, status: u8) -> Printed
     ensures text { result.text ≡ [] }
     ensures status { result.status ≡ status }

@@ -6,8 +6,8 @@ use Rattle.mbim_session.specs.declared.plan.MbimPlan.{MbimPlan}
 use Rattle.modem_profile.specs.Profile.{default_profile}
 use Rattle.relays.specs.MbimLaw as law
 use Rattle.relays.specs.MbimRuns.{direct_run, through_run}
-use Rattle.mbim_twice.specs.Printed.{Prints}
-use Rattle.mbim_twice.specs.Twice as twice
+use Rattle.printed_ends.specs.Mbim.{Prints}
+use Rattle.tools_twice.specs.MbimTwice as twice
 use Rattle.transparency.specs.Trial.{Trial}
 
 -- how it is planned

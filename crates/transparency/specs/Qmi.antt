@@ -7,10 +7,10 @@ use Rattle.modem_profile.specs.Profile.{default_profile}
 use Rattle.relays.specs.QmiLaw as law
 use Rattle.relays.specs.QmiRuns.{direct_run, through_run}
 use Rattle.printed_ends.specs.declared.printed.Printed.{Printed}
-use Rattle.qmi_twice.specs.Printed.{Prints}
-use Rattle.qmi_twice.specs.Twice as twice
+use Rattle.printed_ends.specs.Qmi.{Prints}
+use Rattle.tools_twice.specs.QmiTwice as twice
 use Rattle.relays.specs.TunnelRuns.{tunnel_run}
-use Rattle.qmi_tunnelled.specs.Printed as tunnelled
+use Rattle.printed_ends.specs.Carried as tunnelled
 use Rattle.transparency.specs.Trial.{Trial}
 
 -- how it is planned

@@ -3,7 +3,7 @@ ghost use Rattle.transparency.specs.Lines.{Compares, line_of};
 
 use kit_bytes::Octets;
 use print_text::push_number;
-use qmi_twice::Twice;
+use printed_ends::Twice;
 use std::alloc::AllocError;
 
 /// Adds the line of an option.

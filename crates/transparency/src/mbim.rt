@@ -5,10 +5,10 @@ use crate::runs_twice::{PATIENCE, RunsTwice, device};
 use core_bench::Bench;
 use mbim_requests::MbimRequest;
 use mbim_session::MbimPlan;
-use mbim_twice::mbim_twice;
 use modem_profile::Profile;
 use printed_ends::Twice;
 use std::alloc::{AllocError, Global};
+use tools_twice::mbim_twice;
 
 // How a request is planned.
 fn plan_of(alloc: Global, request: MbimRequest) -> Result<MbimPlan, AllocError>

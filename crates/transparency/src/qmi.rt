@@ -7,9 +7,8 @@ use device_core::QmiPlan;
 use modem_profile::Profile;
 use printed_ends::{Printed, Twice};
 use qmi_requests::QmiRequest;
-use qmi_tunnelled::qmi_tunnelled;
-use qmi_twice::qmi_twice;
 use std::alloc::{AllocError, Global};
+use tools_twice::{qmi_tunnelled, qmi_twice};
 
 // How a request is planned.
 fn plan_of(alloc: Global, request: QmiRequest) -> Result<QmiPlan, AllocError>

@@ -1,7 +1,7 @@
 use Rattle.std.proofs.Common.{◌≡◌}
 use Rattle.relays.specs.MbimRuns.{direct_run, through_run}
 use Rattle.mbim_session.specs.declared.plan.MbimPlan.{MbimPlan}
-use Rattle.mbim_twice.specs.Printed.{Prints}
+use Rattle.printed_ends.specs.Mbim.{Prints}
 use Rattle.modem_profile.specs.Profile.{Profile, default_profile}
 use Rattle.transparency.specs.Mbim.{plan_of}
 use Rattle.transparency.proofs.mbim.MbimRequestRunsTwice.run_twice.Goals as goal

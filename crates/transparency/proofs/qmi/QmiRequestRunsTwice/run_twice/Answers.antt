@@ -6,10 +6,10 @@ use Rattle.printed_ends.specs.declared.printed.Printed.{Printed}
 use Rattle.qmi_requests.specs.declared.QmiRequest.{QmiRequest}
 use Rattle.relays.specs.QmiLaw.{IsCommand}
 use Rattle.relays.specs.QmiRuns.{direct_run, through_run}
-use Rattle.qmi_twice.specs.Printed.{Prints}
-use Rattle.qmi_twice.specs.Twice.{IsTold, run_of}
+use Rattle.printed_ends.specs.Qmi.{Prints}
+use Rattle.tools_twice.specs.QmiTwice.{IsTold, run_of}
 use Rattle.relays.specs.TunnelRuns.{tunnel_run}
-use Rattle.qmi_tunnelled.specs.Printed as tunnelled
+use Rattle.printed_ends.specs.Carried as tunnelled
 use Rattle.transparency.specs.Qmi.{PrintsCarried, PrintsThrough, plan_of}
 use Rattle.transparency.proofs.qmi.QmiRequestRunsTwice.run_twice.Goals as goal
 
