@@ -1,11 +1,11 @@
 ghost use Rattle.std.specs.Prelude.{◌≡◌, ◌==◌, map, option_map};
-ghost use Rattle.ruled_modem.specs.Keeping.{Counts, due, failing, nearer};
+ghost use Rattle.ruled_modem.specs.Keeping.{Counts, due, failing, nearer, rules_for};
 
 use crate::by_kind::ByKind;
 use modem_rules::{Failure, FaultRule, RequestKind};
 
-/// How the request fails, by the first of the faults whose turn it is.
-pub(crate) fn failing(faults: &[FaultRule]) -> Option<Failure>
+// How the request fails, by the first of the faults whose turn it is.
+fn failing(faults: &[FaultRule]) -> Option<Failure>
     ensures { result ≡ failing faults.now }
 {
     let fault = first_due(faults)?;
@@ -24,13 +24,17 @@ fn is_due(fault: &FaultRule) -> bool
     fault.nth == 1
 }
 
-/// Counts a request of this kind.
-pub(crate) fn count(faults: &mut ByKind<FaultRule>, kind: &RequestKind)
-    ensures { Counts kind.now faults.old.entries faults.new.entries }
+/// Counts a request of this kind, and gives how it fails.
+pub(crate) fn count(faults: &mut ByKind<FaultRule>, kind: &RequestKind) -> Option<Failure>
+    ensures failing { result ≡ failing (rules_for kind.now faults.old.entries) }
+    ensures counts { Counts kind.now faults.old.entries faults.new.entries }
 {
-    if let Some(faults) = faults.get_mut(kind) {
-        bring_nearer(faults);
-    }
+    let Some(faults) = faults.get_mut(kind) else {
+        return None;
+    };
+    let failure = failing(faults.as_slice());
+    bring_nearer(faults);
+    failure
 }
 
 // Each of the faults is one request nearer.

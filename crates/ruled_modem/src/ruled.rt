@@ -8,7 +8,7 @@ ghost use Rattle.ruled_modem.specs.Ruled.{conduct_by};
 ghost use Rattle.ruled_modem.specs.Turns.{all_told, answer_by, answer_text, hangs_up, is_at, late_by, passed, passed_by, told_at};
 
 use crate::by_kind::{ByKind, by_kind, rules_for};
-use crate::counting::{count, failing};
+use crate::counting::count;
 use crate::host::Host;
 use crate::replies::{indication, reply};
 use crate::requests::kind_of;
@@ -64,12 +64,14 @@ impl<S: Sim> Ruled<S> {
         })
     }
 
-    // The messages that a request of this kind brings.
-    fn meet(&mut self, kind: &RequestKind, message: &[u8]) -> Result<Octets, AllocError>
+    // What the modem does at a request of this kind.
+    fn meet(&mut self, kind: &RequestKind, message: &[u8]) -> Result<Reply, AllocError>
         requires { IsMessage S.Framing.size message.now }
-        ensures answers { IfOk result (λ octets. (answers : Answering) (past : List (List ℕ)) → S.keeps answers past self.old.sim →
-            octets ≡ answer_text self.old.kind answers past (longest self.old.host) message.now (failing (rules_for kind.now self.old.faults)) (slice_get (rules_for kind.now self.old.answers) 0)
+        ensures answers { IfOk result (λ reply. (answers : Answering) (past : List (List ℕ)) → S.keeps answers past self.old.sim →
+            reply.messages ≡ answer_text self.old.kind answers past (longest self.old.host) message.now (failing (rules_for kind.now self.old.faults)) (slice_get (rules_for kind.now self.old.answers) 0)
             ++ all_told self.new.host (rules_for kind.now self.old.indications)) }
+        ensures hangs_up { IfOk result (λ reply. reply.hangs_up ≡ hangs_up (failing (rules_for kind.now self.old.faults))) }
+        ensures late { IfOk result (λ reply. reply.late ≡ late_by (failing (rules_for kind.now self.old.faults))) }
         ensures sim { OnOk result ((answers : Answering) (past : List (List ℕ)) → S.keeps answers past self.old.sim →
             S.keeps answers (passed past message.now (failing (rules_for kind.now self.old.faults)) (slice_get (rules_for kind.now self.old.answers) 0)) self.new.sim) }
         ensures host { OnOk result ((answers : Answering) (past : List (List ℕ)) → S.keeps answers past self.old.sim → self.old.host ≡ host_after self.old.kind answers past →
@@ -77,46 +79,35 @@ impl<S: Sim> Ruled<S> {
         ensures rest { OnOk result (self.new ≡ record self.old { sim = self.new.sim; host = self.new.host; faults = self.new.faults }) }
         ensures counts { OnOk result (Counts kind.now self.old.faults self.new.faults) }
     {
-        let mut text = self.answer(kind, message)?;
-        count(&mut self.faults, kind);
+        let failure = count(&mut self.faults, kind);
+        let mut messages = self.answer(kind, failure, message)?;
         let told = rules_for(&self.indications, kind);
-        add_indications(self.alloc, &self.host, told, &mut text)?;
-        Ok(text)
+        add_indications(self.alloc, &self.host, told, &mut messages)?;
+        Ok(Reply {
+            messages,
+            hangs_up: hangs_up(failure),
+            late: late_by(failure),
+        })
     }
 
-    // Whether a request of this kind ends its connection.
-    fn hangs_up(&self, kind: &RequestKind) -> bool
-        ensures { result ≡ hangs_up (failing (rules_for kind.now self.now.faults)) }
-    {
-        match failing(rules_for(&self.faults, kind)) {
-            Some(Failure::HungUp) => true,
-            _ => false,
-        }
-    }
-
-    // After how many ticks what a request of this kind brings goes.
-    fn late(&self, kind: &RequestKind) -> u32
-        ensures { result ≡ late_by (failing (rules_for kind.now self.now.faults)) }
-    {
-        match failing(rules_for(&self.faults, kind)) {
-            Some(Failure::Late(ticks)) => ticks,
-            _ => 0,
-        }
-    }
-
-    // The answer to a request of this kind: by the fault that is due, else by a rule, else the modem's own.
-    fn answer(&mut self, kind: &RequestKind, message: &[u8]) -> Result<Octets, AllocError>
+    // The answer to a request of this kind: by how it fails, else by a rule, else the modem's own.
+    fn answer(
+        &mut self,
+        kind: &RequestKind,
+        failure: Option<Failure>,
+        message: &[u8],
+    ) -> Result<Octets, AllocError>
         requires { IsMessage S.Framing.size message.now }
         ensures answers { IfOk result (λ octets. (answers : Answering) (past : List (List ℕ)) → S.keeps answers past self.old.sim →
-            octets ≡ answer_text self.old.kind answers past (longest self.old.host) message.now (failing (rules_for kind.now self.old.faults)) (slice_get (rules_for kind.now self.old.answers) 0)) }
+            octets ≡ answer_text self.old.kind answers past (longest self.old.host) message.now failure (slice_get (rules_for kind.now self.old.answers) 0)) }
         ensures sim { OnOk result ((answers : Answering) (past : List (List ℕ)) → S.keeps answers past self.old.sim →
-            S.keeps answers (passed past message.now (failing (rules_for kind.now self.old.faults)) (slice_get (rules_for kind.now self.old.answers) 0)) self.new.sim) }
+            S.keeps answers (passed past message.now failure (slice_get (rules_for kind.now self.old.answers) 0)) self.new.sim) }
         ensures host { OnOk result ((answers : Answering) (past : List (List ℕ)) → S.keeps answers past self.old.sim → self.old.host ≡ host_after self.old.kind answers past →
-            self.new.host ≡ host_after self.old.kind answers (passed past message.now (failing (rules_for kind.now self.old.faults)) (slice_get (rules_for kind.now self.old.answers) 0))) }
+            self.new.host ≡ host_after self.old.kind answers (passed past message.now failure (slice_get (rules_for kind.now self.old.answers) 0))) }
         ensures rest { OnOk result (self.new ≡ record self.old { sim = self.new.sim; host = self.new.host }) }
     {
         let longest = self.host.longest();
-        match failing(rules_for(&self.faults, kind)) {
+        match failure {
             Some(Failure::Refused(error)) => {
                 Ok(reply(self.alloc, self.kind, longest, message, error, &[])?)
             }
@@ -159,6 +150,26 @@ impl<S: Sim> Ruled<S> {
         self.host
             .hear(self.alloc, self.kind, message, text.as_slice())?;
         Ok(text)
+    }
+}
+
+// Whether a request that fails so ends its connection.
+fn hangs_up(failure: Option<Failure>) -> bool
+    ensures { result ≡ hangs_up failure }
+{
+    match failure {
+        Some(Failure::HungUp) => true,
+        _ => false,
+    }
+}
+
+// After how many ticks goes what a request brings that fails so.
+fn late_by(failure: Option<Failure>) -> u32
+    ensures { result ≡ late_by failure }
+{
+    match failure {
+        Some(Failure::Late(ticks)) => ticks,
+        _ => 0,
     }
 }
 
@@ -232,14 +243,8 @@ impl<S: Sim> ServedSim for Ruled<S> {
                 late: 0,
             });
         };
-        let hangs_up = self.hangs_up(&kind);
-        let late = self.late(&kind);
-        let messages = self.meet(&kind, message)?;
-        Ok(Reply {
-            messages,
-            hangs_up,
-            late,
-        })
+        let reply = self.meet(&kind, message)?;
+        Ok(reply)
     }
 
     fn tick(&mut self) -> Result<Option<Octets>, AllocError> {
