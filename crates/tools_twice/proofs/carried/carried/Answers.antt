@@ -9,9 +9,9 @@ use Rattle.printed_ends.specs.Held.{IsHeld}
 use Rattle.printed_ends.specs.Carried.{Prints}
 use Rattle.tools_twice.proofs.carried.carried.Goals as goal
 
-pub hold-requires : goal.hold-requires
+pub hold_carried-requires : goal.hold_carried-requires
 unfolding asked_by
-hold-requires c = c.in_ok-carrier.ensures.met
+hold_carried-requires c = c.in_ok-carrier.ensures.met
 
 pub returns : goal.returns
 returns c = subst (λ (p : Profile). IsHeld (Prints c.args.plan.now) (tunnel_at (at_modem size_of (carrying_modem p)) c.args.plan.now) c.in_ok-held.held) c.in_ok-carrier.ensures.profile c.in_ok-held.ensures

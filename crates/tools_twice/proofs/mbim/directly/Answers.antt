@@ -9,9 +9,9 @@ use Rattle.tools_twice.specs.Peers.{at_modem}
 use Rattle.printed_ends.specs.Mbim.{Prints}
 use Rattle.tools_twice.proofs.mbim.directly.Goals as goal
 
-pub hold-requires : goal.hold-requires
+pub hold_mbim-requires : goal.hold_mbim-requires
 unfolding asked_by
-hold-requires c = c.in_ok-modem.ensures.met
+hold_mbim-requires c = c.in_ok-modem.ensures.met
 
 pub returns-clause-held : goal.returns-clause-held
 returns-clause-held c = subst (λ (p : Profile). IsHeld Prints (session_at (at_modem size_of (simulated_modem p)) c.args.plan.now) c.in_ok-held.held) c.in_ok-modem.ensures.profile c.in_ok-held.ensures

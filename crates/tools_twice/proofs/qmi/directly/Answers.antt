@@ -10,9 +10,9 @@ use Rattle.printed_ends.specs.Held.{IsHeld}
 use Rattle.printed_ends.specs.Qmi.{Prints}
 use Rattle.tools_twice.proofs.qmi.directly.Goals as goal
 
-pub hold-requires : goal.hold-requires
+pub hold_qmi-requires : goal.hold_qmi-requires
 unfolding asked_by
-hold-requires c = c.in_ok-modem.ensures.met
+hold_qmi-requires c = c.in_ok-modem.ensures.met
 
 pub returns-clause-held : goal.returns-clause-held
 returns-clause-held c = subst (λ (p : Profile). IsHeld Prints (session_at (at_modem size_of (answers (machine p))) c.args.plan.now) c.in_ok-held.held) c.in_ok-modem.ensures.profile c.in_ok-held.ensures
