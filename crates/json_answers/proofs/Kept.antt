@@ -2,7 +2,7 @@
 use Rattle.std.proofs.Common.{◌≡◌, ℕ, ◌≤◌, ◌==◌, ◌&&◌, Bool, true, false, List, [], ◌∷◌, Option, Some, None, IfSome, IfOk, Result, codes, encode_utf8_all, refl, arith, if◌then◌else◌}
 use Rattle.std.proofs.lemmas.Result.{IfOk-weaker}
 use Rattle.std.specs.List.{AllByRecursion, find}
-use Rattle.serde_json.specs.Data.{Data, unsigned as natural, number as numeral, string as quoted, Members, no_members, put, depth, members_depth}
+use Rattle.serde_json.specs.Data.{Data, unsigned as natural, number as numeral, string as quoted, object, Members, no_members, put, depth, members_depth}
 use Rattle.serde_json.specs.Read.{max_depth, read}
 use Rattle.serde_json.specs.Written.{has_float, members_have_float}
 use Rattle.tlv_codec.specs.Tlv.{Entry, tlvs_of}
@@ -18,12 +18,12 @@ use Rattle.values_json.specs.declared.ending.Ending.TheVariants.{Success, Denied
 use Rattle.values_json.specs.Showing.{Showing}
 use Rattle.values_json.specs.Json.{hexadecimal, with_field}
 use Rattle.values_json.specs.Lines.{json_text}
-use Rattle.values_json.specs.Answers.{with_error, with_ending}
+use Rattle.values_json.specs.Answers.{with_error, with_ending, with_kept}
 use Rattle.values_json.proofs.Members.{put-shallow, put-no_float}
 use Rattle.values_json.proofs.Shallow.{with_field-shallow, with_field-no_float}
-use Rattle.values_json.proofs.Answered.{with_ending-no_float}
+use Rattle.values_json.proofs.Answered.{with_ending-no_float, with_kept-no_float}
 use Rattle.tlv_codec.specs.declared.outcome.Outcome.{Outcome}
-use Rattle.json_answers.specs.Messages.{ending_of, answer_by, indication_json}
+use Rattle.json_answers.specs.Messages.{ending_of, answer_json, indication_json}
 use Rattle.json_answers.specs.Tlvs.{with_reading, with_form, with_tlv, with_tlvs, with_all}
 
 module _ (P : Members → Type 0) (showing : Showing) (digits_keep : (key bytes : List ℕ) (so_far : Members) → P so_far → P (put key (hexadecimal bytes) so_far))
@@ -82,12 +82,27 @@ ending-shallow Success so_far less = let added = put-shallow (codes "result") (q
 ending-shallow (Denied error) so_far less = error-shallow (codes "denied") error so_far less
 ending-shallow (FunctionError error) so_far less = error-shallow (codes "function error") error so_far less
 
-module _ (showing : Showing) (forms : List TlvForm) (tlvs : List ℕ) (sound : AllByRecursion IsSoundTlv forms) where
-  pub answer-no_float : (outcome : Outcome) → has_float (answer_by showing forms tlvs outcome) ≡ false
-  answer-no_float outcome = with_ending-no_float (ending_of outcome) (with_all showing true forms tlvs (tlvs_of tlvs) no_members) (tlvs-no_float showing true forms tlvs sound)
+kept-shallow : (kept : Option (ℕ × ℕ)) (so_far : Members) → members_depth so_far ≤ 16 → members_depth (with_kept kept so_far) ≤ 16
+kept-shallow None so_far less = less
+kept-shallow (Some kept) so_far less =
+    let service : Members = put (codes "service") (numeral (natural kept.0)) no_members in
+    let both : Members = put (codes "id") (numeral (natural kept.1)) service in
+    let first = put-shallow (codes "service") (numeral (natural kept.0)) no_members in
+    let second = put-shallow (codes "id") (numeral (natural kept.1)) service in
+    let added = put-shallow (codes "client id kept") (object both) so_far in
+    omega (arith, first, second, added, less)
 
-  pub answer-shallow : (outcome : Outcome) → depth (answer_by showing forms tlvs outcome) ≤ 127
-  answer-shallow outcome = let less = ending-shallow (ending_of outcome) (with_all showing true forms tlvs (tlvs_of tlvs) no_members) (tlvs-shallow showing true forms tlvs sound) in omega (arith, less)
+module _ (showing : Showing) (forms : List TlvForm) (tlvs : List ℕ) (sound : AllByRecursion IsSoundTlv forms) where
+  answered : Members
+  answered = with_all showing true forms tlvs (tlvs_of tlvs) no_members
+
+  pub answer-no_float : (kept : Option (ℕ × ℕ)) (outcome : Outcome) → has_float (answer_json showing forms tlvs kept outcome) ≡ false
+  answer-no_float kept outcome = with_ending-no_float (ending_of outcome) (with_kept kept answered) (with_kept-no_float kept answered (tlvs-no_float showing true forms tlvs sound))
+
+  pub answer-shallow : (kept : Option (ℕ × ℕ)) (outcome : Outcome) → depth (answer_json showing forms tlvs kept outcome) ≤ 127
+  answer-shallow kept outcome =
+      let less = ending-shallow (ending_of outcome) (with_kept kept answered) (kept-shallow kept answered (tlvs-shallow showing true forms tlvs sound)) in
+      omega (arith, less)
 
   pub indication-no_float : (name : List ℕ) → has_float (indication_json showing name forms tlvs) ≡ false
   indication-no_float name = put-no_float (codes "indication") (quoted (encode_utf8_all name)) (with_all showing false forms tlvs (tlvs_of tlvs) no_members) refl (tlvs-no_float showing false forms tlvs sound)

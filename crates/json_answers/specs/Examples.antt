@@ -1,14 +1,19 @@
 -- Worked examples of answers and indications, against their text in JSON.
 -- Source: RFC 8259, section 4; libqmi's data/qmi-service-nas.json has TLVs of these forms.
-use Rattle.std.specs.Prelude.{◌≡◌, ℕ, List, [], ◌∷◌, codes, option_map, Some, None}
+use Rattle.std.specs.Prelude.{◌≡◌, ℕ, List, [], ◌∷◌, codes, option_map, Option, Some, None}
 use Rattle.qmi_shapes.specs.Form.{unsigned, signed}
 use Rattle.message_tables.specs.Tlvs.{TlvForm}
+use Rattle.tlv_codec.specs.Outcome.{outcome_in}
 use Rattle.values_json.specs.Showing.{by_qmicli}
 use Rattle.values_json.specs.Lines.{json_line}
 use Rattle.json_answers.specs.Messages.{answer_json, indication_json}
 
 abbrev pub forms : List TlvForm
 forms = record { kind = 16; name = codes "Strength"; form = signed 1 } ∷ record { kind = 17; name = codes "Level"; form = unsigned 2 } ∷ record { kind = 18; name = codes "Mode"; form = unsigned 1 } ∷ []
+
+-- the line of an answer that has a result
+abbrev line_of : List ℕ → Option (ℕ × ℕ) → Option (List ℕ)
+line_of answer kept = option_map (λ outcome. json_line (answer_json by_qmicli forms answer kept outcome)) (outcome_in answer)
 
 -- a TLV that the table has, a second one of its type, one whose value doesn't read, one that the table lacks, and a word
 abbrev pub tlvs : List ℕ
@@ -17,17 +22,22 @@ tlvs =
 
 abbrev pub AnswerHasItsTlvs : Type 0
 AnswerHasItsTlvs =
-    option_map json_line (answer_json by_qmicli forms tlvs)
+    line_of tlvs None
     ≡ Some (codes "{\"0x11\":\"05\",\"0xAB\":\"01CD\",\"Mode\":1,\"Mode word\":\"low-power\",\"Strength\":-75,\"result\":\"ok\"}\n")
+
+-- what is kept stands beside them
+abbrev pub AnswerHasWhatIsKept : Type 0
+AnswerHasWhatIsKept =
+    line_of (2 ∷ 4 ∷ 0 ∷ 0 ∷ 0 ∷ 0 ∷ 0 ∷ 18 ∷ 1 ∷ 0 ∷ 9 ∷ []) (Some (3, 7)) ≡ Some (codes "{\"Mode\":9,\"client id kept\":{\"id\":7,\"service\":3},\"result\":\"ok\"}\n")
 
 -- a failure has its error, and what else it tells
 abbrev pub FailureHasItsError : Type 0
 FailureHasItsError =
-    option_map json_line (answer_json by_qmicli forms (2 ∷ 4 ∷ 0 ∷ 1 ∷ 0 ∷ 14 ∷ 0 ∷ 18 ∷ 1 ∷ 0 ∷ 9 ∷ [])) ≡ Some (codes "{\"Mode\":9,\"error\":14,\"result\":\"denied\"}\n")
+    line_of (2 ∷ 4 ∷ 0 ∷ 1 ∷ 0 ∷ 14 ∷ 0 ∷ 18 ∷ 1 ∷ 0 ∷ 9 ∷ []) None ≡ Some (codes "{\"Mode\":9,\"error\":14,\"result\":\"denied\"}\n")
 
 -- bytes that aren't whole TLVs have no result
 abbrev pub BrokenHasNoLine : Type 0
-BrokenHasNoLine = option_map json_line (answer_json by_qmicli forms (2 ∷ 4 ∷ 0 ∷ 0 ∷ 0 ∷ 0 ∷ 0 ∷ 16 ∷ [])) ≡ None
+BrokenHasNoLine = line_of (2 ∷ 4 ∷ 0 ∷ 0 ∷ 0 ∷ 0 ∷ 0 ∷ 16 ∷ []) None ≡ None
 
 -- in an indication the type of the Result TLV is one as any other
 abbrev pub IndicationHasItsName : Type 0

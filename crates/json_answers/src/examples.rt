@@ -1,11 +1,16 @@
 //! Worked examples of answers and indications, against their text in JSON.
 
-ghost use Rattle.json_answers.specs.Examples.{AnswerHasItsTlvs, BrokenHasNoLine, FailureHasItsError, IndicationHasItsName};
+ghost use Rattle.json_answers.specs.Examples.{AnswerHasItsTlvs, AnswerHasWhatIsKept, BrokenHasNoLine, FailureHasItsError, IndicationHasItsName};
 
 /// An answer has its TLVs by their names, and by their types where the table lacks them or their value
 /// doesn't read; of two of a type the first counts.
 pub fn answer_has_its_tlvs()
     ensures { AnswerHasItsTlvs }
+{}
+
+/// The service and the client id that are kept stand beside them.
+pub fn answer_has_what_is_kept()
+    ensures { AnswerHasWhatIsKept }
 {}
 
 /// A failure has its error, and what else it tells.

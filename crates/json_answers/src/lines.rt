@@ -1,34 +1,36 @@
-ghost use Rattle.std.specs.Prelude.{◌≡◌, map, option_map, Some, IfOk};
+ghost use Rattle.std.specs.Prelude.{◌≡◌, map, Some, IfOk};
 ghost use Rattle.std.specs.List.{AllByRecursion};
 ghost use Rattle.message_tables.specs.View.{tlv_view};
 ghost use Rattle.message_tables.specs.WellMade.{IsSoundTlv};
 ghost use Rattle.serde_json.specs.Read.{read};
 ghost use Rattle.serde_json.specs.View.{members_view};
 ghost use Rattle.values_json.specs.Lines.{json_line, json_text};
-ghost use Rattle.json_answers.specs.Messages.{answer_by, answer_json, answer_members, ending_of, indication_json, indication_members};
+ghost use Rattle.json_answers.specs.Messages.{answer_json, answer_members, ending_of, indication_json, indication_members};
 
 use crate::put_tlvs;
 use kit_bytes::{Octets, Text};
 use message_tables::TlvShape;
 use serde_json::{Map, Value, put};
 use std::alloc::{AllocError, Global};
-use tlv_codec::{Outcome, outcome_in};
-use values_json::{Ending, Shows, object_line, put_ending};
+use tlv_codec::Outcome;
+use values_json::{Ending, Shows, object_line, put_ending, put_kept};
 
-/// The line of an answer by its table: its TLVs, and then its result; or none where it has no result.
+/// The line of an answer by its table: its TLVs, the service and the client id that are kept, and its
+/// result.
 pub fn answer_line<S: Shows>(
     alloc: Global,
     shows: &S,
     forms: &[TlvShape],
     tlvs: &[u8],
-) -> Result<Option<Octets>, AllocError>
+    kept: Option<(u8, u8)>,
+    outcome: Outcome,
+) -> Result<Octets, AllocError>
     requires { AllByRecursion IsSoundTlv (map tlv_view forms.now) }
-    ensures { IfOk result (λ line. line ≡ option_map json_line (answer_json (S.showing shows.now) (map tlv_view forms.now) tlvs.now)) }
+    ensures text { IfOk result (λ line. line ≡ json_line (answer_json (S.showing shows.now) (map tlv_view forms.now) tlvs.now kept outcome)) }
+    ensures reads_back { IfOk result (λ _. read (json_text (answer_json (S.showing shows.now) (map tlv_view forms.now) tlvs.now kept outcome)) ≡ Some (answer_json (S.showing shows.now) (map tlv_view forms.now) tlvs.now kept outcome)) }
 {
-    match outcome_in(tlvs) {
-        Some(outcome) => Ok(Some(line_of(alloc, shows, forms, tlvs, outcome)?)),
-        None => Ok(None),
-    }
+    let members = answer_members(alloc, shows, forms, tlvs, kept, outcome)?;
+    object_line(alloc, members)
 }
 
 /// The line of an indication by its table: its TLVs, and its name.
@@ -64,33 +66,20 @@ fn indication_members<S: Shows>(
     Ok(members)
 }
 
-fn line_of<S: Shows>(
-    alloc: Global,
-    shows: &S,
-    forms: &[TlvShape],
-    tlvs: &[u8],
-    outcome: Outcome,
-) -> Result<Octets, AllocError>
-    requires { AllByRecursion IsSoundTlv (map tlv_view forms.now) }
-    ensures text { IfOk result (λ line. line ≡ json_line (answer_by (S.showing shows.now) (map tlv_view forms.now) tlvs.now outcome)) }
-    ensures reads_back { IfOk result (λ _. read (json_text (answer_by (S.showing shows.now) (map tlv_view forms.now) tlvs.now outcome)) ≡ Some (answer_by (S.showing shows.now) (map tlv_view forms.now) tlvs.now outcome)) }
-{
-    let members = answer_members(alloc, shows, forms, tlvs, outcome)?;
-    object_line(alloc, members)
-}
-
 fn answer_members<S: Shows>(
     alloc: Global,
     shows: &S,
     forms: &[TlvShape],
     tlvs: &[u8],
+    kept: Option<(u8, u8)>,
     outcome: Outcome,
 ) -> Result<Map<String, Value>, AllocError>
     requires { AllByRecursion IsSoundTlv (map tlv_view forms.now) }
-    ensures { IfOk result (λ members. members_view members.entries ≡ answer_members (S.showing shows.now) (map tlv_view forms.now) tlvs.now outcome) }
+    ensures { IfOk result (λ members. members_view members.entries ≡ answer_members (S.showing shows.now) (map tlv_view forms.now) tlvs.now kept outcome) }
 {
     let mut members = Map::new(alloc);
     put_tlvs(alloc, shows, true, forms, tlvs, &mut members)?;
+    put_kept(alloc, kept, &mut members)?;
     put_ending(alloc, ending_of(outcome), &mut members)?;
     Ok(members)
 }

@@ -1,13 +1,13 @@
 use Rattle.std.proofs.Common.{map, ap, ◌∙◌}
 use Rattle.serde_json.specs.Written.{members_have_float}
 use Rattle.message_tables.specs.View.{tlv_view}
-use Rattle.json_answers.specs.Messages.{answer_by}
+use Rattle.json_answers.specs.Messages.{answer_json}
 use Rattle.json_answers.proofs.Kept.{answer-no_float, answer-shallow, back_whole}
-use Rattle.json_answers.proofs.lines.line_of.Goals as goal
+use Rattle.json_answers.proofs.lines.answer_line.Goals as goal
 
 pub object_line-requires : goal.object_line-requires
 object_line-requires g c =
-    ap members_have_float c.in_ok-members.ensures ∙ answer-no_float (g.S.Shows.showing c.args.shows.now) (map tlv_view c.args.forms.now) c.args.tlvs.now c.requires c.args.outcome
+    ap members_have_float c.in_ok-members.ensures ∙ answer-no_float (g.S.Shows.showing c.args.shows.now) (map tlv_view c.args.forms.now) c.args.tlvs.now c.requires c.args.kept c.args.outcome
 
 pub returns-clause-text : goal.returns-clause-text
 returns-clause-text g c = rw c.in_ok-members.ensures at c.object_line.ensures.text
@@ -17,4 +17,4 @@ returns-clause-reads_back g c =
     let showing = g.S.Shows.showing c.args.shows.now in
     let forms = map tlv_view c.args.forms.now in
     let tlvs = c.args.tlvs.now in
-    back_whole c.object_line.result (answer_by showing forms tlvs c.args.outcome) (answer-shallow showing forms tlvs c.requires c.args.outcome) (rw c.in_ok-members.ensures at c.object_line.ensures.reads_back)
+    back_whole c.object_line.result (answer_json showing forms tlvs c.args.kept c.args.outcome) (answer-shallow showing forms tlvs c.requires c.args.kept c.args.outcome) (rw c.in_ok-members.ensures at c.object_line.ensures.reads_back)
