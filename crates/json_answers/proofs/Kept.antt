@@ -97,9 +97,11 @@ module _ (showing : Showing) (forms : List TlvForm) (tlvs : List ℕ) (sound : A
   answered = with_all showing true forms tlvs (tlvs_of tlvs) no_members
 
   pub answer-no_float : (kept : Option (ℕ × ℕ)) (outcome : Outcome) → has_float (answer_json showing forms tlvs kept outcome) ≡ false
+  unfolding answered
   answer-no_float kept outcome = with_ending-no_float (ending_of outcome) (with_kept kept answered) (with_kept-no_float kept answered (tlvs-no_float showing true forms tlvs sound))
 
   pub answer-shallow : (kept : Option (ℕ × ℕ)) (outcome : Outcome) → depth (answer_json showing forms tlvs kept outcome) ≤ 127
+  unfolding answered
   answer-shallow kept outcome =
       let less = ending-shallow (ending_of outcome) (with_kept kept answered) (kept-shallow kept answered (tlvs-shallow showing true forms tlvs sound)) in
       omega (arith, less)
