@@ -1,0 +1,7 @@
+use Rattle.std.proofs.Common.{refl}
+use Rattle.fields_json.proofs.Computed.{line_computed}
+use Rattle.fields_json.proofs.examples.a_name_is_escaped.Goals as goal
+
+pub returns : goal.returns
+unfolding line_computed
+returns c = refl

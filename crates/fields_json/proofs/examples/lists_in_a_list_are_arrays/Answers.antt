@@ -1,0 +1,7 @@
+use Rattle.std.proofs.Common.{refl}
+use Rattle.fields_json.proofs.Computed.{line_computed}
+use Rattle.fields_json.proofs.examples.lists_in_a_list_are_arrays.Goals as goal
+
+pub returns : goal.returns
+unfolding line_computed
+returns c = refl

@@ -1,0 +1,5 @@
+pub mod Json
+pub mod Answers
+pub mod Nesting
+pub mod Laws
+pub mod Examples
