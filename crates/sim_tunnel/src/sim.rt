@@ -1,6 +1,8 @@
 ghost use Rattle.std.specs.Prelude.{◌≡◌, ◌≤◌, [], length, IfOk, OnOk};
 ghost use Rattle.sim_modem.specs.Sim.{Answering, answers};
-ghost use Rattle.sim_tunnel.specs.Carrying.{IsIn, Keeps, State, exchange_at, machine, state_at};
+ghost use Rattle.sim_mbim.specs.Answers as mbim;
+ghost use Rattle.sim_qmi.specs.Modem as qmi;
+ghost use Rattle.sim_tunnel.specs.Carrying.{IsIn, Keeps, State, exchange_at, machine, qmi_answers, state_at};
 
 use crate::answering::answer;
 use crate::carrying::{ask, carried};
@@ -41,8 +43,7 @@ impl TunnelSim {
     {
         let begun = Assembly::open(alloc)?;
         let body = Body::open(alloc)?;
-        let mbim = MbimSim::open(alloc, profile)?;
-        let qmi = QmiSim::open(alloc, profile)?;
+        let (mbim, qmi) = modems(alloc, profile)?;
         Ok(TunnelSim {
             alloc,
             begun,
@@ -69,6 +70,20 @@ impl TunnelSim {
         let number = MHead::read(message).number;
         let messages = messages.as_slice();
         Ok(answer(self.alloc, &self.mbim, number, messages)?)
+    }
+}
+
+// Both modems of this profile.
+fn modems(alloc: Global, profile: &Profile) -> Result<(MbimSim, QmiSim), AllocError>
+    ensures { IfOk result (λ modems. (modems.0 ≡ mbim.fresh profile.now) × qmi.Keeps (qmi_answers profile.now) [] modems.1) }
+{
+    let mbim = MbimSim::open(alloc, profile)?;
+    match QmiSim::open(alloc, profile) {
+        Ok(qmi) => Ok((mbim, qmi)),
+        Err(full) => {
+            drop(mbim);
+            Err(full)
+        }
     }
 }
 
