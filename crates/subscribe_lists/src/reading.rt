@@ -1,11 +1,12 @@
-ghost use Rattle.std.specs.Prelude.{◌≡◌, ◌≤◌, ◌∷◌, ◌++◌, [], true, length, is_some, IfSome};
+ghost use Rattle.std.specs.Prelude.{◌≡◌, ◌≤◌, ◌&&◌, ◌∷◌, ◌++◌, [], true, bytes_eq, length, is_some, Some, IfSome};
+ghost use Rattle.std.specs.List.{list_any};
 ghost use Rattle.kit_bytes.specs.Subscriptions.{normal_form, pairs_of};
 ghost use Rattle.mbim_services.specs.EventLists.{pairs_in};
-ghost use Rattle.subscriptions.specs.Lists.{IsNormal, fits};
+ghost use Rattle.subscriptions.specs.Lists.{IsNormal, covers, fits, has_cid};
 ghost use Rattle.subscribe_lists.specs.ClientLists.{client_list, services, singles};
 
 use mbim_services::{Event, EventList};
-use subscriptions::{LONGEST_CLIENT_LIST, PairList};
+use subscriptions::{LONGEST_CLIENT_LIST, Pair, PairList};
 use uuid::Uuid;
 
 /// Reads the list of a client from the buffer of its command. Says whether the buffer has one, with no
@@ -82,12 +83,52 @@ fn add_cids(into: &mut PairList, event: Event<'_>) -> bool
     ensures list { result ≡ true → into.new ≡ normal_form (singles event.entry.uuid event.entry.cids ++ into.old) }
 {
     let Event { uuid, mut cids } = event;
+    // what the list has of the service stands from here on, whatever is added of it
+    let first = first_of(into.pairs(), uuid);
     'cids: while let Some(cid) = cids.next() {
-        if !add(into, uuid, Some(cid)) {
+        if !add_cid(into, first, uuid, cid) {
             return false;
         }
     }
     true
+}
+
+// Adds the CID of a service, unless the list has it from that place on: then nothing needs to be done.
+fn add_cid(into: &mut PairList, first: usize, uuid: Uuid, cid: u32) -> bool
+    requires { length into.old ≤ LONGEST_CLIENT_LIST }
+    ensures few { result ≡ fits LONGEST_CLIENT_LIST ((uuid, Some cid) ∷ into.old) }
+    ensures list { result ≡ true → into.new ≡ normal_form ((uuid, Some cid) ∷ into.old) }
+{
+    if stands(into.pairs(), first, uuid, cid) {
+        return true;
+    }
+    add(into, uuid, Some(cid))
+}
+
+// Where the pairs of a service stand in a list, or would stand.
+fn first_of(pairs: &[Pair], uuid: Uuid) -> usize {
+    pairs.partition_point(|pair| pair.0.cmp(&uuid).is_lt())
+}
+
+// Whether one of the pairs from a place on is the CID of this service, or all of them.
+fn stands(pairs: &[Pair], first: usize, uuid: Uuid, cid: u32) -> bool
+    ensures { result ≡ true → list_any (λ other. covers other (uuid, Some cid)) pairs.now ≡ true }
+{
+    let from = first.min(pairs.len());
+    some_stands(&pairs[from..], uuid, cid)
+}
+
+fn some_stands(pairs: &[Pair], uuid: Uuid, cid: u32) -> bool
+    ensures { result ≡ list_any (λ other. has_cid other.1 (Some cid) && bytes_eq other.0 uuid) pairs.now }
+{
+    pairs.iter().any(|pair| is_it(pair, uuid, cid))
+}
+
+// The CID is compared first: the pairs are of one service, most often.
+fn is_it(pair: &Pair, uuid: Uuid, cid: u32) -> bool
+    ensures { result ≡ (has_cid pair.now.1 (Some cid) && bytes_eq pair.now.0 uuid) }
+{
+    pair.1.is_none_or(|number| number == cid) && pair.0 == uuid
 }
 
 // Adds the pair, and says whether the list is short with it.
