@@ -1,4 +1,4 @@
-use Rattle.std.proofs.Common.{List, get_or, ◌≡◌, ◌<◌, ◌≤◌, refl, Some, None, length, set, ap, sym, ◌∙◌, arith, subst}
+use Rattle.std.proofs.Common.{List, ◌≡◌, ◌<◌, ◌≤◌, refl, Some, None, length, set, ap, sym, ◌∙◌, arith, subst}
 use Rattle.std.specs.List.{AllByRecursion, position}
 use Rattle.std.proofs.lemmas.List.{length-set, set-get_or}
 use Rattle.kit_bytes.specs.Subscriptions.{normal_form}
