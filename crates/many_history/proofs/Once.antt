@@ -7,19 +7,19 @@ use Rattle.many_history.specs.Events.{ManyEvent, Joined, Piece, Left, Took, Mode
 use Rattle.many_history.specs.Devices.{Devices, choice_on}
 use Rattle.many_history.specs.Many.{Place, Undecided, At, Seat, place_of, placed, without, seat_of, joined_if, chosen_if, said_by, seated, refused_unless, left, there, ended, is_there_at, names_in, own_after, seats_before, many}
 use Rattle.many_history.specs.Queues.{text_at, text_for}
-use Rattle.many_history.specs.Coming.{greatest_conn, IsNew, AreSound}
+use Rattle.many_history.specs.Coming.{greatest_conn, IsNew, NamesRise, AreSound}
 
-abbrev one_if : Bool → ℕ
+abbrev pub one_if : Bool → ℕ
 one_if true = 1
 one_if false = 0
 
-abbrev times : ℕ → List Seat → ℕ
+abbrev pub times : ℕ → List Seat → ℕ
 times c [] = 0
 times c (seat ∷ seats) = one_if (seat.conn == c) + times c seats
 
 -- ---- a list of seats ----
 
-times_append : (c : ℕ) (seats more : List Seat) → times c (seats ++ more) ≡ times c seats + times c more
+pub times_append : (c : ℕ) (seats more : List Seat) → times c (seats ++ more) ≡ times c seats + times c more
 times_append c [] more = omega arith
 times_append c (seat ∷ seats) more = omega (arith, times_append c seats more)
 
@@ -43,7 +43,7 @@ times_without c other (seat ∷ seats) = by (times_without c other seats) (seat.
     by rest true here = omega (arith, ap (λ (n : ℕ). one_if (n == c)) (eqb-true seat.conn other here))
     by rest false there = omega (arith, rest)
 
-times_there : (c : ℕ) (f : Place → Bool) (seats : List Seat) → times c (there f seats) + times c (ended f seats) ≡ times c seats
+pub times_there : (c : ℕ) (f : Place → Bool) (seats : List Seat) → times c (there f seats) + times c (ended f seats) ≡ times c seats
 times_there c f [] = refl
 times_there c f (seat ∷ seats) = by (times_there c f seats) (f seat.place)
   where
@@ -52,7 +52,7 @@ times_there c f (seat ∷ seats) = by (times_there c f seats) (f seat.place)
     by rest true = omega (arith, rest)
     by rest false = omega (arith, rest)
 
-some_times : (c : ℕ) (seats : List Seat) (place : Place) → place_of c seats ≡ Some place → 1 ≤ times c seats
+pub some_times : (c : ℕ) (seats : List Seat) (place : Place) → place_of c seats ≡ Some place → 1 ≤ times c seats
 unfolding place_of
 some_times c [] place at = absurd (cc)
 some_times c (seat ∷ seats) place at = by (some_times c seats place) (seat.conn == c) at
@@ -62,7 +62,7 @@ some_times c (seat ∷ seats) place at = by (some_times c seats place) (seat.con
     by rest false is = omega (arith, rest is)
 
 -- one that doesn't stand in the first list stands where it does in the second
-behind : (c : ℕ) (seats more : List Seat) → times c seats ≡ 0 → place_of c (seats ++ more) ≡ place_of c more
+pub behind : (c : ℕ) (seats more : List Seat) → times c seats ≡ 0 → place_of c (seats ++ more) ≡ place_of c more
 unfolding place_of
 behind c [] more none = refl
 behind c (seat ∷ seats) more none = by (behind c seats more) (seat.conn == c) none
@@ -71,7 +71,7 @@ behind c (seat ∷ seats) more none = by (behind c seats more) (seat.conn == c) 
     by rest true is = absurd (omega (arith, is))
     by rest false is = rest (omega (arith, is))
 
-nowhere : (c : ℕ) (seats : List Seat) → times c seats ≡ 0 → place_of c seats ≡ None
+pub nowhere : (c : ℕ) (seats : List Seat) → times c seats ≡ 0 → place_of c seats ≡ None
 unfolding place_of
 nowhere c seats none = ap (place_of c) (sym (append-nil seats)) ∙ behind c seats [] none
 
@@ -110,11 +110,15 @@ module _ {Known : Type 0} (s : Devices Known) (c : ℕ) where
 
   -- ---- all events ----
 
-  times_in : List ManyEvent → ℕ
+  pub times_in : List ManyEvent → ℕ
   times_in events = times c (many s events).seats + times c (many s events).gone
 
+  pub seen : (events : List ManyEvent) → times_in events ≡ times c (many s events).seats + times c (many s events).gone
+  unfolding times_in
+  seen events = refl
+
   -- how often it stands behind an event among who is there and who is gone, for whoever was there
-  step_times : (event : ManyEvent) (events : List ManyEvent) → (let m = many s events in
+  pub step_times : (event : ManyEvent) (events : List ManyEvent) → (let m = many s events in
       times_in (event ∷ events) ≡ times c (seats_before s event m) + times c m.gone + times c (left event m.seats))
   unfolding many times_in
   step_times event events =
@@ -123,9 +127,9 @@ module _ {Known : Type 0} (s : Devices Known) (c : ℕ) where
       let gone : List Seat = ended is_there (seats_before s event m) in
       omega (arith, times_there c is_there (seats_before s event m), times_append c (m.gone ++ left event m.seats) gone, times_append c m.gone (left event m.seats))
 
-  record StandsOnce (events : List ManyEvent) : Type 0 where
-    once : times_in events ≤ 1
-    unknown : greatest_conn events < c → times_in events ≡ 0
+  pub record StandsOnce (events : List ManyEvent) : Type 0 where
+    pub once : times_in events ≤ 1
+    pub unknown : greatest_conn events < c → times_in events ≡ 0
 
   stays_once : (event : ManyEvent) (events : List ManyEvent) → StandsOnce events → IsNew event events → times_in (event ∷ events) ≤ times_in events + joins_once event → StandsOnce (event ∷ events)
   unfolding joins_once
@@ -146,12 +150,16 @@ module _ {Known : Type 0} (s : Devices Known) (c : ℕ) where
   stays_once (ModemTook d count) events was new grown = record { once = omega (arith, grown, was.once); unknown = λ above. omega (arith, grown, was.unknown above) }
   stays_once (Now time) events was new grown = record { once = omega (arith, grown, was.once); unknown = λ above. omega (arith, grown, was.unknown above) }
 
-  stands_once : (events : List ManyEvent) → AreSound s events → StandsOnce events
+  pub stands_once : (events : List ManyEvent) → NamesRise events → StandsOnce events
   unfolding many times_in
-  stands_once [] sound = record { once = omega arith; unknown = λ new. omega arith }
-  stands_once (event ∷ events) sound =
+  stands_once [] rise = record { once = omega arith; unknown = λ new. omega arith }
+  stands_once (event ∷ events) rise =
       let m = many s events in
-      stays_once event events (stands_once events sound.1) (sound.0).0 (omega (arith, step_times event events, seated_times (names_in m.own) m.seats event))
+      stays_once event events (stands_once events rise.1) rise.0 (omega (arith, step_times event events, seated_times (names_in m.own) m.seats event))
+
+  names_rise : (events : List ManyEvent) → AreSound s events → NamesRise events
+  names_rise [] sound = tt
+  names_rise (event ∷ events) sound = ((sound.0).0, names_rise events sound.1)
 
   -- ---- whom the last event ended ----
 
@@ -167,7 +175,7 @@ module _ {Known : Type 0} (s : Devices Known) (c : ℕ) where
       let present : List Seat = there is_there (seats_before s event m) in
       let left : List Seat = m.gone ++ left event m.seats in
       let gone : List Seat = ended is_there (seats_before s event m) in
-      let once : times c present + times c (left ++ gone) ≤ 1 = (stands_once (event ∷ events) sound).once in
+      let once : times c present + times c (left ++ gone) ≤ 1 = (stands_once (event ∷ events) (names_rise (event ∷ events) sound)).once in
       let some : 1 ≤ times c gone = some_times c gone place at in
       let all : times c (left ++ gone) ≡ times c left + times c gone = times_append c left gone in
       ap (text_at s (own_after s event m)) (behind c present (left ++ gone) (omega (arith, once, some, all)) ∙ behind c left gone (omega (arith, once, some, all)) ∙ at)
@@ -186,7 +194,7 @@ module _ {Known : Type 0} (s : Devices Known) (c : ℕ) where
           let m = many s events in
           let own : ℕ → List Event = own_after s (Joined d) m in
           let same : d ≡ c = eqb-true d c here in
-          let none : times_in events ≡ 0 = (stands_once events sound.1).unknown (omega (arith, (sound.0).0, same)) in
+          let none : times_in events ≡ 0 = (stands_once events (names_rise events sound.1)).unknown (omega (arith, (sound.0).0, same)) in
           let unchanged : times c (seats_before s (Joined d) m) ≡ times c m.seats = ap (λ (b : Bool). times c (joined_if b d m.seats)) full in
           let still : times_in (Joined d ∷ events) ≡ 0 = omega (arith, step_times (Joined d) events, unchanged, none) in
           let seats : List Seat = (many s (Joined d ∷ events)).seats in

@@ -24,7 +24,7 @@ place_of_front c (seat ∷ seats) more place at = by (place_of_front c seats mor
     by rest false is = rest is
 
 -- the place of another connection changes
-placed_other : (c other : ℕ) (place : Place) (seats : List Seat) → (other == c) ≡ false → place_of c (placed other place seats) ≡ place_of c seats
+pub placed_other : (c other : ℕ) (place : Place) (seats : List Seat) → (other == c) ≡ false → place_of c (placed other place seats) ≡ place_of c seats
 unfolding place_of placed
 placed_other c other place [] differs = refl
 placed_other c other place (seat ∷ seats) differs = by (placed_other c other place seats differs) (seat.conn == other) refl
@@ -38,7 +38,7 @@ placed_other c other place (seat ∷ seats) differs = by (placed_other c other p
     by rest false there = ap (λ (o : Option Place). let l : Option Place = elim (seat.conn == c) [ true ↦ Some seat.place | false ↦ o ] in l) rest
 
 -- another connection goes
-without_other : (c other : ℕ) (seats : List Seat) → (other == c) ≡ false → place_of c (without other seats) ≡ place_of c seats
+pub without_other : (c other : ℕ) (seats : List Seat) → (other == c) ≡ false → place_of c (without other seats) ≡ place_of c seats
 unfolding place_of without
 without_other c other [] differs = refl
 without_other c other (seat ∷ seats) differs = by (without_other c other seats differs) (seat.conn == other) refl
@@ -52,7 +52,7 @@ without_other c other (seat ∷ seats) differs = by (without_other c other seats
     by rest false there = ap (λ (o : Option Place). let l : Option Place = elim (seat.conn == c) [ true ↦ Some seat.place | false ↦ o ] in l) rest
 
 -- those of some places stay
-there_keeps : (f : Place → Bool) (c : ℕ) (seats : List Seat) (place : Place) → f place ≡ true → place_of c seats ≡ Some place → place_of c (there f seats) ≡ Some place
+pub there_keeps : (f : Place → Bool) (c : ℕ) (seats : List Seat) (place : Place) → f place ≡ true → place_of c seats ≡ Some place → place_of c (there f seats) ≡ Some place
 unfolding place_of
 there_keeps f c [] place is at = absurd (cc)
 there_keeps f c (seat ∷ seats) place is at = by (there_keeps f c seats place is) (seat.conn == c) refl at

@@ -18,6 +18,10 @@ abbrev pub IsNew : ManyEvent → List ManyEvent → Type 0
 IsNew (Joined c) events = greatest_conn events < c
 IsNew _ events = Unit {0}
 
+abbrev pub NamesRise : List ManyEvent → Type 0
+NamesRise [] = Unit {0}
+NamesRise (event ∷ events) = IsNew event events × NamesRise events
+
 -- how many bytes wait for a connection of this place
 abbrev pub queued_at : {Known : Type 0} → Devices Known → (ℕ → List Event) → Option Place → ℕ
 queued_at s own None = 0

@@ -1,8 +1,9 @@
--- The rules by which a proxy of several devices can be served over a hub. Lists of events have the newest first.
+-- The rules by which a proxy of several devices can be served over a hub, where the names of those who join rise. Lists of events have the newest first.
 use Rattle.std.specs.Prelude.{◌≡◌, ℕ, ◌<◌, ◌≤◌, true, false, ◌==◌, List, [], ◌∷◌, ◌++◌, length, drop, Option, Some, None}
 use Rattle.proxy_history.specs.Connections.{contains, without}
 use Rattle.proxy_history.specs.Proxy.{LeavesBytesOf}
 use Rattle.many_history.specs.Events.{ManyEvent, Joined, Left, Took, ModemGone, ModemBack, ModemTook}
+use Rattle.many_history.specs.Coming.{NamesRise}
 use Rattle.many_io.specs.Record.{unnamed}
 use Rattle.many_serving.specs.Proxy.{ManyProxy}
 
@@ -36,9 +37,9 @@ pub record IsLawful (p : ManyProxy) : Type 0 where
   pub no_modem_bytes : (d : ℕ) → d < p.devices → p.waiting_for_modem d [] ≡ []
   -- ---- the bytes for a client ----
   -- all of them wait when it joins
-  pub joined : (c : ℕ) (past : List ManyEvent) → p.text c (Joined c ∷ past) ≡ p.waiting c (Joined c ∷ past)
+  pub joined : (c : ℕ) (past : List ManyEvent) → NamesRise (Joined c ∷ past) → p.text c (Joined c ∷ past) ≡ p.waiting c (Joined c ∷ past)
   -- they only grow
-  pub grown : (c : ℕ) (event : ManyEvent) (past : List ManyEvent) → LeavesBytesOf c (unnamed event) → HasGrown p c past (event ∷ past)
+  pub grown : (c : ℕ) (event : ManyEvent) (past : List ManyEvent) → NamesRise (event ∷ past) → LeavesBytesOf c (unnamed event) → HasGrown p c past (event ∷ past)
   -- a taking leaves them
   pub taken_text : (c count : ℕ) (past : List ManyEvent) → contains c (p.present past) ≡ true → p.text c (Took c count ∷ past) ≡ p.text c past
   -- and takes the first of those that wait
@@ -56,7 +57,7 @@ pub record IsLawful (p : ManyProxy) : Type 0 where
   -- nor does a modem's
   pub modem_took_present : (d count : ℕ) (past : List ManyEvent) → d < p.devices → p.present (ModemTook d count ∷ past) ≡ p.present past
   -- who leaves isn't there any more, and the others are
-  pub left_present : (c : ℕ) (past : List ManyEvent) → contains c (p.present past) ≡ true → p.present (Left c ∷ past) ≡ without c (p.present past)
+  pub left_present : (c : ℕ) (past : List ManyEvent) → NamesRise past → contains c (p.present past) ≡ true → p.present (Left c ∷ past) ≡ without c (p.present past)
   -- ---- the modems ----
   -- a client's taking neither loses one nor brings it back
   pub took_away : (c count d : ℕ) (past : List ManyEvent) → d < p.devices → p.is_away d (Took c count ∷ past) ≡ p.is_away d past

@@ -1,5 +1,5 @@
 -- A core of a proxy of one device keeps and shows what one of several has to.
-use Rattle.std.proofs.Common.{◌≡◌, ℕ, List, ◌++◌, map, Option, Some, None, refl, sym, ◌∙◌, ap, subst}
+use Rattle.std.proofs.Common.{◌≡◌, ℕ, ◌≤◌, ◌<◌, max, arith, List, [], ◌∷◌, ◌++◌, map, Option, Some, None, refl, sym, ◌∙◌, ap, subst}
 use Rattle.std.specs.Option.{option_map}
 use Rattle.std.proofs.lemmas.List.{append_cancel_right, map-append}
 use Rattle.proxy_history.specs.Events.{Event}
@@ -18,7 +18,8 @@ use Rattle.many_serving.specs.One.{only_of}
 use Rattle.many_serving.specs.Ends.{EndsFor}
 use Rattle.many_serving.proofs.One.{calls_are}
 use Rattle.many_serving.proofs.Ends.{ends_for}
-use Rattle.serving_loop.specs.Face.{CanMeet, MayCome, NextDropped}
+use Rattle.many_history.specs.Coming.{greatest_conn, IsNew}
+use Rattle.serving_loop.specs.Face.{ManyFace, CanMeet, MayCome, NextDropped, greatest_after}
 use Rattle.serving_loop.specs.One.{only_face, KeepsAsOne}
 
 -- ---- what it may be told, and what it tells ----
@@ -43,13 +44,39 @@ next_as_one face old new (Some c) next = record { dropped = next.dropped; device
 
 -- ---- what it keeps ----
 
-module _ {C : Type 0} (keeps : Proxy → List Event → C → Type 0) where
-  pub kept_as_one : (p : Proxy) (past : List ManyEvent) (core : C) → keeps p (map unnamed past) core → KeepsAsOne keeps (only_of p) past core
-  kept_as_one p past core kept = record { proxy = p; same = refl; kept = kept }
+new_name : (event : ManyEvent) (past : List ManyEvent) (face : ManyFace) → greatest_conn past ≤ face.greatest → MayCome event face → IsNew event past
+new_name (Joined c) past face known may = omega (arith, known, may)
+new_name _ past face known may = tt
 
-  -- what a later one keeps, where each proxy's keeping goes on
-  pub keeps_on : (p : ManyProxy) (past later : List ManyEvent) (old new : C) → ((q : Proxy) → keeps q (map unnamed past) old → keeps q (map unnamed later) new) → KeepsAsOne keeps p past old → KeepsAsOne keeps p later new
-  keeps_on p past later old new goes kept = record { proxy = kept.proxy; same = kept.same; kept = goes kept.proxy kept.kept }
+known_name : (event : ManyEvent) (past : List ManyEvent) (before after : ℕ) → IsNew event past → greatest_conn past ≤ before → after ≡ greatest_after event before → greatest_conn (event ∷ past) ≤ after
+known_name (Joined c) past before after rises known is = omega (arith, rises, is)
+known_name _ past before after rises known is = omega (arith, known, is)
+
+module _ {C : Type 0} (keeps : Proxy → List Event → C → Type 0) (face : C → Face) where
+  -- before any event
+  pub opened_as_one : (p : Proxy) (core : C) → keeps p [] core → KeepsAsOne keeps face (only_of p) [] core
+  opened_as_one p core kept = record { proxy = p; same = refl; kept = kept; rise = tt; known = omega arith }
+
+  -- behind one more, where each proxy's keeping goes on
+  pub steps_as_one : (p : ManyProxy) (event : ManyEvent) (past : List ManyEvent) (old new : C) → CanMeet event (only_face (face old)) → (face new).greatest ≡ greatest_after event (face old).greatest
+      → ((q : Proxy) → keeps q (map unnamed past) old → keeps q (map unnamed (event ∷ past)) new) → KeepsAsOne keeps face p past old → KeepsAsOne keeps face p (event ∷ past) new
+  steps_as_one p event past old new can greatest goes kept =
+      let rises = new_name event past (only_face (face old)) kept.known can.may_come in
+      record {
+        proxy = kept.proxy;
+        same = kept.same;
+        kept = goes kept.proxy kept.kept;
+        rise = (rises, kept.rise);
+        known = known_name event past (face old).greatest (face new).greatest rises kept.known greatest;
+      }
+
+  -- once it was asked
+  pub asked_as_one : (p : ManyProxy) (past : List ManyEvent) (old new : C) (o : Option ℕ) → one_face.NextDropped face old new o → ((q : Proxy) → keeps q (map unnamed past) old → keeps q (map unnamed past) new) → KeepsAsOne keeps face p past old → KeepsAsOne keeps face p past new
+  asked_as_one p past old new o next goes kept = record { proxy = kept.proxy; same = kept.same; kept = goes kept.proxy kept.kept; rise = kept.rise; known = omega (arith, kept.known, same_greatest o next) }
+    where
+      same_greatest : (o : Option ℕ) → one_face.NextDropped face old new o → (face new).greatest ≡ (face old).greatest
+      same_greatest None next = ap (λ (core : C). (face core).greatest) next.1
+      same_greatest (Some c) next = next.greatest
 
 -- ---- what was recorded since then ----
 

@@ -95,7 +95,7 @@ module _ {C : Type 0} {keeps : ManyProxy → List ManyEvent → C → Type 0} {f
   serving-sent c bytes taken now some within there front free before after stands blocked modem emptied = record {
     stands = stands_for now.core (Took c taken ∷ events calls) (events (Sent c bytes taken ∷ calls)) (events-sent c bytes taken calls some) stands;
     sends = (front, going.sends);
-    takes = takes-sent going.stands.shows.lawful c bytes taken calls (events-sent c bytes taken calls some) there front within going.takes;
+    takes = takes-sent going.stands.shows.lawful c bytes taken calls (events-sent c bytes taken calls some) stands.shows.rise there front within going.takes;
     does_all = going.does_all;
     hangs_up = due_behind now [] before after;
     reopens = going.reopens;
@@ -115,7 +115,7 @@ module _ {C : Type 0} {keeps : ManyProxy → List ManyEvent → C → Type 0} {f
   serving-failed c bytes now front before after stands blocked modem emptied = record {
     stands = stands;
     sends = (front, going.sends);
-    takes = takes-failed going.stands.shows.lawful c bytes calls going.takes;
+    takes = takes-failed going.stands.shows.lawful c bytes calls stands.shows.rise going.takes;
     does_all = going.does_all;
     hangs_up = ap (λ (l : List ℕ). reverse l ++ c ∷ hang_ups (unnamed_calls calls)) after ∙ ap (λ (l : List ℕ). c ∷ l) (none_due before);
     reopens = going.reopens;
@@ -135,7 +135,7 @@ module _ {C : Type 0} {keeps : ManyProxy → List ManyEvent → C → Type 0} {f
   serving-told devices known event now may in_time offered before after stands blocked modem emptied = record {
     stands = stands;
     sends = going.sends;
-    takes = takes-told going.stands.shows.lawful devices known event calls may going.takes;
+    takes = takes-told going.stands.shows.lawful devices known event calls may stands.shows.rise going.takes;
     does_all = (all_done in_time offered before, going.does_all);
     hangs_up = due_behind now (p.dropped (event ∷ events calls)) before after;
     reopens = λ d within. omega arith;
@@ -215,7 +215,7 @@ module _ {C : Type 0} {keeps : ManyProxy → List ManyEvent → C → Type 0} {f
   serving-modem_sent d bytes taken now some front before after stands blocked free modems emptied = record {
     stands = stands_for now.core (ModemTook d taken ∷ events calls) (events (SentModem d bytes taken ∷ calls)) (events-sent_modem d bytes taken calls some) stands;
     sends = (front, going.sends);
-    takes = takes-by going.stands.shows.lawful (ModemTook d taken) calls (SentModem d bytes taken ∷ calls) (events-sent_modem d bytes taken calls some) (λ c. tt) (λ c. refl) going.takes;
+    takes = takes-by going.stands.shows.lawful (ModemTook d taken) calls (SentModem d bytes taken ∷ calls) (events-sent_modem d bytes taken calls some) stands.shows.rise (λ c. tt) (λ c. refl) going.takes;
     does_all = going.does_all;
     hangs_up = due_behind now [] before after;
     reopens = going.reopens;
@@ -235,7 +235,7 @@ module _ {C : Type 0} {keeps : ManyProxy → List ManyEvent → C → Type 0} {f
   serving-modem_failed d bytes now front before after stands blocked modems emptied = record {
     stands = stands;
     sends = (front, going.sends);
-    takes = takes-by going.stands.shows.lawful (ModemGone d) calls (SendModemFailed d bytes ∷ calls) refl (λ c. tt) (λ c. refl) going.takes;
+    takes = takes-by going.stands.shows.lawful (ModemGone d) calls (SendModemFailed d bytes ∷ calls) refl stands.shows.rise (λ c. tt) (λ c. refl) going.takes;
     does_all = going.does_all;
     hangs_up = due_behind now (p.dropped (ModemGone d ∷ events calls)) before after;
     reopens = going.reopens;
@@ -268,7 +268,7 @@ module _ {C : Type 0} {keeps : ManyProxy → List ManyEvent → C → Type 0} {f
   serving-reopened d now not_yet due before after stands blocked modems emptied = record {
     stands = stands;
     sends = going.sends;
-    takes = takes-by going.stands.shows.lawful (ModemBack d) calls (Reopened d ∷ calls) refl (λ c. tt) (λ c. refl) going.takes;
+    takes = takes-by going.stands.shows.lawful (ModemBack d) calls (Reopened d ∷ calls) refl stands.shows.rise (λ c. tt) (λ c. refl) going.takes;
     does_all = going.does_all;
     hangs_up = due_behind now (p.dropped (ModemBack d ∷ events calls)) before after;
     reopens = λ e within. once d e not_yet due within;

@@ -86,7 +86,7 @@ module _ {C : Type 0} {keeps : ManyProxy → List ManyEvent → C → Type 0} {f
       let was_there : contains c (known.proxy.present known.past) ≡ true = ap (contains c) (sym before.present) ∙ there in
       record {
         fewer =
-            ap (λ (l : List ℕ). length l + 1) (after.present ∙ rules.left_present c known.past was_there)
+            ap (λ (l : List ℕ). length l + 1) (after.present ∙ rules.left_present c known.past before.rise was_there)
             ∙ one_fewer c (known.proxy.present known.past) before.distinct was_there
             ∙ ap length (sym before.present);
         dropped = after.dropped (rules.left_dropped c known.past) ∙ sym can.hung_up;

@@ -119,7 +119,7 @@ module _ {C : Type 0} {keeps : ManyProxy → List ManyEvent → C → Type 0} {f
     todo = at.later;
     whole =
         ap (λ (l : List ManyEvent). p.present l) (events-hung_up c (SendFailed c bytes ∷ calls) ∙ events-send_failed c bytes calls)
-        ∙ after.stands.shows.lawful.left_present c (events calls) there
+        ∙ after.stands.shows.lawful.left_present c (events calls) at.serving.stands.shows.rise there
         ∙ ap (without c) at.whole
         ∙ without-at at.done c at.later distinct;
     counted = at.counted;

@@ -3,6 +3,7 @@ use Rattle.std.specs.Prelude.{◌≡◌, ℕ, ◌+◌, ◌<◌, ◌≤◌, true,
 use Rattle.std.specs.List.{IsDistinct}
 use Rattle.proxy_history.specs.Connections.{contains}
 use Rattle.many_history.specs.Events.{ManyEvent, Left, ModemGone, ModemBack, Took, ModemTook}
+use Rattle.many_history.specs.Coming.{NamesRise}
 use Rattle.many_serving.specs.Proxy.{ManyProxy}
 use Rattle.many_serving.specs.Lawful.{IsLawful}
 use Rattle.serving_loop.specs.Face.{ManyFace, SameAway, SameAwayBut}
@@ -12,6 +13,7 @@ use Rattle.serving_loop.specs.Face.{ManyFace, SameAway, SameAwayBut}
 -- it shows what the definitions of a proxy say of these events; of the dropped names some may have been asked for
 pub record Shows (p : ManyProxy) (past : List ManyEvent) (face : ManyFace) : Type 0 where
   pub lawful : IsLawful p
+  pub rise : NamesRise past
   pub devices : face.devices ≡ p.devices
   pub present : face.present ≡ p.present past
   pub queue : (c : ℕ) → contains c (p.present past) ≡ true → face.queue c ≡ p.waiting c past

@@ -1,9 +1,10 @@
 -- A core of a proxy of one device as one of several: its modem is that of device 0. Lists of events have the newest first.
-use Rattle.std.specs.Prelude.{◌≡◌, List, map}
+use Rattle.std.specs.Prelude.{◌≡◌, ◌≤◌, List, map}
 use Rattle.proxy_history.specs.Events.{Event}
 use Rattle.proxy_history.specs.Proxy.{Proxy}
 use Rattle.proxy_serving.specs.Face.{Face}
 use Rattle.many_history.specs.Events.{ManyEvent}
+use Rattle.many_history.specs.Coming.{NamesRise, greatest_conn}
 use Rattle.many_io.specs.Record.{unnamed}
 use Rattle.many_serving.specs.Proxy.{ManyProxy}
 use Rattle.many_serving.specs.One.{only_of}
@@ -22,8 +23,10 @@ only_face face = record {
   greatest = face.greatest;
 }
 
--- it keeps what a proxy of one device has to keep, which `keeps` says
-pub record KeepsAsOne {C : Type 0} (keeps : Proxy → List Event → C → Type 0) (p : ManyProxy) (past : List ManyEvent) (core : C) : Type 0 where
+-- it keeps what a proxy of one device has to keep, which `keeps` says, of events whose names rise, and shows no lesser name than the greatest
+pub record KeepsAsOne {C : Type 0} (keeps : Proxy → List Event → C → Type 0) (face : C → Face) (p : ManyProxy) (past : List ManyEvent) (core : C) : Type 0 where
   pub proxy : Proxy
   pub same : p ≡ only_of proxy
   pub kept : keeps proxy (map unnamed past) core
+  pub rise : NamesRise past
+  pub known : greatest_conn past ≤ (face core).greatest

@@ -12,12 +12,13 @@ use Rattle.serving_loop.specs.Cores.{Shows}
 use Rattle.serving_loop.specs.One.{only_face, KeepsAsOne}
 
 module _ {C : Type 0} (keeps : Proxy → List Event → C → Type 0) (face : C → Face) (shows : (p : Proxy) (past : List Event) (core : C) → keeps p past core → one.Shows p past (face core)) where
-  pub shows_as_one : (p : ManyProxy) (past : List ManyEvent) (core : C) → KeepsAsOne keeps p past core → Shows p past (only_face (face core))
+  pub shows_as_one : (p : ManyProxy) (past : List ManyEvent) (core : C) → KeepsAsOne keeps face p past core → Shows p past (only_face (face core))
   shows_as_one p past core kept =
       let is = shows kept.proxy (map unnamed past) core kept.kept in
       subst (λ (q : ManyProxy). Shows q past (only_face (face core))) (sym kept.same)
       (record {
         lawful = only_lawful kept.proxy is.lawful;
+        rise = kept.rise;
         devices = refl;
         present = is.present;
         queue = is.queue;

@@ -37,7 +37,7 @@ fn of_the_only(event: ManyEvent<'_>) -> Event<'_>
 impl<C: ProxyCore> ManyProxyCore for C {
     ghost face = { λ core. only_face (C.ProxyCore.face core) };
 
-    ghost keeps = { λ p past core. KeepsAsOne C.ProxyCore.keeps p past core };
+    ghost keeps = { λ p past core. KeepsAsOne C.ProxyCore.keeps C.ProxyCore.face p past core };
 
     ghost lacks_memory = { λ event. C.ProxyCore.lacks_memory (unnamed event) };
 
