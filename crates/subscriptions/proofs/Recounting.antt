@@ -109,6 +109,24 @@ module _ (xs : List Client) (i : ℕ) (was : Client) (counts : List Counted) (is
     in_all = let changed = share_changed (λ (l : List Pair). length l) refl (λ xs ys. length-append xs ys) xs i was now within is in omega (arith, changed, again.in_all, counted.in_all);
   }
 
+-- what the table promises of its clients, and of what it counted
+pub record AreCounted (clients : List Client) (counts : List Counted) : Type 0 where
+  pub few : length clients ≤ 64
+  pub short : AllByRecursion (λ client. length client.list ≤ 30) clients
+  pub counted : CountShown clients counts
+
+pub one_changed : (p : Client → Bool) (xs : List Client) (i : ℕ) (was now : Client) (before after : List Counted) → was ≡ get_or xs i was → Some i ≡ position p xs → AreCounted xs before → AreRecounted was now before after → length now.list ≤ 30 → AreCounted (set xs i now) after
+one_changed p xs i was now before after is there all again long =
+    let within : i < length xs = position_within p xs i there in
+    record {
+      few = omega (arith, length-set xs i now, all.few);
+      short = all_set (λ client. length client.list ≤ 30) xs i now was (λ old. long) all.short;
+      counted = recounted xs i was before is all.counted now after within again;
+    }
+
+pub counted_few : (xs : List Client) (counts : List Counted) → AreCounted xs counts → total counts ≤ 1920
+counted_few xs counts all = shown_few xs counts all.counted all.few all.short
+
 -- ---- a client joins ----
 
 pub joined_gathered : (xs : List Client) (client : Client) → client.shown ≡ false → gathered (xs ++ client ∷ []) ≡ gathered xs

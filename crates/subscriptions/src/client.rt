@@ -1,4 +1,4 @@
-ghost use Rattle.std.specs.Prelude.{◌≡◌, ◌+◌, ◌≤◌, false, length};
+ghost use Rattle.std.specs.Prelude.{◌≡◌, ◌+◌, ◌≤◌, true, false, length};
 ghost use Rattle.kit_bytes.specs.Indications.{wants};
 ghost use Rattle.kit_bytes.specs.Subscriptions.{Pair as TablePair};
 ghost use Rattle.subscriptions.specs.Clients.{is_of, newcomer, share, with_shown, with_list, with_both};
@@ -109,6 +109,7 @@ impl Client {
         ensures client { self.new ≡ with_both shown list.now self.old }
         ensures counts { AreRecounted self.old self.new counts.old counts.new }
         ensures same { result ≡ false → (self.new ≡ self.old) × (counts.new ≡ counts.old) }
+        ensures other { result ≡ true → ¬ (self.new ≡ self.old) }
         ensures short { length list.now ≤ LONGEST_CLIENT_LIST }
     {
         let same = self.list.is_same(list);

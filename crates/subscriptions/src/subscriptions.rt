@@ -1,4 +1,4 @@
-ghost use Rattle.std.specs.Prelude.{◌≡◌, ◌<◌, ◌≤◌, [], position, length, vec_len, vec_capacity, is_err, false, IfOk};
+ghost use Rattle.std.specs.Prelude.{◌≡◌, ◌<◌, ◌≤◌, [], position, length, vec_len, vec_capacity, is_err, true, false, IfOk};
 ghost use Rattle.kit_bytes.specs.Indications.{wants};
 ghost use Rattle.subscriptions.specs.Clients.{is_of, is_too_long, joins, leaves, list_of, merged, sets, shows, updates};
 ghost use Rattle.subscriptions.specs.Counts.{CountShown};
@@ -114,6 +114,7 @@ impl Subscriptions {
     pub fn update(&mut self, conn: u64, shown: bool, list: &ClientList) -> bool
         ensures updated { self.new ≡ updates conn shown list.now self.old }
         ensures same { result ≡ false → self.new ≡ self.old }
+        ensures other { result ≡ true → ¬ (self.new ≡ self.old) }
     {
         let Some(place) = find(&self.clients, conn) else {
             return false;

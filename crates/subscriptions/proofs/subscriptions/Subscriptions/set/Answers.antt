@@ -1,12 +1,9 @@
 use Rattle.std.proofs.Common.{◌≡◌, ◌<◌, ◌≤◌, false, Some, None, length, set, ap, sym, ◌∙◌, arith, subst}
 use Rattle.std.specs.List.{position}
 use Rattle.std.proofs.lemmas.Bool.Decides.{nat_tests}
-use Rattle.std.proofs.lemmas.List.{length-set}
-use Rattle.kit_bytes.proofs.Lists.{all_set}
 use Rattle.subscriptions.specs.Clients.{is_of, is_too_long, with_list, sets, gathered}
-use Rattle.subscriptions.specs.Counts.{CountShown}
 use Rattle.subscriptions.proofs.Clients.{changed_place, changed_none, sets_short}
-use Rattle.subscriptions.proofs.Recounting.{position_within, recounted, share_there, shown_few}
+use Rattle.subscriptions.proofs.Recounting.{AreCounted, counted_few, one_changed, position_within, share_there, shown_few}
 use Rattle.subscriptions.proofs.subscriptions.Subscriptions.set.Goals as goal
 
 pub set-requires-clause-there : goal.set-requires-clause-there
@@ -21,26 +18,25 @@ set-requires-clause-few c = shown_few c.self.inside.clients.items c.self.inside.
 pub write-requires : goal.write-requires
 write-requires c =
     let place : Some c.in-Some.place ≡ position (is_of c.args.conn) c.self.inside.clients.items = sym c.in-Some.is ∙ c.find.ensures ∙ ap (position (is_of c.args.conn)) c.deref.ensures.value in
-    let within : c.in-Some.place < length c.self.inside.clients.items = position_within (is_of c.args.conn) c.self.inside.clients.items c.in-Some.place place in
-    shown_few (set c.self.inside.clients.items c.in-Some.place c.set.new.self) c.set.new.counts
-    (recounted c.self.inside.clients.items c.in-Some.place c.index_mut-client.result.now c.self.inside.counts c.index_mut-client.ensures.value c.self.invariant.counted c.set.new.self c.set.new.counts within c.set.ensures.counts)
-    (omega (arith, length-set c.self.inside.clients.items c.in-Some.place c.set.new.self, c.self.invariant.few))
-    (all_set (λ client. length client.list ≤ 30) c.self.inside.clients.items c.in-Some.place c.set.new.self c.index_mut-client.result.now
-    (λ old. subst (λ client. length client.list ≤ 30) (sym c.set.ensures.client) (omega (arith, c.len.ensures.count, c.if-len-gt-LONGEST_CLIENT_LIST.false))) c.self.invariant.short)
+    let table : AreCounted (set c.self.inside.clients.items c.in-Some.place c.set.new.self) c.set.new.counts =
+    one_changed (is_of c.args.conn) c.self.inside.clients.items c.in-Some.place c.index_mut-client.result.now c.set.new.self c.self.inside.counts c.set.new.counts c.index_mut-client.ensures.value place
+    (record { few = c.self.invariant.few; short = c.self.invariant.short; counted = c.self.invariant.counted }) c.set.ensures.counts
+    (subst (λ client. length client.list ≤ 30) (sym c.set.ensures.client) (omega (arith, c.len.ensures.count, c.if-len-gt-LONGEST_CLIENT_LIST.false))) in
+    counted_few (set c.self.inside.clients.items c.in-Some.place c.set.new.self) c.set.new.counts table
 
 pub invariant_of-self : goal.invariant_of-self
 invariant_of-self c =
     let place : Some c.in-Some.place ≡ position (is_of c.args.conn) c.self.inside.clients.items = sym c.in-Some.is ∙ c.find.ensures ∙ ap (position (is_of c.args.conn)) c.deref.ensures.value in
-    let within : c.in-Some.place < length c.self.inside.clients.items = position_within (is_of c.args.conn) c.self.inside.clients.items c.in-Some.place place in
-    let counted : CountShown (set c.self.inside.clients.items c.in-Some.place c.set.new.self) c.set.new.counts = recounted c.self.inside.clients.items c.in-Some.place c.index_mut-client.result.now c.self.inside.counts c.index_mut-client.ensures.value c.self.invariant.counted c.set.new.self c.set.new.counts within c.set.ensures.counts in
+    let table : AreCounted (set c.self.inside.clients.items c.in-Some.place c.set.new.self) c.set.new.counts =
+    one_changed (is_of c.args.conn) c.self.inside.clients.items c.in-Some.place c.index_mut-client.result.now c.set.new.self c.self.inside.counts c.set.new.counts c.index_mut-client.ensures.value place
+    (record { few = c.self.invariant.few; short = c.self.invariant.short; counted = c.self.invariant.counted }) c.set.ensures.counts
+    (subst (λ client. length client.list ≤ 30) (sym c.set.ensures.client) (omega (arith, c.len.ensures.count, c.if-len-gt-LONGEST_CLIENT_LIST.false))) in
     record {
-      few = omega (arith, length-set c.self.inside.clients.items c.in-Some.place c.set.new.self, c.self.invariant.few);
+      few = table.few;
       room = c.self.invariant.room;
-      short =
-          all_set (λ client. length client.list ≤ 30) c.self.inside.clients.items c.in-Some.place c.set.new.self c.index_mut-client.result.now
-          (λ old. subst (λ client. length client.list ≤ 30) (sym c.set.ensures.client) (omega (arith, c.len.ensures.count, c.if-len-gt-LONGEST_CLIENT_LIST.false))) c.self.invariant.short;
-      counted = counted;
-      merged = c.write.ensures (gathered (set c.self.inside.clients.items c.in-Some.place c.set.new.self)) counted.counted;
+      short = table.short;
+      counted = table.counted;
+      merged = c.write.ensures (gathered (set c.self.inside.clients.items c.in-Some.place c.set.new.self)) table.counted.counted;
     }
 
 pub returns-in-Some-clause-set : goal.returns-in-Some-clause-set

@@ -1,13 +1,12 @@
-use Rattle.std.proofs.Common.{List, ◌≡◌, ◌<◌, ◌≤◌, refl, Some, None, length, set, ap, sym, ◌∙◌, arith, subst}
+use Rattle.std.proofs.Common.{List, ◌≡◌, ◌<◌, ◌≤◌, refl, Some, None, length, get_or, set, ap, sym, ◌∙◌, subst}
 use Rattle.std.specs.List.{AllByRecursion, position}
-use Rattle.std.proofs.lemmas.List.{length-set, set-get_or}
+use Rattle.std.proofs.lemmas.List.{set-get_or, get_or-set_same}
 use Rattle.kit_bytes.specs.Subscriptions.{normal_form}
-use Rattle.kit_bytes.proofs.Lists.{all_set}
 use Rattle.subscriptions.specs.Clients.{Client, is_of, with_both, updates, gathered}
 use Rattle.subscriptions.specs.declared.counts.Counted.{Counted}
 use Rattle.subscriptions.specs.Counts.{CountShown}
 use Rattle.subscriptions.proofs.Clients.{changed_place, changed_none}
-use Rattle.subscriptions.proofs.Recounting.{position_within, recounted, share_there, shown_few}
+use Rattle.subscriptions.proofs.Recounting.{AreCounted, counted_few, one_changed, position_within, share_there, shown_few}
 use Rattle.subscriptions.proofs.subscriptions.Subscriptions.update.Goals as goal
 
 pub update-requires-clause-there : goal.update-requires-clause-there
@@ -22,12 +21,11 @@ update-requires-clause-few c = shown_few c.self.inside.clients.items c.self.insi
 pub write-requires : goal.write-requires
 write-requires c =
     let place : Some c.in-Some.place ≡ position (is_of c.args.conn) c.self.inside.clients.items = sym c.in-Some.is ∙ c.find.ensures ∙ ap (position (is_of c.args.conn)) c.deref.ensures.value in
-    let within : c.in-Some.place < length c.self.inside.clients.items = position_within (is_of c.args.conn) c.self.inside.clients.items c.in-Some.place place in
-    shown_few (set c.self.inside.clients.items c.in-Some.place c.update.new.self) c.update.new.counts
-    (recounted c.self.inside.clients.items c.in-Some.place c.index_mut-client.result.now c.self.inside.counts c.index_mut-client.ensures.value c.self.invariant.counted c.update.new.self c.update.new.counts within c.update.ensures.counts)
-    (omega (arith, length-set c.self.inside.clients.items c.in-Some.place c.update.new.self, c.self.invariant.few))
-    (all_set (λ client. length client.list ≤ 30) c.self.inside.clients.items c.in-Some.place c.update.new.self c.index_mut-client.result.now
-    (λ old. subst (λ client. length client.list ≤ 30) (sym c.update.ensures.client) c.update.ensures.short) c.self.invariant.short)
+    let table : AreCounted (set c.self.inside.clients.items c.in-Some.place c.update.new.self) c.update.new.counts =
+    one_changed (is_of c.args.conn) c.self.inside.clients.items c.in-Some.place c.index_mut-client.result.now c.update.new.self c.self.inside.counts c.update.new.counts c.index_mut-client.ensures.value place
+    (record { few = c.self.invariant.few; short = c.self.invariant.short; counted = c.self.invariant.counted }) c.update.ensures.counts
+    (subst (λ client. length client.list ≤ 30) (sym c.update.ensures.client) c.update.ensures.short) in
+    counted_few (set c.self.inside.clients.items c.in-Some.place c.update.new.self) c.update.new.counts table
 
 pub invariant_of-self : goal.invariant_of-self
 invariant_of-self c =
@@ -45,16 +43,16 @@ invariant_of-self c =
 pub invariant_of-self-2 : goal.invariant_of-self-2
 invariant_of-self-2 c =
     let place : Some c.in-Some.place ≡ position (is_of c.args.conn) c.self.inside.clients.items = sym c.in-Some.is ∙ c.find.ensures ∙ ap (position (is_of c.args.conn)) c.deref.ensures.value in
-    let within : c.in-Some.place < length c.self.inside.clients.items = position_within (is_of c.args.conn) c.self.inside.clients.items c.in-Some.place place in
-    let counted : CountShown (set c.self.inside.clients.items c.in-Some.place c.update.new.self) c.update.new.counts = recounted c.self.inside.clients.items c.in-Some.place c.index_mut-client.result.now c.self.inside.counts c.index_mut-client.ensures.value c.self.invariant.counted c.update.new.self c.update.new.counts within c.update.ensures.counts in
+    let table : AreCounted (set c.self.inside.clients.items c.in-Some.place c.update.new.self) c.update.new.counts =
+    one_changed (is_of c.args.conn) c.self.inside.clients.items c.in-Some.place c.index_mut-client.result.now c.update.new.self c.self.inside.counts c.update.new.counts c.index_mut-client.ensures.value place
+    (record { few = c.self.invariant.few; short = c.self.invariant.short; counted = c.self.invariant.counted }) c.update.ensures.counts
+    (subst (λ client. length client.list ≤ 30) (sym c.update.ensures.client) c.update.ensures.short) in
     record {
-      few = omega (arith, length-set c.self.inside.clients.items c.in-Some.place c.update.new.self, c.self.invariant.few);
+      few = table.few;
       room = c.self.invariant.room;
-      short =
-          all_set (λ client. length client.list ≤ 30) c.self.inside.clients.items c.in-Some.place c.update.new.self c.index_mut-client.result.now
-          (λ old. subst (λ client. length client.list ≤ 30) (sym c.update.ensures.client) c.update.ensures.short) c.self.invariant.short;
-      counted = counted;
-      merged = c.write.ensures (gathered (set c.self.inside.clients.items c.in-Some.place c.update.new.self)) counted.counted;
+      short = table.short;
+      counted = table.counted;
+      merged = c.write.ensures (gathered (set c.self.inside.clients.items c.in-Some.place c.update.new.self)) table.counted.counted;
     }
 
 pub returns-then-not-update-clause-updated : goal.returns-then-not-update-clause-updated
@@ -72,4 +70,12 @@ returns-clause-updated c =
 pub returns-in_default : goal.returns-in_default
 returns-in_default c =
     let nowhere : None ≡ position (is_of c.args.conn) c.args.self.now = c.in_default.ensures ∙ ap (position (is_of c.args.conn)) (c.deref.ensures.value ∙ c.self.view_is) in
-    record { updated = sym (changed_none c.args.conn (with_both c.args.shown c.args.list.now) c.args.self.now nowhere); same = λ is. refl }
+    record { updated = sym (changed_none c.args.conn (with_both c.args.shown c.args.list.now) c.args.self.now nowhere); same = λ is. refl; other = λ is. absurd (cc) }
+
+pub returns-clause-other : goal.returns-clause-other
+returns-clause-other c = λ is same.
+    let clients : List Client = c.self.inside.clients.items in
+    let place : Some c.in-Some.place ≡ position (is_of c.args.conn) clients = sym c.in-Some.is ∙ c.find.ensures ∙ ap (position (is_of c.args.conn)) c.deref.ensures.value in
+    let within : c.in-Some.place < length clients = position_within (is_of c.args.conn) clients c.in-Some.place place in
+    let there : get_or (set clients c.in-Some.place c.update.new.self) c.in-Some.place c.index_mut-client.result.now ≡ c.update.new.self = get_or-set_same clients c.in-Some.place c.update.new.self c.index_mut-client.result.now within in
+    c.update.ensures.other c.if-not-update.false (sym there ∙ ap (λ (l : List Client). get_or l c.in-Some.place c.index_mut-client.result.now) (same ∙ sym c.self.view_is) ∙ sym c.index_mut-client.ensures.value)
