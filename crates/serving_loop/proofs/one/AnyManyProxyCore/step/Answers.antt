@@ -1,4 +1,4 @@
-use Rattle.std.proofs.Common.{◌≡◌, List, ◌∷◌, map, ap, sym, subst, ◌∙◌}
+use Rattle.std.proofs.Common.{◌≡◌, ◌∷◌, map, ap, sym, subst, ◌∙◌}
 use Rattle.proxy_history.specs.Events.{Event, greatest_after}
 use Rattle.proxy_serving.specs.Face.{CanMeet, BringsIn}
 use Rattle.many_serving.specs.Proxy.{ManyProxy}
