@@ -25,3 +25,6 @@ returns-clause-asks g c = λ heard stands.
     let has : HasReply c.exchange.new.awaiting asks.passed (record { place = c.in_ok-found.found.place; bytes = c.bytes.result.now }) =
     subst (λ (l : List ℕ). HasReply c.exchange.new.awaiting asks.passed (record { place = c.in_ok-found.found.place; bytes = l })) (sym c.bytes.ensures) asks.answered.answer in
     RepliesTo-reads asks c.bytes.ensures (rw number at (c.in_ok-answer.ensures.reads asks.passed has))
+
+pub returns-clause-whole : goal.returns-clause-whole
+returns-clause-whole g c = c.in_ok-answer.ensures.whole
