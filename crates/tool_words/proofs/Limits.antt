@@ -187,7 +187,8 @@ mbimcli-fits command rows =
     Fits-each _ (device_in rows) (λ named _.
     Fits-each _ named (λ device _.
     Fits-each _ (flag_of (is_given mbim_setting_spelling rows mbim_setting.DecodeSms) (mbim_reads command)) (λ decode _.
-    Fits-each _ ((mbim_line command).request (value_given mbim_spelling rows command)) (λ request _. tt)))))
+    Fits-each _ (form_of decode (is_given mbim_setting_spelling rows mbim_setting.Json)) (λ form _.
+    Fits-each _ ((mbim_line command).request (value_given mbim_spelling rows command)) (λ request _. tt))))))
 
 -- ---- what the words ask for ----
 

@@ -4,6 +4,7 @@ ghost use Rattle.tool_words.specs.Answers.{Answers};
 ghost use Rattle.tool_words.specs.Mbimcli.{mbim_asks, mbim_setting_spelling, mbim_settings, mbimcli_app, mbimcli_asked, mbimcli_values};
 ghost use Rattle.tool_words.specs.Values.{Gives};
 
+use crate::form::{AnswerForm, form_of};
 use crate::given::{is_given, value_given};
 use crate::link::{LinkSettings, device_given, link_given};
 use crate::mbim_commands::{MbimCommand, mbimcli_commands, reads_messages, request};
@@ -25,8 +26,8 @@ pub struct MbimTask {
     /// Whether the modem is closed afterwards.
     pub close: bool,
     pub request: MbimRequest,
-    /// Whether the messages in the answer are told in words.
-    pub decode: bool,
+    /// How the answer is printed.
+    pub form: AnswerForm,
 }
 
 /// An option of `mbimcli` that says how its command is run, beside those of the link.
@@ -34,9 +35,14 @@ pub struct MbimTask {
 pub enum MbimSetting {
     NoClose,
     DecodeSms,
+    Json,
 }
 
-static MBIM_SETTINGS: [MbimSetting; 2] = [MbimSetting::NoClose, MbimSetting::DecodeSms];
+static MBIM_SETTINGS: [MbimSetting; 3] = [
+    MbimSetting::NoClose,
+    MbimSetting::DecodeSms,
+    MbimSetting::Json,
+];
 
 impl ToolOption for MbimSetting {
     ghost spelling = { mbim_setting_spelling };
@@ -45,6 +51,7 @@ impl ToolOption for MbimSetting {
         match self {
             MbimSetting::NoClose => flag("no-close"),
             MbimSetting::DecodeSms => flag("decode-sms"),
+            MbimSetting::Json => flag("json"),
         }
     }
 }
@@ -78,6 +85,7 @@ impl ModemCommand for MbimCommand {
         let device = or_fault(device_given(alloc, matches)?)?;
         let decode = is_given(matches, MbimSetting::DecodeSms);
         let decode = flag_of(decode, reads_messages(self))?;
+        let form = form_of(decode, is_given(matches, MbimSetting::Json))?;
         let request = request(alloc, self, value_given(matches, self))?;
         let stays = is_given(matches, MbimSetting::NoClose);
         Ok(ToolCommand::Mbimcli(MbimTask {
@@ -85,7 +93,7 @@ impl ModemCommand for MbimCommand {
             link,
             close: !stays,
             request,
-            decode,
+            form,
         }))
     }
 }
