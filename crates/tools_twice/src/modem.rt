@@ -48,8 +48,8 @@ impl<S: Simulated> ModemPeer<S> {
         ensures limits { OnOk result (IsWithin profile.now) }
         ensures met { IfOk result (λ peer. S.keeps (S.answering peer.profile) [] peer.sim) }
     {
+        let sim = S::of(alloc, profile)?;
         let profile = profile.copy(alloc)?;
-        let sim = S::of(alloc, &profile)?;
         Ok(ModemPeer {
             alloc,
             profile,

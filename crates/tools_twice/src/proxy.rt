@@ -35,10 +35,10 @@ impl<S: Simulated, B: Bench> ProxyPeer<S, B> {
         ensures device { IfOk result (λ peer. peer.device ≡ device.now) }
         ensures met { IfOk result (λ peer. HasRelayed B.keeps B.runs S.keeps (cast_of S.kind peer.device S.Framing.size (S.answering peer.profile)) (opened S.kind peer.device) [] peer.bench peer.sim) }
     {
-        let profile = profile.copy(alloc)?;
-        let sim = S::of(alloc, &profile)?;
+        let sim = S::of(alloc, profile)?;
         begin(alloc, &mut bench, S::kind(), device)?;
         let device = Octets::from_slice(alloc, device.as_bytes())?;
+        let profile = profile.copy(alloc)?;
         Ok(ProxyPeer {
             alloc,
             profile,

@@ -2,6 +2,7 @@ use Rattle.std.proofs.Common.{◌≡◌, ℕ, List, [], ◌∷◌, sym, subst, r
 use Rattle.kit_bytes.specs.declared.kind.Kind.{Kind}
 use Rattle.proxy_history.specs.Events.{Joined}
 use Rattle.core_bench.specs.Runs.{proxy_for}
+use Rattle.modem_profile.specs.Profile.{Profile}
 use Rattle.rig_stage.specs.Running.{Runs}
 use Rattle.lone_client.specs.Relay.{relayed}
 use Rattle.tools_twice.specs.Peers.{opened}
@@ -18,6 +19,6 @@ returns-clause-met g c =
       earlier = told.0;
       relayed_are = record {
         runs = subst (λ kind. At kind c.in_ok-device.device) c.kind.ensures (subst (At c.kind.result) (sym device) (c.in_ok-begin.ensures.runs told.0 told.1));
-        kept = c.in_ok-sim.ensures;
+        kept = subst (λ (p : Profile). g.S.Sim.keeps (g.S.Simulated.answering p) [] c.in_ok-sim.sim) (sym c.in_ok-profile.ensures.same) c.in_ok-sim.ensures;
       };
     }
