@@ -3,7 +3,6 @@ use Rattle.std.proofs.Common.{◌≡◌, ℕ, ◌+◌, ◌≤◌, Bool, true, fa
 use Rattle.std.specs.Prelude.{if◌then◌else◌}
 use Rattle.std.proofs.lemmas.Bool.Decides.{nat_tests}
 use Rattle.std.proofs.lemmas.List.{append-nil}
-use Rattle.std.proofs.lemmas.Grind.{flat_map-append}
 use Rattle.std.proofs.lemmas.List.Elements.{Contains-append_left, Contains-append_right, Contains-append_cases}
 use Rattle.kit_bytes.specs.Subscriptions.{Pair, Subscription, normal_form, pairs_of}
 use Rattle.kit_bytes.proofs.Members.{Contains-nil, Contains-filter, Contains-filter_from, Contains-filter_passes}
@@ -13,7 +12,7 @@ use Rattle.subscriptions.proofs.NormalForms.{IsFree, covers_itself, normal_again
 use Rattle.subscriptions.proofs.Covering.{AreCovered, covered_within, same_form, form_covers, form_joined, form_shorter, form_swapped}
 use Rattle.subscribe_lists.specs.ClientLists.{services, singles}
 use Rattle.mbim_services.proofs.Ranges.{single, single-in, pair-in}
-use Rattle.subscribe_lists.proofs.Events.{covered_more, pair_cases, services_next, single_cases, singles_single, take_next}
+use Rattle.subscribe_lists.proofs.Events.{covered_more, pair_cases, services_next, single_cases, singles_single, pairs_next}
 
 -- some of the pairs were added to the list, and these are left
 pub record Adds (pairs list left : List Pair) : Type 0 where
@@ -79,6 +78,14 @@ module _ {pairs list : List Pair} (front left : List Pair) (adds : Adds pairs li
 
 pub adds_nothing : {pairs list : List Pair} → Adds pairs list [] → list ≡ normal_form pairs
 adds_nothing {list = list} adds = sym adds.normal ∙ ap normal_form (sym (append-nil list)) ∙ adds.form
+
+pub adds_pair : {pairs list new : List Pair} (p : Pair) {left coming : List Pair} → Adds pairs list coming → coming ≡ p ∷ left → new ≡ normal_form (p ∷ list) → Adds pairs new left
+adds_pair {pairs} {list} {new} p {left} adds are new_is =
+    let before : Adds pairs list (p ∷ left) = subst (λ (l : List Pair). Adds pairs list l) are adds in
+    subst (λ (l : List Pair). Adds pairs l left) (sym new_is) (adds_front (p ∷ []) left before)
+
+pub pair_shorter : {pairs list : List Pair} (p : Pair) {left coming : List Pair} → Adds pairs list coming → coming ≡ p ∷ left → length (normal_form (p ∷ list)) ≤ length (normal_form pairs)
+pair_shorter {pairs} {list} p {left} adds are = adds_shorter (p ∷ []) left (subst (λ (l : List Pair). Adds pairs list l) are adds)
 
 -- ---- all CIDs of services ----
 
@@ -152,12 +159,10 @@ adds_no_cid uuid cids list normal = record {
 }
 
 pub adds_cid : {pairs list new : List Pair} (uuid : List ℕ) (cid : ℕ) {left cids : List ℕ} → Adds pairs list (singles uuid cids) → cids ≡ cid ∷ left → new ≡ normal_form ((uuid, Some cid) ∷ list) → Adds pairs new (singles uuid left)
-adds_cid {pairs} {list} {new} uuid cid {left} {cids} adds are new_is =
-    let before : Adds pairs list (singles uuid (cid ∷ left)) = subst (λ (l : List ℕ). Adds pairs list (singles uuid l)) are adds in
-    subst (λ (l : List Pair). Adds pairs l (singles uuid left)) (sym new_is) (adds_front ((uuid, Some cid) ∷ []) (singles uuid left) before)
+adds_cid uuid cid adds are new_is = adds_pair (uuid, Some cid) adds (ap (singles uuid) are) new_is
 
 pub cid_shorter : {pairs list : List Pair} (uuid : List ℕ) (cid : ℕ) {left cids : List ℕ} → Adds pairs list (singles uuid cids) → cids ≡ cid ∷ left → length (normal_form ((uuid, Some cid) ∷ list)) ≤ length (normal_form pairs)
-cid_shorter {pairs} {list} uuid cid {left} {cids} adds are = adds_shorter ((uuid, Some cid) ∷ []) (singles uuid left) (subst (λ (l : List ℕ). Adds pairs list (singles uuid l)) are adds)
+cid_shorter uuid cid adds are = pair_shorter (uuid, Some cid) adds (ap (singles uuid) are)
 
 -- ---- all pairs ----
 
@@ -257,10 +262,7 @@ module _ (events : List Subscription) (place : ℕ) (uuid cids : List ℕ) {list
   covered_still xs covered q at = let some = covered q at in (some.0, Contains-append_right (singles uuid cids) list some.0 some.1, some.2)
 
   front_is : pairs_in (take (place + 1) events) ≡ pairs_in (take place events) ++ event
-  front_is =
-      ap pairs_in (take_next events place (record { uuid = uuid; cids = unread.all }) (drop (place + 1) events) unread.there)
-      ∙ flat_map-append (λ (s : Subscription). pairs_of s.uuid s.cids) (take place events) (record { uuid = uuid; cids = unread.all } ∷ [])
-      ∙ ap (λ (l : List Pair). pairs_in (take place events) ++ l) (append-nil event)
+  front_is = pairs_next events place uuid unread.all unread.there
 
   front_covered : AreCovered (pairs_in (take place events) ++ event) (singles uuid cids ++ list)
   front_covered q at =

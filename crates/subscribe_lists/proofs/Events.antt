@@ -1,6 +1,8 @@
 -- The pairs of events, and what covers them.
 use Rattle.std.proofs.Common.{◌≡◌, ◌⊎◌, ℕ, zero, suc, ◌+◌, true, false, is_none, List, [], ◌∷◌, ◌++◌, length, take, drop, get_or, refl, arith, ap, sym, ◌∙◌, inl, inr, ⊎_elim, subst, Contains, None, ◌==◌}
 use Rattle.std.proofs.Math.Seq.{drop-nil}
+use Rattle.std.proofs.lemmas.Grind.{flat_map-append}
+use Rattle.std.proofs.lemmas.List.{append-nil}
 use Rattle.std.proofs.lemmas.List.Elements.{filter-append}
 use Rattle.kit_bytes.specs.Subscriptions.{Pair, Subscription, pairs_of}
 use Rattle.kit_bytes.proofs.Members.{Contains-cons, Contains-cons_cases, Contains-nil}
@@ -43,12 +45,18 @@ services_some uuid (cid ∷ cids) some = services_singles uuid (cid ∷ cids)
 pub services_next : (events : List Subscription) (place : ℕ) (uuid cids : List ℕ) → IsEventAt events place uuid cids → services (pairs_in (drop place events)) ≡ services (pairs_of uuid cids) ++ services (pairs_in (drop (place + 1) events))
 services_next events place uuid cids there = ap (λ (l : List Subscription). services (pairs_in l)) there ∙ filter-append (λ (p : Pair). is_none p.1) (pairs_of uuid cids) (pairs_in (drop (place + 1) events))
 
-pub take_next : (events : List Subscription) (place : ℕ) (event : Subscription) (behind : List Subscription) → drop place events ≡ event ∷ behind → take (place + 1) events ≡ take place events ++ event ∷ []
+take_next : (events : List Subscription) (place : ℕ) (event : Subscription) (behind : List Subscription) → drop place events ≡ event ∷ behind → take (place + 1) events ≡ take place events ++ event ∷ []
 take_next [] place event behind there = absurd (let none = sym (drop-nil place) ∙ there in cc)
 take_next (first ∷ events) zero event behind there = ap (λ (l : List Subscription). get_or l 0 event ∷ []) there
 take_next (first ∷ events) (suc place) event behind there =
     let next : suc place + 1 ≡ suc (place + 1) = omega arith in
     ap (λ (n : ℕ). take n (first ∷ events)) next ∙ ap (λ (l : List Subscription). first ∷ l) (take_next events place event behind there)
+
+pub pairs_next : (events : List Subscription) (place : ℕ) (uuid cids : List ℕ) → IsEventAt events place uuid cids → pairs_in (take (place + 1) events) ≡ pairs_in (take place events) ++ pairs_of uuid cids
+pairs_next events place uuid cids there =
+    ap pairs_in (take_next events place (record { uuid = uuid; cids = cids }) (drop (place + 1) events) there)
+    ∙ flat_map-append (λ (s : Subscription). pairs_of s.uuid s.cids) (take place events) (record { uuid = uuid; cids = cids } ∷ [])
+    ∙ ap (λ (l : List Pair). pairs_in (take place events) ++ l) (append-nil (pairs_of uuid cids))
 
 -- ---- covering ----
 

@@ -1,2 +1,4 @@
 pub mod Adding
 pub mod Events
+pub mod Orders
+pub mod Sweeping

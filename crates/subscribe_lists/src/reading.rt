@@ -1,11 +1,18 @@
-ghost use Rattle.std.specs.Prelude.{◌≡◌, ◌≤◌, ◌&&◌, ◌∷◌, ◌++◌, [], true, bytes_eq, length, is_some, Some, IfSome};
-ghost use Rattle.std.specs.List.{list_any};
+ghost use Rattle.std.specs.Prelude.{◌≡◌, ◌≤◌, ◌+◌, ◌*◌, ◌&&◌, ◌∷◌, ◌++◌, [], true, bytes_eq, length, is_some, slice_range, ℕ, Some, IfSome, IsSome};
+ghost use Rattle.std.specs.List.{Contains, list_any};
+ghost use Rattle.kit_bytes.specs.Numbers.{number_at};
 ghost use Rattle.kit_bytes.specs.Subscriptions.{normal_form, pairs_of};
 ghost use Rattle.mbim_services.specs.EventLists.{pairs_in};
+ghost use Rattle.mbim_services.specs.SubscribeLists.{list_of_buffer, numbers_of};
 ghost use Rattle.subscriptions.specs.Lists.{IsNormal, covers, fits, has_cid};
 ghost use Rattle.subscribe_lists.specs.ClientLists.{client_list, services, singles};
+ghost use Rattle.subscribe_lists.specs.Structures.{IsWholeAt, events_at};
 
-use mbim_services::{Event, EventList};
+use crate::order::bring_in_order;
+use crate::sweep::{Stretch, cids_at, is_further, stretch_at, without};
+use arrayvec::ArrayVec;
+use kit_bytes::u32_at;
+use mbim_services::{Event, EventList, Events};
 use subscriptions::{LONGEST_CLIENT_LIST, Pair, PairList};
 use uuid::Uuid;
 
@@ -18,19 +25,20 @@ pub fn read_list(buffer: &[u8], into: &mut PairList) -> bool
     let Some(events) = EventList::read(buffer) else {
         return false;
     };
-    add_few(&events, into)
+    add_few(buffer, &events, into)
 }
 
 // The normal form of the pairs of events, if it is short. All CIDs of a service are added first: what is
 // added then makes the list no shorter.
-fn add_few(events: &EventList<'_>, into: &mut PairList) -> bool
+fn add_few(buffer: &[u8], events: &EventList<'_>, into: &mut PairList) -> bool
+    requires { list_of_buffer buffer.now ≡ Some (pairs_in events.now) }
     ensures few { result ≡ fits LONGEST_CLIENT_LIST (pairs_in events.now) }
     ensures list { result ≡ true → into.new ≡ normal_form (pairs_in events.now) }
 {
     if !add_services(events, into) {
         return false;
     }
-    add_all(events, into)
+    add_all(buffer, events, into)
 }
 
 // Adds the pairs that stand for all CIDs of a service to an empty list.
@@ -48,14 +56,64 @@ fn add_services(events: &EventList<'_>, into: &mut PairList) -> bool
 }
 
 // Adds all pairs to a list that has those that stand for all CIDs of a service.
-fn add_all(events: &EventList<'_>, into: &mut PairList) -> bool
+fn add_all(buffer: &[u8], events: &EventList<'_>, into: &mut PairList) -> bool
+    requires list { list_of_buffer buffer.now ≡ Some (pairs_in events.now) }
     requires services { into.old ≡ normal_form (services (pairs_in events.now)) }
     requires few { length into.old ≤ LONGEST_CLIENT_LIST }
     ensures few { result ≡ fits LONGEST_CLIENT_LIST (pairs_in events.now) }
     ensures list { result ≡ true → into.new ≡ normal_form (pairs_in events.now) }
 {
-    for place in 0..events.len() {
-        if !add_cids(into, events.unread(place)) {
+    let mut order = ArrayVec::new();
+    if bring_in_order(buffer, references_of(buffer), &mut order) {
+        return add_ordered(buffer, order.as_slice(), into);
+    }
+    add_in_turn(Events::read(buffer).unwrap(), into)
+}
+
+// The references of a list's buffer.
+fn references_of(buffer: &[u8]) -> &[u8]
+    requires { IsSome (list_of_buffer buffer.now) }
+    ensures { result.now ≡ slice_range buffer.now 4 (4 + 8 * number_at buffer.now 0 4) }
+{
+    &buffer[4..4 + 8 * u32_at(buffer, 0) as usize]
+}
+
+// Adds the single CIDs of events. What is left of one behind the event that reached furthest is read alone,
+// so that in order of their places no CID of a service is read twice.
+fn add_ordered(buffer: &[u8], order: &[(u32, u32)], into: &mut PairList) -> bool
+    requires whole { (at : ℕ × ℕ) → Contains order.now at → IsWholeAt buffer.now at.1 }
+    requires services { into.old ≡ normal_form (services (pairs_in (events_at buffer.now order.now))) }
+    requires few { length into.old ≤ LONGEST_CLIENT_LIST }
+    ensures few { result ≡ fits LONGEST_CLIENT_LIST (pairs_in (events_at buffer.now order.now)) }
+    ensures list { result ≡ true → into.new ≡ normal_form (pairs_in (events_at buffer.now order.now)) }
+{
+    let mut furthest = Stretch {
+        uuid: Uuid::nil(),
+        start: 0,
+        end: 0,
+    };
+    for place in 0..order.len() {
+        let stretch = stretch_at(buffer, order[place].1 as usize);
+        let left = without(&stretch, &furthest);
+        if !add_cids(into, left.uuid, cids_at(buffer, &left)) {
+            return false;
+        }
+        if is_further(&furthest, &stretch) {
+            furthest = stretch;
+        }
+    }
+    true
+}
+
+// Adds pairs one after another.
+fn add_in_turn(mut pairs: Events<'_>, into: &mut PairList) -> bool
+    requires services { into.old ≡ normal_form (services pairs) }
+    requires few { length into.old ≤ LONGEST_CLIENT_LIST }
+    ensures few { result ≡ fits LONGEST_CLIENT_LIST pairs.entry }
+    ensures list { result ≡ true → into.new ≡ normal_form pairs.entry }
+{
+    'pairs: while let Some(pair) = pairs.next() {
+        if !add(into, pair.0, pair.1) {
             return false;
         }
     }
@@ -75,20 +133,21 @@ fn add_service(into: &mut PairList, event: &Event<'_>) -> bool
     add(into, event.uuid, None)
 }
 
-// Adds the single CIDs of an event, and nothing if it has none.
-fn add_cids(into: &mut PairList, event: Event<'_>) -> bool
+// Adds the CIDs of a service that bytes spell.
+fn add_cids(into: &mut PairList, uuid: Uuid, bytes: &[u8]) -> bool
     requires normal { IsNormal into.old }
     requires few { length into.old ≤ LONGEST_CLIENT_LIST }
-    ensures few { result ≡ fits LONGEST_CLIENT_LIST (singles event.entry.uuid event.entry.cids ++ into.old) }
-    ensures list { result ≡ true → into.new ≡ normal_form (singles event.entry.uuid event.entry.cids ++ into.old) }
+    ensures few { result ≡ fits LONGEST_CLIENT_LIST (singles uuid (numbers_of bytes.now) ++ into.old) }
+    ensures list { result ≡ true → into.new ≡ normal_form (singles uuid (numbers_of bytes.now) ++ into.old) }
 {
-    let Event { uuid, mut cids } = event;
     // what the list has of the service stands from here on, whatever is added of it
     let first = first_of(into.pairs(), uuid);
-    'cids: while let Some(cid) = cids.next() {
-        if !add_cid(into, first, uuid, cid) {
+    let mut left = bytes;
+    while 4 <= left.len() {
+        if !add_cid(into, first, uuid, u32_at(left, 0)) {
             return false;
         }
+        left = &left[4..];
     }
     true
 }

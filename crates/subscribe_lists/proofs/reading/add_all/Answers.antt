@@ -1,24 +1,52 @@
-use Rattle.std.proofs.Common.{◌++◌, sym, ◌∙◌}
+use Rattle.std.proofs.Common.{ℕ, nat_le, List, length, map, refl, sym, ◌∙◌, ap, subst, IsSome, Option, Contains}
+use Rattle.std.specs.List.Sorted.{IsPermutation}
+use Rattle.kit_bytes.specs.Subscriptions.{Pair}
 use Rattle.mbim_services.specs.EventLists.{pairs_in}
-use Rattle.subscribe_lists.specs.ClientLists.{singles}
-use Rattle.subscribe_lists.proofs.Adding.{reads_nothing, reads_event, event_shorter, long_with, fits_length}
+use Rattle.mbim_services.specs.SubscribeLists.{numbers_of}
+use Rattle.subscribe_lists.specs.Structures.{IsWholeAt, offsets}
+use Rattle.subscribe_lists.proofs.Orders.{references, referred_whole, order_whole, order_form, order_services}
 use Rattle.subscribe_lists.proofs.reading.add_all.Goals as goal
 
-pub loop-place-init : goal.loop-place-init
-loop-place-init c = record { reads = reads_nothing c.args.events.now c.args.into.now c.requires.services; few = c.requires.few }
+pub references_of-requires : goal.references_of-requires
+references_of-requires c = subst (λ (o : Option (List Pair)). IsSome o) (sym c.requires.list) refl
 
-pub returns-then-not-add_cids-clause-few : goal.returns-then-not-add_cids-clause-few
-returns-then-not-add_cids-clause-few c =
-    long_with 30 (singles c.unread.result.uuid c.unread.result.cids ++ c.loop-place.into) (pairs_in c.args.events.now)
-    (event_shorter c.args.events.now c.loop-place.place c.unread.result.uuid c.unread.result.cids c.loop-place.invariant.reads c.unread.ensures) (sym c.if-not-add_cids.true ∙ c.add_cids.ensures.few)
+pub bring_in_order-requires : goal.bring_in_order-requires
+bring_in_order-requires c = record {
+  whole = subst (λ (l : List ℕ). (offset : ℕ) → Contains (offsets (numbers_of l)) offset → IsWholeAt c.args.buffer.now offset) (sym c.references_of.ensures) (referred_whole c.args.buffer.now (pairs_in c.args.events.now) c.requires.list);
+}
 
-pub loop-place-preserved : goal.loop-place-preserved
-loop-place-preserved c =
-    let new = c.add_cids.ensures.list c.if-not-add_cids.false in
-    record {
-      reads = reads_event c.args.events.now c.loop-place.place c.unread.result.uuid c.unread.result.cids c.loop-place.invariant.reads c.unread.ensures new;
-      few = fits_length 30 (singles c.unread.result.uuid c.unread.result.cids ++ c.loop-place.into) (sym c.if-not-add_cids.false ∙ c.add_cids.ensures.few) new;
-    }
+pub add_ordered-requires-clause-whole : goal.add_ordered-requires-clause-whole
+add_ordered-requires-clause-whole c =
+    let buffer : List ℕ = c.args.buffer.now in
+    let pairs : List Pair = pairs_in c.args.events.now in
+    let shuffled : IsPermutation (offsets (references buffer)) (map (λ (it : ℕ × ℕ). it.1) c.as_slice.result.now) =
+    subst (λ (l : List (ℕ × ℕ)). IsPermutation (offsets (references buffer)) (map (λ (it : ℕ × ℕ). it.1) l)) (sym c.as_slice.ensures.value)
+    (subst (λ (l : List ℕ). IsPermutation (offsets (numbers_of l)) (map (λ (it : ℕ × ℕ). it.1) c.bring_in_order.new.order.items)) c.references_of.ensures (c.bring_in_order.ensures c.if-bring_in_order.true)) in
+    order_whole buffer pairs c.requires.list c.as_slice.result.now shuffled
 
-pub add_cids-requires : goal.add_cids-requires
-add_cids-requires c = record { normal = c.loop-place.invariant.reads.adds.normal; few = c.loop-place.invariant.few }
+pub add_ordered-requires-clause-services : goal.add_ordered-requires-clause-services
+add_ordered-requires-clause-services c =
+    let buffer : List ℕ = c.args.buffer.now in
+    let pairs : List Pair = pairs_in c.args.events.now in
+    let shuffled : IsPermutation (offsets (references buffer)) (map (λ (it : ℕ × ℕ). it.1) c.as_slice.result.now) =
+    subst (λ (l : List (ℕ × ℕ)). IsPermutation (offsets (references buffer)) (map (λ (it : ℕ × ℕ). it.1) l)) (sym c.as_slice.ensures.value)
+    (subst (λ (l : List ℕ). IsPermutation (offsets (numbers_of l)) (map (λ (it : ℕ × ℕ). it.1) c.bring_in_order.new.order.items)) c.references_of.ensures (c.bring_in_order.ensures c.if-bring_in_order.true)) in
+    c.requires.services ∙ order_services buffer pairs c.requires.list c.as_slice.result.now shuffled
+
+pub returns-then-bring_in_order-clause-few : goal.returns-then-bring_in_order-clause-few
+returns-then-bring_in_order-clause-few c =
+    let buffer : List ℕ = c.args.buffer.now in
+    let pairs : List Pair = pairs_in c.args.events.now in
+    let shuffled : IsPermutation (offsets (references buffer)) (map (λ (it : ℕ × ℕ). it.1) c.as_slice.result.now) =
+    subst (λ (l : List (ℕ × ℕ)). IsPermutation (offsets (references buffer)) (map (λ (it : ℕ × ℕ). it.1) l)) (sym c.as_slice.ensures.value)
+    (subst (λ (l : List ℕ). IsPermutation (offsets (numbers_of l)) (map (λ (it : ℕ × ℕ). it.1) c.bring_in_order.new.order.items)) c.references_of.ensures (c.bring_in_order.ensures c.if-bring_in_order.true)) in
+    c.add_ordered.ensures.few ∙ ap (λ (l : List Pair). nat_le (length l) 30) (sym (order_form buffer pairs c.requires.list c.as_slice.result.now shuffled))
+
+pub returns-then-bring_in_order-clause-list : goal.returns-then-bring_in_order-clause-list
+returns-then-bring_in_order-clause-list c =
+    let buffer : List ℕ = c.args.buffer.now in
+    let pairs : List Pair = pairs_in c.args.events.now in
+    let shuffled : IsPermutation (offsets (references buffer)) (map (λ (it : ℕ × ℕ). it.1) c.as_slice.result.now) =
+    subst (λ (l : List (ℕ × ℕ)). IsPermutation (offsets (references buffer)) (map (λ (it : ℕ × ℕ). it.1) l)) (sym c.as_slice.ensures.value)
+    (subst (λ (l : List ℕ). IsPermutation (offsets (numbers_of l)) (map (λ (it : ℕ × ℕ). it.1) c.bring_in_order.new.order.items)) c.references_of.ensures (c.bring_in_order.ensures c.if-bring_in_order.true)) in
+    λ short. c.add_ordered.ensures.list short ∙ sym (order_form buffer pairs c.requires.list c.as_slice.result.now shuffled)

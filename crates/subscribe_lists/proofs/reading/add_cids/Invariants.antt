@@ -1,13 +1,14 @@
 use Rattle.std.proofs.Common.{◌++◌, ◌≤◌, length}
+use Rattle.mbim_services.specs.SubscribeLists.{numbers_of}
 use Rattle.subscribe_lists.specs.ClientLists.{singles}
 use Rattle.subscribe_lists.proofs.Adding.{Adds}
 use Rattle.subscribe_lists.proofs.reading.add_cids.Given as goal
 
-abbrev pub invariant-cids : goal.invariant-cids
-invariant-cids l = record {
-  adds : Adds (singles l.uuid l.initial.cids ++ l.fn.into) l.into (singles l.uuid l.cids);
+abbrev pub invariant-loop-left : goal.invariant-loop-left
+invariant-loop-left l = record {
+  adds : Adds (singles l.uuid (numbers_of l.bytes) ++ l.fn.into) l.into (singles l.uuid (numbers_of l.left));
   few : length l.into ≤ 30;
 }
 
-abbrev pub decreases-cids : goal.decreases-cids
-decreases-cids l = length l.cids
+abbrev pub decreases-loop-left : goal.decreases-loop-left
+decreases-loop-left l = length l.left
