@@ -10,6 +10,11 @@ use std::io::{self, ErrorKind, Read, Write};
 /// How often a writing is tried that signals interrupt.
 const ATTEMPTS: u32 = 16;
 
+/// How much of a client that sent few bytes at a time is read at once. The system takes up to a
+/// microsecond for each byte that was sent by itself, so that a longer reading keeps the others
+/// waiting.
+const SLICE: usize = 16;
+
 /// What a reading gave.
 #[derive(Clone, Copy)]
 pub(crate) enum Gave {
@@ -35,6 +40,8 @@ pub(crate) struct Peer {
     token: Token,
     /// The last writing took nothing, and no room was found since.
     is_full: bool,
+    /// It sent few bytes at a time, and no reading since found all that there was.
+    is_slow: bool,
 }
 
 fn both_ways() -> Interest {
@@ -57,11 +64,17 @@ impl Peer {
             stream,
             token,
             is_full: false,
+            is_slow: false,
         })
     }
 
     pub(crate) fn is_full(&self) -> bool {
         self.is_full
+    }
+
+    /// It sent few bytes at a time, and may have sent more than was read.
+    pub(crate) fn is_slow(&self) -> bool {
+        self.is_slow
     }
 
     /// Whether an event is about this socket.
@@ -78,8 +91,9 @@ impl Peer {
         finds
     }
 
-    /// Has the registry tell of room alone.
+    /// Has the registry tell of room alone, and what comes be read in slices.
     pub(crate) fn rest(&mut self, registry: &Registry) {
+        self.is_slow = true;
         let _ = registry.reregister(&mut self.stream, self.token, Interest::WRITABLE);
     }
 
@@ -97,10 +111,14 @@ impl Peer {
         ensures fits { GaveFits result.gave (length buf.new) }
         ensures len { length buf.new ≡ length buf.old }
     {
+        let room = self.room(event, buf.len());
         let (gave, is_last) = if has_input(event) {
-            match self.stream.read(buf) {
+            match self.stream.read(&mut buf[..room]) {
                 Ok(0) => (Gave::End, true),
-                Ok(count) if count < buf.len() => (Gave::Bytes(count), !event.is_read_closed()),
+                Ok(count) if count < room => {
+                    self.is_slow = false;
+                    (Gave::Bytes(count), !event.is_read_closed())
+                }
                 Ok(count) => {
                     self.wake(registry);
                     (Gave::Bytes(count), true)
@@ -115,6 +133,19 @@ impl Peer {
             (Gave::Nothing, true)
         };
         Reading { gave, is_last }
+    }
+
+    // How much is read at once of a buffer of this length. Nobody waits for more of one that went.
+    fn room(&self, event: &Event, len: usize) -> usize
+        requires { 0 < len }
+        ensures some { 0 < result }
+        ensures fits { result ≤ len }
+    {
+        if self.is_slow && !event.is_read_closed() {
+            len.min(SLICE)
+        } else {
+            len
+        }
     }
 
     /// Writes once. A socket that takes nothing now is full.

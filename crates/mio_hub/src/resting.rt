@@ -5,8 +5,11 @@ use hub_io::PLACES;
 /// A piece of fewer bytes is no message: the shortest ones, of QMUX and of MBIM, have 12.
 pub(crate) const FEW: usize = 8;
 
-/// Behind so many milliseconds a client is read again.
-const REST: u64 = 2;
+/// Behind so many microseconds a client is read again, at the earliest.
+const REST: u64 = 2_000;
+
+/// And so many behind another one, so that what they all sent isn't read in one go.
+const APART: u64 = 250;
 
 /// A client that is read again at a time.
 #[derive(Clone, Copy, Default)]
@@ -15,16 +18,19 @@ struct Rest {
     due: u64,
 }
 
-/// Who is left alone, in the order of their times.
+/// Who is left alone, in the order of their times, which are in microseconds.
 #[derive(Drop)]
 pub(crate) struct Resting {
     rests: ArrayVec<Rest, PLACES>,
+    /// When the next one may be read again.
+    free: u64,
 }
 
 impl Resting {
     pub(crate) fn nobody() -> Self {
         Resting {
             rests: ArrayVec::new(),
+            free: 0,
         }
     }
 
@@ -41,9 +47,10 @@ impl Resting {
     /// Takes out the first client, once it is to be read again.
     pub(crate) fn next(&mut self, now: u64) -> Option<u64> {
         let due = self.rests.first()?.due;
-        if now < due {
+        if now < due || now < self.free {
             return None;
         }
+        self.free = now.saturating_add(APART);
         Some(self.rests.remove(0).name)
     }
 }

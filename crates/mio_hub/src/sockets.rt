@@ -310,12 +310,13 @@ impl<'a, R: Net + Clock + Files<File = File>> Sockets<'a, R> {
             return Some(HubEvent::Room(name));
         }
         let reading = peer.read(self.poll.registry(), &event, buf);
+        let is_slow = peer.is_slow();
         if reading.is_last {
             self.done();
         }
         match reading.gave {
             Gave::Bytes(count) => {
-                if count < FEW {
+                if count < FEW || is_slow {
                     self.rest(name);
                 }
                 Some(HubEvent::Piece(name, count))
@@ -328,14 +329,18 @@ impl<'a, R: Net + Clock + Files<File = File>> Sockets<'a, R> {
         }
     }
 
-    /// Leaves a client alone that sends few bytes at a time, so that others needn't wait for it.
+    /// Leaves a client alone that sends few bytes at a time, so that others needn't wait for it. Where
+    /// no more can be left alone, it is read on.
     fn rest(&mut self, name: u64)
         ensures names { self.new.names ≡ self.old.names }
     {
-        if let Some(peer) = peer_of(&mut self.clients, &self.names, name)
-            && self.resting.add(name, self.ticker.now())
-        {
+        let Some(peer) = peer_of(&mut self.clients, &self.names, name) else {
+            return;
+        };
+        if self.resting.add(name, self.ticker.micros()) {
             peer.rest(self.poll.registry());
+        } else {
+            peer.wake(self.poll.registry());
         }
     }
 
@@ -344,7 +349,7 @@ impl<'a, R: Net + Clock + Files<File = File>> Sockets<'a, R> {
     fn wake_next(&mut self)
         ensures names { self.new.names ≡ self.old.names }
     {
-        if let Some(name) = self.resting.next(self.ticker.now())
+        if let Some(name) = self.resting.next(self.ticker.micros())
             && let Some(peer) = peer_of(&mut self.clients, &self.names, name)
         {
             peer.wake(self.poll.registry());

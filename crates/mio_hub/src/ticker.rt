@@ -11,6 +11,8 @@ const TICK: u64 = 100;
 pub(crate) struct Ticker {
     start: Instant,
     now: u64,
+    /// The same time in microseconds.
+    micros: u64,
     /// When the time is to be told.
     due: u64,
 }
@@ -21,19 +23,28 @@ fn millis(time: Duration) -> u64 {
         .saturating_add(u64::from(time.subsec_millis()))
 }
 
+fn micros(time: Duration) -> u64 {
+    time.as_secs()
+        .saturating_mul(1_000_000)
+        .saturating_add(u64::from(time.subsec_micros()))
+}
+
 impl Ticker {
     /// A clock that starts now.
     pub(crate) fn start<R: Clock>(rt: &R) -> io::Result<Self> {
         Ok(Ticker {
             start: Instant::now(rt)?,
             now: 0,
+            micros: 0,
             due: TICK,
         })
     }
 
     /// Reads the time.
     pub(crate) fn read<R: Clock>(&mut self, rt: &R) -> io::Result<()> {
-        self.now = millis(Instant::now(rt)?.duration_since(self.start));
+        let time = Instant::now(rt)?.duration_since(self.start);
+        self.now = millis(time);
+        self.micros = micros(time);
         Ok(())
     }
 
@@ -46,9 +57,9 @@ impl Ticker {
         Some(self.now)
     }
 
-    /// The time that was read.
-    pub(crate) fn now(&self) -> u64 {
-        self.now
+    /// The time that was read, in microseconds.
+    pub(crate) fn micros(&self) -> u64 {
+        self.micros
     }
 
     /// How long it is until the time is to be told, or a millisecond where that isn't all that is waited for.
