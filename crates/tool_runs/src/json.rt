@@ -1,104 +1,88 @@
-ghost use Rattle.device_core.specs.Session.{Session as QmiSession};
-ghost use Rattle.tool_runs.specs.Json.{end_line, inside_line, no_bodies};
-ghost use Rattle.tool_runs.specs.Qmi.{refused};
-ghost use Rattle.tool_runs.specs.Tunnel as inside;
-ghost use Rattle.tunnel_session.specs.Session.{Session as TunnelSession};
+ghost use Rattle.std.specs.Prelude.{◌≡◌, ℕ, List, IfOk};
+ghost use Rattle.tool_runs.specs.Json.{end_line, inside_line, mbim_line, no_bodies};
 
 use crate::session::{Refusal, Session};
 use crate::tunnel::TunnelPlan;
-use device_core::{QmiPlan, qmi_session};
+use device_core::QmiPlan;
+use fields_json::mbim_line;
 use kit_bytes::Octets;
 use link_io::Link;
 use link_session::SessionFault;
+use mbim_session::{MbimEnd, MbimPlan};
 use qmi_services::QmiEnd;
 use std::alloc::{AllocError, Global};
-use std::marker::Model;
-use tunnel_session::{TunnelEnd, tunnel_session};
+use tunnel_session::TunnelEnd;
 use values_json::{AsPrinted, qmi_line};
 
-/// A plan whose answer is printed as one JSON object, on a line.
+/// A session whose end can be printed as one JSON object, on a line.
+pub trait JsonSession: Session {
+    ghost line: { Self.End → List ℕ };
+
+    /// The line of its end.
+    fn line(alloc: Global, end: &Self::End) -> Result<Octets, AllocError>
+        ensures { IfOk result (λ text. text ≡ line end.now) };
+}
+
+/// A plan whose answer is printed so, and nothing of the messages that it holds.
 #[derive(Debug, Drop)]
-pub struct JsonPlan {
-    pub qmi: QmiPlan,
+pub struct JsonPlan<'a, S> {
+    pub asked: &'a S,
 }
 
-impl Model for JsonPlan {
-    ghost use Rattle.device_core.specs.declared.plan.QmiPlan.{QmiPlan};
+impl<'a, S: JsonSession> Session for JsonPlan<'a, S> {
+    type End = S::End;
 
-    ghost Value = { QmiPlan };
+    ghost session = { λ plan calls result. S.session plan.asked.now calls result };
 
-    ghost view = { λ plan. plan.qmi };
-}
+    ghost refused = { S.refused };
 
-impl Session for JsonPlan {
-    type End = QmiEnd;
-
-    ghost session = { λ plan calls result. QmiSession plan calls result };
-
-    ghost refused = { refused };
-
-    ghost printed = { end_line };
+    ghost printed = { S.line };
 
     ghost bodies = { no_bodies };
 
-    fn hold<L: Link>(&self, alloc: Global, link: &mut L) -> Result<QmiEnd, SessionFault> {
-        qmi_session(alloc, link, &self.qmi)
+    fn hold<L: Link>(&self, alloc: Global, link: &mut L) -> Result<S::End, SessionFault> {
+        self.asked.hold(alloc, link)
     }
 
-    fn refusal(end: &QmiEnd) -> Option<Refusal> {
-        QmiPlan::refusal(end)
+    fn refusal(end: &S::End) -> Option<Refusal> {
+        S::refusal(end)
     }
 
-    fn text(alloc: Global, end: &QmiEnd) -> Result<Octets, AllocError> {
-        qmi_line(alloc, &AsPrinted, end)
+    fn text(alloc: Global, end: &S::End) -> Result<Octets, AllocError> {
+        S::line(alloc, end)
     }
 
-    fn bodies(alloc: Global, _end: &QmiEnd) -> Result<Vec<Octets>, AllocError> {
+    fn bodies(alloc: Global, _end: &S::End) -> Result<Vec<Octets>, AllocError> {
         Ok(Vec::new(alloc))
     }
 }
 
-/// The same with a QMI modem inside an MBIM modem.
-#[derive(Debug, Drop)]
-pub struct JsonTunnelPlan {
-    pub qmi: QmiPlan,
+impl JsonSession for QmiPlan {
+    ghost line = { end_line };
+
+    fn line(alloc: Global, end: &QmiEnd) -> Result<Octets, AllocError> {
+        qmi_line(alloc, &AsPrinted, end)
+    }
 }
 
-impl Model for JsonTunnelPlan {
-    ghost use Rattle.device_core.specs.declared.plan.QmiPlan.{QmiPlan};
+impl JsonSession for TunnelPlan {
+    ghost line = { inside_line };
 
-    ghost Value = { QmiPlan };
-
-    ghost view = { λ plan. plan.qmi };
-}
-
-impl Session for JsonTunnelPlan {
-    type End = TunnelEnd;
-
-    ghost session = { λ plan calls result. TunnelSession plan calls result };
-
-    ghost refused = { inside.refused };
-
-    ghost printed = { inside_line };
-
-    ghost bodies = { no_bodies };
-
-    fn hold<L: Link>(&self, alloc: Global, link: &mut L) -> Result<TunnelEnd, SessionFault> {
-        tunnel_session(alloc, link, &self.qmi)
-    }
-
-    fn refusal(end: &TunnelEnd) -> Option<Refusal> {
-        TunnelPlan::refusal(end)
-    }
-
-    fn text(alloc: Global, end: &TunnelEnd) -> Result<Octets, AllocError> {
+    fn line(alloc: Global, end: &TunnelEnd) -> Result<Octets, AllocError> {
         match end {
             TunnelEnd::Qmi(end) => qmi_line(alloc, &AsPrinted, end),
             TunnelEnd::Mbim(_) | TunnelEnd::FunctionError(_) => Ok(Octets::new(alloc)),
         }
     }
+}
 
-    fn bodies(alloc: Global, _end: &TunnelEnd) -> Result<Vec<Octets>, AllocError> {
-        Ok(Vec::new(alloc))
+impl JsonSession for MbimPlan {
+    ghost line = { mbim_line };
+
+    fn line(alloc: Global, end: &MbimEnd) -> Result<Octets, AllocError> {
+        match end {
+            MbimEnd::Answer(answer) => mbim_line(alloc, answer),
+            MbimEnd::FunctionError(_) => Ok(Octets::new(alloc)),
+        }
     }
 }
