@@ -16,6 +16,7 @@ use Rattle.kit_bytes.specs.declared.Kind.{Kind}
 use Rattle.kit_bytes.specs.declared.Kind.TheVariants as kind
 use Rattle.device_core.specs.declared.plan.QmiPlan.{QmiPlan}
 use Rattle.mbim_session.specs.declared.plan.MbimPlan.{MbimPlan}
+use Rattle.mbim_session.specs.declared.plan.MbimEnd.{MbimEnd}
 use Rattle.qmi_services.specs.declared.answers.QmiEnd.{QmiEnd}
 use Rattle.tunnel_session.specs.declared.ends.TunnelEnd.{TunnelEnd}
 use Rattle.tool_words.specs.declared.command.ToolCommand.{ToolCommand}
@@ -29,12 +30,16 @@ use Rattle.tool_words.specs.declared.qmicli.QmiTask.{QmiTask}
 use Rattle.tool_words.specs.declared.fault.UsageKind.TheVariants as usage
 use Rattle.sms_pdu.specs.Parts.{messages}
 use Rattle.sms_print.specs.Printed.{hex_lines}
-use Rattle.tool_runs.specs.Asking.{AsksModem, Asked, PrintsText}
+use Rattle.sms_print.specs.declared.decoding.Decoding.{Decoding}
+use Rattle.sms_print.specs.declared.decoding.Decoding.TheVariants.{Nothing}
+use Rattle.link_session.specs.declared.fault.SessionFault.{SessionFault}
+use Rattle.tool_runs.specs.declared.session.Refusal.{Refusal}
+use Rattle.tool_runs.specs.Asking.{AsksModem, Asked, asked_of, PrintsText, shown}
 use Rattle.tool_runs.specs.Asking as asking
 use Rattle.tool_runs.specs.Qmi.{qmi_asked}
 use Rattle.tool_runs.specs.Mbim.{mbim_asked}
 use Rattle.tool_runs.specs.Tunnel.{tunnel_asked}
-use Rattle.tool_runs.specs.Json.{qmi_json, tunnel_json}
+use Rattle.tool_runs.specs.Json.{mbim_json, no_bodies, qmi_json, tunnel_json}
 use Rattle.tool_runs.specs.Describing.{DescribesFile}
 use Rattle.dissect.specs.Tables.{Dissects}
 use Rattle.sim_keeping.specs.Keeping.{KeepsOrLacksMemory}
@@ -98,6 +103,12 @@ qmi_plan task = record { device = task.device; proxied = task.link.proxied; cid 
 abbrev pub mbim_plan : MbimTask → MbimPlan
 mbim_plan task = record { device = task.device; proxied = task.link.proxied; close = task.close; timeout = task.link.timeout; request = task.request }
 
+-- an answer is printed in lines, with what its messages say behind them, told so, or as one JSON object
+abbrev pub asked_in_form : {Plan End : Type 0} → AnswerForm → Decoding → (Plan → List link.Call → Result End SessionFault → Type 0) → (End → Option Refusal) → (printed : End → List ℕ) → (bodies : End → List (List ℕ)) → (line : End → List ℕ) → Plan → Asked End
+asked_in_form form.Lines decoding session refused printed bodies line plan = asked_of session refused (shown Nothing printed bodies) plan
+asked_in_form form.Decoded decoding session refused printed bodies line plan = asked_of session refused (shown decoding printed bodies) plan
+asked_in_form form.Json decoding session refused printed bodies line plan = asked_of session refused (shown Nothing line no_bodies) plan
+
 -- a QMI modem is asked itself, or inside an MBIM modem
 abbrev pub itself_asked : AnswerForm → QmiPlan → Asked QmiEnd
 itself_asked form.Lines plan = qmi_asked false plan
@@ -113,12 +124,18 @@ abbrev pub AsksQmi : Kind → AnswerForm → QmiPlan → (path : Path) → askin
 AsksQmi kind.Qmi form plan path before after result = Asks path (itself_asked form plan) before after result
 AsksQmi kind.Mbim form plan path before after result = Asks path (inside_asked form plan) before after result
 
+-- and an MBIM modem
+abbrev pub mbim_asked_in : AnswerForm → MbimPlan → Asked MbimEnd
+mbim_asked_in form.Lines plan = mbim_asked false plan
+mbim_asked_in form.Decoded plan = mbim_asked true plan
+mbim_asked_in form.Json plan = mbim_json plan
+
 -- ---- what the words ask for ----
 
 -- a tool asks a modem, makes short messages or describes a file, a proxy or a simulated modem serves, one is kept running, a pump passes on, a rig runs a core on the bench, or a tool alone, a captured stream is shown, and the version is printed
 abbrev pub RunsCommand : ToolCommand → Told → Told → Status → Type 0
 RunsCommand (Qmicli task) before after result = AsksQmi task.link.kind task.form (qmi_plan task) (way_to task.device task.link) (of_tool before) (of_tool after) result
-RunsCommand (Mbimcli task) before after result = Asks (way_to task.device task.link) (mbim_asked task.decode (mbim_plan task)) (of_tool before) (of_tool after) result
+RunsCommand (Mbimcli task) before after result = Asks (way_to task.device task.link) (mbim_asked_in task.form (mbim_plan task)) (of_tool before) (of_tool after) result
 RunsCommand (PduSubmit number text reference) before after result = EndsAs status_of result (λ ends. PrintsText (hex_lines (messages number text reference)) before.out ends after.out)
 RunsCommand (Describe path message) before after result = EndsAs status_of result (λ ends. DescribesFile (encode_utf8_all path) message before.files after.files before.out ends after.out)
 RunsCommand (Proxy task) before after result =

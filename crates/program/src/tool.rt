@@ -9,10 +9,7 @@ ghost use Rattle.sms_pdu.specs.Parts.{can_be_sent, messages};
 ghost use Rattle.sms_print.specs.Printed.{hex_lines};
 ghost use Rattle.tool_runs.specs.Asking.{AsksModem, asked_of, PrintsText, shown};
 ghost use Rattle.tool_runs.specs.Describing.{DescribesFile};
-ghost use Rattle.tool_runs.specs.Qmi.{qmi_asked};
-ghost use Rattle.tool_runs.specs.Mbim.{mbim_asked};
-ghost use Rattle.tool_runs.specs.Tunnel.{tunnel_asked};
-ghost use Rattle.program.specs.Running.{Asks, AsksQmi, inside_asked, itself_asked, way_to, qmi_plan, mbim_plan};
+ghost use Rattle.program.specs.Running.{asked_in_form, Asks, AsksQmi, mbim_asked_in, way_to, qmi_plan, mbim_plan};
 ghost use Rattle.program.specs.Status.{IsOfTool, EndsAs, status_of};
 
 use crate::status::Status;
@@ -27,7 +24,7 @@ use modem_ways::Way;
 use sms_print::Decoding;
 use std::alloc::{AllocError, Global};
 use tool_runs::{
-    JsonPlan, JsonTunnelPlan, Session, TunnelPlan, ask, describe_file, mbim_decoding, submit,
+    JsonPlan, JsonSession, Session, TunnelPlan, ask, describe_file, mbim_decoding, submit,
 };
 use tool_words::{AnswerForm, LinkSettings, MbimTask, QmiTask};
 
@@ -94,91 +91,20 @@ fn ask_of_kind<O: Sink, L: Link, P: Spawner>(
     ensures write_fault { result ≡ Status.WriteFault → Rose (O.faults out.old) (O.faults out.new) }
 {
     match settings.kind {
-        Kind::Qmi => ask_itself(alloc, plan, settings, form, out, link, spawner),
-        Kind::Mbim => ask_inside(alloc, plan, settings, form, out, link, spawner),
-    }
-}
-
-// Asks a QMI modem at a device of its own.
-fn ask_itself<O: Sink, L: Link, P: Spawner>(
-    alloc: Global,
-    plan: QmiPlan,
-    settings: &LinkSettings,
-    form: AnswerForm,
-    out: &mut O,
-    link: &mut L,
-    spawner: &mut P,
-) -> Status
-    ensures asks { Asks (way_to plan.device settings.now) (itself_asked form plan)
-        (record { link = L.calls link.old; spawner = P.calls spawner.old; out = O.taken out.old; made = together (L.made link.old) (O.made out.old) })
-        (record { link = L.calls link.new; spawner = P.calls spawner.new; out = O.taken out.new; made = together (L.made link.new) (O.made out.new) })
-        result }
-    ensures own { IsOfTool result }
-    ensures link_fault { result ≡ Status.LinkFault → LinkFails (way_to plan.device settings.now) L.faults L.open_faults link.old link.new }
-    ensures start_fault { result ≡ Status.StartFault → Rose (P.faults spawner.old) (P.faults spawner.new) }
-    ensures write_fault { result ≡ Status.WriteFault → Rose (O.faults out.old) (O.faults out.new) }
-{
-    match form {
-        AnswerForm::Lines => {
-            let (device, decoding) = (&plan.device, Decoding::Nothing);
-            let status = ask_device(alloc, device, settings, &plan, decoding, out, link, spawner);
-            drop(plan);
-            status
-        }
-        AnswerForm::Decoded => {
+        Kind::Qmi => {
             let (device, decoding) = (&plan.device, Decoding::Each);
-            let status = ask_device(alloc, device, settings, &plan, decoding, out, link, spawner);
+            let status = ask_in_form(
+                alloc, device, settings, &plan, form, decoding, out, link, spawner,
+            );
             drop(plan);
             status
         }
-        AnswerForm::Json => {
-            let plan = JsonPlan { qmi: plan };
-            let (device, decoding) = (&plan.qmi.device, Decoding::Nothing);
-            let status = ask_device(alloc, device, settings, &plan, decoding, out, link, spawner);
-            drop(plan);
-            status
-        }
-    }
-}
-
-// Asks a QMI modem inside the MBIM modem at a device.
-fn ask_inside<O: Sink, L: Link, P: Spawner>(
-    alloc: Global,
-    plan: QmiPlan,
-    settings: &LinkSettings,
-    form: AnswerForm,
-    out: &mut O,
-    link: &mut L,
-    spawner: &mut P,
-) -> Status
-    ensures asks { Asks (way_to plan.device settings.now) (inside_asked form plan)
-        (record { link = L.calls link.old; spawner = P.calls spawner.old; out = O.taken out.old; made = together (L.made link.old) (O.made out.old) })
-        (record { link = L.calls link.new; spawner = P.calls spawner.new; out = O.taken out.new; made = together (L.made link.new) (O.made out.new) })
-        result }
-    ensures own { IsOfTool result }
-    ensures link_fault { result ≡ Status.LinkFault → LinkFails (way_to plan.device settings.now) L.faults L.open_faults link.old link.new }
-    ensures start_fault { result ≡ Status.StartFault → Rose (P.faults spawner.old) (P.faults spawner.new) }
-    ensures write_fault { result ≡ Status.WriteFault → Rose (O.faults out.old) (O.faults out.new) }
-{
-    match form {
-        AnswerForm::Lines => {
-            let plan = TunnelPlan { qmi: plan };
-            let (device, decoding) = (&plan.qmi.device, Decoding::Nothing);
-            let status = ask_device(alloc, device, settings, &plan, decoding, out, link, spawner);
-            drop(plan);
-            status
-        }
-        AnswerForm::Decoded => {
+        Kind::Mbim => {
             let plan = TunnelPlan { qmi: plan };
             let (device, decoding) = (&plan.qmi.device, Decoding::Each);
-            let status = ask_device(alloc, device, settings, &plan, decoding, out, link, spawner);
-            drop(plan);
-            status
-        }
-        AnswerForm::Json => {
-            let plan = JsonTunnelPlan { qmi: plan };
-            let (device, decoding) = (&plan.qmi.device, Decoding::Nothing);
-            let status = ask_device(alloc, device, settings, &plan, decoding, out, link, spawner);
+            let status = ask_in_form(
+                alloc, device, settings, &plan, form, decoding, out, link, spawner,
+            );
             drop(plan);
             status
         }
@@ -193,7 +119,7 @@ pub fn ask_mbim<O: Sink, L: Link, P: Spawner>(
     link: &mut L,
     spawner: &mut P,
 ) -> Status
-    ensures asks { Asks (way_to task.device task.link) (mbim_asked task.decode (mbim_plan task))
+    ensures asks { Asks (way_to task.device task.link) (mbim_asked_in task.form (mbim_plan task))
         (record { link = L.calls link.old; spawner = P.calls spawner.old; out = O.taken out.old; made = together (L.made link.old) (O.made out.old) })
         (record { link = L.calls link.new; spawner = P.calls spawner.new; out = O.taken out.new; made = together (L.made link.new) (O.made out.new) })
         result }
@@ -202,7 +128,7 @@ pub fn ask_mbim<O: Sink, L: Link, P: Spawner>(
     ensures start_fault { result ≡ Status.StartFault → Rose (P.faults spawner.old) (P.faults spawner.new) }
     ensures write_fault { result ≡ Status.WriteFault → Rose (O.faults out.old) (O.faults out.new) }
 {
-    let settings = task.link;
+    let (settings, form) = (task.link, task.form);
     let plan = MbimPlan {
         device: task.device,
         proxied: settings.proxied,
@@ -210,13 +136,46 @@ pub fn ask_mbim<O: Sink, L: Link, P: Spawner>(
         timeout: settings.timeout,
         request: task.request,
     };
-    let decoding = mbim_decoding(task.decode, &plan.request);
-    let device = &plan.device;
-    let status = ask_device(
-        alloc, device, &settings, &plan, decoding, out, link, spawner,
+    let (device, decoding) = (&plan.device, mbim_decoding(true, &plan.request));
+    let status = ask_in_form(
+        alloc, device, &settings, &plan, form, decoding, out, link, spawner,
     );
     drop(plan);
     status
+}
+
+// Asks the modem at a device, and prints its answer in a form; where that tells what messages say, so.
+fn ask_in_form<S: JsonSession, O: Sink, L: Link, P: Spawner>(
+    alloc: Global,
+    device: &PathText,
+    settings: &LinkSettings,
+    plan: &S,
+    form: AnswerForm,
+    decoding: Decoding,
+    out: &mut O,
+    link: &mut L,
+    spawner: &mut P,
+) -> Status
+    ensures asks { Asks (way_to device.now settings.now) (asked_in_form form decoding S.session S.refused S.printed S.bodies S.line plan.now)
+        (record { link = L.calls link.old; spawner = P.calls spawner.old; out = O.taken out.old; made = together (L.made link.old) (O.made out.old) })
+        (record { link = L.calls link.new; spawner = P.calls spawner.new; out = O.taken out.new; made = together (L.made link.new) (O.made out.new) })
+        result }
+    ensures own { IsOfTool result }
+    ensures link_fault { result ≡ Status.LinkFault → LinkFails (way_to device.now settings.now) L.faults L.open_faults link.old link.new }
+    ensures start_fault { result ≡ Status.StartFault → Rose (P.faults spawner.old) (P.faults spawner.new) }
+    ensures write_fault { result ≡ Status.WriteFault → Rose (O.faults out.old) (O.faults out.new) }
+{
+    let nothing = Decoding::Nothing;
+    match form {
+        AnswerForm::Lines => ask_device(alloc, device, settings, plan, nothing, out, link, spawner),
+        AnswerForm::Decoded => ask_device(
+            alloc, device, settings, plan, decoding, out, link, spawner,
+        ),
+        AnswerForm::Json => {
+            let plan = JsonPlan { asked: plan };
+            ask_device(alloc, device, settings, &plan, nothing, out, link, spawner)
+        }
+    }
 }
 
 // Asks the modem at a device, which is reached as the words of a tool say, and prints its answer.
