@@ -25,16 +25,16 @@ use Rattle.many_dropped.proofs.Open.{IsOpen}
 use Rattle.many_dropped.proofs.One.{leaves, stays_by_others, dropped_or_there, arrived_or_dropped, arrival_is_anothers}
 use Rattle.many_dropped.proofs.Sitting.{sits_there, was_ended, sat_joined, sat_placed, sat_without, one_if, one_at_most, times, some_times, times_joined, times_placed, times_without, times_less, times_there, Hold, all_placed, all_without}
 
-and_none : (b : Bool) → (b && false) ≡ false
+pub and_none : (b : Bool) → (b && false) ≡ false
 and_none true = refl
 and_none false = refl
 
-differ : (x y : ℕ) → (x == y) ≡ false → (y == x) ≡ false
+pub differ : (x y : ℕ) → (x == y) ≡ false → (y == x) ≡ false
 differ x y other = grind (arith, nat_tests, other)
 
 -- ---- the greatest name at a device ----
 
-grows : (part events : List Event) → greatest_name events ≤ greatest_name (part ++ events)
+pub grows : (part events : List Event) → greatest_name events ≤ greatest_name (part ++ events)
 grows [] events = omega arith
 grows (one.Joined c ∷ part) events = omega (arith, grows part events)
 grows (_ ∷ part) events = grows part events
@@ -44,7 +44,7 @@ unfolding says
 said_grows k [] said events = omega arith
 said_grows k (piece ∷ pieces) said events = said_grows k pieces (one.Piece k piece ∷ said) events
 
-arrives_greatest : (k : ℕ) (before piece : List ℕ) (events : List Event) → k ≤ greatest_name (arrival k before piece ++ events)
+pub arrives_greatest : (k : ℕ) (before piece : List ℕ) (events : List Event) → k ≤ greatest_name (arrival k before piece ++ events)
 arrives_greatest k before piece events = omega (arith, said_grows k (in_pieces before) (one.Joined k ∷ []) events)
 
 module _ {Known : Type 0} (s : Devices Known) (Asks : ℕ → Request → List Fact → Type 0) (O : (d : ℕ) → IsOrderly (s.protocol d) (Asks d)) (T : TakesInWhoChooses s) where
