@@ -1,0 +1,75 @@
+ghost use Rattle.std.specs.Prelude.{◌≡◌, IfOk};
+ghost use Rattle.message_tables.specs.View.{message_view};
+ghost use Rattle.message_tables.specs.WellMade.{IsSoundMessage};
+ghost use Rattle.qmicli_print.specs.Answer.{kept_line, kept_text};
+ghost use Rattle.table_requests.specs.Answers.{answer_lines, answer_text};
+
+use crate::TablePlan;
+use dissect::push_tlvs;
+use json_answers::answer_line;
+use kit_bytes::Octets;
+use message_tables::Message;
+use print_text::{push_heading, push_number};
+use qmux_frame::MessageKind;
+use request_session::TlvAnswer;
+use std::alloc::{AllocError, Global};
+use values_json::AsPrinted;
+
+/// What is printed of an answer, and of the service and the client id that are kept.
+pub(crate) fn answer_text(
+    alloc: Global,
+    plan: &TablePlan,
+    answer: &TlvAnswer,
+    kept: Option<(u8, u8)>,
+) -> Result<Octets, AllocError>
+    ensures { IfOk result (λ text. text ≡ answer_text plan.now answer.now kept) }
+{
+    let message = plan.message();
+    let tlvs = answer.tlvs.as_slice();
+    if plan.in_json() {
+        let forms = message.output.as_slice();
+        answer_line(alloc, &AsPrinted, forms, tlvs, kept, answer.outcome)
+    } else {
+        answer_lines(alloc, message, tlvs, kept)
+    }
+}
+
+// The same in lines.
+#[tactic(auto, unfolding(crate::specs::Answers::answer_lines))]
+fn answer_lines(
+    alloc: Global,
+    message: &Message,
+    tlvs: &[u8],
+    kept: Option<(u8, u8)>,
+) -> Result<Octets, AllocError>
+    requires { IsSoundMessage (message_view message.now) }
+    ensures { IfOk result (λ text. text ≡ answer_lines (message_view message.now) tlvs.now kept) }
+{
+    let mut text = Octets::new(alloc);
+    push_heading(&mut text, b"", message.name.as_str())?;
+    let forms = message.output.as_slice();
+    push_tlvs(alloc, &mut text, MessageKind::Response, forms, tlvs)?;
+    let kept = kept_text(alloc, kept)?;
+    text.extend_from_slice(kept.as_slice())?;
+    Ok(text)
+}
+
+fn kept_text(alloc: Global, kept: Option<(u8, u8)>) -> Result<Octets, AllocError>
+    ensures { IfOk result (λ text. text ≡ kept_text kept) }
+{
+    match kept {
+        Some((service, id)) => kept_line(alloc, service, id),
+        None => Ok(Octets::new(alloc)),
+    }
+}
+
+#[tactic(auto, unfolding(qmicli_print::specs::Answer::kept_line))]
+fn kept_line(alloc: Global, service: u8, id: u8) -> Result<Octets, AllocError>
+    ensures { IfOk result (λ text. text ≡ kept_line service id) }
+{
+    let mut text = Octets::new(alloc);
+    push_number(&mut text, "client id kept: service ", service)?;
+    push_number(&mut text, ", id ", id)?;
+    text.extend_from_slice(b"\n")?;
+    Ok(text)
+}
