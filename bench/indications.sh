@@ -8,4 +8,4 @@ program=${MODEMKIT:-$("$top/bench/build.sh")} || exit 70
 folder=$(mktemp -d) || exit 70
 trap 'rm -rf "$folder"' EXIT
 trap 'exit 130' INT TERM
-python3 "$top/bench/indications.py" "$folder" "$program" "${INDICATIONS:-100000}"
+PYTHONDONTWRITEBYTECODE=1 python3 "$top/bench/indications.py" "$folder" "$program" "${INDICATIONS:-100000}"
