@@ -1,12 +1,10 @@
+use crate::counts::{Cause, Counts, is_open, messages_in};
 use crate::proxy::{Proxy, mbim_proxy, qmi_proxy};
 use core_bench::BenchNote;
-use framing::{Framing, Size};
 use hub_io::Event;
 use kit_bytes::Kind;
 use kit_io::Log;
-use mbim_frame::Mbim;
 use proxy_serving::ProxyCore;
-use qmux_frame::Qmux;
 use row_text::{Place, RowFault, is};
 use std::alloc::Global;
 
@@ -23,36 +21,53 @@ struct Run {
     kind: Kind,
     clients: Vec<Client>,
     asked: Vec<u8>,
+    counts: Counts,
+    // What brought the bytes that wait now.
+    cause: Cause,
 }
 
-/// Whether the lines that a rig writes say how many requests went to the modem, and how many clients
-/// took the same bytes alone. Each core that the bench ran is opened and stepped here anew.
+/// Whether the lines that a rig writes say what came of its requests, and how many clients took the same
+/// bytes alone. Each core that the bench ran is opened and stepped here anew, and its messages are counted.
+/// The number of turns alone is that of the words: one in which nothing arrives brings a core nothing.
 pub fn is_same_alone<R: Print>(
     rt: &R,
     alloc: Global,
     place: Place<'_>,
     log: &Log<BenchNote>,
+    turns: u64,
     lines: &str,
 ) -> Result<bool, RowFault> {
     let runs = runs_again(alloc, log)?;
     let Some((all, alone)) = runs.split_first() else {
         return Err(RowFault::new("nothing was run"));
     };
-    let told = is_forwarded(rt, alloc, place, lines, all);
+    let counted = are_counted(rt, alloc, place, turns, lines, all);
     let equal = is_equal(rt, alloc, place, lines, all, alone);
-    Ok(told? && equal?)
+    Ok(counted? && equal?)
 }
 
-fn is_forwarded<R: Print>(
+fn are_counted<R: Print>(
     rt: &R,
     alloc: Global,
     place: Place<'_>,
+    turns: u64,
     lines: &str,
     all: &Run,
 ) -> Result<bool, RowFault> {
-    let requests = requests_in(all.kind, &all.asked)?;
-    let found = format!(in alloc; "forwarded {requests}")?;
-    is_line(rt, place, lines, "forwarded ", &found)
+    let mut same = true;
+    for (name, count) in [
+        ("clients ", all.clients.len() as u64),
+        ("turns ", turns),
+        ("forwarded ", requests_in(alloc, all.kind, &all.asked)?),
+        ("answered ", all.counts.answered),
+        ("expired ", all.counts.expired),
+        ("late ", all.counts.late()),
+        ("refused ", all.counts.refused),
+    ] {
+        let found = format!(in alloc; "{name}{count}")?;
+        same &= is_line(rt, place, lines, name, &found)?;
+    }
+    Ok(same)
 }
 
 fn is_equal<R: Print>(
@@ -119,6 +134,8 @@ fn again(alloc: Global, log: &Log<BenchNote>, start: usize, kind: Kind) -> Resul
         kind,
         clients: Vec::new(alloc),
         asked: Vec::new(alloc),
+        counts: Counts::none(),
+        cause: Cause::Clock,
     };
     match kind {
         Kind::Qmi => qmi_again(alloc, log, start, &mut run)?,
@@ -189,7 +206,7 @@ impl Run {
         Ok(())
     }
 
-    // Notes a client that joins, and the bytes that are taken.
+    // Notes a client that joins, what brings bytes, and the bytes that are taken.
     fn take<C: ProxyCore>(
         &mut self,
         alloc: Global,
@@ -200,7 +217,7 @@ impl Run {
             Event::Joined(name) => self.join(alloc, name),
             Event::Took(name, count) => {
                 let waiting = proxy.waiting(alloc, name)?;
-                self.take_as(name, first(waiting.as_slice(), count))
+                self.take_as(alloc, name, first(waiting.as_slice(), count))
             }
             Event::ModemTook(count) => {
                 let waiting = proxy.modem_waiting(alloc)?;
@@ -209,7 +226,23 @@ impl Run {
                         .extend_from_slice(first(waiting.as_slice(), count))?,
                 )
             }
-            _ => Ok(()),
+            _ => {
+                self.begin(event);
+                Ok(())
+            }
+        }
+    }
+
+    // What is taken behind an event is brought by it.
+    fn begin(&mut self, event: Event<'_>) {
+        match event {
+            Event::Piece(..) => self.cause = Cause::Client,
+            Event::Now(_) => self.cause = Cause::Clock,
+            Event::ModemPiece(_) => {
+                self.cause = Cause::Modem;
+                self.counts.arrive();
+            }
+            _ => {}
         }
     }
 
@@ -219,7 +252,10 @@ impl Run {
         Ok(())
     }
 
-    fn take_as(&mut self, name: u64, bytes: &[u8]) -> Result<(), RowFault> {
+    fn take_as(&mut self, alloc: Global, name: u64, bytes: &[u8]) -> Result<(), RowFault> {
+        for message in messages_in(alloc, self.kind, bytes)? {
+            self.counts.take(self.kind, self.cause, message);
+        }
         for client in self.clients.iter_mut() {
             if client.name == name {
                 client.taken.extend_from_slice(bytes)?;
@@ -236,38 +272,10 @@ fn first(bytes: &[u8], count: usize) -> &[u8] {
 }
 
 // How many requests of clients a stream to the modem has. By itself a proxy asks the modem to open alone.
-fn requests_in(kind: Kind, stream: &[u8]) -> Result<u64, RowFault> {
-    let mut rest = stream;
+fn requests_in(alloc: Global, kind: Kind, stream: &[u8]) -> Result<u64, RowFault> {
     let mut count = 0u64;
-    for _ in 0..stream.len() {
-        let length = length_in(kind, rest);
-        if length == 0 || rest.len() < length {
-            break;
-        }
-        if !is_open(kind, rest) {
-            count = count.saturating_add(1);
-        }
-        rest = &rest[length..];
-    }
-    if !rest.is_empty() {
-        return Err(RowFault::new("the modem took less than a message"));
+    for message in messages_in(alloc, kind, stream)? {
+        count = count.saturating_add(u64::from(!is_open(kind, message)));
     }
     Ok(count)
-}
-
-// How long the message is that begins so, or 0.
-fn length_in(kind: Kind, bytes: &[u8]) -> usize {
-    let size = match kind {
-        Kind::Qmi => Qmux::size(bytes),
-        Kind::Mbim => Mbim::size(bytes),
-    };
-    match size {
-        Size::Known(length) => length,
-        Size::Unknown | Size::Invalid => 0,
-    }
-}
-
-// Whether a message is a request to open the modem.
-fn is_open(kind: Kind, message: &[u8]) -> bool {
-    kind == Kind::Mbim && message.first() == Some(&1)
 }

@@ -3,6 +3,7 @@
 
 mod alone;
 mod bench;
+mod counts;
 mod proxy;
 mod stories;
 mod story;

@@ -1,6 +1,6 @@
 //! Runs worked rows of text, and tells each difference between a row and what is found. `tool.rt`, and
-//! `story.rt` of `core_rows`, and `modem.rt`, `format.rt` and `tables.rt` of `part_rows` say what lines
-//! each kind of a row has.
+//! `story.rt` of `core_rows`, and `modem.rt`, `format.rt`, `tables.rt`, `fragments.rt` and `layout.rt` of
+//! `part_rows` say what lines each kind of a row has.
 #![tactic(auto)]
 
 mod asked;
@@ -8,7 +8,9 @@ mod ran;
 mod tool;
 
 use core_rows::{mbim_stories, qmi_stories};
-use part_rows::{are_tables, is_format, is_mbim_modem, is_qmi_modem};
+use part_rows::{
+    are_joined, are_tables, is_format, is_laid_out, is_mbim_modem, is_qmi_modem, is_split,
+};
 use row_text::{Place, Row, RowFault, Rows, joined_lines, read_rows, tell};
 use std::process::ExitCode;
 use std::{env, fs, io};
@@ -78,6 +80,9 @@ fn run_row(
         "mbim-modem" => is_mbim_modem(rt, alloc, place, rows, row),
         "format" => is_format(rt, alloc, place, rows, row),
         "tables" => are_tables(rt, alloc, place, row),
+        "fragments" => are_joined(rt, alloc, place, rows, row),
+        "split" => is_split(rt, alloc, place, rows, row),
+        "layout" => is_laid_out(rt, alloc, place, rows, row),
         _ => Err(RowFault::new("no kind of a row")),
     }
 }

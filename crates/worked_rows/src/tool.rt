@@ -333,7 +333,18 @@ fn bench_as_told<R: Print>(
         return Ok(same);
     }
     let lines = lines_of(alloc, row, "out")?;
-    Ok(is_same_alone(rt, alloc, place, bench.log(), &lines)? && same)
+    let turns = turns_of(&told.words)?;
+    Ok(is_same_alone(rt, alloc, place, bench.log(), turns, &lines)? && same)
+}
+
+// How many turns the words of a rig ask for.
+fn turns_of(words: &[String]) -> Result<u64, RowFault> {
+    for word in words {
+        if let Some(turns) = word.strip_prefix("--messages=") {
+            return Ok(turns.parse::<u64>()?);
+        }
+    }
+    Ok(100)
 }
 
 fn link_as_told<R: Print>(
