@@ -20,7 +20,7 @@ use std::process::ExitCode;
 use std::{env, io};
 use unix_link::UnixLink;
 
-/// How many bytes are kept of what is to go to the standard error: more than a line has.
+/// How many bytes are kept of what is to go to the standard error: more than almost every line has.
 const LINE_ROOM: usize = 1_024;
 
 fn main(rt: HostRuntime) -> ExitCode {

@@ -1,4 +1,6 @@
 pub mod Status
+pub mod Ways
+pub mod Tables
 pub mod Running
 pub mod Serving
 pub mod Pumping

@@ -7,8 +7,7 @@ use Rattle.hub_io.specs.Record as hub
 use Rattle.child_io.specs.Calls as child
 use Rattle.file_io.specs.Calls as file
 use Rattle.core_bench.specs.Runs.{Run}
-use Rattle.link_io.specs.Target.{AtSocket}
-use Rattle.modem_ways.specs.Ways.{Path, Direct, ByProxy, place_of, proxy_words}
+use Rattle.modem_ways.specs.Ways.{Path, place_of}
 use Rattle.modem_ways.specs.Reaching.{LinkFails}
 use Rattle.kit_io.specs.Causes.{Rose}
 use Rattle.kit_io.specs.Counts.{together}
@@ -20,11 +19,10 @@ use Rattle.mbim_session.specs.declared.plan.MbimEnd.{MbimEnd}
 use Rattle.qmi_services.specs.declared.answers.QmiEnd.{QmiEnd}
 use Rattle.tunnel_session.specs.declared.ends.TunnelEnd.{TunnelEnd}
 use Rattle.tool_words.specs.declared.command.ToolCommand.{ToolCommand}
-use Rattle.tool_words.specs.declared.command.ToolCommand.TheVariants.{Qmicli, Mbimcli, PduSubmit, Describe, Proxy, Simulator, Pump, Rig, Transparency, Dissect, Version}
+use Rattle.tool_words.specs.declared.command.ToolCommand.TheVariants.{Qmicli, Mbimcli, Request, PduSubmit, Describe, Proxy, Simulator, Pump, Rig, Transparency, Dissect, Version}
 use Rattle.tool_words.specs.declared.fault.UsageKind.{UsageKind}
 use Rattle.tool_words.specs.declared.form.AnswerForm.{AnswerForm}
 use Rattle.tool_words.specs.declared.form.AnswerForm.TheVariants as form
-use Rattle.tool_words.specs.declared.link.LinkSettings.{LinkSettings}
 use Rattle.tool_words.specs.declared.mbimcli.MbimTask.{MbimTask}
 use Rattle.tool_words.specs.declared.qmicli.QmiTask.{QmiTask}
 use Rattle.tool_words.specs.declared.fault.UsageKind.TheVariants as usage
@@ -34,7 +32,7 @@ use Rattle.sms_print.specs.declared.decoding.Decoding.{Decoding}
 use Rattle.sms_print.specs.declared.decoding.Decoding.TheVariants.{Nothing}
 use Rattle.link_session.specs.declared.fault.SessionFault.{SessionFault}
 use Rattle.tool_runs.specs.declared.session.Refusal.{Refusal}
-use Rattle.tool_runs.specs.Asking.{AsksModem, Asked, asked_of, PrintsText, shown}
+use Rattle.tool_runs.specs.Asking.{Asked, asked_of, PrintsText, shown}
 use Rattle.tool_runs.specs.Asking as asking
 use Rattle.tool_runs.specs.Qmi.{qmi_asked}
 use Rattle.tool_runs.specs.Mbim.{mbim_asked}
@@ -48,6 +46,8 @@ use Rattle.sim_runs.specs.Simulating as sim
 use Rattle.program.specs.declared.status.Status.{Status}
 use Rattle.program.specs.declared.status.Status.TheVariants as status
 use Rattle.program.specs.Status.{EndsAs, status_of, status_of_capture, status_of_keeping, status_of_sim}
+use Rattle.program.specs.Tables.{AsksByTables}
+use Rattle.program.specs.Ways.{Asks, way_to}
 use Rattle.program.specs.Serving.{ServesProxy, asked_in}
 use Rattle.program.specs.Pumping.{PumpsTo}
 use Rattle.rig.specs.Playing.{AddsRuns}
@@ -79,23 +79,9 @@ pub record Untouched (before after : Told) : Type 0 where
 
 -- ---- the tools ----
 
--- the way to the device, or to the proxy that has it or is to be started; paths are in characters
-abbrev pub way_by : (proxied : Bool) → Kind → (device socket bridge : List ℕ) → Path
-way_by true kind device socket bridge = ByProxy (AtSocket (encode_utf8_all socket)) (proxy_words kind (encode_utf8_all device) (encode_utf8_all socket) (encode_utf8_all bridge))
-way_by false kind device socket bridge = Direct (place_of (encode_utf8_all device) (encode_utf8_all bridge))
-
-abbrev pub way_to : (device : List ℕ) → LinkSettings → Path
-way_to device link = way_by link.proxied link.kind device link.socket link.bridge
-
 -- what a tool does is told by its link, its children and its output
 abbrev pub of_tool : Told → asking.Told
 of_tool told = record { link = told.link; spawner = told.spawner; out = told.out; made = together told.link_made told.out_made }
-
--- it asked a modem so, or had no memory to begin
-abbrev pub Asks : {End : Type 0} → Path → Asked End → asking.Told → asking.Told → Status → Type 0
-Asks path asked before after result =
-    EndsAs status_of result (λ ends. AsksModem path asked before after ends)
-    ⊎ ((result ≡ status.OutOfMemory) × Grows before.link [] after.link × Grows before.spawner [] after.spawner × Grows before.out [] after.out)
 
 abbrev pub qmi_plan : QmiTask → QmiPlan
 qmi_plan task = record { device = task.device; proxied = task.link.proxied; cid = task.cid; keep = task.keep; timeout = task.link.timeout; request = task.request }
@@ -132,10 +118,11 @@ mbim_asked_in form.Json plan = mbim_json plan
 
 -- ---- what the words ask for ----
 
--- a tool asks a modem, makes short messages or describes a file, a proxy or a simulated modem serves, one is kept running, a pump passes on, a rig runs a core on the bench, or a tool alone, a captured stream is shown, and the version is printed
+-- a tool asks a modem, also by the tables of a file, makes short messages or describes a file, a proxy or a simulated modem serves, one is kept running, a pump passes on, a rig runs a core on the bench, or a tool alone, a captured stream is shown, and the version is printed
 abbrev pub RunsCommand : ToolCommand → Told → Told → Status → Type 0
 RunsCommand (Qmicli task) before after result = AsksQmi task.link.kind task.form (qmi_plan task) (way_to task.device task.link) (of_tool before) (of_tool after) result
 RunsCommand (Mbimcli task) before after result = Asks (way_to task.device task.link) (mbim_asked_in task.form (mbim_plan task)) (of_tool before) (of_tool after) result
+RunsCommand (Request task) before after result = AsksByTables task before.files after.files (of_tool before) (of_tool after) result
 RunsCommand (PduSubmit number text reference) before after result = EndsAs status_of result (λ ends. PrintsText (hex_lines (messages number text reference)) before.out ends after.out)
 RunsCommand (Describe path message) before after result = EndsAs status_of result (λ ends. DescribesFile (encode_utf8_all path) message before.files after.files before.out ends after.out)
 RunsCommand (Proxy task) before after result =
@@ -162,6 +149,7 @@ RunsWords (Err why) before after result = result ≡ status.Usage why
 abbrev pub is_of_tool : ToolCommand → Bool
 is_of_tool (Qmicli task) = true
 is_of_tool (Mbimcli task) = true
+is_of_tool (Request task) = true
 is_of_tool (PduSubmit number text reference) = true
 is_of_tool (Describe path message) = true
 is_of_tool _ = false
@@ -207,10 +195,11 @@ pub record Objects (L H P F O B : Type 0) : Type 0 where
 pub data NoObject : Type 0 where
   Absent : NoObject
 
--- what a command has no use for is left as it was: hub, files and bench by one that asks a modem, all but output by one that makes short messages, all but files and output by one that describes a file, all but hub and children by a proxy, all but hub and files by a simulated modem, the files too where neither profile nor rules are named, all but children by one that is kept running, all but link and files by a pump, all but bench and output by a rig, all but files and output where a captured stream is shown, and all but the output where the version is printed
+-- what a command has no use for is left as it was: hub, files and bench by one that asks a modem, hub and bench by one whose request a file gives, all but output by one that makes short messages, all but files and output by one that describes a file, all but hub and children by a proxy, all but hub and files by a simulated modem, the files too where neither profile nor rules are named, all but children by one that is kept running, all but link and files by a pump, all but bench and output by a rig, all but files and output where a captured stream is shown, and all but the output where the version is printed
 abbrev pub CommandLeavesAlone : {L H P F O B : Type 0} → ToolCommand → Objects L H P F O B → Objects L H P F O B → Type 0
 CommandLeavesAlone (Qmicli task) before after = (after.hub ≡ before.hub) × (after.files ≡ before.files) × (after.bench ≡ before.bench)
 CommandLeavesAlone (Mbimcli task) before after = (after.hub ≡ before.hub) × (after.files ≡ before.files) × (after.bench ≡ before.bench)
+CommandLeavesAlone (Request task) before after = (after.hub ≡ before.hub) × (after.bench ≡ before.bench)
 CommandLeavesAlone (PduSubmit number text reference) before after = (after.link ≡ before.link) × (after.hub ≡ before.hub) × (after.spawner ≡ before.spawner) × (after.files ≡ before.files) × (after.bench ≡ before.bench)
 CommandLeavesAlone (Describe path message) before after = (after.link ≡ before.link) × (after.hub ≡ before.hub) × (after.spawner ≡ before.spawner) × (after.bench ≡ before.bench)
 CommandLeavesAlone (Proxy task) before after = (after.link ≡ before.link) × (after.files ≡ before.files) × (after.out ≡ before.out) × (after.bench ≡ before.bench)
@@ -233,6 +222,7 @@ LeavesAlone (Err why) before after = after ≡ before
 abbrev pub CommandFailsOnLink : {L : Type 0} → ToolCommand → (L → ℕ) → (L → ℕ) → L → L → Type 0
 CommandFailsOnLink (Qmicli task) = LinkFails (way_to task.device task.link)
 CommandFailsOnLink (Mbimcli task) = LinkFails (way_to task.device task.link)
+CommandFailsOnLink (Request task) = LinkFails (way_to task.device task.link)
 CommandFailsOnLink (Pump read node bridge) = λ faults open_faults before after. Rose (open_faults before) (open_faults after) ⊎ Rose (faults before) (faults after)
 CommandFailsOnLink _ = λ faults open_faults before after. ⊥
 

@@ -11,6 +11,10 @@ use Rattle.message_tables.specs.declared.fault.TableFault.TheVariants as table
 use Rattle.message_tables.specs.Members.{member_text}
 use Rattle.named_messages.specs.declared.fault.NamedFault.{NamedFault}
 use Rattle.named_messages.specs.declared.fault.NamedFault.TheVariants as named
+use Rattle.table_requests.specs.declared.fault.InputFault.{InputFault}
+use Rattle.table_requests.specs.declared.fault.InputFault.TheVariants as input
+use Rattle.table_requests.specs.declared.fault.NoRequest.{NoRequest}
+use Rattle.table_requests.specs.declared.fault.NoRequest.TheVariants as none
 use Rattle.modem_profile.specs.Members as profile_members
 use Rattle.modem_profile.specs.declared.fault.ProfileFault.{ProfileFault}
 use Rattle.modem_profile.specs.declared.fault.ProfileFault.TheVariants as profile
@@ -72,6 +76,13 @@ message_line named.Twice = error_line (codes "tables: twice") []
 message_line named.Deep = error_line (codes "tables: deep") []
 message_line named.OutOfMemory = error_line (codes "out of memory") []
 
+-- why JSON gives no values to a request; a JSON Pointer leads to what is at fault
+abbrev pub input_line : InputFault → List ℕ
+input_line input.Json = error_line (codes "input: json") []
+input_line (input.NoTlv pointer) = error_line (codes "input: no TLV at ") pointer
+input_line (input.Value pointer) = error_line (codes "input: value at ") pointer
+input_line input.Long = error_line (codes "input: long") []
+
 -- why a profile isn't read; a file without a fault of its own is too long
 abbrev pub profile_line : Option ProfileFault → List ℕ
 profile_line None = error_line (codes "profile: long") []
@@ -100,6 +111,7 @@ line_of status.Flooded = error_line (codes "flooded") []
 line_of status.WriteFault = error_line (codes "write fault") []
 line_of (status.TableFault fault) = tables_line fault
 line_of (status.MessageFault fault) = message_line fault
+line_of (status.InputFault fault) = input_line fault
 line_of status.ReadFault = error_line (codes "read fault") []
 line_of status.StartFault = error_line (codes "start fault") []
 line_of status.NoProxy = error_line (codes "no proxy") []
@@ -128,6 +140,7 @@ code_of status.HubFault = 13
 code_of status.TurnsSpent = 14
 code_of (status.ProfileFault fault) = 15
 code_of (status.RulesFault fault) = 16
+code_of (status.InputFault fault) = 17
 code_of status.OutOfMemory = 70
 
 -- how a run ends whose command ended so
@@ -146,6 +159,14 @@ status_of run.WriteFault = status.WriteFault
 status_of run.StartFault = status.StartFault
 status_of run.NoProxy = status.NoProxy
 status_of run.OutOfMemory = status.OutOfMemory
+
+-- how a run ends for want of a request
+abbrev pub status_of_none : NoRequest → Status
+status_of_none none.ReadFault = status.ReadFault
+status_of_none none.Long = status.TableFault None
+status_of_none (none.Message fault) = status.MessageFault fault
+status_of_none (none.Input fault) = status.InputFault fault
+status_of_none none.OutOfMemory = status.OutOfMemory
 
 -- how a run ends whose serving ended so
 abbrev pub status_of_end : ServeEnd → Status

@@ -60,7 +60,7 @@ pub fn run<O: Sink, E: Sink, L: Link, H: Hub, P: Spawner, F: Files, B: Bench>(
         Err(WordFault::Usage(kind)) => Status::Usage { kind },
         Err(WordFault::OutOfMemory) => Status::OutOfMemory,
     };
-    report(status, err);
+    report(&status, err);
     status
 }
 
@@ -92,6 +92,7 @@ fn run_command<O: Sink, L: Link, H: Hub, P: Spawner, F: Files, B: Bench>(
     match command {
         ToolCommand::Qmicli(_)
         | ToolCommand::Mbimcli(_)
+        | ToolCommand::Request(_)
         | ToolCommand::PduSubmit { .. }
         | ToolCommand::Describe { .. } => {
             run_command_of_tool(alloc, command, out, link, spawner, files)

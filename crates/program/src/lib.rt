@@ -11,6 +11,7 @@ mod report;
 mod rigging;
 mod simulator;
 mod status;
+mod tables;
 mod telling;
 mod tool;
 mod tools;

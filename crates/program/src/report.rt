@@ -1,7 +1,7 @@
 ghost use Rattle.std.specs.Prelude.{◌≡◌, OnOk, Some};
 ghost use Rattle.kit_io.specs.Causes.{Rose, HasCause};
 ghost use Rattle.kit_io.specs.Told.{Grows};
-ghost use Rattle.program.specs.Status.{denied_text, error_line, line_of, message_line, object_line, profile_line, rules_line, tables_line};
+ghost use Rattle.program.specs.Status.{denied_text, error_line, input_line, line_of, message_line, object_line, profile_line, rules_line, tables_line};
 
 use crate::Status;
 use crate::status::kind_word;
@@ -11,6 +11,7 @@ use message_tables::TableFault;
 use modem_profile::ProfileFault;
 use modem_rules::RulesFault;
 use named_messages::NamedFault;
+use table_requests::InputFault;
 use tool_words::UsageKind;
 
 /// Refuses words that couldn't be read.
@@ -21,7 +22,7 @@ pub fn refuse<E: Sink>(err: &mut E) -> Status
     let status = Status::Usage {
         kind: UsageKind::Words,
     };
-    report(status, err);
+    report(&status, err);
     status
 }
 
@@ -30,47 +31,48 @@ pub fn give_up<E: Sink>(err: &mut E) -> Status
     ensures status { result ≡ Status.OutOfMemory }
     ensures line { ¬ Rose (E.faults err.old) (E.faults err.new) → Grows (E.taken err.old) (line_of result) (E.taken err.new) }
 {
-    report(Status::OutOfMemory, err);
+    report(&Status::OutOfMemory, err);
     Status::OutOfMemory
 }
 
 /// Writes the line that tells how a run ended. A fault of the sink changes nothing.
-pub fn report<E: Sink>(status: Status, err: &mut E)
-    ensures { ¬ Rose (E.faults err.old) (E.faults err.new) → Grows (E.taken err.old) (line_of status) (E.taken err.new) }
+pub fn report<E: Sink>(status: &Status, err: &mut E)
+    ensures { ¬ Rose (E.faults err.old) (E.faults err.new) → Grows (E.taken err.old) (line_of status.now) (E.taken err.new) }
 {
     let _ = write_line(status, err);
 }
 
 #[tactic(auto, using(kit_io::proofs::Told::growing))]
-fn write_line<E: Sink>(status: Status, err: &mut E) -> Result<(), WriteFault>
-    ensures line { OnOk result (Grows (E.taken err.old) (line_of status) (E.taken err.new)) }
+fn write_line<E: Sink>(status: &Status, err: &mut E) -> Result<(), WriteFault>
+    ensures line { OnOk result (Grows (E.taken err.old) (line_of status.now) (E.taken err.new)) }
     ensures cause { HasCause (E.faults err.old) (E.faults err.new) result }
 {
     match status {
         Status::Done => Ok(()),
         Status::Denied { function, code } => {
             let mut number = Buffer::new();
-            write_error(denied_text(function), number.format(code).as_bytes(), err)
+            write_error(denied_text(*function), number.format(*code).as_bytes(), err)
         }
-        Status::Usage { kind } => write_error(b"usage: ", kind_word(kind).as_bytes(), err),
+        Status::Usage { kind } => write_error(b"usage: ", kind_word(*kind).as_bytes(), err),
         Status::LinkFault => write_error(b"link fault", b"", err),
         Status::LinkEnd => write_error(b"link ended", b"", err),
         Status::TimedOut => write_error(b"timed out", b"", err),
         Status::Broken { place } => {
-            write_error(b"broken at ", Buffer::new().format(place).as_bytes(), err)
+            write_error(b"broken at ", Buffer::new().format(*place).as_bytes(), err)
         }
         Status::Flooded => write_error(b"flooded", b"", err),
         Status::WriteFault => write_error(b"write fault", b"", err),
         Status::TableFault { fault: None } => write_error(b"tables: long", b"", err),
-        Status::TableFault { fault: Some(fault) } => write_fault_of_tables(fault, err),
-        Status::MessageFault { fault } => write_fault_of_message(fault, err),
+        Status::TableFault { fault: Some(fault) } => write_fault_of_tables(*fault, err),
+        Status::MessageFault { fault } => write_fault_of_message(*fault, err),
+        Status::InputFault { fault } => write_fault_of_input(fault, err),
         Status::ReadFault => write_error(b"read fault", b"", err),
         Status::StartFault => write_error(b"start fault", b"", err),
         Status::NoProxy => write_error(b"no proxy", b"", err),
         Status::HubFault => write_error(b"hub fault", b"", err),
         Status::TurnsSpent => write_error(b"turns spent", b"", err),
-        Status::ProfileFault { fault } => write_fault_of_profile(fault, err),
-        Status::RulesFault { fault } => write_fault_of_rules(fault, err),
+        Status::ProfileFault { fault } => write_fault_of_profile(*fault, err),
+        Status::RulesFault { fault } => write_fault_of_rules(*fault, err),
         Status::OutOfMemory => write_error(b"out of memory", b"", err),
     }
 }
@@ -141,6 +143,18 @@ fn write_fault_of_message<E: Sink>(fault: NamedFault, err: &mut E) -> Result<(),
         NamedFault::Twice => write_error(b"tables: twice", b"", err),
         NamedFault::Deep => write_error(b"tables: deep", b"", err),
         NamedFault::OutOfMemory => write_error(b"out of memory", b"", err),
+    }
+}
+
+fn write_fault_of_input<E: Sink>(fault: &InputFault, err: &mut E) -> Result<(), WriteFault>
+    ensures line { OnOk result (Grows (E.taken err.old) (input_line fault.now) (E.taken err.new)) }
+    ensures cause { HasCause (E.faults err.old) (E.faults err.new) result }
+{
+    match fault {
+        InputFault::Json => write_error(b"input: json", b"", err),
+        InputFault::NoTlv(pointer) => write_error(b"input: no TLV at ", pointer.as_slice(), err),
+        InputFault::Value(pointer) => write_error(b"input: value at ", pointer.as_slice(), err),
+        InputFault::Long => write_error(b"input: long", b"", err),
     }
 }
 

@@ -11,11 +11,12 @@ use named_messages::NamedFault;
 use pump::PumpEnd;
 use sim_keeping::KeepEnd;
 use sim_runs::SimEnd;
+use table_requests::{InputFault, NoRequest};
 use tool_runs::RunEnd;
 use tool_words::UsageKind;
 
 /// How a run of the program ended.
-#[derive(Clone, Copy, Debug, PartialEq, Eq)]
+#[derive(Debug, Drop)]
 pub enum Status {
     Done,
     /// The modem refused the request with this code, by a function error or in its answer; or the
@@ -39,6 +40,8 @@ pub enum Status {
     TableFault { fault: Option<TableFault> },
     /// The descriptions give no message of the name, for this fault.
     MessageFault { fault: NamedFault },
+    /// The values of a request aren't those of its message, for this fault.
+    InputFault { fault: InputFault },
     /// A file couldn't be read.
     ReadFault,
     /// A child wasn't started, or not stopped.
@@ -75,8 +78,8 @@ impl Status {
     ghost use Rattle.program.specs.Status.{code_of, status_of_child, with_stops};
 
     /// The exit status.
-    pub fn code(self) -> u8
-        ensures { result ≡ code_of self }
+    pub fn code(&self) -> u8
+        ensures { result ≡ code_of self.now }
     {
         match self {
             Status::Done => 0,
@@ -96,6 +99,7 @@ impl Status {
             Status::TurnsSpent => 14,
             Status::ProfileFault { .. } => 15,
             Status::RulesFault { .. } => 16,
+            Status::InputFault { .. } => 17,
             Status::OutOfMemory => 70,
         }
     }
@@ -150,6 +154,22 @@ impl From<RunEnd> for Status {
             RunEnd::StartFault => Status::StartFault,
             RunEnd::NoProxy => Status::NoProxy,
             RunEnd::OutOfMemory => Status::OutOfMemory,
+        }
+    }
+}
+
+impl From<NoRequest> for Status {
+    ghost use Rattle.program.specs.Status.{status_of_none};
+
+    ghost from_gives = { λ none status. status ≡ status_of_none none };
+
+    fn from(none: NoRequest) -> Self {
+        match none {
+            NoRequest::ReadFault => Status::ReadFault,
+            NoRequest::Long => Status::TableFault { fault: None },
+            NoRequest::Message(fault) => Status::MessageFault { fault },
+            NoRequest::Input(fault) => Status::InputFault { fault },
+            NoRequest::OutOfMemory => Status::OutOfMemory,
         }
     }
 }

@@ -9,7 +9,8 @@ ghost use Rattle.sms_pdu.specs.Parts.{can_be_sent, messages};
 ghost use Rattle.sms_print.specs.Printed.{hex_lines};
 ghost use Rattle.tool_runs.specs.Asking.{AsksModem, asked_of, PrintsText, shown};
 ghost use Rattle.tool_runs.specs.Describing.{DescribesFile};
-ghost use Rattle.program.specs.Running.{asked_in_form, Asks, AsksQmi, mbim_asked_in, way_to, qmi_plan, mbim_plan};
+ghost use Rattle.program.specs.Running.{asked_in_form, AsksQmi, mbim_asked_in, qmi_plan, mbim_plan};
+ghost use Rattle.program.specs.Ways.{Asks, way_to};
 ghost use Rattle.program.specs.Status.{IsOfTool, EndsAs, status_of};
 
 use crate::status::Status;
@@ -179,7 +180,7 @@ fn ask_in_form<S: JsonSession, O: Sink, L: Link, P: Spawner>(
 }
 
 // Asks the modem at a device, which is reached as the words of a tool say, and prints its answer.
-fn ask_device<S: Session, O: Sink, L: Link, P: Spawner>(
+pub fn ask_device<S: Session, O: Sink, L: Link, P: Spawner>(
     alloc: Global,
     device: &PathText,
     settings: &LinkSettings,

@@ -13,6 +13,7 @@ use crate::report::report;
 use crate::rigging::{print_rig, print_transparency};
 use crate::simulator::{keep_modem, simulate_modem, simulate_ruled_modem};
 use crate::status::Status;
+use crate::tables::ask_by_tables;
 use crate::tool::{ask_mbim, ask_qmi, print_description, submit_text};
 use child_io::Spawner;
 use core_bench::Bench;
@@ -24,9 +25,13 @@ use std::alloc::Global;
 use tool_words::{ToolCommand, UsageKind, WordFault, command_of};
 
 // The words are those of another tool.
-const OTHER: Status = Status::Usage {
-    kind: UsageKind::UnknownTool,
-};
+fn other_tool() -> Status
+    ensures { result ≡ Status.Usage UsageKind.UnknownTool }
+{
+    Status::Usage {
+        kind: UsageKind::UnknownTool,
+    }
+}
 
 /// What `qmicli` and `mbimcli` do: as `run` with their words. The words of other tools are refused, as those of an
 /// unknown one.
@@ -57,7 +62,7 @@ pub fn run_tool<O: Sink, E: Sink, L: Link, P: Spawner, F: Files>(
         Err(WordFault::Usage(kind)) => Status::Usage { kind },
         Err(WordFault::OutOfMemory) => Status::OutOfMemory,
     };
-    report(status, err);
+    report(&status, err);
     status
 }
 
@@ -87,6 +92,7 @@ pub fn run_command_of_tool<O: Sink, L: Link, P: Spawner, F: Files>(
     match command {
         ToolCommand::Qmicli(task) => ask_qmi(alloc, task, out, link, spawner),
         ToolCommand::Mbimcli(task) => ask_mbim(alloc, task, out, link, spawner),
+        ToolCommand::Request(task) => ask_by_tables(alloc, task, out, link, spawner, files),
         ToolCommand::PduSubmit {
             number,
             text,
@@ -97,7 +103,7 @@ pub fn run_command_of_tool<O: Sink, L: Link, P: Spawner, F: Files>(
         }
         other => {
             drop(other);
-            OTHER
+            other_tool()
         }
     }
 }
@@ -127,7 +133,7 @@ pub fn run_proxy<E: Sink, H: Hub, P: Spawner>(
         Err(WordFault::Usage(kind)) => Status::Usage { kind },
         Err(WordFault::OutOfMemory) => Status::OutOfMemory,
     };
-    report(status, err);
+    report(&status, err);
     status
 }
 
@@ -159,7 +165,7 @@ pub fn run_command_of_proxy<H: Hub, P: Spawner>(
         }
         other => {
             drop(other);
-            OTHER
+            other_tool()
         }
     }
 }
@@ -190,7 +196,7 @@ pub fn run_simulator<E: Sink, H: Hub, P: Spawner, F: Files>(
         Err(WordFault::Usage(kind)) => Status::Usage { kind },
         Err(WordFault::OutOfMemory) => Status::OutOfMemory,
     };
-    report(status, err);
+    report(&status, err);
     status
 }
 
@@ -250,7 +256,7 @@ pub fn run_command_of_simulator<H: Hub, P: Spawner, F: Files>(
         },
         other => {
             drop(other);
-            OTHER
+            other_tool()
         }
     }
 }
@@ -280,7 +286,7 @@ pub fn run_pump<E: Sink, L: Link, F: Files>(
         Err(WordFault::Usage(kind)) => Status::Usage { kind },
         Err(WordFault::OutOfMemory) => Status::OutOfMemory,
     };
-    report(status, err);
+    report(&status, err);
     status
 }
 
@@ -310,7 +316,7 @@ pub fn run_command_of_pump<L: Link, F: Files>(
         }
         other => {
             drop(other);
-            OTHER
+            other_tool()
         }
     }
 }
@@ -338,7 +344,7 @@ pub fn run_rig<O: Sink, E: Sink, B: Bench>(
         Err(WordFault::Usage(kind)) => Status::Usage { kind },
         Err(WordFault::OutOfMemory) => Status::OutOfMemory,
     };
-    report(status, err);
+    report(&status, err);
     status
 }
 
@@ -373,7 +379,7 @@ pub fn run_command_of_rig<O: Sink, B: Bench>(
         ToolCommand::Transparency { kind } => print_transparency(alloc, kind, out, bench),
         other => {
             drop(other);
-            OTHER
+            other_tool()
         }
     }
 }

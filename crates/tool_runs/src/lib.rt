@@ -11,6 +11,7 @@ mod qmi;
 mod run_end;
 mod session;
 mod submitting;
+mod tables;
 mod tunnel;
 
 pub use asking::ask;

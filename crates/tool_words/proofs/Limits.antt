@@ -19,8 +19,8 @@ use Rattle.tool_words.specs.Mbimcli.{mbim_asks, mbim_setting_spelling, mbimcli_a
 use Rattle.tool_words.specs.ModemTools.{asked_by, modem_tool_asked}
 use Rattle.tool_words.specs.Proxy.{proxy_asked, proxy_spelling, proxy_values}
 use Rattle.tool_words.specs.Pump.{pump_asked, pump_if_named, pump_values, reads_named}
-use Rattle.tool_words.specs.QmiCommands.{makes_messages, names_a_message, qmi_asks, qmi_line, qmi_spelling, reads_messages}
-use Rattle.tool_words.specs.Qmicli.{asked_for, asked_with, described, modem_kind, qmi_asked, qmi_setting_spelling, qmicli_asked, qmicli_values, reference_in, sent_to, submitted}
+use Rattle.tool_words.specs.QmiCommands.{makes_messages, qmi_asks, qmi_line, qmi_spelling, takes_tables}
+use Rattle.tool_words.specs.Qmicli.{asked_for, asked_with, described, fits_tables, form_given, modem_kind, qmi_asked, qmi_setting_spelling, qmicli_asked, qmicli_values, reference_in, requested, sent_to, submitted}
 use Rattle.tool_words.specs.Reading.{is_refused}
 use Rattle.tool_words.specs.Rig.{IsWithinLimits, clients_in, messages_in, rig_asked, rig_spelling, rig_values, transparency_values}
 use Rattle.tool_words.specs.Simulator.{simulator_asked, simulator_values}
@@ -147,6 +147,16 @@ described-fits file name =
     Fits-each _ (path_in named) (λ path _.
     Fits-each _ (optional short_in name) (λ message _. tt)))
 
+requested-fits : (link : LinkSettings) (cid : Option ℕ) (file : Option (List ℕ)) (rows : List Row) → Fits (requested link cid file rows)
+unfolding requested
+requested-fits link cid file rows =
+    Fits-each _ (device_in rows) (λ named _.
+    Fits-each _ named (λ device _.
+    Fits-each _ file (λ given _.
+    Fits-each _ (path_in given) (λ tables _.
+    Fits-each _ (value_given qmi_setting_spelling rows setting.Request) (λ called _.
+    Fits-each _ (short_in called) (λ message _. tt))))))
+
 qmi_asked-fits : (link : LinkSettings) (cid : Option ℕ) (form : AnswerForm) (command : QmiCommand) (rows : List Row) → Fits (qmi_asked link cid form command rows)
 unfolding qmi_asked
 qmi_asked-fits link cid form command rows =
@@ -159,20 +169,22 @@ unfolding asked_for
 asked_for-fits link cid form reference command rows =
     let value : Option (List ℕ) = value_given qmi_spelling rows command in
     let name : Option (List ℕ) = value_given qmi_setting_spelling rows setting.Request in
-    let otherwise : Fits (cond (makes_messages command) (submitted reference value) (described value name)) =
+    let by_itself : Option ToolCommand = cond (makes_messages command) (submitted reference value) (described value name) in
+    let by_itself-fits : Fits by_itself =
     cond_both (makes_messages command) (submitted reference value) (described value name) Fits (λ _. submitted-fits reference value) (λ _. described-fits value name)
     in
-    cond_both (qmi_asks command) (qmi_asked link cid form command rows) (cond (makes_messages command) (submitted reference value) (described value name)) Fits
-    (λ _. qmi_asked-fits link cid form command rows) (λ _. otherwise)
+    let otherwise : Fits (cond (qmi_asks command) (qmi_asked link cid form command rows) by_itself) =
+    cond_both (qmi_asks command) (qmi_asked link cid form command rows) by_itself Fits (λ _. qmi_asked-fits link cid form command rows) (λ _. by_itself-fits)
+    in
+    cond_both (takes_tables command) (requested link cid value rows) (cond (qmi_asks command) (qmi_asked link cid form command rows) by_itself) Fits
+    (λ _. requested-fits link cid value rows) (λ _. otherwise)
 
 asked_with-fits : (link : LinkSettings) (cid : Option ℕ) (command : QmiCommand) (rows : List Row) → Fits (asked_with link cid command rows)
 unfolding asked_with
 asked_with-fits link cid command rows =
-    Fits-each _ (flag_of (is_given qmi_setting_spelling rows setting.DecodeSms) (reads_messages command)) (λ decode _.
-    Fits-each _ (flag_of (is_given qmi_setting_spelling rows setting.Json) (qmi_asks command)) (λ json _.
-    Fits-each _ (form_of decode json) (λ form _.
-    Fits-each _ (flag_of (is_given qmi_setting_spelling rows setting.Request) (names_a_message command)) (λ named _.
-    Fits-each _ (reference_in (makes_messages command) (value_given qmi_setting_spelling rows setting.Reference)) (λ reference _. asked_for-fits link cid form reference command rows)))))
+    Fits-each _ (form_given command rows) (λ form _.
+    Fits-each _ (fits_tables command rows) (λ fits _.
+    Fits-each _ (reference_in (makes_messages command) (value_given qmi_setting_spelling rows setting.Reference)) (λ reference _. asked_for-fits link cid form reference command rows)))
 
 qmicli-fits : (command : QmiCommand) (rows : List Row) → Fits (qmicli_values command rows)
 unfolding qmicli_values

@@ -50,7 +50,7 @@ stored_in text = do
 
 -- ---- the commands ----
 
--- the commands of qmicli; the last two ask nothing of a modem
+-- the commands of qmicli; of the last three the first has its request from a file, and the others ask nothing of a modem
 abbrev pub qmi_line : QmiCommand → CommandLine QmiRequest
 qmi_line command.GetServiceVersionInfo = plain (codes "get-service-version-info") request.GetServiceVersionInfo
 qmi_line command.DmsGetCapabilities = plain (codes "dms-get-capabilities") request.DmsGetCapabilities
@@ -74,6 +74,7 @@ qmi_line command.WmsRawSend = with_value (codes "wms-raw-send") octets_in (λ me
 qmi_line command.WmsRawRead = with_value (codes "wms-raw-read") stored_in (λ place. request.WmsRawRead place.0 place.1)
 qmi_line command.WmsDelete = with_value (codes "wms-delete") stored_in (λ place. request.WmsDelete place.0 place.1)
 qmi_line command.WmsListMessages = with_value (codes "wms-list-messages") number_8_in (λ storage. request.WmsListMessages storage)
+qmi_line command.Tables = record { spelling = valued (codes "tables"); request = λ _. None }
 qmi_line command.PduSubmit = record { spelling = valued (codes "pdu-submit"); request = λ _. None }
 qmi_line command.DescribeTables = record { spelling = valued (codes "describe-tables"); request = λ _. None }
 
@@ -89,7 +90,7 @@ qmi_commands =
     ∷ command.WdsStartNetwork ∷ command.WdsStopNetwork ∷ command.WdsGetPacketServiceStatus ∷ command.WdsGetChannelRates
     ∷ command.WdsGetCurrentSettings
     ∷ command.WmsRawSend ∷ command.WmsRawRead ∷ command.WmsDelete ∷ command.WmsListMessages
-    ∷ command.PduSubmit ∷ command.DescribeTables ∷ []
+    ∷ command.Tables ∷ command.PduSubmit ∷ command.DescribeTables ∷ []
 
 -- a request is sent to a modem, but for the ones that make short messages and that print descriptions of messages
 abbrev pub qmi_asks : QmiCommand → Bool
@@ -107,7 +108,13 @@ abbrev pub makes_messages : QmiCommand → Bool
 makes_messages command.PduSubmit = true
 makes_messages _ = false
 
+-- a request is made by a file's tables
+abbrev pub takes_tables : QmiCommand → Bool
+takes_tables command.Tables = true
+takes_tables _ = false
+
 -- a message of a file may be named
 abbrev pub names_a_message : QmiCommand → Bool
+names_a_message command.Tables = true
 names_a_message command.DescribeTables = true
 names_a_message _ = false

@@ -1,5 +1,5 @@
 -- The words of qmicli.
-use Rattle.std.specs.Prelude.{ℕ, List, [], ◌∷◌, Option, Some, None, Bool, Result, chars, codes, if◌then◌else◌, option_and_then}
+use Rattle.std.specs.Prelude.{ℕ, List, [], ◌∷◌, Option, Some, None, Bool, not, Result, chars, codes, if◌then◌else◌, option_and_then, unwrap_or}
 use Rattle.clap.specs.Simple.{App}
 use Rattle.clap.specs.Walk.{Row}
 use Rattle.kit_bytes.specs.declared.Kind.{Kind}
@@ -9,11 +9,11 @@ use Rattle.tool_words.specs.Form.{form_of}
 use Rattle.tool_words.specs.Given.{is_given, value_given}
 use Rattle.tool_words.specs.Link.{device_in, link_in}
 use Rattle.tool_words.specs.ModemTools.{modem_tool, modem_tool_asked}
-use Rattle.tool_words.specs.QmiCommands.{makes_messages, names_a_message, qmi_asks, qmi_commands, qmi_line, qmi_spelling, reads_messages}
+use Rattle.tool_words.specs.QmiCommands.{makes_messages, names_a_message, qmi_asks, qmi_commands, qmi_line, qmi_spelling, reads_messages, takes_tables}
 use Rattle.tool_words.specs.Spelling.{Spelling, flag, valued}
 use Rattle.tool_words.specs.Values.{◌>>=◌, flag_of, number_8_in, number_within, optional, path_in, short_in, split_at}
 use Rattle.tool_words.specs.declared.command.ToolCommand.{ToolCommand}
-use Rattle.tool_words.specs.declared.command.ToolCommand.TheVariants.{Describe, PduSubmit, Qmicli}
+use Rattle.tool_words.specs.declared.command.ToolCommand.TheVariants.{Describe, PduSubmit, Qmicli, Request}
 use Rattle.tool_words.specs.declared.fault.UsageKind.{UsageKind}
 use Rattle.tool_words.specs.declared.form.AnswerForm.{AnswerForm}
 use Rattle.tool_words.specs.declared.link.LinkSettings.{LinkSettings}
@@ -23,7 +23,7 @@ use Rattle.tool_words.specs.declared.qmicli.QmiSetting.TheVariants as setting
 
 -- ---- its options ----
 
--- --device-open-mbim, --client-cid N, --client-no-release-cid, --decode-sms, --json, --reference N and --request NAME, beside those of the link
+-- --device-open-mbim, --client-cid N, --client-no-release-cid, --decode-sms, --json, --reference N, --request NAME and --input JSON, beside those of the link
 abbrev pub qmi_setting_spelling : QmiSetting → Spelling
 qmi_setting_spelling setting.DeviceOpenMbim = flag (codes "device-open-mbim")
 qmi_setting_spelling setting.ClientCid = valued (codes "client-cid")
@@ -32,11 +32,12 @@ qmi_setting_spelling setting.DecodeSms = flag (codes "decode-sms")
 qmi_setting_spelling setting.Json = flag (codes "json")
 qmi_setting_spelling setting.Reference = valued (codes "reference")
 qmi_setting_spelling setting.Request = valued (codes "request")
+qmi_setting_spelling setting.Input = valued (codes "input")
 
 unfoldable pub qmi_settings : List QmiSetting
 qmi_settings =
     setting.DeviceOpenMbim ∷ setting.ClientCid ∷ setting.ClientNoReleaseCid ∷ setting.DecodeSms ∷ setting.Json ∷ setting.Reference
-    ∷ setting.Request ∷ []
+    ∷ setting.Request ∷ setting.Input ∷ []
 
 unfoldable pub qmicli_app : App
 qmicli_app = modem_tool (codes "qmicli") qmi_setting_spelling qmi_settings qmi_spelling qmi_commands
@@ -50,6 +51,26 @@ described file name = do
   path ← path_in named
   message ← optional short_in name
   Some (Describe path message)
+
+-- the message of a name is sent by a file's tables; it has no values where none are given
+unfoldable pub requested : LinkSettings → Option ℕ → (file : Option (List ℕ)) → List Row → Option ToolCommand
+requested link cid file rows = do
+  named ← device_in rows
+  device ← named
+  given ← file
+  tables ← path_in given
+  called ← value_given qmi_setting_spelling rows setting.Request
+  message ← short_in called
+  Some (Request (record {
+    device = device;
+    link = link;
+    cid = cid;
+    keep = is_given qmi_setting_spelling rows setting.ClientNoReleaseCid;
+    tables = tables;
+    message = message;
+    input = chars (unwrap_or (value_given qmi_setting_spelling rows setting.Input) (codes "{}"));
+    json = is_given qmi_setting_spelling rows setting.Json;
+  }))
 
 -- the messages are made that carry a text to a number, if any are
 abbrev pub sent_to : (reference : ℕ) (number text : List ℕ) → Option ToolCommand
@@ -72,20 +93,33 @@ qmi_asked link cid form command rows = do
   request ← (qmi_line command).request (value_given qmi_spelling rows command)
   Some (Qmicli (record { device = device; link = link; cid = cid; keep = is_given qmi_setting_spelling rows setting.ClientNoReleaseCid; request = request; form = form }))
 
--- what a command asks for: a request, the messages of a text, or the tables of a file
+-- what a command asks for: a request by tables, another one, the messages of a text, or the tables of a file
 unfoldable pub asked_for : LinkSettings → Option ℕ → AnswerForm → ℕ → QmiCommand → List Row → Option ToolCommand
 asked_for link cid form reference command rows =
-    if qmi_asks command then qmi_asked link cid form command rows
+    if takes_tables command then requested link cid (value_given qmi_spelling rows command) rows
+    else if qmi_asks command then qmi_asked link cid form command rows
     else if makes_messages command then submitted reference (value_given qmi_spelling rows command)
     else described (value_given qmi_spelling rows command) (value_given qmi_setting_spelling rows setting.Request)
+
+-- how the answer is printed, by settings that only some commands have
+unfoldable pub form_given : QmiCommand → List Row → Option AnswerForm
+form_given command rows = do
+  decode ← flag_of (is_given qmi_setting_spelling rows setting.DecodeSms) (reads_messages command)
+  json ← flag_of (is_given qmi_setting_spelling rows setting.Json) (qmi_asks command)
+  form_of decode json
+
+-- a message is named and has values beside a command that takes them; a request by tables isn't carried inside an MBIM modem
+unfoldable pub fits_tables : QmiCommand → List Row → Option Bool
+fits_tables command rows = do
+  named ← flag_of (is_given qmi_setting_spelling rows setting.Request) (names_a_message command)
+  given ← flag_of (is_given qmi_setting_spelling rows setting.Input) (takes_tables command)
+  flag_of (is_given qmi_setting_spelling rows setting.DeviceOpenMbim) (not (takes_tables command))
 
 -- the same, with the settings that only some commands have
 unfoldable pub asked_with : LinkSettings → Option ℕ → QmiCommand → List Row → Option ToolCommand
 asked_with link cid command rows = do
-  decode ← flag_of (is_given qmi_setting_spelling rows setting.DecodeSms) (reads_messages command)
-  json ← flag_of (is_given qmi_setting_spelling rows setting.Json) (qmi_asks command)
-  form ← form_of decode json
-  named ← flag_of (is_given qmi_setting_spelling rows setting.Request) (names_a_message command)
+  form ← form_given command rows
+  fits ← fits_tables command rows
   reference ← reference_in (makes_messages command) (value_given qmi_setting_spelling rows setting.Reference)
   asked_for link cid form reference command rows
 

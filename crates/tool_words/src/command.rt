@@ -8,7 +8,7 @@ use crate::dissect::{dissect_asked, dissect_reader};
 use crate::mbimcli::{MbimTask, mbimcli_asked, mbimcli_reader};
 use crate::proxy::{ProxyTask, proxy_asked, proxy_name, proxy_reader};
 use crate::pump::pump_asked;
-use crate::qmicli::{QmiTask, qmicli_asked, qmicli_reader};
+use crate::qmicli::{QmiTask, RequestTask, qmicli_asked, qmicli_reader};
 use crate::reader::read_words;
 use crate::rig::{rig_asked, rig_reader};
 use crate::simulator::{simulator_asked, simulator_reader};
@@ -25,6 +25,8 @@ pub enum ToolCommand {
     Qmicli(QmiTask),
     /// The same with an MBIM modem.
     Mbimcli(MbimTask),
+    /// The same with a QMI modem, and a request that the tables of a file describe.
+    Request(RequestTask),
     /// Prints the bodies of the short messages that carry a text to a number.
     PduSubmit {
         number: Text,

@@ -34,4 +34,4 @@ pub use mbimcli::MbimTask;
 pub use plain::PlainCommand;
 pub use proxy::ProxyTask;
 pub use qmi_commands::{QmiCommand, qmicli_commands};
-pub use qmicli::QmiTask;
+pub use qmicli::{QmiTask, RequestTask};

@@ -1,6 +1,6 @@
 ghost use Rattle.std.specs.Prelude.{◌≡◌, None, Some, map, option_map};
 ghost use Rattle.tool_words.specs.Keys.{keyed};
-ghost use Rattle.tool_words.specs.QmiCommands.{ip_type_in, makes_messages, mode_in, names_a_message, network_of, qmi_asks, qmi_commands, qmi_line, qmi_spelling, reads_messages, start_network_in, stored_in};
+ghost use Rattle.tool_words.specs.QmiCommands.{ip_type_in, makes_messages, mode_in, names_a_message, network_of, qmi_asks, qmi_commands, qmi_line, qmi_spelling, reads_messages, start_network_in, stored_in, takes_tables};
 ghost use Rattle.tool_words.specs.Values.{Gives, optional};
 
 use crate::keys::{parts_in, text_of_key, value_of};
@@ -36,11 +36,12 @@ pub enum QmiCommand {
     WmsRawRead,
     WmsDelete,
     WmsListMessages,
+    Tables,
     PduSubmit,
     DescribeTables,
 }
 
-static QMI_COMMANDS: [QmiCommand; 24] = [
+static QMI_COMMANDS: [QmiCommand; 25] = [
     QmiCommand::GetServiceVersionInfo,
     QmiCommand::DmsGetCapabilities,
     QmiCommand::DmsGetManufacturer,
@@ -63,6 +64,7 @@ static QMI_COMMANDS: [QmiCommand; 24] = [
     QmiCommand::WmsRawRead,
     QmiCommand::WmsDelete,
     QmiCommand::WmsListMessages,
+    QmiCommand::Tables,
     QmiCommand::PduSubmit,
     QmiCommand::DescribeTables,
 ];
@@ -94,6 +96,7 @@ impl ToolOption for QmiCommand {
             QmiCommand::WmsRawRead => valued("wms-raw-read"),
             QmiCommand::WmsDelete => valued("wms-delete"),
             QmiCommand::WmsListMessages => valued("wms-list-messages"),
+            QmiCommand::Tables => valued("tables"),
             QmiCommand::PduSubmit => valued("pdu-submit"),
             QmiCommand::DescribeTables => valued("describe-tables"),
         }
@@ -129,11 +132,18 @@ pub fn makes_messages(command: QmiCommand) -> bool
     matches!(command, QmiCommand::PduSubmit)
 }
 
+/// Whether a command's request is made by the tables of a file.
+pub fn takes_tables(command: QmiCommand) -> bool
+    ensures { result ≡ takes_tables command }
+{
+    matches!(command, QmiCommand::Tables)
+}
+
 /// Whether a message of a file may be named beside a command.
 pub fn names_a_message(command: QmiCommand) -> bool
     ensures { result ≡ names_a_message command }
 {
-    matches!(command, QmiCommand::DescribeTables)
+    matches!(command, QmiCommand::Tables | QmiCommand::DescribeTables)
 }
 
 impl PlainCommand for QmiCommand {

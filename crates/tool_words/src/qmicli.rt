@@ -2,7 +2,7 @@ ghost use Rattle.std.specs.Prelude.{◌≡◌, IfOk, option_map};
 ghost use Rattle.clap.specs.Words.{app_of, found_of, rows_of};
 ghost use Rattle.tool_words.specs.Answers.{Answers};
 ghost use Rattle.tool_words.specs.QmiCommands.{qmi_asks};
-ghost use Rattle.tool_words.specs.Qmicli.{asked_for, asked_with, described, modem_kind, qmi_asked, qmi_setting_spelling, qmi_settings, qmicli_app, qmicli_asked, qmicli_values, reference_in, submitted};
+ghost use Rattle.tool_words.specs.Qmicli.{asked_for, asked_with, described, fits_tables, form_given, modem_kind, qmi_asked, qmi_setting_spelling, qmi_settings, qmicli_app, qmicli_asked, qmicli_values, reference_in, requested, submitted};
 ghost use Rattle.tool_words.specs.Values.{Gives, number_within, optional};
 
 use crate::form::{AnswerForm, form_of};
@@ -12,13 +12,14 @@ use crate::modem_tools::{ModemCommand, modem_tool, modem_tool_asked};
 use crate::options::{OptionSpelling, ToolOption, flag, valued};
 use crate::qmi_commands::{
     QmiCommand, asks, makes_messages, names_a_message, qmicli_commands, reads_messages, request,
+    takes_tables,
 };
 use crate::values::{
-    at_comma, flag_of, number_8, number_within, or_fault, path, short_if_given, text_of,
+    at_comma, flag_of, number_8, number_within, or_fault, path, short, short_if_given, text_of,
 };
 use crate::{ToolCommand, UsageKind, WordFault};
 use clap::{ArgMatches, Command};
-use kit_bytes::{Kind, PathText};
+use kit_bytes::{Kind, PathText, ShortText, Text};
 use qmi_requests::QmiRequest;
 use sms_pdu::can_be_sent;
 use std::alloc::{AllocError, Global};
@@ -37,6 +38,26 @@ pub struct QmiTask {
     pub form: AnswerForm,
 }
 
+/// A request by the tables of a file that a QMI modem itself is asked for.
+#[derive(Debug, Drop)]
+pub struct RequestTask {
+    pub device: PathText,
+    /// How the device is reached.
+    pub link: LinkSettings,
+    /// The client id that the request is sent with, in place of an allocated one.
+    pub cid: Option<u8>,
+    /// Whether an allocated client id is kept.
+    pub keep: bool,
+    /// The file of the messages' descriptions.
+    pub tables: PathText,
+    /// The message's name.
+    pub message: ShortText,
+    /// The values of its TLVs, as one JSON object.
+    pub input: Text,
+    /// Whether the answer is printed as one JSON object, on a line.
+    pub json: bool,
+}
+
 /// An option of `qmicli` that says how its command is run, beside those of the link.
 #[derive(Clone, Copy, Debug, PartialEq, Eq)]
 pub enum QmiSetting {
@@ -47,9 +68,10 @@ pub enum QmiSetting {
     Json,
     Reference,
     Request,
+    Input,
 }
 
-static QMI_SETTINGS: [QmiSetting; 7] = [
+static QMI_SETTINGS: [QmiSetting; 8] = [
     QmiSetting::DeviceOpenMbim,
     QmiSetting::ClientCid,
     QmiSetting::ClientNoReleaseCid,
@@ -57,6 +79,7 @@ static QMI_SETTINGS: [QmiSetting; 7] = [
     QmiSetting::Json,
     QmiSetting::Reference,
     QmiSetting::Request,
+    QmiSetting::Input,
 ];
 
 impl ToolOption for QmiSetting {
@@ -71,6 +94,7 @@ impl ToolOption for QmiSetting {
             QmiSetting::Json => flag("json"),
             QmiSetting::Reference => valued("reference"),
             QmiSetting::Request => valued("request"),
+            QmiSetting::Input => valued("input"),
         }
     }
 }
@@ -112,6 +136,35 @@ fn description(
     let file = path(alloc, or_fault(file)?)?;
     let message = short_if_given(alloc, name)?;
     Ok(ToolCommand::Describe { file, message })
+}
+
+#[tactic(auto, unfolding(crate::specs::Qmicli::requested))]
+fn requesting(
+    alloc: Global,
+    link: LinkSettings,
+    cid: Option<u8>,
+    file: Option<&str>,
+    matches: &ArgMatches<'_>,
+) -> Result<ToolCommand, WordFault>
+    ensures { Gives (requested link cid (option_map (λ t. t.now) file.entry) (rows_of (found_of matches.now))) result }
+{
+    let device = or_fault(device_given(alloc, matches)?)?;
+    let tables = path(alloc, or_fault(file)?)?;
+    let message = short(alloc, or_fault(value_given(matches, QmiSetting::Request))?)?;
+    let input = value_given(matches, QmiSetting::Input).unwrap_or("{}");
+    let input = text_of(alloc, input)?;
+    let keep = is_given(matches, QmiSetting::ClientNoReleaseCid);
+    let json = is_given(matches, QmiSetting::Json);
+    Ok(ToolCommand::Request(RequestTask {
+        device,
+        link,
+        cid,
+        keep,
+        tables,
+        message,
+        input,
+        json,
+    }))
 }
 
 #[tactic(auto, unfolding(crate::specs::Qmicli::submitted))]
@@ -168,7 +221,7 @@ fn asking(
     }))
 }
 
-// What a command asks for: a request, the messages of a text, or the tables of a file.
+// What a command asks for: a request by tables, another one, the messages of a text, or the tables of a file.
 #[tactic(auto, unfolding(crate::specs::Qmicli::asked_for))]
 fn asked_for(
     alloc: Global,
@@ -181,7 +234,9 @@ fn asked_for(
 ) -> Result<ToolCommand, WordFault>
     ensures { Gives (asked_for link cid form reference command (rows_of (found_of matches.now))) result }
 {
-    if asks(command) {
+    if takes_tables(command) {
+        requesting(alloc, link, cid, value_given(matches, command), matches)
+    } else if asks(command) {
         asking(alloc, link, cid, form, command, matches)
     } else if makes_messages(command) {
         submission(alloc, reference, value_given(matches, command))
@@ -189,6 +244,31 @@ fn asked_for(
         let name = value_given(matches, QmiSetting::Request);
         description(alloc, value_given(matches, command), name)
     }
+}
+
+// How the answer is printed, by settings that only some commands have.
+#[tactic(auto, unfolding(crate::specs::Qmicli::form_given))]
+fn form_given(command: QmiCommand, matches: &ArgMatches<'_>) -> Result<AnswerForm, WordFault>
+    ensures { Gives (form_given command (rows_of (found_of matches.now))) result }
+{
+    let decode = is_given(matches, QmiSetting::DecodeSms);
+    let decode = flag_of(decode, reads_messages(command))?;
+    let json = flag_of(is_given(matches, QmiSetting::Json), asks(command))?;
+    form_of(decode, json)
+}
+
+// A message is named and has values beside a command that takes them, and a request by tables isn't carried
+// inside an MBIM modem.
+#[tactic(auto, unfolding(crate::specs::Qmicli::fits_tables))]
+fn fits_tables(command: QmiCommand, matches: &ArgMatches<'_>) -> Result<bool, WordFault>
+    ensures { Gives (fits_tables command (rows_of (found_of matches.now))) result }
+{
+    let named = is_given(matches, QmiSetting::Request);
+    flag_of(named, names_a_message(command))?;
+    let given = is_given(matches, QmiSetting::Input);
+    flag_of(given, takes_tables(command))?;
+    let carried = is_given(matches, QmiSetting::DeviceOpenMbim);
+    flag_of(carried, !takes_tables(command))
 }
 
 // The same, with the settings that only some commands have.
@@ -202,12 +282,8 @@ fn asked_with(
 ) -> Result<ToolCommand, WordFault>
     ensures { Gives (asked_with link cid command (rows_of (found_of matches.now))) result }
 {
-    let decode = is_given(matches, QmiSetting::DecodeSms);
-    let decode = flag_of(decode, reads_messages(command))?;
-    let json = flag_of(is_given(matches, QmiSetting::Json), asks(command))?;
-    let form = form_of(decode, json)?;
-    let named = is_given(matches, QmiSetting::Request);
-    flag_of(named, names_a_message(command))?;
+    let form = form_given(command, matches)?;
+    fits_tables(command, matches)?;
     let reference = value_given(matches, QmiSetting::Reference);
     let reference = reference_in(makes_messages(command), reference)?;
     asked_for(alloc, link, cid, form, reference, command, matches)

@@ -1,0 +1,27 @@
+-- How a tool reaches its modem, and what asking it comes to.
+use Rattle.std.specs.Prelude.{◌≡◌, ◌⊎◌, Bool, true, false, List, [], ℕ}
+use Rattle.std.specs.Str.{encode_utf8_all}
+use Rattle.kit_bytes.specs.declared.Kind.{Kind}
+use Rattle.kit_io.specs.Told.{Grows}
+use Rattle.link_io.specs.Target.{AtSocket}
+use Rattle.modem_ways.specs.Ways.{Path, Direct, ByProxy, place_of, proxy_words}
+use Rattle.tool_words.specs.declared.link.LinkSettings.{LinkSettings}
+use Rattle.tool_runs.specs.Asking.{AsksModem, Asked}
+use Rattle.tool_runs.specs.Asking as asking
+use Rattle.program.specs.declared.status.Status.{Status}
+use Rattle.program.specs.declared.status.Status.TheVariants as status
+use Rattle.program.specs.Status.{EndsAs, status_of}
+
+-- the way to the device, or to the proxy that has it or is to be started; paths are in characters
+abbrev pub way_by : (proxied : Bool) → Kind → (device socket bridge : List ℕ) → Path
+way_by true kind device socket bridge = ByProxy (AtSocket (encode_utf8_all socket)) (proxy_words kind (encode_utf8_all device) (encode_utf8_all socket) (encode_utf8_all bridge))
+way_by false kind device socket bridge = Direct (place_of (encode_utf8_all device) (encode_utf8_all bridge))
+
+abbrev pub way_to : (device : List ℕ) → LinkSettings → Path
+way_to device link = way_by link.proxied link.kind device link.socket link.bridge
+
+-- it asked a modem so, or had no memory to begin
+abbrev pub Asks : {End : Type 0} → Path → Asked End → asking.Told → asking.Told → Status → Type 0
+Asks path asked before after result =
+    EndsAs status_of result (λ ends. AsksModem path asked before after ends)
+    ⊎ ((result ≡ status.OutOfMemory) × Grows before.link [] after.link × Grows before.spawner [] after.spawner × Grows before.out [] after.out)
