@@ -6,7 +6,7 @@ use Rattle.proxy_history.specs.Events as one
 use Rattle.proxy_history.specs.Coming.{greatest_name}
 use Rattle.many_history.specs.Events.{ManyEvent, Joined, Piece, Left, Took, ModemPiece, ModemGone, ModemBack, ModemTook, Now}
 use Rattle.many_history.specs.Devices.{Devices, choice_on}
-use Rattle.many_history.specs.Many.{Place, Undecided, At, Seat, place_of, placed, without, seat_of, arrival, events_if, only_at, on_choice, on_piece, on_leaving, on_taking, parts, joined_if, chosen_if, said_by, seated, left, there, ended, is_there_at, names_in, own_after, seats_before, many, own}
+use Rattle.many_history.specs.Many.{Place, Undecided, At, Seat, place_of, placed, without, seat_of, arrival, events_if, only_at, on_choice, on_piece, on_leaving, on_taking, parts, chosen_if, said_by, seated, left, there, ended, is_there_at, names_in, own_after, seats_before, many, own}
 use Rattle.many_history.specs.Seated.{is_at}
 use Rattle.many_dropped.proofs.Dropping.{and_none, differ, grows, arrives_greatest}
 use Rattle.many_dropped.proofs.Sitting.{one_if, one_at_most, is_here, times, times_joined, times_placed}

@@ -17,7 +17,7 @@ use Rattle.proxy_history.specs.Lawful.{AsksUpTo, backlog, proxy_of}
 use Rattle.proxy_history.proofs.Lawful.{proxy_is_lawful}
 use Rattle.many_history.specs.Events.{ManyEvent, Joined, Piece, Left, Took, ModemPiece, ModemGone, ModemBack, ModemTook, Now}
 use Rattle.many_history.specs.Devices.{Devices}
-use Rattle.many_history.specs.Many.{Place, Undecided, At, Seat, conns_of, place_of, without, seat_of, events_if, only_at, on_leaving, on_taking, joined_if, there, ended, is_there_at, own_after, seats_before, many, own}
+use Rattle.many_history.specs.Many.{Place, Undecided, At, Seat, conns_of, place_of, without, seat_of, events_if, only_at, on_leaving, on_taking, joined_if, there, is_there_at, own_after, many, own}
 use Rattle.many_history.specs.Queues.{text_at, text_for, modem_queue}
 use Rattle.many_history.specs.Coming.{NamesRise}
 use Rattle.many_history.proofs.There.{AreThere, place_of_front, without_other, seats_are_there, placed_is_there}

@@ -1,13 +1,11 @@
 -- Lists of seats: where a connection stands in them, and who of them stays.
-use Rattle.std.proofs.Common.{◌≡◌, ℕ, ◌+◌, ◌≤◌, Bool, true, false, not, cond, ◌&&◌, ◌||◌, ◌==◌, List, [], ◌∷◌, ◌++◌, refl, ap, sym, ◌∙◌, arith, Option, Some, None}
-use Rattle.std.specs.List.{AllByRecursion}
+use Rattle.std.proofs.Common.{◌≡◌, ℕ, ◌+◌, ◌≤◌, Bool, true, false, not, cond, ◌||◌, ◌==◌, List, [], ◌∷◌, ◌++◌, refl, ap, sym, ◌∙◌, arith, Option, Some, None}
 use Rattle.std.proofs.lemmas.Bool.{eqb-true, eq-eqb}
 use Rattle.proxy_history.specs.Connections.{contains}
 use Rattle.proxy_history.specs.Connections as connections
-use Rattle.many_history.specs.Many.{Place, Undecided, At, Seat, conns_of, place_of, placed, without, seat_of, there, ended}
-use Rattle.many_history.specs.Seated.{is_at}
+use Rattle.many_history.specs.Many.{Place, Seat, conns_of, place_of, placed, without, seat_of, there, ended}
 use Rattle.many_history.proofs.There.{AreThere, place_of_front, there_keeps}
-use Rattle.many_history.proofs.Once.{times, times_append, times_there, some_times, behind, nowhere, one_if}
+use Rattle.many_history.proofs.Once.{times, times_there, some_times, behind, nowhere, one_if}
 use Rattle.many_dropped.proofs.Dropping.{differ}
 
 -- ---- where a connection stands ----

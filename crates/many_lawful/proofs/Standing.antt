@@ -1,6 +1,5 @@
 -- Where a connection of a proxy of several devices stands behind an event, and what bytes it has. Lists of events have the newest first.
-use Rattle.std.proofs.Common.{◌≡◌, ℕ, ◌+◌, ◌<◌, ◌≤◌, Bool, true, false, not, ◌&&◌, ◌==◌, nat_lt, List, [], ◌∷◌, ◌++◌, length, refl, ap, sym, ◌∙◌, subst, arith, append-nil, Option, Some, None}
-use Rattle.std.specs.List.{AllByRecursion}
+use Rattle.std.proofs.Common.{◌≡◌, ℕ, ◌+◌, Bool, true, false, ◌&&◌, ◌==◌, nat_lt, List, [], ◌∷◌, ◌++◌, length, refl, ap, sym, ◌∙◌, subst, arith, append-nil, Option, Some, None}
 use Rattle.std.proofs.lemmas.Bool.{eqb-true, eq-eqb}
 use Rattle.kit_bytes.proofs.Lists.{all_weaker}
 use Rattle.proxy_history.specs.Events.{Event}
@@ -15,11 +14,11 @@ use Rattle.proxy_history.specs.Proxy.{IsLawful, LeavesBytesOf}
 use Rattle.proxy_history.specs.Lawful.{proxy_of}
 use Rattle.many_history.specs.Events.{ManyEvent, Joined, Piece, Left, Took, ModemPiece, ModemGone, ModemBack, ModemTook, Now}
 use Rattle.many_history.specs.Devices.{Devices, choice_on}
-use Rattle.many_history.specs.Many.{Place, Undecided, At, Seat, place_of, placed, without, seat_of, arrival, says, in_pieces, events_if, only_at, on_choice, on_piece, on_leaving, on_taking, parts, joined_if, chosen_if, said_by, seated, left, there, ended, is_there_at, names_in, own_after, seats_before, many, own}
+use Rattle.many_history.specs.Many.{Place, Undecided, At, Seat, place_of, placed, without, seat_of, arrival, says, in_pieces, events_if, only_at, on_choice, on_piece, on_leaving, on_taking, parts, joined_if, chosen_if, said_by, left, there, ended, is_there_at, names_in, own_after, seats_before, many, own}
 use Rattle.many_history.specs.Queues.{text_at, text_for}
 use Rattle.many_history.specs.Seated.{is_at}
 use Rattle.many_history.specs.Coming.{NamesRise}
-use Rattle.many_history.proofs.There.{AreThere, place_of_front, placed_other, without_other, seats_are_there, placed_is_there}
+use Rattle.many_history.proofs.There.{AreThere, place_of_front, placed_other, without_other, seats_are_there}
 use Rattle.many_history.proofs.Once.{stands_once, step_times, seen}
 use Rattle.many_history.proofs.Once as conns
 use Rattle.many_dropped.proofs.Dropping.{differ}
