@@ -1,10 +1,17 @@
 use row_text::RowFault;
 use std::alloc::Global;
-use tool_words::{ToolCommand, command_of};
+use tool_words::{ToolCommand, WordFault, command_of};
 
 /// What words ask for, as text.
 pub fn asked(alloc: Global, words: &[String]) -> Result<String, RowFault> {
     let command = command_of(alloc, words);
+    let text = spelled(alloc, &command);
+    drop(command);
+    text
+}
+
+// A command, or why words are none, as text.
+fn spelled(alloc: Global, command: &Result<ToolCommand, WordFault>) -> Result<String, RowFault> {
     Ok(format!(in alloc; "{command:?}")?)
 }
 
