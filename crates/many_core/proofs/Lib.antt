@@ -1,0 +1,12 @@
+pub mod Inside
+pub mod Parts
+pub mod Greatest
+pub mod Meeting
+pub mod Settling
+pub mod Moving
+pub mod Here
+pub mod Waiting
+pub mod Shown
+pub mod Waits
+pub mod Opening
+pub mod Hearing

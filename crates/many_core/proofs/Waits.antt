@@ -1,0 +1,67 @@
+-- Whether bytes wait for somebody, and who is the first from a place on.
+use Rattle.std.proofs.Common.{◌≡◌, ℕ, zero, suc, ◌+◌, ◌-◌, ◌<◌, ◌≤◌, Bool, true, false, not, nat_lt, ◌==◌, List, [], ◌∷◌, ◌++◌, length, drop, get_or, position, refl, ap, sym, ◌∙◌, subst, arith, Option, Some, None}
+use Rattle.std.proofs.lemmas.Bool.Decides.{nat_tests}
+use Rattle.std.specs.Option.{option_map}
+use Rattle.kit_bytes.proofs.Sorted.{position_is, position_none}
+use Rattle.outbox.specs.Fronts.{IsFrontOf}
+use Rattle.many_history.specs.Many.{Seat}
+use Rattle.many_seats.specs.Seats.{IsSeat}
+
+abbrev pub wait : List ℕ → Bool
+wait bytes = nat_lt 0 (length bytes)
+
+-- a part of what waits tells whether something waits
+pub waits_as : (front bytes : List ℕ) → IsFrontOf front bytes → (b : Bool) → b ≡ (length front == 0) → not b ≡ wait bytes
+waits_as [] bytes all b is = ap not is ∙ sym (ap wait (all.some refl))
+waits_as (byte ∷ front) bytes all b is =
+    let other : (length (byte ∷ front) == 0) ≡ false = grind (arith, nat_tests) in
+    let some : wait ((byte ∷ front) ++ all.rest) ≡ true = grind (arith, nat_tests) in
+    ap not (is ∙ other) ∙ sym some ∙ sym (ap wait all.whole)
+
+-- ---- a list from a place on ----
+
+at_drop : {X : Type 0} (xs : List X) (from k : ℕ) (d : X) → get_or (drop from xs) k d ≡ get_or xs (from + k) d
+at_drop xs zero k d = (let same : k ≡ 0 + k = omega arith in ap (λ (n : ℕ). get_or xs n d) same)
+at_drop [] (suc from) k d = refl
+at_drop (x ∷ xs) (suc from) k d = (let same : suc (from + k) ≡ suc from + k = omega arith in at_drop xs from k d ∙ ap (λ (n : ℕ). get_or (x ∷ xs) n d) same)
+
+drop_length : {X : Type 0} (xs : List X) (from : ℕ) → from ≤ length xs → length (drop from xs) + from ≡ length xs
+drop_length xs zero within = omega arith
+drop_length [] (suc from) within = absurd (omega (arith, within))
+drop_length (x ∷ xs) (suc from) within = omega (arith, drop_length xs from (omega (arith, within)))
+
+module _ (f : Seat → Bool) (seats : List Seat) (from : ℕ) where
+  -- none of those from the first place up to the second passes
+  abbrev pub NoneUpTo : ℕ → Type 0
+  NoneUpTo place = (k : ℕ) (seat : Seat) → from ≤ k → k < place → IsSeat seat seats k → f seat ≡ false
+
+  passes_not : (place k : ℕ) (d : Seat) → NoneUpTo place → from + k < place → place ≤ length seats → f (get_or seats (from + k) d) ≡ false
+  passes_not place k d none less within = none (from + k) (get_or seats (from + k) d) (omega arith) less (same_at seats (from + k) d (omega (arith, less, within)))
+    where
+      same_at : (xs : List Seat) (i : ℕ) (d : Seat) → i < length xs → get_or xs i d ≡ get_or xs i (get_or xs i d)
+      same_at [] i d less = absurd (omega (arith, less))
+      same_at (x ∷ xs) zero d less = refl
+      same_at (x ∷ xs) (suc i) d less = same_at xs i d (omega (arith, less))
+
+  pub first_here : (place : ℕ) (seat : Seat) → from ≤ place → place < length seats → NoneUpTo place → IsSeat seat seats place → f seat ≡ true → Some place ≡ option_map (λ at. from + at) (position f (drop from seats))
+  first_here place seat behind within none at is =
+      let ahead : ℕ = place - from in
+      let sum : from + ahead ≡ place = omega (arith, behind) in
+      let here : f (get_or (drop from seats) ahead seat) ≡ true = ap f (at_drop seats from ahead seat ∙ ap (λ (n : ℕ). get_or seats n seat) sum ∙ sym at) ∙ is in
+      let found : position f (drop from seats) ≡ Some ahead =
+      position_is f (drop from seats) ahead seat (λ k less. ap f (at_drop seats from k seat) ∙ passes_not place k seat none (omega (arith, less, behind)) (omega (arith, within))) (omega (arith, within, behind, drop_length seats from (omega (arith, behind, within)))) here
+      in
+      sym (ap (λ (o : Option ℕ). option_map (λ at. from + at) o) found ∙ ap (λ (n : ℕ). Some n) sum)
+
+  pub nobody_first : (place : ℕ) → from ≤ length seats → length seats ≤ place → NoneUpTo place → None ≡ option_map (λ at. from + at) (position f (drop from seats))
+  nobody_first place behind all none =
+      sym
+      (ap (λ (o : Option ℕ). option_map (λ at. from + at) o)
+      (position_none f (drop from seats) (λ k d less. ap f (at_drop seats from k d) ∙ passes_not (length seats) k d (λ n seat low high at. none n seat low (omega (arith, high, all)) at) (omega (arith, less, drop_length seats from behind)) (omega arith))))
+
+  pub one_further : (place : ℕ) → NoneUpTo place → ((seat : Seat) → IsSeat seat seats place → f seat ≡ false) → NoneUpTo (place + 1)
+  one_further place none here k seat low high at = by (k == place) refl
+    where
+      by : (b : Bool) → (k == place) ≡ b → f seat ≡ false
+      by true same = here seat (let is : k ≡ place = grind (arith, nat_tests, same) in subst (λ (n : ℕ). IsSeat seat seats n) is at)
+      by false other = none k seat low (let before : k < place = grind (arith, nat_tests, other, high) in before) at

@@ -1,0 +1,17 @@
+use Rattle.std.proofs.Common.{◌≡◌, ◌<◌, ◌++◌, ℕ, List, length, ap, sym, ◌∙◌, subst}
+use Rattle.outbox.specs.Fronts.{IsFrontOf}
+use Rattle.qmi_state.specs.Core.{QmiCore}
+use Rattle.many_cores.proofs.Places.{some_at, got_at}
+use Rattle.many_core.specs.Core.{ManyCore, Stands, is_away_at}
+use Rattle.many_core.proofs.Meeting.{value}
+use Rattle.many_core.proofs.Shown.{modem_away}
+use Rattle.many_core.proofs.many.ManyCore.away.Goals as goal
+
+pub returns-clause-told : goal.returns-clause-told
+returns-clause-told c = λ events. subst (λ (v : ManyCore). Stands events v → c.away.result ≡ is_away_at v c.args.device events) c.self.view_is (λ S.
+    let cores : List QmiCore = c.self.inside.cores in
+    let d = c.args.device in
+    let within : d < length cores = subst (λ (v : ManyCore). d < length v.core.cores) (sym c.self.view_is) c.requires in
+    let core = some_at cores d within in
+    let told = modem_away (value c.self.inside.paths c.self.inside.limits cores c.self.inside.seats) events S d core.0 (got_at cores d core.0 within core.1) in
+    c.away.ensures ∙ ap (λ (k : QmiCore). k.state.beside.away) (c.at.ensures core.0 core.1) ∙ told)
