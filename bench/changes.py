@@ -6,7 +6,7 @@ from mbim_talk import BASIC_CONNECT, Proxy, ask, command, list_of, processor_tim
 
 folder, count, programs = sys.argv[1], int(sys.argv[2]), sys.argv[3:]
 CLIENTS = 64
-VALGRIND = ("valgrind", "--tool=callgrind", f"--callgrind-out-file={folder}/grind")
+VALGRIND = ("valgrind", "-q", "--tool=callgrind", f"--callgrind-out-file={folder}/grind")
 
 
 def lists(client, change, apart):

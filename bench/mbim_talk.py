@@ -30,10 +30,19 @@ def list_of(*events):
     return struct.pack("<I", len(structures)) + references + b"".join(structures)
 
 
+def pieces(stream):
+    """What comes over a stream until it ends, or the other end is killed."""
+    try:
+        while piece := stream.recv(65536):
+            yield piece
+    except ConnectionResetError:
+        pass
+
+
 def messages(stream):
     """Each message that comes over a stream."""
     left = b""
-    while piece := stream.recv(65536):
+    for piece in pieces(stream):
         left += piece
         while len(left) >= 8 and len(left) >= (size := struct.unpack_from("<I", left, 4)[0]):
             yield left[:size]
