@@ -157,7 +157,7 @@ module _ {Known : Type 0} (s : Devices Known) (c : ℕ) where
       let m = many s events in
       stays_once event events (stands_once events rise.1) rise.0 (omega (arith, step_times event events, seated_times (names_in m.own) m.seats event))
 
-  names_rise : (events : List ManyEvent) → AreSound s events → NamesRise events
+  pub names_rise : (events : List ManyEvent) → AreSound s events → NamesRise events
   names_rise [] sound = tt
   names_rise (event ∷ events) sound = ((sound.0).0, names_rise events sound.1)
 
