@@ -1,14 +1,14 @@
 -- Parts of a buffer, the numbers in them, and events by their places.
-use Rattle.std.proofs.Common.{◌≡◌, ℕ, zero, suc, ◌+◌, ◌-◌, ◌*◌, ◌/◌, ◌%◌, ◌<◌, ◌≤◌, inl, inr, min, nat_lt, Bool, true, false, List, [], ◌∷◌, ◌++◌, length, take, drop, get_or, slice_range, map, Option, Some, None, IsSome, option_map, Contains, ⊎_elim, refl, sym, ◌∙◌, ap, ap₂, subst, arith, if◌then◌else◌}
+use Rattle.std.proofs.Common.{◌≡◌, ℕ, zero, suc, ◌+◌, ◌-◌, ◌*◌, ◌/◌, ◌%◌, ◌<◌, ◌≤◌, inl, inr, min, nat_lt, Bool, true, false, List, [], ◌∷◌, ◌++◌, length, take, drop, slice_range, map, Option, Some, None, IsSome, option_map, Contains, ⊎_elim, refl, sym, ◌∙◌, ap, ap₂, subst, arith, if◌then◌else◌}
 use Rattle.std.proofs.lemmas.List.{drop-drop, drop-take, take-take, length-drop, length-take-le}
-use Rattle.std.proofs.Math.Seq.{take-add, drop-nil}
+use Rattle.std.proofs.Math.Seq.{take-add}
 use Rattle.std.proofs.lemmas.Bool.{false≢true}
 use Rattle.std.proofs.lemmas.List.Elements.{Contains-append_left, Contains-append_right, Contains-append_cases}
 use Rattle.kit_bytes.specs.Numbers.{number_at}
 use Rattle.kit_bytes.specs.Subscriptions.{Pair, Subscription, pairs_of}
 use Rattle.kit_bytes.proofs.Members.{Contains-cons, Contains-cons_cases, Contains-nil}
 use Rattle.mbim_services.specs.SubscribeLists.{numbers_of, pairs_at, both, pairs_referred}
-use Rattle.mbim_services.specs.EventLists.{IsRange, Leaves, IsEventAt, HasUnread, cids_in, subscription_at, subscription_of_range, events_referred, pairs_in}
+use Rattle.mbim_services.specs.EventLists.{IsRange, Leaves, cids_in, subscription_at, subscription_of_range, events_referred, pairs_in}
 use Rattle.mbim_services.specs.declared.events.CidRange.{CidRange}
 use Rattle.mbim_services.proofs.Listed.{at-some, structure-some}
 use Rattle.mbim_services.proofs.References.{numbers_few, numbers_two, references_more}
@@ -82,23 +82,6 @@ leaves-back buffer range other mid is other_is service same before cut mid_is =
           inr (service, part-within buffer other.start range.start mid other.end gap.0 known (other_is.count - gap.0 - known) gap.1 there (omega (arith, mid_is, other_is.long, gap.1, cut, there)) other_is.within cid front))
           (λ (back : Contains (numbers_of (slice_range buffer mid range.end)) cid). inl back)
           (Contains-append_cases (numbers_of (slice_range buffer range.start mid)) (numbers_of (slice_range buffer mid range.end)) cid (subst (λ (l : List ℕ). Contains l cid) split at));
-    }
-
-pub leaves-front : (buffer : List ℕ) (range other : CidRange) → IsRange buffer range → IsRange buffer other → other.uuid ≡ range.uuid → range.start % 4 ≡ other.start % 4 → range.start < other.start → other.start < range.end → range.end ≤ other.end
-    → Leaves buffer range other (record { uuid = range.uuid; start = range.start; end = other.start })
-leaves-front buffer range other is other_is service same before cut behind =
-    let gap = apart range.start other.start (omega (arith, before)) (sym same) in
-    let split = numbers-split buffer range.start other.start range.end gap.0 gap.1 (omega (arith, cut)) is.within in
-    record {
-      service = refl;
-      stands = record { count = gap.0; long = gap.1; within = omega (arith, cut, is.within) };
-      within = λ cid at. subst (λ (l : List ℕ). Contains l cid) (sym split) (Contains-append_left (numbers_of (slice_range buffer range.start other.start)) (numbers_of (slice_range buffer other.start range.end)) cid at);
-      others = λ cid at.
-          ⊎_elim
-          (λ (front : Contains (numbers_of (slice_range buffer range.start other.start)) cid). inl front)
-          (λ (back : Contains (numbers_of (slice_range buffer other.start range.end)) cid).
-          inr (service, part-within buffer other.start other.start range.end other.end 0 (is.count - gap.0) (other_is.count - (is.count - gap.0)) (omega arith) (omega (arith, is.long, gap.1, cut)) (omega (arith, is.long, other_is.long, gap.1, cut, behind)) other_is.within cid back))
-          (Contains-append_cases (numbers_of (slice_range buffer range.start other.start)) (numbers_of (slice_range buffer other.start range.end)) cid (subst (λ (l : List ℕ). Contains l cid) split at));
     }
 
 -- ---- events ----
@@ -218,37 +201,3 @@ single-in uuid (first ∷ cids) cid at =
 pub pair-in : (uuid cids : List ℕ) (cid : ℕ) → Contains cids cid → Contains (pairs_of uuid cids) (single uuid cid)
 pair-in uuid [] cid at = absurd (Contains-nil cid at)
 pair-in uuid (first ∷ cids) cid at = single-in uuid (first ∷ cids) cid at
-
-pair-before : (events : List Subscription) (earlier place : ℕ) (event : Subscription) (behind : List Subscription) (pair : Pair) → earlier < place → drop earlier events ≡ event ∷ behind → Contains (pairs_of event.uuid event.cids) pair → Contains (pairs_in (take place events)) pair
-pair-before [] earlier place event behind pair before there at = absurd (let none = sym (drop-nil earlier) ∙ there in cc)
-pair-before (first ∷ events) earlier zero event behind pair before there at = absurd (omega (arith, before))
-pair-before (first ∷ events) zero (suc place) event behind pair before there at =
-    let is : first ≡ event = ap (λ (l : List Subscription). get_or l 0 event) there in
-    Contains-append_left (pairs_of first.uuid first.cids) (pairs_in (take place events)) pair (subst (λ (s : Subscription). Contains (pairs_of s.uuid s.cids) pair) (sym is) at)
-pair-before (first ∷ events) (suc earlier) (suc place) event behind pair before there at =
-    Contains-append_right (pairs_of first.uuid first.cids) (pairs_in (take place events)) pair (pair-before events earlier place event behind pair (omega (arith, before)) there at)
-
--- ---- what is unread ----
-
-pub unread-all : (events : List Subscription) (place : ℕ) (uuid cids : List ℕ) → IsEventAt events place uuid cids → HasUnread events place uuid cids
-unread-all events place uuid cids there = record { all = cids; there = there; within = λ cid at. at; others = λ cid at. inl at }
-
-pub unread-without : (events : List Subscription) (place earlier : ℕ) (buffer : List ℕ) (range other left : CidRange) → HasUnread events place range.uuid (cids_in buffer range) → earlier < place → IsEventAt events earlier other.uuid (cids_in buffer other) → Leaves buffer range other left
-    → HasUnread events place left.uuid (cids_in buffer left)
-unread-without events place earlier buffer range other left unread before there leaves =
-    subst (λ (uuid : List ℕ). HasUnread events place uuid (cids_in buffer left)) (sym leaves.service) (record {
-      all = unread.all;
-      there = unread.there;
-      within = λ cid at. unread.within cid (leaves.within cid at);
-      others = λ cid at.
-          ⊎_elim
-          (λ (at_hand : Contains (cids_in buffer range) cid).
-          ⊎_elim
-          (λ (stays : Contains (cids_in buffer left) cid). inl stays)
-          (λ (known : (other.uuid ≡ range.uuid) × Contains (cids_in buffer other) cid).
-          inr (subst (λ (uuid : List ℕ). Contains (pairs_in (take place events)) (single uuid cid)) known.0
-          (pair-before events earlier place (record { uuid = other.uuid; cids = cids_in buffer other }) (drop (earlier + 1) events) (single other.uuid cid) before there (pair-in other.uuid (cids_in buffer other) cid known.1))))
-          (leaves.others cid at_hand))
-          (λ (known : Contains (pairs_in (take place events)) (single range.uuid cid)). inr known)
-          (unread.others cid at);
-    })

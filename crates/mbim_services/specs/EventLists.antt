@@ -1,5 +1,5 @@
 -- The events of a list's buffer, by their places.
-use Rattle.std.specs.Prelude.{◌≡◌, ◌⊎◌, ℕ, ◌+◌, ◌*◌, ◌≤◌, List, [], ◌∷◌, length, drop, slice_range, take, Some, IsSome}
+use Rattle.std.specs.Prelude.{◌≡◌, ◌⊎◌, ℕ, ◌+◌, ◌*◌, ◌≤◌, List, [], ◌∷◌, length, drop, slice_range, IsSome}
 use Rattle.std.specs.List.{flat_map, Contains}
 use Rattle.kit_bytes.specs.Numbers.{number_at}
 use Rattle.kit_bytes.specs.Subscriptions.{Pair, Subscription, pairs_of}
@@ -56,10 +56,3 @@ pairs_in events = flat_map (λ event. pairs_of event.uuid event.cids) events
 -- the event of a place has this service and these CIDs
 abbrev pub IsEventAt : List Subscription → (place : ℕ) → (uuid cids : List ℕ) → Type 0
 IsEventAt events place uuid cids = drop place events ≡ record { uuid = uuid; cids = cids } ∷ drop (place + 1) events
-
--- CIDs of the event of a place: each other CID that it has is one of an event in front of it, of the same service
-pub record HasUnread (events : List Subscription) (place : ℕ) (uuid cids : List ℕ) : Type 0 where
-  pub all : List ℕ
-  pub there : IsEventAt events place uuid all
-  pub within : (cid : ℕ) → Contains cids cid → Contains all cid
-  pub others : (cid : ℕ) → Contains all cid → Contains cids cid ⊎ Contains (pairs_in (take place events)) (uuid, Some cid)

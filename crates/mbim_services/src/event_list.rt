@@ -1,5 +1,5 @@
 ghost use Rattle.std.specs.Prelude.{◌≡◌, ◌+◌, ◌*◌, ◌<◌, ◌≤◌, ◌==◌, ℕ, List, [], ◌∷◌, length, option_map, IfSome, IsNone, IsSome};
-ghost use Rattle.mbim_services.specs.EventLists.{HasUnread, IsEventAt, IsRange, Leaves, cids_in, events_referred, pairs_in};
+ghost use Rattle.mbim_services.specs.EventLists.{IsEventAt, IsRange, cids_in, events_referred, pairs_in};
 ghost use Rattle.mbim_services.specs.SubscribeLists.{list_of_buffer, numbers_of, pairs_referred};
 
 use crate::events::{CidRange, first_number, range_at, references_of};
@@ -74,19 +74,6 @@ impl<'a> EventList<'a> {
     {
         event_of(self.buffer, nth_range(self.buffer, self.references, place))
     }
-
-    /// The event of this place, without those CIDs at either end that an event in front of it has at the
-    /// same place of the buffer, for the same service. It looks at the nearest events in front of it, and at
-    /// no more of them than the event has CIDs left.
-    pub fn unread(&self, place: usize) -> Event<'a>
-        requires { place < length self.now }
-        ensures { HasUnread self.now place result.uuid result.cids }
-    {
-        event_of(
-            self.buffer,
-            unread_range(self.buffer, self.references, place),
-        )
-    }
 }
 
 impl Cids<'_> {
@@ -130,48 +117,4 @@ fn nth_range(buffer: &[u8], references: &[u8], place: usize) -> CidRange
     ensures range { IsRange buffer.now result }
 {
     range_at(buffer, &references[8 * place..]).unwrap()
-}
-
-// What is left of the CIDs of the event of a place without those at either end that an event in front of
-// it has. No more events are looked at than CIDs are left, so that looking costs no more than reading would.
-fn unread_range(buffer: &[u8], references: &[u8], place: usize) -> CidRange
-    requires whole { IsSome (pairs_referred buffer.now (numbers_of references.now)) }
-    requires place { 8 * place + 8 ≤ length references.now }
-    ensures unread { HasUnread (events_referred buffer.now (numbers_of references.now)) place result.uuid (cids_in buffer.now result) }
-    ensures range { IsRange buffer.now result }
-{
-    let mut left = nth_range(buffer, references, place);
-    for looked in 0..place {
-        if (left.end - left.start) / 4 <= looked {
-            return left;
-        }
-        left = without(left, nth_range(buffer, references, place - looked - 1));
-    }
-    left
-}
-
-// What is left of CIDs without those at either end that another event has, if it is one of the same
-// service and its CIDs stand at the same places.
-fn without(range: CidRange, other: CidRange) -> CidRange
-    ensures { (buffer : List ℕ) → IsRange buffer range → IsRange buffer other → Leaves buffer range other result }
-{
-    if range.uuid != other.uuid {
-        return range;
-    }
-    if range.start % 4 != other.start % 4 {
-        return range;
-    }
-    if other.start <= range.start && range.start < other.end {
-        return CidRange {
-            start: other.end.min(range.end),
-            ..range
-        };
-    }
-    if range.start < other.start && other.start < range.end && range.end <= other.end {
-        return CidRange {
-            end: other.start,
-            ..range
-        };
-    }
-    range
 }

@@ -6,7 +6,8 @@ use Rattle.std.proofs.lemmas.List.{append-nil}
 use Rattle.std.proofs.lemmas.List.Elements.{Contains-append_left, Contains-append_right, Contains-append_cases}
 use Rattle.kit_bytes.specs.Subscriptions.{Pair, Subscription, normal_form, pairs_of}
 use Rattle.kit_bytes.proofs.Members.{Contains-nil, Contains-filter, Contains-filter_from, Contains-filter_passes}
-use Rattle.mbim_services.specs.EventLists.{IsEventAt, HasUnread, pairs_in}
+use Rattle.mbim_services.specs.EventLists.{IsEventAt, pairs_in}
+use Rattle.subscribe_lists.proofs.Unread.{HasUnread}
 use Rattle.subscriptions.specs.Lists.{IsNormal, fits, pushed}
 use Rattle.subscriptions.proofs.NormalForms.{IsFree, covers_itself, normal_again, normal_from, normal_free, normal_has}
 use Rattle.subscriptions.proofs.Covering.{AreCovered, covered_within, same_form, form_covers, form_joined, form_shorter, form_swapped}

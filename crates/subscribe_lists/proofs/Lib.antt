@@ -2,3 +2,4 @@ pub mod Adding
 pub mod Events
 pub mod Orders
 pub mod Sweeping
+pub mod Unread

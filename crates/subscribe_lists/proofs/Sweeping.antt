@@ -6,7 +6,8 @@ use Rattle.std.proofs.lemmas.List.Elements.{Contains-append_left, Contains-appen
 use Rattle.kit_bytes.specs.Subscriptions.{Pair, Subscription, pairs_of}
 use Rattle.kit_bytes.specs.Numbers.{number_at}
 use Rattle.kit_bytes.proofs.Members.{Contains-nil}
-use Rattle.mbim_services.specs.EventLists.{IsEventAt, HasUnread, pairs_in}
+use Rattle.mbim_services.specs.EventLists.{IsEventAt, pairs_in}
+use Rattle.subscribe_lists.proofs.Unread.{HasUnread}
 use Rattle.mbim_services.specs.SubscribeLists.{numbers_of}
 use Rattle.mbim_services.proofs.Ranges.{pair-in}
 use Rattle.subscribe_lists.specs.Structures.{IsWhole, IsWholeAt, Leaves, cids_in, event_at, events_at, end_at}
