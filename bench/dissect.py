@@ -239,7 +239,9 @@ live()
 rate("QMI", QMI, [], 30)
 tables = os.environ.get("WDS_TABLES")
 if tables:
-    rate("QMI by WDS's file", WDS, ["--tables", tables], 20)
+    with open(tables) as described, open(f"{folder}/wds.json", "w") as known:
+        known.write(re.sub(r',\s*"endian"\s*:\s*"network"', "", described.read()))
+    rate("QMI by WDS's file", WDS, ["--tables", f"{folder}/wds.json"], 20)
 else:
     print("QMI by WDS's file: not run, WDS_TABLES names no file")
 ours = rate("MBIM", MBIM, ["--kind=mbim"], 30)

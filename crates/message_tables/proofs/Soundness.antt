@@ -1,5 +1,5 @@
 -- Tables that are read are sound.
-use Rattle.std.proofs.Common.{◌≡◌, ℕ, ◌≤◌, ◌⊎◌, inl, inr, nat_le, Bool, true, false, ◌&&◌, ◌||◌, List, ◌∷◌, Option, Some, None, IfSome, Ordering, Less, Equal, Greater, nat_cmp, option_map, option_and_then, unwrap_or, bytes_eq, codes, refl, arith, if◌then◌else◌}
+use Rattle.std.proofs.Common.{◌≡◌, ℕ, ◌≤◌, ◌⊎◌, inl, inr, nat_le, Bool, true, false, ◌&&◌, ◌||◌, cond, List, ◌∷◌, Option, Some, None, IfSome, Ordering, Less, Equal, Greater, nat_cmp, option_map, option_and_then, unwrap_or, bytes_eq, codes, refl, arith, if◌then◌else◌}
 use Rattle.std.proofs.lemmas.Grind.{common_steps}
 use Rattle.std.specs.Ordering.{match_ordering}
 use Rattle.std.specs.Cmp.Lexicographic.{slice_cmp}
@@ -17,7 +17,7 @@ use Rattle.message_tables.specs.declared.format.Format.TheVariants.{Unsigned, Si
 use Rattle.message_tables.specs.Reading.{Reading, faulty, unknown, known, reading_map, and_then, required}
 use Rattle.message_tables.specs.Members.{member_text, value_in, text_in, is_object, are_objects}
 use Rattle.message_tables.specs.Numbers.{size_of, in_range, integer_of}
-use Rattle.message_tables.specs.Formats.{number_named, other_named, first_format, format_named, count_named, number_size, prefix_by, stated_prefix}
+use Rattle.message_tables.specs.Formats.{number_named, other_named, first_format, format_named, is_plain, format_of, count_named, number_size, prefix_by, stated_prefix}
 use Rattle.message_tables.specs.Definitions.{Definition, Names, referred}
 use Rattle.message_tables.specs.Forms.{inside, inside_prefix, field_for, field_by, field_with, form_in, form_by, form_with, some_items, form_of, element_in, fields_in, fields_at, fields_listed}
 
@@ -208,14 +208,22 @@ form_by-well None entry element fields good inner parts = tt
 form_by-well (Some None) entry element fields good inner parts = tt
 form_by-well (Some (Some format)) entry element fields good inner parts = form_in-well format entry element fields good inner parts
 
-named-good : (name : Option (List ℕ)) → IfSome (option_map format_named name) MayBeGood
-named-good None = tt
-named-good (Some name) = format-good name
+plain-good : (plain : Bool) (format : Option Format) → MayBeGood format → MayBeGood (cond plain format None)
+plain-good true format good = good
+plain-good false format good = tt
+
+format_of-good : (entry : Data) (name : List ℕ) → MayBeGood (format_of entry name)
+unfolding format_of
+format_of-good entry name = plain-good (is_plain entry) (format_named name) (format-good name)
+
+named-good : (entry : Data) (name : Option (List ℕ)) → IfSome (option_map (format_of entry) name) MayBeGood
+named-good entry None = tt
+named-good entry (Some name) = format_of-good entry name
 
 form_with-well : (entry : Data) (element : Reading Form) (fields : Reading (List NamedForm)) → OnKnown IsWellMade element → OnKnown AreFields fields
     → OnKnown IsWellMade (form_with entry element fields)
 unfolding form_with
-form_with-well entry element fields inner parts = form_by-well _ entry element fields (named-good (text_in which.Format entry)) inner parts
+form_with-well entry element fields inner parts = form_by-well _ entry element fields (named-good entry (text_in which.Format entry)) inner parts
 
 -- ---- names ----
 

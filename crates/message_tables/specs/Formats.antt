@@ -1,12 +1,12 @@
 -- The formats of values, and the sizes of texts, lists and numbers.
--- Source: VariableFactory.py, VariableInteger.py, VariableString.py and VariableArray.py in libqmi's build-aux/qmi-codegen.
-use Rattle.std.specs.Prelude.{ℕ, ◌||◌, List, Option, Some, None, option_and_then, codes, if◌then◌else◌}
+-- Source: Variable.py, VariableFactory.py, VariableInteger.py, VariableString.py and VariableArray.py in libqmi's build-aux/qmi-codegen.
+use Rattle.std.specs.Prelude.{ℕ, ◌&&◌, ◌||◌, List, Bool, true, false, Option, Some, None, is_none, unwrap_or, option_map, option_and_then, codes, if◌then◌else◌}
 use Rattle.std.specs.Str.{bytes_eq}
 use Rattle.serde_json.specs.Data.{Data}
 use Rattle.serde_json.specs.Find.{as_str}
 use Rattle.qmi_shapes.specs.declared.shape.Prefix.{Prefix}
 use Rattle.qmi_shapes.specs.declared.shape.Prefix.TheVariants.{Fixed, Counted}
-use Rattle.message_tables.specs.declared.fault.MemberName.TheVariants.{SizePrefixFormat, FixedSize, GuintSize}
+use Rattle.message_tables.specs.declared.fault.MemberName.TheVariants.{SizePrefixFormat, FixedSize, GuintSize, Endian, SequencePrefixFormat}
 use Rattle.message_tables.specs.declared.format.Format.{Format}
 use Rattle.message_tables.specs.declared.format.Format.TheVariants.{Unsigned, Signed, Sized, Text, Array, Sequence}
 use Rattle.message_tables.specs.Reading.{Reading, known, reading_map, required}
@@ -40,6 +40,19 @@ first_format None other = other
 -- the format of a name
 unfoldable pub format_named : List ℕ → Option Format
 format_named name = first_format (number_named name) (other_named name)
+
+-- numbers have their lowest byte first, as they have where nothing is said
+abbrev pub is_little : Option Data → Bool
+is_little None = true
+is_little (Some order) = unwrap_or (option_map (bytes_eq (codes "little")) (as_str order)) false
+
+-- no number stands before a list's elements but their count
+abbrev pub is_plain : Data → Bool
+is_plain entry = is_little (value_in Endian entry) && is_none (value_in SequencePrefixFormat entry)
+
+-- the format of this name in an object, where the object doesn't lay its bytes out otherwise
+unfoldable pub format_of : Data → List ℕ → Option Format
+format_of entry name = if is_plain entry then format_named name else None
 
 -- how many bytes a count of this format has
 unfoldable pub count_named : List ℕ → Option ℕ

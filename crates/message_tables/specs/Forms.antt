@@ -14,7 +14,7 @@ use Rattle.message_tables.specs.declared.format.Format.{Format}
 use Rattle.message_tables.specs.declared.format.Format.TheVariants.{Unsigned, Signed, Sized, Text, Array, Sequence}
 use Rattle.message_tables.specs.Reading.{Reading, faulty, unknown, known, reading_map, and_then, required, listed}
 use Rattle.message_tables.specs.Members.{member_text, value_in, text_in, is_object, are_objects, objects_in}
-use Rattle.message_tables.specs.Formats.{format_named, number_size, stated_prefix}
+use Rattle.message_tables.specs.Formats.{format_of, number_size, stated_prefix}
 use Rattle.message_tables.specs.Definitions.{Definition, Names, referred}
 
 -- ---- texts ----
@@ -67,7 +67,7 @@ form_by (Some (Some format)) entry element fields = form_in format entry element
 
 -- the form that an object describes by its `format`, given what its `array-element` and its `contents` describe
 unfoldable pub form_with : Data → Reading Form → Reading (List NamedForm) → Reading Form
-form_with entry element fields = form_by (option_map format_named (text_in FormatName entry)) entry element fields
+form_with entry element fields = form_by (option_map (format_of entry) (text_in FormatName entry)) entry element fields
 
 -- what a member gives that has the wanted name, and else what the others give
 abbrev pub at_member : {A : Type 0} → MemberName → List ℕ → A → A → A

@@ -3,7 +3,7 @@ use Rattle.std.specs.Prelude.{ℕ, List, Bool, true, ◌&&◌, Option, Some, Non
 use Rattle.serde_json.specs.Data.{Data, Items, no_items, item}
 use Rattle.serde_json.specs.Find.{get, as_str, as_array, as_object}
 use Rattle.message_tables.specs.declared.fault.MemberName.{MemberName}
-use Rattle.message_tables.specs.declared.fault.MemberName.TheVariants.{Kind, Name, Service, Id, Input, Output, Format, Contents, ArrayElement, SizePrefixFormat, FixedSize, GuintSize, CommonRef}
+use Rattle.message_tables.specs.declared.fault.MemberName.TheVariants.{Kind, Name, Service, Id, Input, Output, Format, Contents, ArrayElement, SizePrefixFormat, FixedSize, GuintSize, Endian, SequencePrefixFormat, CommonRef}
 
 -- the name of a member in JSON
 unfoldable pub member_text : MemberName → List ℕ
@@ -19,6 +19,8 @@ member_text ArrayElement = codes "array-element"
 member_text SizePrefixFormat = codes "size-prefix-format"
 member_text FixedSize = codes "fixed-size"
 member_text GuintSize = codes "guint-size"
+member_text Endian = codes "endian"
+member_text SequencePrefixFormat = codes "sequence-prefix-format"
 member_text CommonRef = codes "common-ref"
 
 abbrev pub value_in : MemberName → Data → Option Data

@@ -29,6 +29,10 @@ pub enum MemberName {
     FixedSize,
     /// `guint-size`
     GuintSize,
+    /// `endian`
+    Endian,
+    /// `sequence-prefix-format`
+    SequencePrefixFormat,
     /// `common-ref`
     CommonRef,
 }
@@ -55,6 +59,8 @@ impl MemberName {
             MemberName::SizePrefixFormat => "size-prefix-format",
             MemberName::FixedSize => "fixed-size",
             MemberName::GuintSize => "guint-size",
+            MemberName::Endian => "endian",
+            MemberName::SequencePrefixFormat => "sequence-prefix-format",
             MemberName::CommonRef => "common-ref",
         }
     }

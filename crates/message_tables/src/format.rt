@@ -1,3 +1,12 @@
+ghost use Rattle.std.specs.Prelude.{◌≡◌};
+ghost use Rattle.serde_json.specs.View.{view};
+ghost use Rattle.message_tables.specs.Members.{value_in};
+ghost use Rattle.message_tables.specs.Formats.{is_little, is_plain, format_of};
+
+use crate::MemberName;
+use crate::members::member;
+use serde_json::Value;
+
 /// How a member `format` says that a value stands in bytes.
 #[derive(Drop)]
 pub(crate) enum Format {
@@ -65,5 +74,36 @@ impl Format {
         } else {
             None
         }
+    }
+}
+
+/// The format of this name in an object, where the object doesn't lay its bytes out otherwise.
+#[tactic(auto, unfolding(crate::specs::Formats::format_of))]
+pub(crate) fn format_of(object: &Value, name: &str) -> Option<Format>
+    ensures { result ≡ format_of (view object.now) name.now }
+{
+    if is_plain(object) {
+        Format::named(name)
+    } else {
+        None
+    }
+}
+
+// Whether no number stands before a list's elements but their count, and each has its lowest byte first.
+fn is_plain(object: &Value) -> bool
+    ensures { result ≡ is_plain (view object.now) }
+{
+    is_little(object) && member(object, MemberName::SequencePrefixFormat).is_none()
+}
+
+fn is_little(object: &Value) -> bool
+    ensures { result ≡ is_little (value_in MemberName.Endian (view object.now)) }
+{
+    match member(object, MemberName::Endian) {
+        Some(order) => match order.as_str() {
+            Some(name) => name == "little",
+            None => false,
+        },
+        None => true,
     }
 }

@@ -11,7 +11,7 @@ use crate::MemberName;
 use crate::copies::text_of;
 use crate::definitions::Definitions;
 use crate::fault::ObjectFault;
-use crate::format::Format;
+use crate::format::{Format, format_of};
 use crate::members::{member, objects_in, text_member};
 use crate::sizes::{number_size, stated_prefix};
 use qmi_shapes::{Prefix, Shape, ShapeField, ShapeFields};
@@ -94,7 +94,7 @@ impl Definitions {
         ensures { Reads shape_view result (form_of (names_in self.now) (view object.now)) }
     {
         let name = text_member(object, MemberName::Format)?;
-        match Format::named(name) {
+        match format_of(object, name) {
             Some(Format::Unsigned(bytes)) => Ok(Some(Shape::U(bytes))),
             Some(Format::Signed(bytes)) => Ok(Some(Shape::I(bytes))),
             Some(Format::Sized) => Ok(Some(Shape::U(number_size(object)?))),
