@@ -1,18 +1,20 @@
 -- A link to a peer goes on.
-use Rattle.std.specs.Prelude.{Result, Ok}
-use Rattle.std.proofs.Common.{◌≡◌, ◌⊎◌, inl, inr, ℕ, ◌+◌, ◌<◌, ◌≤◌, true, false, List, [], ◌∷◌, ◌++◌, length, drop, get_or, slice_range, map, if◌then◌else◌, Bool, Option, Some, None, refl, sym, ◌∙◌, ap, subst, arith, append_assoc}
-use Rattle.std.proofs.lemmas.List.{append-nil, drop-append-le, drop_more}
+use Rattle.std.specs.Prelude.{Ok}
+use Rattle.std.proofs.Common.{◌≡◌, ◌⊎◌, inl, inr, ℕ, ◌+◌, ◌<◌, ◌≤◌, true, false, List, [], ◌∷◌, ◌++◌, length, drop, get_or, slice_range, map, if◌then◌else◌, Bool, Option, Some, None, refl, sym, ◌∙◌, ap, subst, append_assoc}
+use Rattle.std.proofs.lemmas.List.{append-nil, drop-append-le, drop_more, map_push}
 use Rattle.std.proofs.lemmas.List.Folds.{drop_split}
 use Rattle.std.specs.Option.{option_map}
 use Rattle.kit_io.specs.Told.{Grows}
 use Rattle.link_io.specs.declared.link.Taken.{Taken}
 use Rattle.link_io.specs.declared.link.Taken.TheVariants.{End}
-use Rattle.link_io.specs.Calls.{Call, EndsForGood, Opened, Paired, Sent, Took, WasQuiet, WasEnd, TakeFailed, Closed}
+use Rattle.link_io.specs.Calls.{Call, EndsForGood, Sent, Took, WasQuiet}
 use Rattle.link_session.specs.Marks.{bytes_in}
 use Rattle.link_session.specs.Peer.{Peer, LeadsTo, said, texts_in}
 use Rattle.link_session.proofs.Peers.{texts_in-append}
 use Rattle.link_session.proofs.Takes.{bytes_in-append}
 use Rattle.peer_link.specs.Linked.{IsAtPeer, IsNoEnd}
+use Rattle.peer_link.specs.Made.{call_of}
+use Rattle.peer_link.specs.declared.link.Made.{Made}
 
 -- a front of a list with one more is all of it, or a front of the list
 splits_last : {A : Type 0} (xs : List A) (x : A) (front more : List A) → xs ++ x ∷ [] ≡ front ++ more
@@ -130,6 +132,12 @@ module _ {A : Type 0} {peer : A → Peer} {has_met : List (List ℕ) → A → T
           all = all;
           rest = rest;
         }
+
+-- ---- the calls that are kept ----
+
+-- one more is kept
+pub kept_are : (made : List Made) (one : Made) (all : List Made) → all ≡ made ++ one ∷ [] → map call_of all ≡ map call_of made ++ call_of one ∷ []
+kept_are made one all is = ap (map call_of) is ∙ map_push call_of made one
 
 -- ---- what is told ----
 

@@ -1,4 +1,4 @@
-use Rattle.std.proofs.Common.{◌≡◌, ℕ, ◌+◌, ◌≤◌, List, [], ◌∷◌, ◌++◌, length, drop, map, ap, sym, ◌∙◌, subst, rules, drop_of_length-le}
+use Rattle.std.proofs.Common.{◌≡◌, ℕ, ◌+◌, ◌≤◌, List, ◌∷◌, ◌++◌, length, drop, map, ap, sym, ◌∙◌, subst, rules, drop_of_length-le}
 use Rattle.std.proofs.lemmas.List.{append-nil}
 use Rattle.link_session.specs.Peer.{texts_in}
 use Rattle.peer_link.specs.Made.{call_of}
