@@ -13,4 +13,5 @@ pub use asking::{Reply, exchange};
 pub use fault::SessionFault;
 pub use incoming::{Found, Incoming};
 pub use laws::{links_decide_nothing, peers_can_be_asked};
+pub use mark::{Mark, next_mark};
 pub use waiting::{Awaits, Meaning, wait_for};

@@ -10,7 +10,7 @@ use link_io::{Link, TAKE_ROOM, Taken};
 
 /// What a session notices, one after the other.
 #[derive(Clone, Copy, Debug, PartialEq, Eq)]
-pub(crate) enum Mark {
+pub enum Mark {
     Message(Found),
     /// Bytes that begin no message, from this place on.
     Bad { place: u64 },
@@ -23,7 +23,7 @@ pub(crate) enum Mark {
 }
 
 /// The next mark. Nothing is taken while there is one in what was taken.
-pub(crate) fn next_mark<L: Link, F: Framing>(link: &mut L, incoming: &mut Incoming<F>) -> Mark
+pub fn next_mark<L: Link, F: Framing>(link: &mut L, incoming: &mut Incoming<F>) -> Mark
     ensures looks { (heard : Heard) → Stands F.size incoming.old heard → Looks F.size heard result incoming.new (L.calls link.old) (L.calls link.new) }
     ensures readable { IsReadable F.size result incoming.new }
     ensures failed { result ≡ Mark.Failed → Rose (L.faults link.old) (L.faults link.new) }

@@ -7,4 +7,6 @@ mod objects;
 mod services;
 
 pub use fault::NamedFault;
-pub use named::read_message;
+pub use named::{checked, read_message};
+pub use objects::take_in;
+pub use services::service_called;

@@ -112,8 +112,8 @@ fn message_in(
     checked(message)
 }
 
-// What is refused of a message that reads.
-fn checked(message: Message) -> Result<Message, NamedFault>
+/// What is refused of a message that reads.
+pub fn checked(message: Message) -> Result<Message, NamedFault>
     ensures { Finds (message_by (known (message_view message))) result }
 {
     if message.has_id_twice() {

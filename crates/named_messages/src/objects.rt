@@ -64,8 +64,12 @@ pub(crate) fn definitions_in(alloc: Global, objects: &[Value]) -> Result<Definit
     Ok(definitions)
 }
 
-// Takes in what one object more defines.
-fn take_in(definitions: &mut Definitions, alloc: Global, object: &Value) -> Result<(), AllocError>
+/// Takes in what one object more defines: one that can't be read defines nothing.
+pub fn take_in(
+    definitions: &mut Definitions,
+    alloc: Global,
+    object: &Value,
+) -> Result<(), AllocError>
     ensures { OnOk result ((earlier : Defined) → names_in definitions.old ≡ named_by earlier
         → names_in definitions.new ≡ named_by (defined_with earlier (view object.now))) }
 {

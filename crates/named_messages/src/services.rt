@@ -3,7 +3,7 @@ ghost use Rattle.named_messages.specs.Services.{first_service, second_service, t
 
 /// The number of a service that libqmi describes.
 #[tactic(auto, unfolding(crate::specs::Services::service_called))]
-pub(crate) fn service_called(name: &str) -> Option<u8>
+pub fn service_called(name: &str) -> Option<u8>
     ensures { result ≡ service_called name.now }
 {
     first_service(name)

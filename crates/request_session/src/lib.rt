@@ -17,5 +17,5 @@ pub use ends::{RequestEnd, TlvAnswer};
 pub use laws::sessions_end_as_at_peers;
 pub use plan::RequestPlan;
 pub use request::TlvRequest;
-pub use session::request_session;
+pub use session::{leave, reach, request_session, send_request};
 pub use wanted::WantedAnswer;

@@ -48,7 +48,7 @@ pub fn request_session<L: Link>(
 }
 
 /// Asks the proxy for the device, where the plan is proxied, and takes a client id.
-fn reach<L: Link>(
+pub fn reach<L: Link>(
     alloc: Global,
     link: &mut L,
     incoming: &mut Incoming<Qmux>,
@@ -126,13 +126,13 @@ fn ask<L: Link>(
     ensures later { L.faults link.old ≤ L.faults link.new }
     ensures later_open { L.open_faults link.old ≤ L.open_faults link.new }
 {
-    let answer = request(alloc, link, incoming, plan, client)?;
+    let answer = send_request(alloc, link, incoming, plan, client)?;
     let kept = leave(alloc, link, incoming, plan, client)?;
     Ok(RequestEnd::Answered { answer, kept })
 }
 
 /// Sends the request with this client id, and reads its answer.
-fn request<L: Link>(
+pub fn send_request<L: Link>(
     alloc: Global,
     link: &mut L,
     incoming: &mut Incoming<Qmux>,
@@ -171,7 +171,7 @@ fn number_of(plan: &RequestPlan, client: Client) -> u8
 }
 
 /// Gives the client id back where it isn't kept, and tells the service and the client id that are kept.
-fn leave<L: Link>(
+pub fn leave<L: Link>(
     alloc: Global,
     link: &mut L,
     incoming: &mut Incoming<Qmux>,

@@ -16,7 +16,7 @@ use std::alloc::{AllocError, Global};
 use values_json::AsPrinted;
 
 /// What is printed of an answer, and of the service and the client id that are kept.
-pub(crate) fn answer_text(
+pub fn answer_text(
     alloc: Global,
     plan: &TablePlan,
     answer: &TlvAnswer,

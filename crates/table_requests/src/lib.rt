@@ -8,6 +8,7 @@ mod plan;
 mod pointer;
 mod session;
 
+pub use answer::answer_text;
 pub use fault::{InputFault, NoRequest};
 pub use file::request_in_file;
 pub use plan::TablePlan;

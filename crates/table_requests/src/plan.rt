@@ -57,14 +57,16 @@ impl TablePlan {
         &self.session
     }
 
-    pub(crate) fn message(&self) -> &Message
+    /// The message whose request it is.
+    pub fn message(&self) -> &Message
         ensures same { result.now ≡ self.now.message }
         ensures sound { IsSoundMessage (message_view self.now.message) }
     {
         &self.message
     }
 
-    pub(crate) fn in_json(&self) -> bool
+    /// Whether the answer is printed as one JSON object.
+    pub fn in_json(&self) -> bool
         ensures { result ≡ self.now.json }
     {
         self.json

@@ -2,7 +2,7 @@ use Rattle.std.proofs.Common.{Ok, Err}
 use Rattle.std.proofs.lemmas.Result.{err_from_is_err_and}
 use Rattle.session_script.proofs.Going.{Goes-answered, Goes-no_memory, Goes-unanswered}
 use Rattle.request_session.proofs.Reading.{Goes-reading}
-use Rattle.request_session.proofs.session.request.Goals as goal
+use Rattle.request_session.proofs.session.send_request.Goals as goal
 
 pub returns-in_err-message-clause-requests : goal.returns-in_err-message-clause-requests
 returns-in_err-message-clause-requests g c = λ heard stands. let p = err_from_is_err_and c.from_residual.result c.from_residual.ensures.1 in rw (p.1, p.2) (Goes-no_memory _ _)
