@@ -14,13 +14,19 @@ use tools_twice::mbim_twice;
 fn plan_of(alloc: Global, request: MbimRequest) -> Result<MbimPlan, AllocError>
     ensures { IfOk result (λ plan. plan ≡ plan_of request) }
 {
-    Ok(MbimPlan {
-        device: device(alloc)?,
-        proxied: false,
-        close: true,
-        timeout: PATIENCE,
-        request,
-    })
+    match device(alloc) {
+        Ok(device) => Ok(MbimPlan {
+            device,
+            proxied: false,
+            close: true,
+            timeout: PATIENCE,
+            request,
+        }),
+        Err(full) => {
+            drop(request);
+            Err(full)
+        }
+    }
 }
 
 impl RunsTwice for MbimRequest {

@@ -14,14 +14,20 @@ use tools_twice::{qmi_tunnelled, qmi_twice};
 fn plan_of(alloc: Global, request: QmiRequest) -> Result<QmiPlan, AllocError>
     ensures { IfOk result (λ plan. plan ≡ plan_of request) }
 {
-    Ok(QmiPlan {
-        device: device(alloc)?,
-        proxied: false,
-        cid: None,
-        keep: false,
-        timeout: PATIENCE,
-        request,
-    })
+    match device(alloc) {
+        Ok(device) => Ok(QmiPlan {
+            device,
+            proxied: false,
+            cid: None,
+            keep: false,
+            timeout: PATIENCE,
+            request,
+        }),
+        Err(full) => {
+            drop(request);
+            Err(full)
+        }
+    }
 }
 
 impl RunsTwice for QmiRequest {
