@@ -10,8 +10,8 @@ use arrayvec::ArrayVec;
 use kit_io::Failed;
 use std::marker::Model;
 
-/// How many children may be kept.
-pub const KIDS_LIMIT: usize = 2;
+/// How many children may be kept: two for each of eight devices.
+pub const KIDS_LIMIT: usize = 16;
 
 /// The children that were started and neither ended nor stopped. It takes no memory.
 ///

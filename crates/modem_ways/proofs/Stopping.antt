@@ -1,11 +1,14 @@
--- Children that were started are stopped.
-use Rattle.std.proofs.Common.{◌≡◌, ℕ, Bool, List, Option, Result, ◌∙◌, is_ok, subst}
+-- Children that are kept stand for the calls, and those that were started are stopped.
+use Rattle.std.proofs.Common.{◌≡◌, ℕ, Bool, List, Option, Result, ◌∙◌, ◌++◌, is_ok, subst, append_assoc}
 use Rattle.kit_io.specs.Told.{Grows}
 use Rattle.kit_io.proofs.Told.{Grows-append}
 use Rattle.child_io.specs.Calls.{Call}
 use Rattle.child_io.specs.Alive.{StandsFor}
 use Rattle.child_io.specs.Kids.{StopsEach}
 use Rattle.modem_ways.specs.Reaching.{StartsAndStops}
+
+pub stand_behind : (calls first later : List Call) {kept : List ℕ} → StandsFor ((calls ++ first) ++ later) kept → StandsFor (calls ++ (first ++ later)) kept
+stand_behind calls first later {kept} stands = subst (λ (l : List Call). StandsFor l kept) (append_assoc calls first later) stands
 
 pub each_is_stopped : {T E : Type 0} {starts : List Call} {kept : List ℕ} {after made : ℕ} {old mid new : Option (List Call)} {result : Result T E} {stopped : Bool}
     → Grows old starts mid → StandsFor starts kept → StopsEach kept after mid result new → stopped ≡ is_ok result → after ≡ made → StartsAndStops starts stopped made old new

@@ -27,6 +27,13 @@ pub record StartsBy (Like : List child.Call → Type 0) (old : Option (List chil
   pub grows : Grows old starts new
   pub stands : StandsFor starts kept
 
+-- the same where children were kept before: they and those that the starts named are
+pub record StartsMore (Like : List child.Call → Type 0) (old : Option (List child.Call)) (before after : List ℕ) (new : Option (List child.Call)) : Type 0 where
+  pub starts : List child.Call
+  pub are : Like starts
+  pub grows : Grows old starts new
+  pub stands : (calls : List child.Call) → StandsFor calls before → StandsFor (calls ++ starts) after
+
 -- after these starts each child that they named was stopped, each behind so many calls on what the children serve, and `stopped` says whether each stop went well; none is left but by a stop that failed
 pub record StartsAndStops (starts : List child.Call) (stopped : Bool) (after : ℕ) (old new : Option (List child.Call)) : Type 0 where
   pub tries : List Try

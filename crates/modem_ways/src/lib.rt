@@ -5,5 +5,5 @@ mod reaching;
 mod way;
 mod words;
 
-pub use reaching::{ReachFault, reach, start_pumps};
+pub use reaching::{ReachFault, reach, start_more_pumps, start_pumps};
 pub use way::{Device, Pumps, Way};

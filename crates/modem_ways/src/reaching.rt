@@ -1,13 +1,13 @@
-ghost use Rattle.std.specs.Prelude.{◌≡◌, ◌≢◌, ◌⊎◌, ◌≤◌, [], ◌∷◌, map, string_bytes, is_ok, Err, OnErr};
+ghost use Rattle.std.specs.Prelude.{◌≡◌, ◌≢◌, ◌⊎◌, ◌+◌, ◌≤◌, [], ◌∷◌, length, map, string_bytes, is_ok, Err, OnErr};
 ghost use Rattle.kit_io.specs.Causes.{HasCause, Rose};
 ghost use Rattle.kit_io.specs.Told.{Grows};
 ghost use Rattle.link_io.specs.Target.{address_of};
 ghost use Rattle.link_io.specs.Calls.{Opened};
 ghost use Rattle.modem_ways.specs.Ways.{path_in, words_in};
-ghost use Rattle.modem_ways.specs.Reaching.{StartsPumps, StartsBy, Reaches, ReachesAtOnce, ReachesBehindPumps, ReachesByProxy, ReachesBy, OpensInTime, LinkFails};
+ghost use Rattle.modem_ways.specs.Reaching.{StartsPumps, StartsBy, StartsMore, Reaches, ReachesAtOnce, ReachesBehindPumps, ReachesByProxy, ReachesBy, OpensInTime, LinkFails};
 
 use crate::way::{Device, Pumps, Way};
-use child_io::{Kids, Spawner};
+use child_io::{KIDS_LIMIT, Kids, Spawner};
 use kit_io::Failed;
 use link_io::{Link, Target};
 
@@ -25,6 +25,24 @@ pub enum ReachFault {
     NoProxy,
 }
 
+/// Starts the pumps of a node, and keeps them beside the children that are kept already.
+pub fn start_more_pumps<P: Spawner>(
+    pumps: &Pumps,
+    spawner: &mut P,
+    kids: &mut Kids,
+) -> Result<(), Failed>
+    requires { length kids.old + 2 ≤ KIDS_LIMIT }
+    ensures starts { StartsMore (StartsPumps (words_in pumps.now) (is_ok result)) (P.calls spawner.old) kids.old kids.new (P.calls spawner.new) }
+    ensures few { length kids.new ≤ length kids.old + 2 }
+    ensures cause { HasCause (P.faults spawner.old) (P.faults spawner.new) result }
+{
+    kids.start(spawner, &pumps.reads)?;
+    match kids.start(spawner, &pumps.writes) {
+        Ok(_) => Ok(()),
+        Err(Failed) => Err(Failed),
+    }
+}
+
 /// Starts the pumps of a node, and keeps them.
 pub fn start_pumps<P: Spawner>(
     pumps: &Pumps,
@@ -35,11 +53,7 @@ pub fn start_pumps<P: Spawner>(
     ensures starts { StartsBy (StartsPumps (words_in pumps.now) (is_ok result)) (P.calls spawner.old) kids.new (P.calls spawner.new) }
     ensures cause { HasCause (P.faults spawner.old) (P.faults spawner.new) result }
 {
-    kids.start(spawner, &pumps.reads)?;
-    match kids.start(spawner, &pumps.writes) {
-        Ok(_) => Ok(()),
-        Err(Failed) => Err(Failed),
-    }
+    start_more_pumps(pumps, spawner, kids)
 }
 
 /// Goes the way to a modem: opens the link, and starts what has to be there. At an error the link is
