@@ -19,7 +19,7 @@ use Rattle.mbim_session.specs.declared.plan.MbimEnd.{MbimEnd}
 use Rattle.qmi_services.specs.declared.answers.QmiEnd.{QmiEnd}
 use Rattle.tunnel_session.specs.declared.ends.TunnelEnd.{TunnelEnd}
 use Rattle.tool_words.specs.declared.command.ToolCommand.{ToolCommand}
-use Rattle.tool_words.specs.declared.command.ToolCommand.TheVariants.{Qmicli, Mbimcli, Request, PduSubmit, Describe, Proxy, Simulator, Pump, Rig, Transparency, Dissect, Version}
+use Rattle.tool_words.specs.declared.command.ToolCommand.TheVariants.{Qmicli, Mbimcli, Request, PduSubmit, Describe, Proxy, Proxies, Simulator, Pump, Rig, Transparency, Dissect, Version}
 use Rattle.tool_words.specs.declared.fault.UsageKind.{UsageKind}
 use Rattle.tool_words.specs.declared.form.AnswerForm.{AnswerForm}
 use Rattle.tool_words.specs.declared.form.AnswerForm.TheVariants as form
@@ -127,6 +127,8 @@ RunsCommand (PduSubmit number text reference) before after result = EndsAs statu
 RunsCommand (Describe path message) before after result = EndsAs status_of result (λ ends. DescribesFile (encode_utf8_all path) message before.files after.files before.out ends after.out)
 RunsCommand (Proxy task) before after result =
     ServesProxy task.kind (asked_in task) (place_of (encode_utf8_all task.device) (encode_utf8_all task.bridge)) before.hub before.spawner result after.hub after.hub_made after.spawner
+-- (one proxy for several devices isn't served yet)
+RunsCommand (Proxies task) before after result = result ≡ status.Usage usage.UnknownTool
 RunsCommand (Simulator kind socket profile None turns None) before after result =
     EndsAs status_of_sim result (λ ends. sim.Simulates profile (sim.asked_in kind socket turns) (record { files = before.files; hub = before.hub }) (record { files = after.files; hub = after.hub }) ends)
 RunsCommand (Simulator kind socket profile (Some rules) turns None) before after result =
@@ -203,6 +205,7 @@ CommandLeavesAlone (Request task) before after = (after.hub ≡ before.hub) × (
 CommandLeavesAlone (PduSubmit number text reference) before after = (after.link ≡ before.link) × (after.hub ≡ before.hub) × (after.spawner ≡ before.spawner) × (after.files ≡ before.files) × (after.bench ≡ before.bench)
 CommandLeavesAlone (Describe path message) before after = (after.link ≡ before.link) × (after.hub ≡ before.hub) × (after.spawner ≡ before.spawner) × (after.bench ≡ before.bench)
 CommandLeavesAlone (Proxy task) before after = (after.link ≡ before.link) × (after.files ≡ before.files) × (after.out ≡ before.out) × (after.bench ≡ before.bench)
+CommandLeavesAlone (Proxies task) before after = after ≡ before
 CommandLeavesAlone (Simulator kind socket profile rules turns None) before after = (after.link ≡ before.link) × (after.spawner ≡ before.spawner) × (profile ≡ None → rules ≡ None → after.files ≡ before.files) × (after.out ≡ before.out) × (after.bench ≡ before.bench)
 CommandLeavesAlone (Simulator kind socket profile rules turns (Some most)) before after = (after.link ≡ before.link) × (after.hub ≡ before.hub) × (after.files ≡ before.files) × (after.out ≡ before.out) × (after.bench ≡ before.bench)
 CommandLeavesAlone (Pump read node bridge) before after = (after.hub ≡ before.hub) × (after.spawner ≡ before.spawner) × (after.out ≡ before.out) × (after.bench ≡ before.bench)

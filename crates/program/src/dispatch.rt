@@ -11,8 +11,8 @@ use crate::report::report;
 use crate::status::Status;
 use crate::telling::tell_version;
 use crate::tools::{
-    run_command_of_proxy, run_command_of_pump, run_command_of_rig, run_command_of_simulator,
-    run_command_of_tool,
+    other_tool, run_command_of_proxy, run_command_of_pump, run_command_of_rig,
+    run_command_of_simulator, run_command_of_tool,
 };
 use child_io::Spawner;
 use core_bench::Bench;
@@ -98,6 +98,10 @@ fn run_command<O: Sink, L: Link, H: Hub, P: Spawner, F: Files, B: Bench>(
             run_command_of_tool(alloc, command, out, link, spawner, files)
         }
         ToolCommand::Proxy(_) => run_command_of_proxy(alloc, command, hub, spawner),
+        ToolCommand::Proxies(task) => {
+            drop(task);
+            other_tool()
+        }
         ToolCommand::Simulator { .. } => {
             run_command_of_simulator(alloc, command, hub, spawner, files)
         }

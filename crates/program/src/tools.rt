@@ -25,7 +25,7 @@ use std::alloc::Global;
 use tool_words::{ToolCommand, UsageKind, WordFault, command_of};
 
 // The words are those of another tool.
-fn other_tool() -> Status
+pub fn other_tool() -> Status
     ensures { result ≡ Status.Usage UsageKind.UnknownTool }
 {
     Status::Usage {

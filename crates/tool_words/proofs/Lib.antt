@@ -1,6 +1,7 @@
 pub mod Building
 pub mod Rows
 pub mod Choosing
+pub mod Devices
 pub mod Chains
 pub mod Reading
 pub mod Numbers

@@ -12,12 +12,14 @@ use Rattle.tool_words.specs.Answers.{Answers, or_value}
 use Rattle.tool_words.specs.Command.{command_in, read_if_named, tool_app, tool_asked, tool_named}
 use Rattle.tool_words.specs.Dissect.{dissect_asked, dissect_if_given, dissect_spelling, dissect_values}
 use Rattle.tool_words.specs.Form.{form_of}
-use Rattle.tool_words.specs.Given.{is_given, value_given, word_given}
+use Rattle.tool_words.specs.Given.{is_given, value_given, word_given, words_given}
 use Rattle.tool_words.specs.Link.{device_in, link_in}
 use Rattle.tool_words.specs.MbimCommands.{mbim_line, mbim_spelling, reads_messages as mbim_reads}
 use Rattle.tool_words.specs.Mbimcli.{mbim_asks, mbim_setting_spelling, mbimcli_asked, mbimcli_values}
 use Rattle.tool_words.specs.ModemTools.{asked_by, modem_tool_asked}
-use Rattle.tool_words.specs.Proxy.{proxy_asked, proxy_spelling, proxy_values}
+use Rattle.tool_words.specs.Paths.{devices_in}
+use Rattle.tool_words.specs.Proxies.{proxies_asked, proxies_if_given, proxies_values}
+use Rattle.tool_words.specs.Proxy.{proxy_asked, proxy_spelling, proxy_values, settings_in}
 use Rattle.tool_words.specs.Pump.{pump_asked, pump_if_named, pump_values, reads_named}
 use Rattle.tool_words.specs.QmiCommands.{makes_messages, qmi_asks, qmi_line, qmi_spelling, takes_tables}
 use Rattle.tool_words.specs.Qmicli.{asked_for, asked_with, described, fits_tables, form_given, modem_kind, qmi_asked, qmi_setting_spelling, qmicli_asked, qmicli_values, reference_in, requested, sent_to, submitted}
@@ -119,7 +121,15 @@ simulator-fits rows = grind arith
 
 proxy-fits : (kind : Kind) (rows : List Row) → Fits (proxy_values kind rows)
 unfolding proxy_values
-proxy-fits kind rows = grind arith
+proxy-fits kind rows =
+    Fits-each _ (settings_in kind rows) (λ settings _.
+    Fits-each _ (option_and_then path_in (value_given proxy_spelling rows proxy.Device)) (λ device _. tt))
+
+proxies-fits : (texts : List (List ℕ)) (rows : List Row) → Fits (proxies_values texts rows)
+unfolding proxies_values
+proxies-fits texts rows =
+    Fits-each _ (settings_in kind.Qmi rows) (λ settings _.
+    Fits-each _ (devices_in texts) (λ devices _. tt))
 
 pump-fits : (read : Bool) (node bridge : List ℕ) → Fits (pump_values read node bridge)
 unfolding pump_values
@@ -219,11 +229,16 @@ dissect-if_given-fits : (capture : Option (List ℕ)) (rows : List Row) → IsFi
 dissect-if_given-fits (Some capture) rows = IsFitting-value (dissect_values capture rows) (dissect-fits capture rows)
 dissect-if_given-fits None rows = tt
 
+proxies-if_given-fits : (texts : Option (List (List ℕ))) (rows : List Row) → IsFitting (proxies_if_given texts rows)
+proxies-if_given-fits (Some texts) rows = IsFitting-value (proxies_values texts rows) (proxies-fits texts rows)
+proxies-if_given-fits None rows = tt
+
 tool-fits : (tool : Tool) (rows : List Row) → IsFitting (tool_asked tool rows)
-unfolding qmicli_asked mbimcli_asked simulator_asked dissect_asked modem_tool_asked
+unfolding qmicli_asked mbimcli_asked proxies_asked simulator_asked dissect_asked modem_tool_asked
 tool-fits tool.Qmicli rows = asked_by-fits qmi_asks qmicli_values _ rows (λ c. qmicli-fits c rows)
 tool-fits tool.Mbimcli rows = asked_by-fits mbim_asks mbimcli_values _ rows (λ c. mbimcli-fits c rows)
 tool-fits (tool.Proxy kind) rows = proxy_asked-fits kind rows
+tool-fits tool.Proxies rows = proxies-if_given-fits (words_given (codes "devices") rows) rows
 tool-fits tool.Simulator rows = IsFitting-value (simulator_values rows) (simulator-fits rows)
 tool-fits tool.Rig rows = rig_asked-fits rows
 tool-fits tool.Dissect rows = dissect-if_given-fits (word_given (codes "capture") rows) rows

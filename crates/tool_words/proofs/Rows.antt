@@ -3,11 +3,11 @@ use Rattle.std.proofs.Common.{◌≡◌, ◌∙◌, ℕ, List, Option, Some, Non
 use Rattle.std.specs.Prelude.{find, option_and_then}
 use Rattle.std.specs.Str.{bytes_eq}
 use Rattle.clap.specs.Facts.{Entry}
-use Rattle.clap.specs.Matches.{first_value, matched_of}
-use Rattle.clap.specs.Walk.{Row, first_of, row_of, rows_of}
+use Rattle.clap.specs.Matches.{first_value, matched_of, raw_values}
+use Rattle.clap.specs.Walk.{Row, all_of, first_of, row_of, rows_of}
 use Rattle.clap.specs.declared.parser.matches.Found.{Found}
 use Rattle.clap.specs.declared.parser.matches.MatchedArg.{MatchedArg}
-use Rattle.clap.proofs.WalkLemmas.{find_row, first_value-rows}
+use Rattle.clap.proofs.WalkLemmas.{find_row, first_value-rows, raw_values-rows}
 use Rattle.tool_words.specs.Given.{source_of}
 
 -- where the value of this name comes from
@@ -23,3 +23,7 @@ source_rows found name =
 -- the first value of this name
 pub value_rows : (found : Found) (name : List ℕ) → first_value found name ≡ first_of name (rows_of found)
 value_rows found name = first_value-rows found name
+
+-- all values of this name
+pub all_rows : (found : Found) (name : List ℕ) → option_map raw_values (matched_of found name) ≡ all_of name (rows_of found)
+all_rows found name = raw_values-rows found name

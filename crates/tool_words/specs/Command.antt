@@ -7,6 +7,7 @@ use Rattle.kit_bytes.specs.declared.Kind.TheVariants.{Qmi, Mbim}
 use Rattle.tool_words.specs.Answers.{read_by}
 use Rattle.tool_words.specs.Dissect.{dissect_app, dissect_asked}
 use Rattle.tool_words.specs.Mbimcli.{mbimcli_app, mbimcli_asked}
+use Rattle.tool_words.specs.Proxies.{proxies_app, proxies_asked}
 use Rattle.tool_words.specs.Proxy.{proxy_app, proxy_asked, proxy_name}
 use Rattle.tool_words.specs.Pump.{pump_asked}
 use Rattle.tool_words.specs.Qmicli.{qmicli_app, qmicli_asked}
@@ -26,6 +27,7 @@ tool_named word =
     else if bytes_eq word (codes "mbimcli") then Some tool.Mbimcli
     else if bytes_eq word (proxy_name Qmi) then Some (tool.Proxy Qmi)
     else if bytes_eq word (proxy_name Mbim) then Some (tool.Proxy Mbim)
+    else if bytes_eq word (codes "qmi-proxies") then Some tool.Proxies
     else if bytes_eq word (codes "modem-sim") then Some tool.Simulator
     else if bytes_eq word (codes "rig") then Some tool.Rig
     else if bytes_eq word (codes "dissect") then Some tool.Dissect
@@ -36,6 +38,7 @@ abbrev pub tool_app : Tool → App
 tool_app tool.Qmicli = qmicli_app
 tool_app tool.Mbimcli = mbimcli_app
 tool_app (tool.Proxy kind) = proxy_app kind
+tool_app tool.Proxies = proxies_app
 tool_app tool.Simulator = simulator_app
 tool_app tool.Rig = rig_app
 tool_app tool.Dissect = dissect_app
@@ -45,6 +48,7 @@ abbrev pub tool_asked : Tool → List Row → Result ToolCommand UsageKind
 tool_asked tool.Qmicli rows = qmicli_asked rows
 tool_asked tool.Mbimcli rows = mbimcli_asked rows
 tool_asked (tool.Proxy kind) rows = proxy_asked kind rows
+tool_asked tool.Proxies rows = proxies_asked rows
 tool_asked tool.Simulator rows = simulator_asked rows
 tool_asked tool.Rig rows = rig_asked rows
 tool_asked tool.Dissect rows = dissect_asked rows

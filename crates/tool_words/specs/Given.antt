@@ -1,7 +1,7 @@
 -- Which options the words give, and with which values.
 use Rattle.std.specs.Prelude.{ℕ, Bool, true, false, List, Option, Some, find, option_and_then}
 use Rattle.std.specs.Str.{bytes_eq}
-use Rattle.clap.specs.Walk.{Row, first_of}
+use Rattle.clap.specs.Walk.{Row, all_of, first_of}
 use Rattle.clap.specs.declared.parser.matches.ValueSource.{ValueSource}
 use Rattle.clap.specs.declared.parser.matches.ValueSource.TheVariants.{CommandLine}
 use Rattle.tool_words.specs.Spelling.{Spelling}
@@ -26,3 +26,7 @@ value_given spelling rows option = first_of (spelling option).name rows
 -- the word of this name that stands besides the options
 unfoldable pub word_given : List ℕ → List Row → Option (List ℕ)
 word_given name rows = first_of name rows
+
+-- those of this name, in their order
+unfoldable pub words_given : List ℕ → List Row → Option (List (List ℕ))
+words_given name rows = all_of name rows

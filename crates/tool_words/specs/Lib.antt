@@ -10,8 +10,10 @@ pub mod Answers
 pub mod Defaults
 pub mod Dissect
 pub mod Link
+pub mod Paths
 pub mod ModemTools
 pub mod Proxy
+pub mod Proxies
 pub mod Simulator
 pub mod Rig
 pub mod Pump

@@ -16,6 +16,7 @@ use Rattle.tool_words.specs.declared.fault.UsageKind.{UsageKind}
 use Rattle.tool_words.specs.declared.fault.UsageKind.TheVariants as usage
 use Rattle.tool_words.specs.declared.proxy.ProxyOption.{ProxyOption}
 use Rattle.tool_words.specs.declared.proxy.ProxyOption.TheVariants as option
+use Rattle.tool_words.specs.declared.proxy.ProxySettings.{ProxySettings}
 
 -- ---- its name ----
 
@@ -58,26 +59,39 @@ empty_time stays seconds = if stays || seconds == 0 then None else Some (seconds
 unfoldable pub release_in : List ℕ → Option ℕ
 release_in text = option_map (λ seconds. seconds * 1000) (number_within 1 86400 text)
 
--- the proxy that these values describe, if each of them reads
-unfoldable pub proxy_values : Kind → List Row → Option ToolCommand
-proxy_values kind rows = do
+-- how a proxy serves, whatever it serves, if each of these values reads
+unfoldable pub settings_in : Kind → List Row → Option ProxySettings
+settings_in kind rows = do
   seconds ← number_or 30 0 86400 (value_given proxy_spelling rows option.EmptyTimeout)
   time ← number_or 30000 1 86400000 (value_given proxy_spelling rows option.Time)
   release ← optional release_in (value_given proxy_spelling rows option.ReleaseAfter)
   turns ← turns_in (value_given proxy_spelling rows option.Turns)
-  device ← option_and_then path_in (value_given proxy_spelling rows option.Device)
   socket ← path_or (proxy_socket kind) (value_given proxy_spelling rows option.Socket)
   bridge ← path_or bridge_socket (value_given proxy_spelling rows option.Bridge)
-  Some (Proxy (record {
-    kind = kind;
-    device = device;
+  Some (record {
     socket = socket;
     bridge = bridge;
     empty = empty_time (is_given proxy_spelling rows option.NoExit) seconds;
-    exit_when_lost = is_given proxy_spelling rows option.ExitWhenLost;
     time = time;
     release = release;
     turns = turns;
+  })
+
+-- the proxy that these values describe, if each of them reads
+unfoldable pub proxy_values : Kind → List Row → Option ToolCommand
+proxy_values kind rows = do
+  settings ← settings_in kind rows
+  device ← option_and_then path_in (value_given proxy_spelling rows option.Device)
+  Some (Proxy (record {
+    kind = kind;
+    device = device;
+    socket = settings.socket;
+    bridge = settings.bridge;
+    empty = settings.empty;
+    exit_when_lost = is_given proxy_spelling rows option.ExitWhenLost;
+    time = settings.time;
+    release = settings.release;
+    turns = settings.turns;
   }))
 
 -- ---- what the words ask for ----

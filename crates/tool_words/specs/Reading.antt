@@ -5,7 +5,7 @@ use Rattle.clap.specs.Kinds.{Kinds}
 use Rattle.clap.specs.Matches.{found_of}
 use Rattle.clap.specs.Simple.{App, matches_of, new_app, new_rule, on_top, with_rule}
 use Rattle.clap.specs.Walk.{Rule, Text, rows_of}
-use Rattle.clap.specs.declared.builder.action.ArgAction.TheVariants.{Set, SetTrue}
+use Rattle.clap.specs.declared.builder.action.ArgAction.TheVariants.{Append, Set, SetTrue}
 use Rattle.clap.specs.declared.parser.matches.ArgMatches.{ArgMatches}
 use Rattle.tool_words.specs.Spelling.{Spelling}
 use Rattle.tool_words.specs.declared.fault.UsageKind.TheVariants.{Words}
@@ -35,6 +35,14 @@ word_rule name = record (new_rule name) { action = Some Set }
 -- the tool with such a word besides
 abbrev pub with_word : Text → App → App
 with_word name app = with_rule app (word_rule name)
+
+-- words that are no options, of which there may be any number
+abbrev pub words_rule : Text → Rule
+words_rule name = record (new_rule name) { action = Some Append }
+
+-- the tool with such words besides
+abbrev pub with_words : Text → App → App
+with_words name app = with_rule app (words_rule name)
 
 abbrev pub is_fault : Kinds → Bool
 is_fault [] = false

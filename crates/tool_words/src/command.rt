@@ -6,6 +6,7 @@ ghost use Rattle.tool_words.specs.Rig.{IsWithinLimits};
 
 use crate::dissect::{dissect_asked, dissect_reader};
 use crate::mbimcli::{MbimTask, mbimcli_asked, mbimcli_reader};
+use crate::proxies::{ProxiesTask, proxies_asked, proxies_reader};
 use crate::proxy::{ProxyTask, proxy_asked, proxy_name, proxy_reader};
 use crate::pump::pump_asked;
 use crate::qmicli::{QmiTask, RequestTask, qmicli_asked, qmicli_reader};
@@ -42,6 +43,8 @@ pub enum ToolCommand {
     },
     /// Serves a modem to the clients of a socket.
     Proxy(ProxyTask),
+    /// Serves several modems to the clients of a socket.
+    Proxies(ProxiesTask),
     /// Serves a simulated modem to the clients of a socket.
     Simulator {
         kind: Kind,
@@ -97,6 +100,8 @@ enum Tool {
     Mbimcli,
     /// The proxy for a kind of modem.
     Proxy(Kind),
+    /// One proxy for several QMI modems.
+    Proxies,
     /// The simulated modem.
     Simulator,
     /// Many clients before a proxy's core.
@@ -117,6 +122,8 @@ fn tool_named(word: &str) -> Option<Tool>
         Some(Tool::Proxy(Kind::Qmi))
     } else if word == proxy_name(Kind::Mbim) {
         Some(Tool::Proxy(Kind::Mbim))
+    } else if word == "qmi-proxies" {
+        Some(Tool::Proxies)
     } else if word == "modem-sim" {
         Some(Tool::Simulator)
     } else if word == "rig" {
@@ -136,6 +143,7 @@ fn reader<'a>(alloc: Global, tool: Tool) -> Result<Command<'a>, AllocError>
         Tool::Qmicli => qmicli_reader(alloc),
         Tool::Mbimcli => mbimcli_reader(alloc),
         Tool::Proxy(kind) => proxy_reader(alloc, kind),
+        Tool::Proxies => proxies_reader(alloc),
         Tool::Simulator => simulator_reader(alloc),
         Tool::Rig => rig_reader(alloc),
         Tool::Dissect => dissect_reader(alloc),
@@ -150,6 +158,7 @@ fn asked(alloc: Global, tool: Tool, matches: &ArgMatches<'_>) -> Result<ToolComm
         Tool::Qmicli => qmicli_asked(alloc, matches),
         Tool::Mbimcli => mbimcli_asked(alloc, matches),
         Tool::Proxy(kind) => proxy_asked(alloc, kind, matches),
+        Tool::Proxies => proxies_asked(alloc, matches),
         Tool::Simulator => simulator_asked(alloc, matches),
         Tool::Rig => rig_asked(matches),
         Tool::Dissect => dissect_asked(alloc, matches),

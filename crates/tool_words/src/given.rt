@@ -1,6 +1,6 @@
-ghost use Rattle.std.specs.Prelude.{◌≡◌, option_map};
+ghost use Rattle.std.specs.Prelude.{◌≡◌, map, option_map};
 ghost use Rattle.clap.specs.Words.{found_of, rows_of};
-ghost use Rattle.tool_words.specs.Given.{is_given, value_given, word_given};
+ghost use Rattle.tool_words.specs.Given.{is_given, value_given, word_given, words_given};
 ghost use Rattle.tool_words.specs.Sole.{command_given, sole, those_given};
 
 use crate::UsageKind;
@@ -34,6 +34,14 @@ pub fn word_given<'a>(matches: &ArgMatches<'a>, name: &str) -> Option<&'a str>
     ensures { option_map (λ value. value.now) result ≡ word_given name.now (rows_of (found_of matches.now)) }
 {
     matches.get_str(name)
+}
+
+/// The words of this name that the words give besides the options.
+#[tactic(auto, using(crate::proofs::Rows::all_rows), unfolding(crate::specs::Given::words_given))]
+pub fn words_given<'m, 'a>(matches: &'m ArgMatches<'a>, name: &str) -> Option<&'m [&'a str]>
+    ensures { option_map (λ words. map (λ word. word.now) words.now) result ≡ words_given name.now (rows_of (found_of matches.now)) }
+{
+    matches.get_raw(name)
 }
 
 /// The one of these commands that the words give.

@@ -1,7 +1,7 @@
 ghost use Rattle.std.specs.Prelude.{◌≡◌, ◌≤◌, true, IfOk, option_and_then, option_map};
 ghost use Rattle.clap.specs.Words.{app_of, found_of, rows_of};
 ghost use Rattle.tool_words.specs.Answers.{Answers};
-ghost use Rattle.tool_words.specs.Proxy.{empty_time, own_options, proxy_app, proxy_asked, proxy_name, proxy_options, proxy_spelling, proxy_values, release_in};
+ghost use Rattle.tool_words.specs.Proxy.{empty_time, own_options, proxy_app, proxy_asked, proxy_name, proxy_options, proxy_spelling, proxy_values, release_in, settings_in};
 ghost use Rattle.tool_words.specs.Values.{Gives, optional, path_in};
 
 use crate::defaults::{bridge_socket, proxy_socket};
@@ -42,6 +42,17 @@ pub struct ProxyTask {
     /// it never does where there is none.
     pub release: Option<u64>,
     /// After how many events it ends.
+    pub turns: u64,
+}
+
+/// How a proxy serves, whatever it serves.
+#[derive(Drop)]
+pub struct ProxySettings {
+    pub socket: PathText,
+    pub bridge: PathText,
+    pub empty: Option<u64>,
+    pub time: u64,
+    pub release: Option<u64>,
     pub turns: u64,
 }
 
@@ -146,33 +157,53 @@ fn release_time(text: Option<&str>) -> Result<Option<u64>, WordFault>
     Ok(Some(seconds * 1_000))
 }
 
-#[tactic(auto, unfolding(crate::specs::Proxy::proxy_values))]
-fn values(alloc: Global, kind: Kind, matches: &ArgMatches<'_>) -> Result<ToolCommand, WordFault>
-    ensures { Gives (proxy_values kind (rows_of (found_of matches.now))) result }
+/// How the words say that a proxy for a kind of modem serves.
+#[tactic(auto, unfolding(crate::specs::Proxy::settings_in))]
+pub fn settings(
+    alloc: Global,
+    kind: Kind,
+    matches: &ArgMatches<'_>,
+) -> Result<ProxySettings, WordFault>
+    ensures { Gives (settings_in kind (rows_of (found_of matches.now))) result }
 {
     let stays = is_given(matches, ProxyOption::NoExit);
-    let exit_when_lost = is_given(matches, ProxyOption::ExitWhenLost);
     let seconds = value_given(matches, ProxyOption::EmptyTimeout);
     let seconds = number_or(30, 0, 86_400, seconds)?;
     let time = value_given(matches, ProxyOption::Time);
     let time = number_or(30_000, 1, 86_400_000, time)?;
     let release = release_time(value_given(matches, ProxyOption::ReleaseAfter))?;
     let turns = turns(value_given(matches, ProxyOption::Turns))?;
-    let device = modem(alloc, value_given(matches, ProxyOption::Device))?;
     let socket = value_given(matches, ProxyOption::Socket);
     let socket = path_or(alloc, proxy_socket(kind), socket)?;
     let bridge = value_given(matches, ProxyOption::Bridge);
     let bridge = path_or(alloc, bridge_socket(), bridge)?;
-    Ok(ToolCommand::Proxy(ProxyTask {
-        kind,
-        device,
+    Ok(ProxySettings {
         socket,
         bridge,
         empty: empty_time(stays, seconds),
-        exit_when_lost,
         time,
         release,
         turns,
+    })
+}
+
+#[tactic(auto, unfolding(crate::specs::Proxy::proxy_values))]
+fn values(alloc: Global, kind: Kind, matches: &ArgMatches<'_>) -> Result<ToolCommand, WordFault>
+    ensures { Gives (proxy_values kind (rows_of (found_of matches.now))) result }
+{
+    let exit_when_lost = is_given(matches, ProxyOption::ExitWhenLost);
+    let settings = settings(alloc, kind, matches)?;
+    let device = modem(alloc, value_given(matches, ProxyOption::Device))?;
+    Ok(ToolCommand::Proxy(ProxyTask {
+        kind,
+        device,
+        socket: settings.socket,
+        bridge: settings.bridge,
+        empty: settings.empty,
+        exit_when_lost,
+        time: settings.time,
+        release: settings.release,
+        turns: settings.turns,
     }))
 }
 

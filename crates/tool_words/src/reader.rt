@@ -1,7 +1,7 @@
 ghost use Rattle.std.specs.Prelude.{◌≡◌, IfOk, map, true, false, string_bytes};
 ghost use Rattle.clap.specs.Words.{app_of, rule_of};
 ghost use Rattle.clap.specs.Faults.{is_simple_and_free};
-ghost use Rattle.tool_words.specs.Reading.{Reads, option_rule, with_options, with_word, without_options, word_rule};
+ghost use Rattle.tool_words.specs.Reading.{Reads, option_rule, with_options, with_word, with_words, without_options, word_rule, words_rule};
 
 use crate::options::ToolOption;
 use crate::{UsageKind, WordFault};
@@ -67,6 +67,24 @@ fn word_arg<'a>(alloc: Global, name: &'a str) -> Arg<'a>
     ensures own { result.global ≡ false }
 {
     Arg::new(alloc, name).action(ArgAction::Set)
+}
+
+/// The tool with words besides that are no options, of which there may be any number.
+pub fn add_words<'a>(
+    alloc: Global,
+    command: Command<'a>,
+    name: &'a str,
+) -> Result<Command<'a>, AllocError>
+    ensures { IfOk result (λ added. app_of added ≡ with_words name.entry.now (app_of command.entry)) }
+{
+    command.arg(words_arg(alloc, name))
+}
+
+fn words_arg<'a>(alloc: Global, name: &'a str) -> Arg<'a>
+    ensures rule { rule_of result ≡ words_rule name.entry.now }
+    ensures own { result.global ≡ false }
+{
+    Arg::new(alloc, name).action(ArgAction::Append)
 }
 
 /// What the words give to a tool's options. The first word is the tool's name.
