@@ -23,7 +23,7 @@ use qmux_frame::tlvs_in;
 use std::alloc::Global;
 
 /// Whose a request is, and the number of the next one to service 0.
-#[derive(Clone, Copy, Debug, PartialEq, Eq)]
+#[derive(Clone, Copy)]
 struct Client {
     id: u8,
     control: u8,
@@ -304,7 +304,10 @@ fn release<L: Link>(
                 ended(answer, None),
             )
         }
-        Carried::Refused(end) => Ok(end),
+        Carried::Refused(end) => {
+            drop(answer);
+            Ok(end)
+        }
     }
 }
 

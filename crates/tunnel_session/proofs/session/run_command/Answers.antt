@@ -1,7 +1,9 @@
-use Rattle.std.proofs.Common.{Ok, refl, ap}
+use Rattle.std.proofs.Common.{◌+◌, Ok, ap}
 use Rattle.std.proofs.lemmas.Result.{err_from_is_err_and}
-use Rattle.link_session.proofs.Steps.{Makes-none, Replies-as, Step-read, Step-unread}
+use Rattle.link_session.proofs.Steps.{Step-unread}
 use Rattle.tunnel_session.specs.declared.ends.TunnelEnd.{TunnelEnd}
+use Rattle.tunnel_session.specs.Session.{ReadsCommand}
+use Rattle.tunnel_session.proofs.Steps.{Carries-goes, Carries-refused}
 use Rattle.tunnel_session.proofs.session.run_command.Goals as goal
 
 pub returns-in_err-reply-clause-commands : goal.returns-in_err-reply-clause-commands
@@ -11,8 +13,11 @@ returns-in_err-reply-clause-commands g c = λ heard stands.
 
 pub returns-in-Message-clause-commands : goal.returns-in-Message-clause-commands
 returns-in-Message-clause-commands g c = λ heard stands.
-    let replies = Replies-as c.in-Message.is (rw c.command_number-qmi_number.ensures at (c.in_ok-reply.ensures.asks heard stands)) in Step-read replies (rw c.in-Message.message-is at (c.read_command.ensures.reads replies.later replies.says.2))
+    let replies = rw c.command_number-qmi_number.ensures at (c.in_ok-reply.ensures.asks heard stands) in
+    Carries-goes _ _ _ (λ result message later more. ReadsCommand c.args.plan.now c.args.client.id c.args.client.control message (c.args.number + 1) later more result) replies c.read_command.result c.in-Message.message c.in-Message.is
+    (rw c.in-Message.message-is at (c.read_command.ensures.reads replies.later replies.says.2))
 
 pub returns-in-Refused-clause-commands : goal.returns-in-Refused-clause-commands
 returns-in-Refused-clause-commands g c = λ heard stands.
-    let replies = Replies-as c.in-Refused.is (rw c.command_number-qmi_number.ensures at (c.in_ok-reply.ensures.asks heard stands)) in Step-read replies (Makes-none _ (refl, ap (λ (e : TunnelEnd). Ok e) c.in-Refused.end-is))
+    let replies = rw c.command_number-qmi_number.ensures at (c.in_ok-reply.ensures.asks heard stands) in
+    Carries-refused _ _ _ (λ result message later more. ReadsCommand c.args.plan.now c.args.client.id c.args.client.control message (c.args.number + 1) later more result) replies _ c.in-Refused.is (ap (λ (e : TunnelEnd). Ok e) c.in-Refused.end-is)
