@@ -6,7 +6,6 @@ use Rattle.mbim_fields.specs.Value.{Value}
 use Rattle.mbim_fields.specs.Reading.{Read, read}
 use Rattle.mbim_services.specs.Table as table
 use Rattle.mbim_services.specs.Table.{layout_for}
-use Rattle.mbim_services.specs.SubscribeLists.{list_of_buffer}
 use Rattle.modem_profile.specs.Profile.{Profile}
 use Rattle.modem_profile.specs.declared.phonebook.PhonebookEntry.{PhonebookEntry}
 use Rattle.modem_profile.specs.Limits.{is_phonebook_text}
@@ -105,5 +104,5 @@ module _ (m : Modem) where
   stays_open head buffer = by (is_list_set head)
     where
       by : (is_list : Bool) → StaysOpen (if is_list then replied head m (basic_connect.set_list buffer m) else reply_in head buffer m (layout_for head.uuid head.cid (way head.set))).modem
-      by true = replied_leaves head (basic_connect.set_list buffer m) (by_option Stays (list_of_buffer buffer) (λ pairs. basic_connect.subscribe pairs m) (λ pairs. (refl, refl)))
+      by true = replied_leaves head (basic_connect.set_list buffer m) (by_option Stays (basic_connect.list_taken buffer) (λ pairs. basic_connect.subscribe pairs m) (λ pairs. (refl, refl)))
       by false = laid_leaves head buffer (layout_for head.uuid head.cid (way head.set))

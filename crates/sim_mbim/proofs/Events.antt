@@ -1,27 +1,26 @@
 -- The pairs of events, and the events of pairs.
-use Rattle.std.proofs.Common.{◌≡◌, ℕ, ◌≤◌, Bool, true, false, ◌==◌, List, [], ◌∷◌, ◌++◌, length, take, drop, map, Some, None, refl, sym, ap, ◌∙◌, arith, append_assoc, append-nil}
-use Rattle.std.specs.List.{flat_map}
+use Rattle.std.proofs.Common.{◌≡◌, ℕ, nat_lt, if◌then◌else◌, Bool, true, false, ◌==◌, List, [], ◌∷◌, ◌++◌, length, take, drop, map, Some, None, is_some, option_and_then, refl, sym, ap, ◌∙◌, arith, append_assoc, append-nil}
 use Rattle.std.proofs.lemmas.Bool.Decides.{nat_tests}
-use Rattle.std.proofs.lemmas.List.{take_all}
-use Rattle.std.proofs.lemmas.List.Folds.{flat_map-map}
-use Rattle.std.proofs.lemmas.Simd.{map-map}
-use Rattle.kit_bytes.specs.Subscriptions.{Pair, Subscription, by_service, pairs_of, normal_form}
+use Rattle.kit_bytes.specs.Subscriptions.{Pair, by_service}
 use Rattle.mbim_fields.specs.Value.{Value}
-use Rattle.mbim_services.specs.SubscribeLists.{subscription_value}
+use Rattle.mbim_services.specs.SubscribeLists.{list_of_buffer, subscription_value}
 use Rattle.mbim_services.specs.Writing.{subscription_in}
 use Rattle.mbim_services.proofs.Runs.{IsRun}
-use Rattle.subscriptions.proofs.Covering.{form_joined}
+use Rattle.subscriptions.specs.declared.pair_list.TheConstants.{LONGEST_LIST}
+use Rattle.sim_mbim.specs.BasicConnect.{if_few, list_taken}
 
 -- ---- reading ----
 
--- a pair is taken, and what was taken has the same normal form, whatever follows
-pub taken : (all pairs more now behind left : List Pair) (pair : Pair) → normal_form (pairs ++ left) ≡ normal_form all → left ≡ pair ∷ behind → more ≡ pairs ++ pair ∷ []
-    → ((rest : List Pair) → normal_form (now ++ rest) ≡ normal_form (more ++ rest)) → normal_form (now ++ behind) ≡ normal_form all
-taken all pairs more now behind left pair so_far is pushed same =
-    same behind ∙ ap normal_form (ap (λ l. l ++ behind) pushed ∙ append_assoc pairs (pair ∷ []) behind ∙ ap (λ l. pairs ++ l) (sym is)) ∙ so_far
+if_taken : (pairs : List Pair) (many : Bool) → is_some (if many then None else Some pairs) ≡ true → (if many then None else Some pairs) ≡ Some pairs
+if_taken pairs true taken = absurd (cc)
+if_taken pairs false taken = refl
 
-pub all_taken : (all pairs left : List Pair) → normal_form (pairs ++ left) ≡ normal_form all → left ≡ [] → normal_form pairs ≡ normal_form all
-all_taken all pairs left so_far none = ap normal_form (sym (append-nil pairs) ∙ ap (λ l. pairs ++ l) (sym none)) ∙ so_far
+-- what is spelled is taken, if anything is
+pub taken_is : (buffer : List ℕ) (pairs : List Pair) → list_of_buffer buffer ≡ Some pairs → is_some (list_taken buffer) ≡ true → list_taken buffer ≡ Some pairs
+taken_is buffer pairs spelled taken = ap (option_and_then if_few) spelled ∙ if_taken pairs (nat_lt LONGEST_LIST (length pairs)) (sym (ap (λ list. is_some (option_and_then if_few list)) spelled) ∙ taken)
+
+pub all_taken : (all pairs left : List Pair) → pairs ++ left ≡ all → left ≡ [] → pairs ≡ all
+all_taken all pairs left so_far none = sym (append-nil pairs) ∙ ap (λ l. pairs ++ l) (sym none) ∙ so_far
 
 -- ---- writing ----
 

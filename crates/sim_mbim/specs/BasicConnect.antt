@@ -9,6 +9,7 @@ use Rattle.mbim_services.specs.Table as table
 use Rattle.mbim_services.specs.Table.{rows}
 use Rattle.mbim_services.specs.Requests.{no_text, no_elements}
 use Rattle.modem_profile.specs.Profile.{Profile}
+use Rattle.subscriptions.specs.declared.pair_list.TheConstants.{LONGEST_LIST}
 use Rattle.sim_mbim.specs.Values as values
 use Rattle.sim_mbim.specs.Values.{number_at, zeros, list, structure}
 use Rattle.sim_mbim.specs.Modem.{Modem, Outcome, becomes}
@@ -201,9 +202,17 @@ ip_configuration session =
 abbrev pub subscribe : List Pair → Modem → Option Outcome
 subscribe pairs m = becomes (record m { subscribed = normal_form pairs }) (list_values (by_service (normal_form pairs)))
 
--- a buffer that spells no list has no meaning
+-- no more pairs than a proxy sends, each counted as often as it is spelled
+abbrev pub if_few : List Pair → Option (List Pair)
+if_few pairs = if nat_lt LONGEST_LIST (length pairs) then None else Some pairs
+
+-- the pairs that a buffer spells, if it spells a list that the modem takes
+abbrev pub list_taken : (buffer : List ℕ) → Option (List Pair)
+list_taken buffer = option_and_then if_few (list_of_buffer buffer)
+
+-- a buffer that spells no such list has no meaning
 abbrev pub set_list : (buffer : List ℕ) → Modem → Option Outcome
-set_list buffer m = option_and_then (λ pairs. subscribe pairs m) (list_of_buffer buffer)
+set_list buffer m = option_and_then (λ pairs. subscribe pairs m) (list_taken buffer)
 
 -- ---- queries, and sets but that of the list ----
 

@@ -22,6 +22,7 @@ mod values;
 mod writing;
 
 pub use laws::answers_have_encodings;
+pub use lists::takes_list;
 pub use request::Request;
 pub use sim::MbimSim;
 pub use writing::{done, indication};

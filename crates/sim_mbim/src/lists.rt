@@ -1,22 +1,22 @@
 //! What the host listens to.
 
-ghost use Rattle.std.specs.Prelude.{List, ◌≡◌, ◌≤◌, ◌++◌, [], ◌∷◌, ◌&&◌, ◌==◌, bytes_eq, length, map, option_map, IfOk, OnOk};
+ghost use Rattle.std.specs.Prelude.{◌≡◌, ◌≤◌, ◌++◌, [], ◌∷◌, ◌&&◌, ◌==◌, bytes_eq, is_some, length, map, option_map, IfOk, OnOk};
 ghost use Rattle.kit_bytes.specs.Services.{starting_list};
-ghost use Rattle.kit_bytes.specs.Subscriptions.{Pair as TablePair, by_service, cids_of, normal_form};
+ghost use Rattle.kit_bytes.specs.Subscriptions.{by_service, cids_of, normal_form};
 ghost use Rattle.kit_bytes.specs.Indications as indications;
 ghost use Rattle.mbim_fields.specs.Value as field;
 ghost use Rattle.mbim_fields.specs.View.{value_view};
 ghost use Rattle.mbim_services.specs.SubscribeLists as lists;
-ghost use Rattle.mbim_services.specs.SubscribeLists.{list_of_buffer};
 ghost use Rattle.mbim_services.specs.Writing as runs;
 ghost use Rattle.mbim_services.specs.Writing.{subscription_in};
+ghost use Rattle.sim_mbim.specs.BasicConnect.{list_taken};
 
 use crate::values::{list, number, structure, uuid};
 use kit_bytes::services;
 use mbim_fields::FieldValue;
 use mbim_services::{Events, run_length};
 use std::alloc::{AllocError, Global};
-use subscriptions::{Pair, normalize};
+use subscriptions::{LONGEST_LIST, Pair, normalize};
 use uuid::Uuid;
 
 /// To what the host listens at first.
@@ -47,36 +47,38 @@ fn asks(pair: &Pair, uuid: Uuid, cid: u32) -> bool
 
 // ---- reading ----
 
-// How many pairs are taken before they are first brought into normal form.
-const FEW: usize = 1_024;
-
-/// The list that a buffer spells, in normal form. It takes memory for the list, however often the buffer
-/// has each pair.
-pub(crate) fn read_list(alloc: Global, buffer: &[u8]) -> Result<Option<Vec<Pair>>, AllocError>
-    ensures { IfOk result (λ list. option_map (λ pairs. pairs.items) list ≡ option_map normal_form (list_of_buffer buffer.now)) }
+/// Whether the modem takes the list of a buffer: whether the buffer spells one, and with no more pairs than a
+/// proxy sends. It reads no more pairs than that and one, however many there are.
+pub fn takes_list(buffer: &[u8]) -> bool
+    ensures { result ≡ is_some (list_taken buffer.now) }
 {
     let Some(mut events) = Events::read(buffer) else {
-        return Ok(None);
+        return false;
     };
+    let mut count = 0;
+    'events: while events.next().is_some() {
+        if count == LONGEST_LIST {
+            return false;
+        }
+        count += 1;
+    }
+    true
+}
+
+/// The list of a buffer in normal form, if the modem takes it.
+pub(crate) fn read_list(alloc: Global, buffer: &[u8]) -> Result<Option<Vec<Pair>>, AllocError>
+    ensures { IfOk result (λ list. option_map (λ pairs. pairs.items) list ≡ option_map normal_form (list_taken buffer.now)) }
+{
+    if !takes_list(buffer) {
+        return Ok(None);
+    }
+    let mut events = Events::read(buffer).unwrap();
     let mut pairs = Vec::new(alloc);
-    let mut most = FEW;
     'events: while let Some(pair) = events.next() {
         pairs.push(pair)?;
-        most = shorten(&mut pairs, most);
     }
     normalize(&mut pairs);
     Ok(Some(pairs))
-}
-
-// Brings pairs into normal form where they are so many, and says how many they may be the next time.
-fn shorten(pairs: &mut Vec<Pair>, most: usize) -> usize
-    ensures { (left : List TablePair) → normal_form (pairs.new.items ++ left) ≡ normal_form (pairs.old.items ++ left) }
-{
-    if pairs.len() < most {
-        return most;
-    }
-    normalize(pairs);
-    pairs.len().saturating_mul(2).saturating_add(FEW)
 }
 
 // ---- writing ----
