@@ -17,6 +17,7 @@ use Rattle.mbim_services.specs.Table as table
 use Rattle.modem_rules.specs.declared.kind.RequestKind.{RequestKind}
 use Rattle.modem_rules.specs.declared.kind.RequestKind.TheVariants.{Message, Command}
 use Rattle.sim_mbim.specs.Answers.{request_of}
+use Rattle.sim_mbim.specs.BasicConnect.{list_taken}
 use Rattle.sim_mbim.specs.declared.request.Request.{Request}
 use Rattle.sim_mbim.specs.declared.request.Request.TheVariants as asked
 use Rattle.sim_modem.specs.Sim.{Answering}
@@ -47,7 +48,7 @@ sets_list head = head.set && bytes_eq head.uuid BASIC_CONNECT && head.cid == tab
 
 abbrev pub list_by : (buffer : List ℕ) → Option CommandHead → Option (List ℕ)
 list_by buffer None = None
-list_by buffer (Some head) = if sets_list head && is_some (list_of_buffer buffer) then Some buffer else None
+list_by buffer (Some head) = if sets_list head && is_some (list_taken buffer) then Some buffer else None
 
 abbrev pub list_or : (list new : Option (List ℕ)) → Option (List ℕ)
 list_or list None = list

@@ -8,13 +8,14 @@ ghost use Rattle.mbim_frame.specs.Fragment.{body_of};
 ghost use Rattle.mbim_services.specs.SubscribeLists.{list_of_buffer};
 ghost use Rattle.ruled_modem.specs.Host as spec;
 ghost use Rattle.ruled_modem.specs.Requests.{command_in};
+ghost use Rattle.sim_mbim.specs.BasicConnect.{list_taken};
 
 use crate::requests::command_in;
 use kit_bytes::{Kind, Octets, services, u16_at};
 use mbim_frame::{CommandHead, body_in, buffer_in};
 use mbim_services::Events;
 use modem_rules::RequestKind;
-use sim_mbim::Request;
+use sim_mbim::{Request, takes_list};
 use std::alloc::{AllocError, Global};
 use std::marker::Model;
 use subscriptions::ClientList;
@@ -184,9 +185,9 @@ fn list_by(alloc: Global, message: &[u8]) -> Result<Option<Octets>, AllocError>
 }
 
 fn is_list(head: &CommandHead, buffer: &[u8]) -> bool
-    ensures { result ≡ (spec.sets_list head.now && is_some (list_of_buffer buffer.now)) }
+    ensures { result ≡ (spec.sets_list head.now && is_some (list_taken buffer.now)) }
 {
-    sets_list(head) && Events::read(buffer).is_some()
+    sets_list(head) && takes_list(buffer)
 }
 
 fn sets_list(head: &CommandHead) -> bool
