@@ -10,7 +10,7 @@ use std::alloc::AllocError;
 const SILENCE: u8 = 5;
 
 /// What a session prints, and the texts that it sent.
-#[derive(Debug, Drop)]
+#[derive(Drop)]
 pub struct Held {
     pub printed: Printed,
     pub texts: Vec<Octets>,

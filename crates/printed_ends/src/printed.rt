@@ -6,14 +6,14 @@ use link_session::SessionFault;
 use std::alloc::{AllocError, Global};
 
 /// What a tool prints, and its exit status.
-#[derive(Debug, Drop)]
+#[derive(Drop)]
 pub struct Printed {
     pub text: Octets,
     pub status: u8,
 }
 
 /// What a command prints, at a modem itself and by another way: through a proxy, or carried by an MBIM modem.
-#[derive(Debug, Drop)]
+#[derive(Drop)]
 pub struct Twice {
     pub direct: Printed,
     pub through: Printed,
