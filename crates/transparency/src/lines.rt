@@ -10,7 +10,7 @@ use modem_profile::Profile;
 use std::alloc::{AllocError, Global};
 
 /// A request to a modem, and the option of a tool that gives it.
-#[derive(Debug, Drop)]
+#[derive(Drop)]
 pub struct NamedRequest<R> {
     pub option: &'static str,
     pub request: R,
