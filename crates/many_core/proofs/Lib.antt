@@ -10,3 +10,4 @@ pub mod Shown
 pub mod Waits
 pub mod Opening
 pub mod Hearing
+pub mod Sitting

@@ -10,7 +10,8 @@ use Rattle.qmi_state.specs.Transitions.{qmi_handlers}
 use Rattle.many_history.specs.Events.{ManyEvent, Joined, Piece, Left, Took, ModemPiece, ModemGone, ModemBack, ModemTook, Now}
 use Rattle.many_history.specs.Devices.{Devices}
 use Rattle.many_history.specs.Many.{Place, Undecided, Seat, only_at, events_if, parts, refused}
-use Rattle.many_state.specs.Core.{each_from, names_of, greatest_after, cores_after, seats_before}
+use Rattle.many_state.specs.Core.{each_from, core_behind, names_of, greatest_after, cores_after, seats_before}
+use Rattle.many_state.proofs.Same.{each_has_as_many}
 use Rattle.many_state.specs.Laws.{AreAll, NobodyJoins, is_joining}
 use Rattle.qmi_many.specs.Devices.{qmi_devices}
 use Rattle.many_seats.specs.Seats.{Seating}
@@ -129,3 +130,8 @@ module _ (x : ManyCore) (event : ManyEvent) (d : ℕ) (its : Event) (only : (e :
 
 pub tick_is : (x : ManyCore) (time : ℕ) → x.core.dropped ≡ [] → with_cores (map (met (one.Now time)) x.core.cores) x ≡ many.met (Now time) x
 tick_is x time hung_up = met_is x.paths x.limits x.core.cores (seating_of x) (Now time) (map (met (one.Now time)) x.core.cores) (seating_of x) (all_ticked x.paths x.limits x.core.cores (seating_of x) time) refl (sym hung_up) refl
+
+-- ---- as many devices are there ----
+
+pub as_many_cores : (x : ManyCore) (event : ManyEvent) → length (many.met event x).core.cores ≡ length x.core.cores
+as_many_cores x event = each_has_as_many (core_behind (devices_of x) qmi_handlers event x.core) x.core.cores

@@ -1,8 +1,9 @@
 -- Whether bytes wait for somebody, and who is the first from a place on.
-use Rattle.std.proofs.Common.{◌≡◌, ℕ, zero, suc, ◌+◌, ◌-◌, ◌<◌, ◌≤◌, Bool, true, false, not, nat_lt, ◌==◌, List, [], ◌∷◌, ◌++◌, length, drop, get_or, position, refl, ap, sym, ◌∙◌, subst, arith, Option, Some, None}
+use Rattle.std.proofs.Common.{◌≡◌, ℕ, zero, suc, ◌+◌, ◌-◌, ◌<◌, ◌≤◌, Bool, true, false, not, nat_lt, ◌==◌, List, [], ◌∷◌, ◌++◌, length, drop, get_or, position, refl, ap, sym, ◌∙◌, subst, arith, Option, Some, None, is_some}
 use Rattle.std.proofs.lemmas.Bool.Decides.{nat_tests}
 use Rattle.std.specs.Option.{option_map}
 use Rattle.kit_bytes.proofs.Sorted.{position_is, position_none}
+use Rattle.connections.specs.Table.{Connection, waiting_or}
 use Rattle.outbox.specs.Fronts.{IsFrontOf}
 use Rattle.many_history.specs.Many.{Seat}
 use Rattle.many_seats.specs.Seats.{IsSeat}
@@ -17,6 +18,19 @@ waits_as (byte ∷ front) bytes all b is =
     let other : (length (byte ∷ front) == 0) ≡ false = grind (arith, nat_tests) in
     let some : wait ((byte ∷ front) ++ all.rest) ≡ true = grind (arith, nat_tests) in
     ap not (is ∙ other) ∙ sym some ∙ sym (ap wait all.whole)
+
+-- nothing is a front of no bytes
+pub no_bytes_wait : (bytes : List ℕ) → bytes ≡ [] → IsFrontOf [] bytes
+no_bytes_wait bytes none = record { rest = bytes; whole = refl; some = λ same. none }
+
+-- for whoever is there nothing waits that waits for those who were dropped
+pub there_waits : {T : Type 0} (others : List ℕ) (o : Option (Connection T)) → is_some o ≡ true → waiting_or others o ≡ waiting_or [] o
+there_waits others None is = absurd (cc)
+there_waits others (Some k) is = refl
+
+pub nobody_waits : {T : Type 0} (o : Option (Connection T)) → is_some o ≡ false → waiting_or [] o ≡ []
+nobody_waits None is = refl
+nobody_waits (Some k) is = absurd (cc)
 
 -- ---- a list from a place on ----
 

@@ -9,8 +9,8 @@ ghost use Rattle.many_state.specs.Laws.{is_joining};
 ghost use Rattle.qmi_state.specs.Core.{QmiCore as CoreValue};
 ghost use Rattle.many_history.specs.Events.{ManyEvent as HistoryEvent};
 ghost use Rattle.many_history.specs.Events as history;
-ghost use Rattle.many_history.specs.Many.{Seat as ManySeat, there, ended};
-ghost use Rattle.many_state.specs.Core.{is_there_in};
+ghost use Rattle.many_history.specs.Many.{Seat as ManySeat, place_of, there, ended};
+ghost use Rattle.many_state.specs.Core.{greatest_after, is_there_in, queue_at, queue_under};
 ghost use Rattle.many_seats.specs.Seats.{IsSeat, IsPlaceOf, chosen_in, first_conn};
 ghost use Rattle.many_cores.specs.Cores.{IsCore, HasNoFewer, at_place};
 ghost use Rattle.many_cores.specs.Cores.{met as met_one};
@@ -77,6 +77,8 @@ impl ManyCore {
         ensures stands { (events : List HistoryEvent) → Stands events self.old → StandsAfter (event_of event.entry ∷ events) self.new }
         ensures step { (events : List HistoryEvent) → Stands events self.old → self.new ≡ step (event_of event.entry) self.old }
         ensures bounded { (events : List HistoryEvent) → Stands events self.old → IsBounded self.new }
+        ensures cores { length self.new.core.cores ≡ length self.old.core.cores }
+        ensures greatest { self.new.core.greatest ≡ greatest_after (event_of event.entry) self.old.core.greatest }
     {
         self.seats.hang_up();
         if self.meet(event) {
@@ -283,6 +285,20 @@ impl ManyCore {
         }
     }
 
+    /// The first of the bytes that wait for a connection that is there, those of whoever was dropped left
+    /// aside; none only where none wait, and for any other name.
+    pub fn queued_there(&self, conn: u64) -> &[u8]
+        ensures { IsFrontOf result.now (queue_at qmi_handlers self.now.core.cores (place_of conn self.now.core.seats)) }
+    {
+        let Some(place) = self.seats.find(conn) else {
+            return &[];
+        };
+        match self.seats.chosen_at(place) {
+            Some(chosen) => queued_in(self.cores.at(chosen.device), chosen.name),
+            None => &[],
+        }
+    }
+
     /// All the bytes that wait for a connection that is there, or that was dropped and wasn't asked for
     /// yet, in two parts; none for any other name.
     pub fn parts(&self, conn: u64) -> (&[u8], &[u8])
@@ -367,6 +383,7 @@ impl ManyCore {
         requires { from ≤ length self.now.core.seats }
         ensures place { result ≡ first_waiting from self.now }
         ensures within { IfSome result (λ place. (from ≤ place) × (place < length self.now.core.seats)) }
+        ensures fits { IfSome result (λ place. place < usize.MAX) }
     {
         let mut place = from;
         while place < self.seats.present() {
@@ -390,6 +407,17 @@ impl ManyCore {
             }
             None => false,
         }
+    }
+}
+
+// The first of the bytes that wait for one that is there for its device.
+fn queued_in(core: &QmiCore, name: u64) -> &[u8]
+    ensures { IsFrontOf result.now (queue_under qmi_handlers name (Some core.now)) }
+{
+    if has(core, name) {
+        core.queued(name)
+    } else {
+        &[]
     }
 }
 
