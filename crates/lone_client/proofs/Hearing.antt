@@ -1,5 +1,5 @@
 -- What the modem's messages leave of an MBIM proxy with one client. Lists of facts have the newest first.
-use Rattle.std.proofs.Common.{◌≡◌, ℕ, ◌+◌, ◌≤◌, Bool, true, false, not, ◌||◌, if◌then◌else◌, List, [], ◌∷◌, ◌++◌, length, Option, Some, None, refl, ap, ◌∙◌, subst, is_some}
+use Rattle.std.proofs.Common.{◌≡◌, ℕ, ◌+◌, ◌≤◌, Bool, true, false, not, ◌&&◌, ◌||◌, if◌then◌else◌, List, [], ◌∷◌, ◌++◌, length, Option, Some, None, refl, ap, ap₂, ◌∙◌, subst, is_some}
 use Rattle.std.specs.List.{filter}
 use Rattle.std.proofs.lemmas.Bool.{eq-eqb}
 use Rattle.kit_bytes.specs.Services.{starting_list}
@@ -8,6 +8,7 @@ use Rattle.mbim_frame.specs.Bodies.{uuid_of, cid_of}
 use Rattle.mbim_frame.specs.Fragment.{body_of}
 use Rattle.mbim_frame.specs.declared.status.TheConstants.{SUCCESS}
 use Rattle.proxy_history.specs.Facts.{Fact, Request, Answered, Indicated, OpeningEnded}
+use Rattle.proxy_history.specs.Connections.{contains}
 use Rattle.proxy_history.specs.Requests.{in_use, is_pending, has_request, without_request}
 use Rattle.proxy_history.specs.View.{Response, Indication, OpenedWith}
 use Rattle.mbim_proxy.specs.Setup.{Setup}
@@ -17,6 +18,7 @@ use Rattle.mbim_proxy.specs.Lists.{waiting, list_of, receivers}
 use Rattle.mbim_proxy.specs.Step.{blank, step, known_now}
 use Rattle.mbim_proxy.specs.Text.{text_as, note}
 use Rattle.mbim_proxy.specs.FromModem.{Heard, IsDone, IsOpenDone, IsIndication, heard_as, opening_status, is_answered_by, first_answered_by, answer_or_late, respond, hear_as, hear_modem, end_opening}
+use Rattle.mbim_solo.proofs.OneWaits as alone
 use Rattle.lone_client.proofs.MbimCalm.{Scene, s, Calm, answered, answered_own, opened, indicated, noted, noted_own}
 
 module _ (device : List ℕ) (time_limit : ℕ) where
@@ -89,9 +91,8 @@ module _ (device : List ℕ) (time_limit : ℕ) where
 
       one_waits : waiting t told ≡ 1 ∷ []
       one_waits =
-          ap (λ (l : List ℕ). filter (λ c. is_some (known_now t c told).waits) l) told_calm.there
-          ∙ ap (λ (k : Known). if is_some k.waits then 1 ∷ [] else []) told_calm.knows
-          ∙ ap (λ (b : Bool). if b then 1 ∷ [] else []) waits
+          alone.one_waits 1 t told (ap₂ (λ (there asks : Bool). there && asks) (ap (contains 1) told_calm.there) (ap (λ (k : Known). is_some k.waits) told_calm.knows ∙ waits))
+          (λ d other. ap (λ (l : List ℕ). contains d l && is_some (known_now t d told).waits) told_calm.there ∙ ap (λ (b : Bool). (b || false) && is_some (known_now t d told).waits) other)
 
       pub opened_is_heard : Hears m past (record x { known = step t x.known (OpenedWith SUCCESS); modem = IsReady; listed = starting_list; requests = []; queue = []; waiting = x.waiting ++ text_as t x.known (OpenedWith SUCCESS) })
       opened_is_heard =

@@ -17,7 +17,7 @@ use Rattle.proxy_history.specs.Wording.{told_by}
 use Rattle.mbim_proxy.specs.Setup.{Setup, mbim_setup}
 use Rattle.mbim_proxy.specs.Known.{Known}
 use Rattle.mbim_proxy.specs.ModemStates.{ModemState, IsOpening, IsReady, is_own_open, state}
-use Rattle.mbim_proxy.specs.Lists.{last_list}
+use Rattle.mbim_proxy.specs.Lists.{askers, last_list}
 use Rattle.mbim_proxy.specs.OwnReplies.{OwnReply, Silent, Wrong, NotOpened, Closes, Refuses, Configures, Subscribes, own_reply}
 use Rattle.mbim_proxy.specs.Step.{blank, step, known_now, with_message, with_reply}
 use Rattle.mbim_proxy.specs.Forwarding.{wire}
@@ -102,15 +102,15 @@ module _ (device : List ℕ) (time_limit : ℕ) where
     queue_is = ap (drop (modem_drained past)) calm.to_it ∙ ap (λ (n : ℕ). drop n (calm.taken ++ x.queue)) calm.count ∙ drop-append_seam calm.taken x.queue
 
     pub began : Calm x (EventBegan ∷ past)
-    unfolding present in_use pending view to_modem modem_drained last_number last_list state message_count
+    unfolding present in_use pending view to_modem modem_drained last_number askers last_list state message_count
     began = record { there = calm.there; knows = calm.knows; counts = calm.counts; modem_is = calm.modem_is; listed_is = calm.listed_is; uses = calm.uses; pends = calm.pends; last_is = calm.last_is; taken = calm.taken; to_it = calm.to_it; count = calm.count; written = calm.written }
 
     pub listed_now : (list : List Pair) → Calm (record x { listed = list }) (ListSent list ∷ past)
-    unfolding present in_use pending view to_modem modem_drained last_number last_list state message_count
+    unfolding present in_use pending view to_modem modem_drained last_number askers last_list state message_count
     listed_now list = record { there = calm.there; knows = calm.knows; counts = calm.counts; modem_is = calm.modem_is; listed_is = refl; uses = calm.uses; pends = calm.pends; last_is = calm.last_is; taken = calm.taken; to_it = calm.to_it; count = calm.count; written = calm.written }
 
     pub modem_drained_all : (count : ℕ) → count ≡ length x.queue → Calm (record x { queue = [] }) (ModemDrained count ∷ past)
-    unfolding present in_use pending view to_modem modem_drained last_number last_list state message_count
+    unfolding present in_use pending view to_modem modem_drained last_number askers last_list state message_count
     modem_drained_all count is = record {
       there = calm.there;
       knows = calm.knows;
@@ -127,7 +127,7 @@ module _ (device : List ℕ) (time_limit : ℕ) where
     }
 
     pub drained : Calm (record x { waiting = [] }) (Drained 1 (length x.waiting) ∷ past)
-    unfolding present in_use pending view to_modem modem_drained last_number last_list state message_count render told_by
+    unfolding present in_use pending view to_modem modem_drained last_number askers last_list state message_count render told_by
     drained = record {
       there = calm.there;
       knows = calm.knows;
@@ -153,7 +153,7 @@ module _ (device : List ℕ) (time_limit : ℕ) where
 
     -- a message of the client, whatever comes of it
     pub judged : (place : ℕ) (m : List ℕ) (verdict : Verdict) → length x.waiting + length (text_as s x.known (Sent m verdict)) ≤ 262144 → Calm (with_entry (Sent m verdict)) (Judged 1 place m verdict ∷ past)
-    unfolding present in_use pending view to_modem modem_drained last_number last_list state message_count render told_by
+    unfolding present in_use pending view to_modem modem_drained last_number askers last_list state message_count render told_by
     judged place m verdict room = record {
       there = calm.there;
       knows = ap (λ (k : Known). step s k (Sent m verdict)) calm.knows;
@@ -170,7 +170,7 @@ module _ (device : List ℕ) (time_limit : ℕ) where
     }
 
     pub forwarded : (r : Request) → r.space ≡ 0 → Calm (record x { modem = if is_own_open r then IsOpening else x.modem; requests = x.requests ++ r ∷ []; last = r.number; queue = x.queue ++ wire s r }) (Forwarded r ∷ past)
-    unfolding present in_use pending view to_modem modem_drained last_number last_list state message_count
+    unfolding present in_use pending view to_modem modem_drained last_number askers last_list state message_count
     forwarded r one = record {
       there = calm.there;
       knows = calm.knows;
@@ -189,7 +189,7 @@ module _ (device : List ℕ) (time_limit : ℕ) where
     -- an answer to the client's request, and one to the proxy's own
     pub answered : (r : Request) (m : List ℕ) → r.conn ≡ 1 → length x.waiting + length (text_as s x.known (Response r.place (blank m))) ≤ 262144
         → Calm (record (with_entry (Response r.place (blank m))) { requests = without_request r x.requests }) (Answered r m ∷ past)
-    unfolding present in_use pending view to_modem modem_drained last_number last_list state message_count render told_by
+    unfolding present in_use pending view to_modem modem_drained last_number askers last_list state message_count render told_by
     answered r m one room =
         let test : (r.conn == 1) ≡ true = eq-eqb r.conn 1 one in
         record {
@@ -208,7 +208,7 @@ module _ (device : List ℕ) (time_limit : ℕ) where
         }
 
     pub answered_own : (r : Request) (m : List ℕ) → r.conn ≡ 0 → Calm (record x { requests = without_request r x.requests }) (Answered r m ∷ past)
-    unfolding present in_use pending view to_modem modem_drained last_number last_list state message_count
+    unfolding present in_use pending view to_modem modem_drained last_number askers last_list state message_count
     answered_own r m none =
         let test : (r.conn == 1) ≡ false = ap (λ (n : ℕ). n == 1) none in
         record {
@@ -229,7 +229,7 @@ module _ (device : List ℕ) (time_limit : ℕ) where
     -- the opening ends well, and the client waited for it
     pub opened : length x.waiting + length (text_as s x.known (OpenedWith SUCCESS)) ≤ 262144
         → Calm (record (with_entry (OpenedWith SUCCESS)) { modem = IsReady; listed = starting_list }) (OpeningEnded SUCCESS (1 ∷ []) ∷ past)
-    unfolding present in_use pending view to_modem modem_drained last_number last_list state message_count render told_by
+    unfolding present in_use pending view to_modem modem_drained last_number askers last_list state message_count render told_by
     opened room = record {
       there = calm.there;
       knows = ap (λ (k : Known). step s k (OpenedWith SUCCESS)) calm.knows;
@@ -247,7 +247,7 @@ module _ (device : List ℕ) (time_limit : ℕ) where
 
     -- the client is told
     pub indicated : (m : List ℕ) → length x.waiting + length (text_as s x.known (Indication m)) ≤ 262144 → Calm (with_entry (Indication m)) (Indicated m (1 ∷ []) ∷ past)
-    unfolding present in_use pending view to_modem modem_drained last_number last_list state message_count render told_by
+    unfolding present in_use pending view to_modem modem_drained last_number askers last_list state message_count render told_by
     indicated m room = record {
       there = calm.there;
       knows = ap (λ (k : Known). step s k (Indication m)) calm.knows;

@@ -11,7 +11,7 @@ use Rattle.proxy_history.specs.History as proxy
 use Rattle.proxy_history.specs.Streams.{stream, modem_stream}
 use Rattle.mbim_proxy.specs.Known.{Ask}
 use Rattle.mbim_proxy.specs.ModemStates.{state}
-use Rattle.mbim_proxy.specs.Lists.{last_list}
+use Rattle.mbim_proxy.specs.Lists.{askers, last_list}
 use Rattle.mbim_solo.proofs.Spoken.{starts_quiet}
 use Rattle.lone_client.specs.Relay.{Answering, Stage, relayed}
 use Rattle.lone_client.specs.Turns as turns
@@ -32,7 +32,7 @@ module _ (device : List ℕ) (time_limit : ℕ) (modem : Answering) where
 
   -- before any turn
   begun : Standing []
-  unfolding relayed proxy.history proxy.add_all present in_use pending view to_modem modem_drained last_number last_list state message_count render told_by stream modem_stream cut_from
+  unfolding relayed proxy.history proxy.add_all present in_use pending view to_modem modem_drained last_number askers last_list state message_count render told_by stream modem_stream cut_from
   begun = (
     _,
     _,

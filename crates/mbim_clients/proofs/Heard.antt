@@ -22,7 +22,7 @@ use Rattle.mbim_proxy.specs.ModemStates.{ModemState, IsAway, IsShut, IsOpening, 
 use Rattle.mbim_proxy.specs.Forwarding.{own_open}
 use Rattle.mbim_proxy.specs.Clients.{opening_decision, command_message}
 use Rattle.mbim_state.specs.Core.{Client, client_of, known_by, ModemSide, setup_of}
-use Rattle.mbim_state.specs.Transitions.{number_at, forwards, opens as opens_modem, asks_modem, act_on, hear_client}
+use Rattle.mbim_state.specs.Transitions.{number_at, asked_last, forwards, opens as opens_modem, asks_modem, act_on, hear_client}
 use Rattle.mbim_clients.specs.declared.request.Request.{Request}
 use Rattle.mbim_clients.specs.declared.request.Request.TheVariants.{Open, Command}
 use Rattle.mbim_clients.specs.declared.reply.Reply.{Reply}
@@ -139,6 +139,9 @@ module _ (c : ℕ) (m : List ℕ) (client : Client) (side : ModemSide) where
     abbrev number : Option ℕ
     number = number_at s (own_open s) side
 
+    abbrev asks_last : ModemSide → ModemSide
+    asks_last beside = record beside { askers = asked_last 64 c beside.askers }
+
     module _ (may : may_open known ≡ true) where
       by_modem : (modem : ModemState) → side.modem ≡ modem → (outbox : Queue) → hear_client s c m client outbox side ≡ act_on s c m (opening_decision modem number) client outbox side
       by_modem modem same outbox =
@@ -155,9 +158,9 @@ module _ (c : ℕ) (m : List ℕ) (client : Client) (side : ModemSide) where
         heard = λ outbox. by_modem IsReady ready outbox ∙ ap (λ (k : Known). says (reply_text client (number_of m) (Opened SUCCESS)) (client_of (record k { opened = true })) outbox side) opener_left;
       }
 
-      pub heard_waiting : side.modem ≡ IsOpening → IsHeard c m client side (Some Silent) (record opener { waits = Some (number_of m) }) side
+      pub heard_waiting : side.modem ≡ IsOpening → IsHeard c m client side (Some Silent) (record opener { waits = Some (number_of m) }) (asks_last side)
       heard_waiting opening = record {
-        heard = λ outbox. by_modem IsOpening opening outbox ∙ ap (λ (k : Known). says [] (client_of (record k { waits = Some (number_of m) })) outbox side) opener_left;
+        heard = λ outbox. by_modem IsOpening opening outbox ∙ ap (λ (k : Known). says [] (client_of (record k { waits = Some (number_of m) })) outbox (asks_last side)) opener_left;
       }
 
       pub heard_full : side.modem ≡ IsShut → number ≡ None → IsHeard c m client side (Some (Opened BUSY)) opener side
@@ -169,13 +172,13 @@ module _ (c : ℕ) (m : List ℕ) (client : Client) (side : ModemSide) where
             ∙ ap (λ (k : Known). says (reply_text client (number_of m) (Opened BUSY)) (client_of k) outbox side) opener_left;
       }
 
-      pub heard_asking : side.modem ≡ IsShut → (n : ℕ) → number ≡ Some n → IsHeard c m client side None (record opener { waits = Some (number_of m) }) (opens_modem s n side)
+      pub heard_asking : side.modem ≡ IsShut → (n : ℕ) → number ≡ Some n → IsHeard c m client side None (record opener { waits = Some (number_of m) }) (asks_last (opens_modem s n side))
       heard_asking shut n some = record {
         heard = λ outbox.
             by_modem IsShut shut outbox
             ∙ ap (λ (n : Option ℕ). act_on s c m (forwards_under n) client outbox side) some
             ∙ ap (λ (b : Bool). asks_modem b s c m n client outbox side) (kind_of_opening m (Open asked) is refl)
-            ∙ ap (λ (k : Known). heard_with (number_of m) None (client_of (record k { waits = Some (number_of m) })) outbox (opens_modem s n side)) opener_left;
+            ∙ ap (λ (k : Known). heard_with (number_of m) None (client_of (record k { waits = Some (number_of m) })) outbox (asks_last (opens_modem s n side))) opener_left;
       }
 
   -- ---- fragments of commands ----

@@ -4,6 +4,7 @@ ghost use Rattle.mbim_fragments.specs.Assembling.{joining_behind, assembled_afte
 ghost use Rattle.mbim_fragments.specs.Runs.{told, longest_body};
 ghost use Rattle.proxy_history.specs.View.{OpenedWith, Shut};
 ghost use Rattle.mbim_proxy.specs.Setup.{Setup};
+ghost use Rattle.mbim_proxy.specs.Known.{waiting_number};
 ghost use Rattle.mbim_proxy.specs.OwnReplies.{reply_to_close};
 ghost use Rattle.mbim_proxy.specs.Step.{with_reply};
 ghost use Rattle.mbim_state.specs.Core.{client_of, known_by};
@@ -94,10 +95,20 @@ impl Client {
     }
 
     /// The number of its request to open that waits for the modem.
-    pub fn waits(&self) -> Option<u32>
+    pub(crate) fn waits(&self) -> Option<u32>
         ensures { result ≡ self.now.waits }
     {
         self.waits
+    }
+
+    /// The same number; 0 where no request waits.
+    pub fn opening_number(&self) -> u32
+        ensures { result ≡ waiting_number self.now.waits }
+    {
+        match self.waits {
+            Some(number) => number,
+            None => 0,
+        }
     }
 
     /// How many bytes the fragments have at most that it is served with.

@@ -1,4 +1,4 @@
-ghost use Rattle.std.specs.Prelude.{◌≡◌, ◌≤◌, ℕ, length};
+ghost use Rattle.std.specs.Prelude.{◌≡◌, ◌≤◌, length};
 ghost use Rattle.mbim_frame.specs.Bodies.{uuid_of, cid_of};
 ghost use Rattle.mbim_proxy.specs.Forwarding.{own_open};
 ghost use Rattle.mbim_state.specs.Core.{setup_of};
@@ -59,7 +59,7 @@ impl ModemSide {
     {
         match Request::read(message) {
             Request::HostError => Some(Reply::Silent),
-            Request::Open(asked) => self.decide_opening(message, asked, client),
+            Request::Open(asked) => self.decide_opening(name, message, asked, client),
             Request::Close => Some(client.close()),
             Request::Command => self.decide_command(name, message, client),
             Request::Wrong(code) => Some(Reply::Error(code)),
@@ -67,10 +67,16 @@ impl ModemSide {
     }
 
     // Decides on a request to open the modem, with fragments of the length that is asked for.
-    fn decide_opening(&mut self, message: &[u8], asked: u32, client: &mut Client) -> Option<Reply>
+    fn decide_opening(
+        &mut self,
+        name: u64,
+        message: &[u8],
+        asked: u32,
+        client: &mut Client,
+    ) -> Option<Reply>
         requires head { 12 ≤ length message.now }
         requires opens { request_of message.now ≡ request.Open asked }
-        ensures { (c : ℕ) → IsHeard c message.now client.old self.old result client.new self.new }
+        ensures { IsHeard name message.now client.old self.old result client.new self.new }
     {
         let number = MHead::read(message).number;
         client.ask_fragment(asked);
@@ -87,6 +93,7 @@ impl ModemSide {
                 Some(Reply::Opened(SUCCESS))
             }
             Modem::Opening => {
+                self.askers.ask(name);
                 client.wait(number);
                 Some(Reply::Silent)
             }
@@ -94,6 +101,7 @@ impl ModemSide {
                 let Some(_) = self.open_modem() else {
                     return Some(Reply::Opened(BUSY));
                 };
+                self.askers.ask(name);
                 client.wait(number);
                 None
             }

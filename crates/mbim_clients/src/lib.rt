@@ -1,6 +1,7 @@
 //! What a core of the MBIM proxy keeps of a client and of the modem, and how it hears a client.
 #![tactic(auto)]
 
+mod askers;
 mod client;
 mod command;
 mod device;
@@ -13,6 +14,7 @@ mod side;
 mod traffic;
 mod writer;
 
+pub use askers::Askers;
 pub use client::Client;
 pub use side::{ModemSide, is_same};
 pub use writer::Writer;

@@ -11,13 +11,17 @@ ghost use Rattle.mbim_state.specs.Transitions as transitions;
 ghost use Rattle.mbim_clients.specs.Side.{is_whole};
 ghost use Rattle.outbox.specs.Fronts.{IsFrontOf};
 
+use crate::askers::Askers;
+use crate::client::Client;
 use crate::device::Device;
 use crate::modem::Modem;
 use crate::sending::send_list;
 use crate::traffic::Traffic;
 use crate::writer::Writer;
+use connections::Connections;
 use kit_bytes::Text;
 use mbim_fragments::{Assembly, Body, Took};
+use mbim_frame::Mbim;
 use mbim_frame::status::SUCCESS;
 use mbim_state::Asked;
 use std::alloc::{AllocError, Global};
@@ -33,6 +37,7 @@ pub struct ModemSide {
     away: bool,
     pub(crate) modem: Modem,
     pub(crate) traffic: Traffic,
+    pub(crate) askers: Askers,
     last_list: PairList,
     answer: Assembly,
     indication: Assembly,
@@ -57,6 +62,7 @@ impl Model for ModemSide {
       away = s.away;
       modem = state_of s.modem;
       numbers = s.traffic.numbers;
+      askers = s.askers;
       last_list = s.last_list;
       begun = record { answer = s.answer; indication = s.indication };
       outbox = s.traffic.outbox;
@@ -80,6 +86,7 @@ impl ModemSide {
             away: false,
             modem: Modem::Shut,
             traffic,
+            askers: Askers::none(),
             last_list,
             answer,
             indication,
@@ -160,6 +167,14 @@ impl ModemSide {
         ensures { self.new ≡ transitions.give_up name self.old }
     {
         self.traffic.give_up(name);
+        self.askers.remove(name);
+    }
+
+    /// The clients whose requests to open the modem wait, in the order in which they asked.
+    pub fn waiting(&self, connections: &Connections<Mbim, Client>) -> Askers
+        ensures { result ≡ transitions.waiting_of connections.now.present self.now.askers }
+    {
+        self.askers.waiting(connections)
     }
 
     /// The modem opened, or didn't.

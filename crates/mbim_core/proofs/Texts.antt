@@ -1,5 +1,5 @@
 -- The bytes that a client gets of the modem.
-use Rattle.std.proofs.Common.{◌≡◌, ℕ, ◌==◌, Bool, ◌&&◌, is_some, List, [], ◌∷◌, filter, cond, true, false, refl, ap, sym, ◌∙◌, Option, Some, None, if◌then◌else◌}
+use Rattle.std.proofs.Common.{◌≡◌, ◌<◌, ℕ, length, drop, slice_get, arith, ◌==◌, Bool, ◌&&◌, is_some, List, [], ◌∷◌, filter, cond, true, false, refl, ap, sym, ◌∙◌, Some, None, if◌then◌else◌}
 use Rattle.kit_bytes.specs.Indications.{wants}
 use Rattle.connections.specs.Table.{Connection}
 use Rattle.mbim_frame.specs.declared.bodies.IndicationHead.{IndicationHead}
@@ -12,7 +12,7 @@ use Rattle.mbim_frame.specs.Writing.{open_done}
 use Rattle.mbim_fragments.specs.Splitting.{split}
 use Rattle.proxy_history.specs.View.{OpenedWith}
 use Rattle.proxy_state.specs.Chosen.{names_in, chosen}
-use Rattle.proxy_state.specs.Telling.{tell_each}
+use Rattle.proxy_state.specs.Telling as telling
 use Rattle.proxy_state.proofs.Chosen.{tell_from_first}
 use Rattle.mbim_proxy.specs.Setup.{Setup}
 use Rattle.mbim_proxy.specs.Known.{waiting_number}
@@ -21,8 +21,8 @@ use Rattle.mbim_proxy.specs.FromModem.{IsIndication}
 use Rattle.mbim_state.specs.Asked.{ask_by}
 use Rattle.mbim_state.specs.declared.asked.CommandName.{CommandName}
 use Rattle.mbim_state.specs.Core.{Client, known_by, ModemSide, MbimState}
-use Rattle.mbim_state.specs.Transitions.{with_side, give_up, text, after, opening_ended, waiting_in, ends_opening, receivers_in, open_ones, hear_as}
-use Rattle.mbim_core.specs.State.{IsDoneWith, IsIndicationWith, opened_from, indicated_from, waits_in, wants_in}
+use Rattle.mbim_state.specs.Transitions.{with_side, give_up, text, tell_each, opening_ended, waiting_of, ends_opening, receivers_in, open_ones, hear_as}
+use Rattle.mbim_core.specs.State.{IsDoneWith, IsIndicationWith, tells_opened, indicated_from, wants_in}
 
 -- ---- answers ----
 
@@ -36,16 +36,27 @@ error_text_is m is client command = sym (ap (λ (n : ℕ). if n == kind_number F
 
 -- ---- the end of an opening ----
 
-abbrev pub waits_now : Client → Bool
-waits_now client = is_some client.waits
+pub opened_text_is : (s : Setup) (status number : ℕ) (client : Client) → number ≡ waiting_number client.waits → open_done number status ≡ text s (OpenedWith status) client
+opened_text_is s status number client is = ap (λ (n : ℕ). open_done n status) is
 
-pub opened_text_is : (s : Setup) (status number : ℕ) (client : Client) → Some number ≡ client.waits → open_done number status ≡ text s (OpenedWith status) client
-opened_text_is s status number client is = ap (λ (o : Option ℕ). open_done (waiting_number o) status) is
+-- those who wait are told one after another
+pub opening_told : (s : Setup) (status : ℕ) (x : MbimState) (side : ModemSide) → side ≡ opening_ended status x.beside
+    → tell_each s (OpenedWith status) (waiting_of x.table.present x.beside.askers) (with_side side x) ≡ ends_opening s status x
+opening_told s status x side made = ap (λ (b : ModemSide). tell_each s (OpenedWith status) (waiting_of x.table.present x.beside.askers) (with_side b x)) made
 
-pub opening_told : (s : Setup) (status : ℕ) (x : MbimState) (side : ModemSide) → side ≡ opening_ended status x.beside → opened_from s status 0 (with_side side x) ≡ ends_opening s status x
-opening_told s status x side made =
-    tell_from_first give_up (text s (OpenedWith status)) (after s (OpenedWith status)) waits_in (λ c beside k later. refl) (with_side side x)
-    ∙ ap (λ (b : ModemSide). tell_each give_up (text s (OpenedWith status)) (after s (OpenedWith status)) (waiting_in x.table.present) (with_side b x)) made
+pub next_told : (s : Setup) (status name : ℕ) (names : List ℕ) (x : MbimState) → Some name ≡ slice_get names 0 → tell_each s (OpenedWith status) (drop 1 names) (tells_opened s status name x) ≡ tell_each s (OpenedWith status) names x
+unfolding telling.tell_each
+next_told s status name [] x first = absurd (cc)
+next_told s status name (c ∷ names) x first = ap (λ (d : ℕ). tell_each s (OpenedWith status) names (tells_opened s status d x)) (let same : name ≡ c = cc in same)
+
+pub none_told : (s : Setup) (status : ℕ) (names : List ℕ) (x : MbimState) → None ≡ slice_get names 0 → x ≡ tell_each s (OpenedWith status) names x
+unfolding telling.tell_each
+none_told s status [] x none = refl
+none_told s status (c ∷ names) x none = absurd (cc)
+
+pub fewer_left : (name : ℕ) (names : List ℕ) → Some name ≡ slice_get names 0 → length (drop 1 names) < length names
+fewer_left name [] first = absurd (cc)
+fewer_left name (c ∷ names) first = omega arith
 
 -- ---- an indication ----
 
@@ -83,10 +94,10 @@ chosen_twice head side present = ap names_in (both present)
 pub indication_told : (s : Setup) (head : IndicationHead) (body m : List ℕ) (x : MbimState) → head ≡ record { uuid = uuid_of body; cid = cid_of body } → IsIndicationWith body m → indicated_from head body 0 x ≡ hear_as s IsIndication m x
 indication_told s head body m x is I =
     tell_from_first give_up (λ client. split (kind_number IndicateStatus) 0 client.fragment body) (λ client. client) (wants_in head) (λ c beside k later. refl) x
-    ∙ ap (λ (cs : List ℕ). tell_each give_up (λ client. split (kind_number IndicateStatus) 0 client.fragment body) (λ client. client) cs x) (chosen_twice head x.beside x.table.present)
-    ∙ ap (λ (h : IndicationHead). tell_each give_up (λ client. split (kind_number IndicateStatus) 0 client.fragment body) (λ client. client) (receivers_in h.uuid h.cid x.table.present) x) is
-    ∙ ap (λ (l : List ℕ). tell_each give_up (λ client. split (kind_number IndicateStatus) 0 client.fragment body) (λ client. client) (receivers_in (uuid_of l) (cid_of l) x.table.present) x) (sym I.carries)
-    ∙ ap (λ (l : List ℕ). tell_each give_up (λ client. split (kind_number IndicateStatus) 0 client.fragment l) (λ client. client) (receivers_in (uuid_of (body_of m)) (cid_of (body_of m)) x.table.present) x) (sym I.blank_body)
+    ∙ ap (λ (cs : List ℕ). telling.tell_each give_up (λ client. split (kind_number IndicateStatus) 0 client.fragment body) (λ client. client) cs x) (chosen_twice head x.beside x.table.present)
+    ∙ ap (λ (h : IndicationHead). telling.tell_each give_up (λ client. split (kind_number IndicateStatus) 0 client.fragment body) (λ client. client) (receivers_in h.uuid h.cid x.table.present) x) is
+    ∙ ap (λ (l : List ℕ). telling.tell_each give_up (λ client. split (kind_number IndicateStatus) 0 client.fragment body) (λ client. client) (receivers_in (uuid_of l) (cid_of l) x.table.present) x) (sym I.carries)
+    ∙ ap (λ (l : List ℕ). telling.tell_each give_up (λ client. split (kind_number IndicateStatus) 0 client.fragment l) (λ client. client) (receivers_in (uuid_of (body_of m)) (cid_of (body_of m)) x.table.present) x) (sym I.blank_body)
 
 -- the body has the form of an indication's, with this head
 pub read_indication_is : (body : List ℕ) (head : IndicationHead) → Some head ≡ read_indication body → (is_indication body ≡ true) × (head ≡ record { uuid = uuid_of body; cid = cid_of body })

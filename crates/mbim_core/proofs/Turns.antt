@@ -1,8 +1,9 @@
 -- Clients that are chosen by what is kept of them are told from place to place: a turn, from what the code sees of the client of a place.
 use Rattle.std.proofs.Common.{◌≡◌, ℕ, zero, suc, ◌+◌, ◌<◌, Bool, true, false, List, [], ◌∷◌, length, get_or, refl, ap, sym, ◌∙◌, subst, arith, Some, None}
 use Rattle.std.specs.List.{position}
+use Rattle.std.proofs.lemmas.Bool.{eqb-true}
 use Rattle.connections.specs.Table.{Connection, AreRising, connection_in, changed, changed_at, with_client, finds_room}
-use Rattle.connections.proofs.Named.{is_named, inside, found_at, none_found}
+use Rattle.connections.proofs.Named.{is_named, is_at, inside, found_at, none_found}
 use Rattle.proxy_state.specs.State.{State}
 use Rattle.proxy_state.specs.Chosen.{StandsAt, tell_from}
 use Rattle.proxy_state.specs.Telling.{tell, told}
@@ -41,6 +42,15 @@ seen_as {T} {S} was x i name client same here rising named is = record {
   here = subst (λ (v : State T S). i < length v.table.present) (sym same) here;
   rising = subst (λ (v : State T S). AreRising v.table.present) (sym same) rising;
   named = subst (λ (v : State T S). (k : Connection T) → StandsAt k v.table.present i → name ≡ k.name) (sym same) named;
+  is = is;
+}
+
+-- the place is that of a name
+pub seen_named : {T : Type 0} (present : List (Connection T)) (place name : ℕ) (client : T) → Some place ≡ position (is_named name) present → AreRising present → ((k : Connection T) → StandsAt k present place → client ≡ k.client) → SeenAt present place name client
+seen_named {T} present place name client stands rising is = record {
+  here = inside name present place stands (connection_at client present place);
+  rising = rising;
+  named = λ k at. eqb-true name k.name (ap (is_named name) at ∙ (is_at name present place stands k).named k);
   is = is;
 }
 
@@ -94,26 +104,6 @@ module _ {T S : Type 0} (give_up : ℕ → S → S) (text : T → List ℕ) wher
       room : (fits : Bool) → fits ≡ finds_room bytes (connection_in c x.table.present) → fits ≡ finds_room (text one.client) (connection_in one.name x.table.present)
       room fits finds = finds ∙ ap (λ (l : List ℕ). finds_room l (connection_in c x.table.present)) (written ∙ ap text (seen.is one at)) ∙ ap (λ (n : ℕ). finds_room (text one.client) (connection_in n x.table.present)) (seen.named one at)
 
-      -- it is there still where it gets the bytes
-      pub remains : (new : State T S) → new ≡ tell give_up (λ _. bytes) (λ k. k) c x → true ≡ finds_room bytes (connection_in c x.table.present) → i < length new.table.present
-      remains new made fits =
-          let long : length new.table.present ≡ length x.table.present =
-          ap (λ (y : State T S). length y.table.present) (made ∙ put_if give_up text change c x one known bytes (written ∙ ap text (seen.is one at)) true (room_of bytes c x one known true fits))
-          ∙ length_updated c (told give_up (λ _. bytes) (λ k. k)) x.table.present
-          in
-          omega (arith, seen.here, long)
-
-      -- and what is kept of it is the same
-      pub keeps : (new : State T S) → new ≡ tell give_up (λ _. bytes) (λ k. k) c x → true ≡ finds_room bytes (connection_in c x.table.present)
-          → (kept : T) → ((k : Connection T) → StandsAt k new.table.present i → kept ≡ k.client) → kept ≡ client
-      keeps new made fits kept reads =
-          let given : Connection T → Connection T = told give_up (λ _. bytes) (λ k. k) in
-          let there : new.table.present ≡ changed one.name given x.table.present =
-          ap (λ (y : State T S). y.table.present) (made ∙ put_if give_up text change c x one known bytes (written ∙ ap text (seen.is one at)) true (room_of bytes c x one known true fits))
-          ∙ ap (λ (n : ℕ). changed n given x.table.present) (seen.named one at)
-          in
-          reads (given one) (subst (λ (l : List (Connection T)). StandsAt (given one) l i) (sym there) (stands_changed one given x.table.present i seen.rising seen.here at)) ∙ sym (seen.is one at)
-
       -- it is dropped
       pub dropped : (new : State T S) → new ≡ tell give_up (λ _. bytes) (λ k. k) c x → false ≡ finds_room bytes (connection_in c x.table.present)
           → (from i new ≡ from i x) × (length new.table.present + i < length x.table.present + i)
@@ -128,10 +118,44 @@ module _ {T S : Type 0} (give_up : ℕ → S → S) (text : T → List ℕ) wher
           turn_on give_up text (λ k. k) is_chosen still i x one seen.here at seen.rising it new
           (made ∙ told_same give_up text c x one known bytes (written ∙ ap text (seen.is one at)) ∙ ap (λ (n : ℕ). tell give_up text (λ k. k) n x) (seen.named one at)) (room true fits)
 
-      -- or is changed
-      pub got_changed : (sent new : State T S) → sent ≡ tell give_up (λ _. bytes) (λ k. k) c x → true ≡ finds_room bytes (connection_in c x.table.present)
-          → (later : T) → later ≡ change client → new ≡ record sent { table = record sent.table { present = changed_at i (with_client later) sent.table.present } }
-          → (from (i + 1) new ≡ from i x) × (length new.table.present + i < length x.table.present + (i + 1))
-      got_changed sent new made fits later changed_is new_is =
-          turn_on give_up text change is_chosen still i x one seen.here at seen.rising it new
-          (by_name new (new_is ∙ told_changed give_up text change c x i one seen.rising seen.here at (seen.named one at) bytes (written ∙ ap text (seen.is one at)) fits sent made later (changed_is ∙ ap change (seen.is one at)))) (room true fits)
+  -- ---- the client of a name, which stands at a place ----
+
+  module _ (change : T → T) (i : ℕ) (x : State T S) (c : ℕ) (client : T) (seen : SeenAt x.table.present i c client) (bytes : List ℕ) (written : bytes ≡ text client) where
+    abbrev the_one : Connection T
+    the_one = connection_at client x.table.present i
+
+    stands : StandsAt the_one x.table.present i
+    stands = stands_at client x.table.present i seen.here
+
+    known_here : connection_in c x.table.present ≡ Some the_one
+    known_here = ap (λ (n : ℕ). connection_in n x.table.present) (seen.named the_one stands) ∙ found the_one x.table.present i seen.rising seen.here stands
+
+    its_text : bytes ≡ text the_one.client
+    its_text = written ∙ ap text (seen.is the_one stands)
+
+    given : (new : State T S) → new ≡ tell give_up (λ _. bytes) (λ k. k) c x → true ≡ finds_room bytes (connection_in c x.table.present) → new.table.present ≡ changed c (told give_up (λ _. bytes) (λ k. k)) x.table.present
+    given new made fits = ap (λ (y : State T S). y.table.present) (made ∙ put_if give_up text change c x the_one known_here bytes its_text true (room_of bytes c x the_one known_here true fits))
+
+    -- it is there still where it gets the bytes
+    pub remains : (new : State T S) → new ≡ tell give_up (λ _. bytes) (λ k. k) c x → true ≡ finds_room bytes (connection_in c x.table.present) → i < length new.table.present
+    remains new made fits =
+        let long : length new.table.present ≡ length x.table.present = ap length (given new made fits) ∙ length_updated c (told give_up (λ _. bytes) (λ k. k)) x.table.present in
+        omega (arith, seen.here, long)
+
+    -- and what is kept of it is the same
+    pub keeps : (new : State T S) → new ≡ tell give_up (λ _. bytes) (λ k. k) c x → true ≡ finds_room bytes (connection_in c x.table.present)
+        → (kept : T) → ((k : Connection T) → StandsAt k new.table.present i → kept ≡ k.client) → kept ≡ client
+    keeps new made fits kept reads =
+        let put : Connection T → Connection T = told give_up (λ _. bytes) (λ k. k) in
+        let there : new.table.present ≡ changed the_one.name put x.table.present = given new made fits ∙ ap (λ (n : ℕ). changed n put x.table.present) (seen.named the_one stands) in
+        reads (put the_one) (subst (λ (l : List (Connection T)). StandsAt (put the_one) l i) (sym there) (stands_changed the_one put x.table.present i seen.rising seen.here stands)) ∙ sym (seen.is the_one stands)
+
+    -- where they find no room it is dropped
+    pub dropped_here : (new : State T S) → new ≡ tell give_up (λ _. bytes) (λ k. k) c x → false ≡ finds_room bytes (connection_in c x.table.present) → new ≡ tell give_up text change c x
+    dropped_here new made full = made ∙ told_full give_up text change c x the_one known_here bytes its_text (room_of bytes c x the_one known_here false full)
+
+    -- else it is changed
+    pub changed_here : (sent new : State T S) → sent ≡ tell give_up (λ _. bytes) (λ k. k) c x → true ≡ finds_room bytes (connection_in c x.table.present)
+        → (later : T) → later ≡ change client → new ≡ record sent { table = record sent.table { present = changed_at i (with_client later) sent.table.present } } → new ≡ tell give_up text change c x
+    changed_here sent new made fits later changed_is new_is =
+        new_is ∙ told_changed give_up text change c x i the_one seen.rising seen.here stands (seen.named the_one stands) bytes its_text fits sent made later (changed_is ∙ ap change (seen.is the_one stands))

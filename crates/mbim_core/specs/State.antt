@@ -1,5 +1,5 @@
 -- Words of the state beside those of `mbim_state`.
-use Rattle.std.specs.Prelude.{◌≡◌, ℕ, Bool, true, ◌&&◌, List, is_some, Option, Some, None}
+use Rattle.std.specs.Prelude.{◌≡◌, ℕ, Bool, true, ◌&&◌, List, Option, Some, None}
 use Rattle.kit_bytes.specs.Indications.{wants}
 use Rattle.connections.specs.Table.{Connection, Table}
 use Rattle.mbim_frame.specs.declared.bodies.IndicationHead.{IndicationHead}
@@ -15,7 +15,7 @@ use Rattle.mbim_proxy.specs.Setup.{Setup}
 use Rattle.mbim_proxy.specs.Step.{blank}
 use Rattle.mbim_state.specs.declared.asked.Asked.{Asked}
 use Rattle.mbim_state.specs.Core.{Client, ModemSide, MbimState}
-use Rattle.mbim_state.specs.Transitions.{give_up, after, text, is_for, answer, respond}
+use Rattle.mbim_state.specs.Transitions.{give_up, tell, is_for, answer, respond}
 
 abbrev pub state_of : Table Client → ModemSide → MbimState
 state_of table side = record { table = table; beside = side }
@@ -40,14 +40,13 @@ pub record IsIndicationWith (body m : List ℕ) : Type 0 where
   pub carries : body_of m ≡ body
   pub blank_body : body_of (blank m) ≡ body
 
+-- ---- who is told ----
+
+-- a client that waits for the opening is told how it ended
+abbrev pub tells_opened : Setup → (status : ℕ) → (conn : ℕ) → MbimState → MbimState
+tells_opened s status c x = tell s (OpenedWith status) c x
+
 -- ---- from place to place ----
-
-abbrev pub waits_in : ModemSide → Connection Client → Bool
-waits_in side k = is_some k.client.waits
-
--- those from this place on that wait for the opening are told how it ended
-abbrev pub opened_from : Setup → (status : ℕ) → ℕ → MbimState → MbimState
-opened_from s status i x = tell_from give_up (text s (OpenedWith status)) (after s (OpenedWith status)) waits_in i x
 
 abbrev pub wants_in : IndicationHead → ModemSide → Connection Client → Bool
 wants_in head side k = k.client.opened && wants k.client.list head.uuid head.cid

@@ -11,14 +11,14 @@ use Rattle.proxy_state.specs.Telling as telling
 use Rattle.mbim_proxy.specs.Setup.{Setup}
 use Rattle.mbim_state.specs.declared.asked.Asked.{Asked}
 use Rattle.mbim_state.specs.Core.{Client, Numbers, ModemSide, MbimState, setup_of}
-use Rattle.mbim_state.specs.Transitions.{with_side, give_up, after, text, opening_ended, waiting_in, ends_opening}
+use Rattle.mbim_state.specs.Transitions.{with_side, give_up, after, text, opening_ended, waiting_of, ends_opening}
 
 abbrev pub rows_at : MbimState → List (Row Asked)
 rows_at x = x.beside.numbers.rows
 
--- beside the clients only the numbers change, and of them only who waits for them: no more than before
+-- beside the clients only those who asked to open the modem and the numbers change, and of the numbers only who waits for them: no more than before
 pub record Leaves (x after : MbimState) : Type 0 where
-  pub beside : after.beside ≡ record x.beside { numbers = after.beside.numbers }
+  pub beside : after.beside ≡ record x.beside { numbers = after.beside.numbers; askers = after.beside.askers }
   pub numbers : after.beside.numbers ≡ record x.beside.numbers { rows = rows_at after }
   pub count : waiting_count (rows_at after) ≤ waiting_count (rows_at x)
   pub long : length (rows_at after) ≡ length (rows_at x)
@@ -28,7 +28,7 @@ leaves_same x = record { beside = refl; numbers = refl; count = omega arith; lon
 
 pub leaves_both : (x y z : MbimState) → Leaves x y → Leaves y z → Leaves x z
 leaves_both x y z L M = record {
-  beside = M.beside ∙ ap (λ (side : ModemSide). let after : ModemSide = record side { numbers = z.beside.numbers } in after) L.beside;
+  beside = M.beside ∙ ap (λ (side : ModemSide). let after : ModemSide = record side { numbers = z.beside.numbers; askers = z.beside.askers } in after) L.beside;
   numbers = M.numbers ∙ ap (λ (numbers : Numbers). let after : Numbers = record numbers { rows = rows_at z } in after) L.numbers;
   count = (let one = L.count in let other = M.count in omega arith);
   long = M.long ∙ L.long;
@@ -72,5 +72,5 @@ leaves_keeps x later L = record { setup = ap setup_of L.beside; count = L.count;
 pub ended_keeps : (s : Setup) (status : ℕ) (x : MbimState) → KeepsRequests x (ends_opening s status x)
 ended_keeps s status x =
     let opened : MbimState = with_side (opening_ended status x.beside) x in
-    let L = told_each_leaves (text s (OpenedWith status)) (after s (OpenedWith status)) (waiting_in x.table.present) opened in
+    let L = told_each_leaves (text s (OpenedWith status)) (after s (OpenedWith status)) (waiting_of x.table.present x.beside.askers) opened in
     record { setup = ap setup_of L.beside; count = L.count; long = L.long }

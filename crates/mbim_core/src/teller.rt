@@ -16,7 +16,7 @@ ghost use Rattle.mbim_state.specs.Core.{Client as TableClient, setup_of};
 ghost use Rattle.mbim_state.specs.Transitions.{give_up, mbim_handlers, tell_answer, tell_refusal, ends_opening, hear_as, hear_modem, refuse_as, expire, shut_all, lose, tick, finish};
 ghost use Rattle.mbim_core.specs.Answer.{heard_of};
 ghost use Rattle.mbim_core.specs.Hand.{hand_of, nobody_at_hand, joined, left, left_unless, subscriber_at, Follows, IsOf};
-ghost use Rattle.mbim_core.specs.State.{state_of, opened_from, indicated_from, Settles, IsDoneWith, IsIndicationWith};
+ghost use Rattle.mbim_core.specs.State.{state_of, tells_opened, indicated_from, Settles, IsDoneWith, IsIndicationWith};
 
 use crate::answer::Answer;
 use connections::Connections;
@@ -391,7 +391,7 @@ impl Teller {
     }
 
     // The proxy's own request to open the modem ends with this status, which each client that waits
-    // for it is told.
+    // for it is told, in the order in which they asked.
     fn end_opening(
         &mut self,
         connections: &mut Connections<Mbim, Client>,
@@ -403,41 +403,37 @@ impl Teller {
         ensures agrees { IsOf connections.new side.new (hand_of self.new) }
     {
         self.asked = false;
+        let mut waiting = side.waiting(connections);
         side.end_opening(status);
-        let mut index = 0;
-        while index < connections.present() {
-            index = self.open_at(connections, side, index, status);
+        while let Some(name) = waiting.take_first() {
+            self.tell_opened(connections, side, name, status);
         }
     }
 
-    // The client of this place is told of the end of the opening where it waits for that. Gives the
-    // place of the next one.
-    fn open_at(
+    // The client of this name is told of the end of the opening.
+    fn tell_opened(
         &mut self,
         connections: &mut Connections<Mbim, Client>,
         side: &mut ModemSide,
-        index: usize,
+        name: u64,
         status: u32,
-    ) -> usize
-        requires agrees { IsOf connections.old side.old (hand_of self.old) }
-        requires here { index < length connections.old.present }
-        ensures told { (s : Setup) → opened_from s status result (state_of connections.new side.new) ≡ opened_from s status index (state_of connections.old side.old) }
-        ensures fewer { length connections.new.present + index < length connections.old.present + result }
+    )
+        requires { IsOf connections.old side.old (hand_of self.old) }
+        ensures told { (s : Setup) → state_of connections.new side.new ≡ tells_opened s status name (state_of connections.old side.old) }
         ensures agrees { IsOf connections.new side.new (hand_of self.new) }
     {
-        let name = connections.name_at(index);
-        let Some(number) = connections.client_at(index).waits() else {
-            return index + 1;
+        let Some(place) = connections.find(name) else {
+            return;
         };
+        let number = connections.client_at(place).opening_number();
         let done = open_done(number, status);
         if !put(connections, side, name, &done) {
             self.leave(name);
-            return index;
+            return;
         }
-        let client = connections.client_mut(index);
+        let client = connections.client_mut(place);
         client.end_opening(status);
-        self.follow(connections, index);
-        index + 1
+        self.follow(connections, place);
     }
 
     // A fragment of an indication.

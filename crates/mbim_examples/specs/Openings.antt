@@ -2,8 +2,9 @@
 use Rattle.std.specs.Prelude.{◌≡◌, true, List, [], ◌∷◌, ◌++◌, reverse, codes}
 use Rattle.kit_bytes.specs.Hex.{hex}
 use Rattle.proxy_history.specs.Events.{Event, Joined, Piece, Left, ModemPiece, ModemGone, ModemBack, Now}
+use Rattle.proxy_history.specs.Connections.{dropped}
 use Rattle.proxy_history.specs.Requests.{in_use}
-use Rattle.mbim_proxy.specs.Setup.{Setup}
+use Rattle.mbim_proxy.specs.Setup.{Setup, mbim_limits}
 use Rattle.mbim_proxy.specs.Lists.{waiting}
 use Rattle.mbim_proxy.specs.History as proxy
 use Rattle.mbim_examples.specs.Story.{setup, configured, open_6, opened_6, failed_6, open_1, opened_1, open_2, opened_2, query_7, query_2, query_3, answer_7, answer_2, answer_3, not_opened_7, one_configured, both_configured, one_open, both_open, bytes_for, to_modem, history}
@@ -25,7 +26,7 @@ pub record MustConfigureAndOpen : Type 0 where
   pub client : bytes_for 1 unconfigured ≡ hex (codes "01 00 00 80 10 00 00 00 06 00 00 00 0E 00 00 00") ++ not_opened_7
   pub modem : to_modem unconfigured ≡ []
 
--- once the modem is open, a client is open at once; until then each waits, in order of joining
+-- once the modem is open, a client is open at once; until then each waits, in the order in which they asked
 abbrev pub opens_late : List Event
 opens_late = both_configured (Piece 1 open_6 ∷ ModemPiece opened_1 ∷ Piece 2 open_6 ∷ Piece 2 query_7 ∷ [])
 
@@ -36,10 +37,18 @@ both_wait = both_configured (Piece 2 open_6 ∷ Piece 1 open_6 ∷ [])
 abbrev pub both_are_told : List Event
 both_are_told = both_configured (Piece 1 open_6 ∷ Piece 2 (hex (codes "01 00 00 00 10 00 00 00 09 00 00 00 00 10 00 00")) ∷ ModemPiece opened_1 ∷ [])
 
+-- their outboxes have room for the answer to the configuration alone: both are hung up, in the same order
+abbrev pub tight : Setup
+tight = record setup { limits = record mbim_limits { outbox = 48 } }
+
+abbrev pub neither_has_room : List Event
+neither_has_room = both_configured (Piece 2 open_6 ∷ Piece 1 open_6 ∷ ModemPiece opened_1 ∷ [])
+
 pub record ClientsShareTheOpening : Type 0 where
   pub late : bytes_for 2 opens_late ≡ configured ++ opened_6
   pub late_modem : to_modem opens_late ≡ open_1 ++ query_2
-  pub waits : waiting setup (history both_wait) ≡ 1 ∷ 2 ∷ []
+  pub waits : waiting setup (history both_wait) ≡ 2 ∷ 1 ∷ []
+  pub hung_up : dropped (proxy.history tight neither_has_room) ≡ 2 ∷ 1 ∷ []
   pub first : bytes_for 1 both_wait ≡ configured
   pub modem : to_modem both_wait ≡ open_1
   pub first_told : bytes_for 1 both_are_told ≡ configured ++ opened_6
@@ -53,9 +62,14 @@ opens_twice = one_configured (Piece 1 open_6 ∷ Piece 1 (hex (codes "01 00 00 0
 abbrev pub opens_again : List Event
 opens_again = one_open (Piece 1 (hex (codes "01 00 00 00 10 00 00 00 09 00 00 00 00 10 00 00")) ∷ [])
 
+-- the second OPEN of the first client that waits doesn't send it behind the other
+abbrev pub keeps_its_turn : List Event
+keeps_its_turn = both_configured (Piece 1 open_6 ∷ Piece 2 open_6 ∷ Piece 1 open_6 ∷ [])
+
 pub record OneOpeningWaits : Type 0 where
   pub twice : bytes_for 1 opens_twice ≡ configured ++ hex (codes "01 00 00 80 10 00 00 00 09 00 00 00 01 00 00 00") ++ opened_6
   pub modem : to_modem opens_twice ≡ open_1
+  pub turn : waiting setup (history keeps_its_turn) ≡ 1 ∷ 2 ∷ []
   pub again : bytes_for 1 opens_again ≡ configured ++ opened_6 ++ hex (codes "01 00 00 80 10 00 00 00 09 00 00 00 00 00 00 00")
 
 -- a client that waits leaves: nobody waits but the other
@@ -74,6 +88,10 @@ pub record WhoLeavesWaitsNoMore : Type 0 where
 abbrev pub modem_refuses : List Event
 modem_refuses = one_configured (Piece 1 open_6 ∷ ModemPiece (hex (codes "01 00 00 80 10 00 00 00 01 00 00 00 09 00 00 00")) ∷ Piece 1 query_7 ∷ Piece 1 open_6 ∷ ModemPiece opened_2 ∷ [])
 
+-- after that the other client asks first
+abbrev pub asks_behind : List Event
+asks_behind = both_configured (Piece 1 open_6 ∷ ModemPiece (hex (codes "01 00 00 80 10 00 00 00 01 00 00 00 09 00 00 00")) ∷ Piece 2 open_6 ∷ Piece 1 open_6 ∷ [])
+
 -- it answers with an error: status 2
 abbrev pub modem_errs : List Event
 modem_errs = one_configured (Piece 1 open_6 ∷ ModemPiece (hex (codes "04 00 00 80 10 00 00 00 01 00 00 00 03 00 00 00")) ∷ [])
@@ -85,6 +103,7 @@ modem_blunders = one_configured (Piece 1 open_6 ∷ ModemPiece (hex (codes "04 0
 pub record RefusedOpenings : Type 0 where
   pub refused : bytes_for 1 modem_refuses ≡ configured ++ hex (codes "01 00 00 80 10 00 00 00 06 00 00 00 09 00 00 00") ++ not_opened_7 ++ opened_6
   pub again : to_modem modem_refuses ≡ open_1 ++ open_2
+  pub behind : waiting setup (history asks_behind) ≡ 2 ∷ 1 ∷ []
   pub erred : bytes_for 1 modem_errs ≡ configured ++ failed_6
   pub blundered : bytes_for 1 modem_blunders ≡ configured
   pub waits_still : waiting setup (history modem_blunders) ≡ 1 ∷ []

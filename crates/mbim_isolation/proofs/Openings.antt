@@ -4,13 +4,12 @@ use Rattle.std.proofs.lemmas.Bool.{true≢false}
 use Rattle.mbim_frame.specs.Writing.{open_done}
 use Rattle.proxy_history.specs.Events.{Event}
 use Rattle.proxy_history.specs.Facts.{Fact, Request, Answered, OpeningEnded}
-use Rattle.proxy_history.specs.Connections.{contains, present, is_present}
+use Rattle.proxy_history.specs.Connections.{contains, is_present}
 use Rattle.proxy_history.specs.Requests.{pending}
 use Rattle.proxy_history.specs.View.{Entry, OpenedWith, entry_if, view}
 use Rattle.proxy_history.specs.Rendering.{render, put}
 use Rattle.proxy_history.specs.Wording.{text_behind}
 use Rattle.proxy_history.specs.Coming.{AreSound}
-use Rattle.proxy_history.proofs.Lists.{contains_kept}
 use Rattle.proxy_history.proofs.Noted.{noted_view, answered_present}
 use Rattle.mbim_proxy.specs.Setup.{Setup}
 use Rattle.mbim_proxy.specs.Known.{waiting_number}
@@ -20,14 +19,11 @@ use Rattle.mbim_proxy.specs.ModemStates.{is_own_open}
 use Rattle.mbim_proxy.specs.Lists.{waiting}
 use Rattle.mbim_proxy.specs.FromModem.{heard_as, is_answered_by, opening_status, end_opening, hear_modem}
 use Rattle.mbim_proxy.specs.History.{mbim_protocol}
+use Rattle.mbim_proxy.proofs.Waiting.{waits_is}
 use Rattle.mbim_state.specs.Core.{HasNumbers}
 use Rattle.mbim_state.proofs.Commands.{IsCommandOf, command_of}
 use Rattle.mbim_isolation.specs.Laws.{bytes_for, facts_before, is_reply}
 use Rattle.mbim_isolation.proofs.Answers.{regular_before, others_same, replied, other_is}
-
--- a client waits where it is there and its own view says so
-pub waits_is : (s : Setup) (c : ℕ) (past : List Fact) → contains c (waiting s past) ≡ (is_present c past && is_some (known_now s c past).waits)
-waits_is s c past = contains_kept c (λ (d : ℕ). is_some (known_now s d past).waits) (present past)
 
 -- what the end of an opening adds to a view
 pub opened_view : (s : Setup) (c status : ℕ) (past : List Fact) → view_of c (end_opening s status past) ≡ entry_if (contains c (waiting s past)) (OpenedWith status) (view_of c past)

@@ -34,10 +34,11 @@ use Rattle.mbim_proxy.proofs.Verdicts.{forwarded_have_the_next_number}
 use Rattle.mbim_proxy.proofs.Walk.{Asks, orderly}
 use Rattle.mbim_state.specs.Core.{HasNumbers}
 use Rattle.mbim_state.proofs.Regular.{Regular, taken_within}
+use Rattle.mbim_proxy.proofs.Waiting.{waits_is}
 use Rattle.mbim_isolation.specs.Laws.{bytes_for, facts_before, is_reply, due}
 use Rattle.mbim_isolation.specs.Queues.{facts_before_saying, IsQueued}
 use Rattle.mbim_isolation.proofs.Answers.{regular_items, sender_there, answers_have_one_receiver}
-use Rattle.mbim_isolation.proofs.Openings.{waits_is, opening_bytes, openings_answer_the_waiting}
+use Rattle.mbim_isolation.proofs.Openings.{opening_bytes, openings_answer_the_waiting}
 
 -- ---- commands ----
 

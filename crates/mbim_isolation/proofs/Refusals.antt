@@ -23,8 +23,9 @@ use Rattle.mbim_proxy.specs.ModemStates.{is_own_open}
 use Rattle.mbim_proxy.specs.Lists.{waiting}
 use Rattle.mbim_proxy.specs.FromModem.{end_opening, refuse, in_order}
 use Rattle.mbim_proxy.specs.History.{mbim_protocol}
+use Rattle.mbim_proxy.proofs.Waiting.{waits_is}
 use Rattle.mbim_isolation.specs.Laws.{bytes_for, IsIdle}
-use Rattle.mbim_isolation.proofs.Openings.{waits_is, opened_view}
+use Rattle.mbim_isolation.proofs.Openings.{opened_view}
 
 -- ---- who waits for nothing ----
 

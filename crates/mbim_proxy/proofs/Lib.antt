@@ -1,5 +1,6 @@
 pub mod Lengths
 pub mod Verdicts
+pub mod Waiting
 pub mod Walk
 pub mod Sound
 pub mod Queue

@@ -1,5 +1,5 @@
 -- What each part of an MBIM proxy adds to its history: one lemma for each, on which all laws of the history rest.
-use Rattle.std.proofs.Common.{◌≡◌, ℕ, ◌+◌, Bool, true, false, not, is_some, if◌then◌else◌, List, [], ◌∷◌, refl, ap, sym, inl, inr, All, Contains, Option, Some, None}
+use Rattle.std.proofs.Common.{◌≡◌, ℕ, ◌+◌, Bool, true, false, not, if◌then◌else◌, List, [], ◌∷◌, refl, ap, sym, inl, inr, All, Contains, Option, Some, None}
 use Rattle.std.proofs.lemmas.Bool.{eq-eqb, and_parts}
 use Rattle.std.proofs.lemmas.List.Elements.{All-filter}
 use Rattle.kit_bytes.specs.Subscriptions.{Pair}
@@ -39,12 +39,9 @@ use Rattle.mbim_proxy.specs.Asked.{IsAsked}
 use Rattle.mbim_proxy.specs.History.{mbim_protocol}
 use Rattle.mbim_proxy.proofs.Lengths.{finds_room}
 use Rattle.mbim_proxy.proofs.Verdicts.{CanGo, can_go, given_if, WhatGoes, what_goes}
+use Rattle.mbim_proxy.proofs.Waiting.{waiting_are_present}
 
 -- `Asks` is what each request has, of all that it has
--- who waits for the modem to open is there
-pub waiting_are_present : (s : Setup) (past : List Fact) → All (λ c. IsPresent c past) (waiting s past)
-waiting_are_present s past = All-filter (λ c. is_some (known_now s c past).waits) (λ (c : ℕ). IsPresent c past) (present past) (each_contained (present past))
-
 module _ (s : Setup) (Asks : Request → List Fact → Type 0) (asked : (r : Request) (past : List Fact) → IsAsked s r past → Asks r past) where
   abbrev Sound : List Fact → Type 0
   Sound past = IsSound s.limits past

@@ -1,3 +1,4 @@
+pub mod OneWaits
 pub mod Reading
 pub mod Views
 pub mod Places

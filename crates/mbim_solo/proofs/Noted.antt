@@ -15,6 +15,7 @@ use Rattle.mbim_proxy.specs.Known.{Known}
 use Rattle.mbim_proxy.specs.Step.{blank, known_from, known_now}
 use Rattle.mbim_proxy.specs.Text.{mbim_wording, note}
 use Rattle.mbim_proxy.specs.Lists.{open_ones, list_of, receivers, waiting}
+use Rattle.mbim_proxy.proofs.Waiting.{waits_is}
 use Rattle.mbim_solo.specs.Solo.{restated}
 use Rattle.mbim_solo.specs.Part.{part}
 use Rattle.mbim_solo.proofs.Reading.{reads}
@@ -52,6 +53,6 @@ module _ (s : Setup) (c : ℕ) where
 
   pub waiting-part : (past : List Fact) → OpenOnce s c past → contains c (waiting s past) ≡ is_waiting (part c past)
   waiting-part past once =
-      contains-filter c (λ (d : ℕ). is_some (known_now s d past).waits) (present past)
+      waits_is s c past
       ∙ ap (λ (b : Bool). b && is_some (known_now s c past).waits) (sym (present-part s.limits blank restated reads c past))
       ∙ ap (λ (k : Known). is_present c (part c past) && is_some k.waits) (sym (known-part s c past once))

@@ -16,7 +16,7 @@ use Rattle.proxy_history.specs.Sound.{IsSound}
 use Rattle.proxy_history.proofs.Lists.{Contains-nil, Contains-cons_cases}
 use Rattle.proxy_history.proofs.Sound.{kept_by_note, forwarded_from_in_use, waits}
 use Rattle.proxy_history.proofs.Found.{found_is}
-use Rattle.proxy_solo.proofs.Lists.{self, contains-without, contains-filter}
+use Rattle.proxy_solo.proofs.Lists.{self, contains-without}
 use Rattle.proxy_solo.proofs.Refusing.{refused}
 use Rattle.mbim_proxy.specs.Setup.{Setup}
 use Rattle.mbim_proxy.specs.Known.{Known}
@@ -27,6 +27,7 @@ use Rattle.mbim_proxy.specs.Text.{mbim_wording, note}
 use Rattle.mbim_proxy.specs.ModemStates.{ModemState, IsAway, IsShut, IsOpening, IsReady, is_own_open, state}
 use Rattle.mbim_proxy.specs.Lists.{waiting, receivers}
 use Rattle.mbim_proxy.specs.FromModem.{Heard, IsDone, IsOpenDone, IsError, IsIndication, IsNeither, opening_status, end_opening, is_answered_by, first_answered_by, answer_or_late, respond, hear_as}
+use Rattle.mbim_proxy.proofs.Waiting.{waits_is}
 use Rattle.mbim_solo.specs.Openings.{WaitFor, MayBeOpen, is_absent, IsInOrder}
 
 -- ---- requests ----
@@ -320,7 +321,7 @@ module _ (s : Setup) where
     requests = none_wait (status == SUCCESS) (pending past) H.none;
     clients =
         λ c is.
-        let waited : contains c (waiting s past) ≡ is_some (known_now s c past).waits = contains-filter c (λ (d : ℕ). is_some (known_now s d past).waits) (present past) ∙ ap (λ (b : Bool). b && is_some (known_now s c past).waits) is in
+        let waited : contains c (waiting s past) ≡ is_some (known_now s c past).waits = waits_is s c past ∙ ap (λ (b : Bool). b && is_some (known_now s c past).waits) is in
         subst (MayBeOpen (then_is (status == SUCCESS))) (sym (entry_known (contains c (waiting s past)) (OpenedWith status) (view_of c past)))
         (ends_may (status == SUCCESS) (contains c (waiting s past)) (known_now s c past) waited (H.shut c is));
     away = H.away ∙ sym (ends_there (status == SUCCESS));

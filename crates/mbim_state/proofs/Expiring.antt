@@ -26,7 +26,7 @@ use Rattle.proxy_state.proofs.Expired.{Refuses, kept_expired}
 use Rattle.mbim_proxy.specs.Setup.{Setup, the_space}
 use Rattle.mbim_proxy.specs.Step.{view_of, known_now}
 use Rattle.mbim_proxy.specs.ModemStates.{is_own_open, state}
-use Rattle.mbim_proxy.specs.Lists.{last_list, waiting}
+use Rattle.mbim_proxy.specs.Lists.{askers, last_list, waiting}
 use Rattle.mbim_proxy.specs.Text.{mbim_wording, refusal_text, note}
 use Rattle.mbim_proxy.specs.FromModem as history
 use Rattle.mbim_state.specs.Asked.{Asked, CommandName, name_of, asked_of, ask_by}
@@ -110,7 +110,7 @@ module _ (s : Setup) (within : HasNumbers s) (streams : Streams) where
     is_at = request_waits past a (are_different s.limits within past K.fine.sound) at s.limits K.fine.sound waits
 
     side_is : (flag : Bool) → (let side : ModemSide = record x.beside { numbers = silences r.number x.beside.numbers } in side) ≡ side_of s streams.messages (refusal flag r ∷ past)
-    unfolding now is_away state last_list to_modem modem_drained
+    unfolding now is_away state askers last_list to_modem modem_drained
     side_is true = numbers_changed s streams (silences r.number) past x K ∙ ap (side_with s streams.messages past) (sym (numbers_expired s within past r K.fine (request_in_use past a at)))
     side_is false = numbers_changed s streams (silences r.number) past x K ∙ ap (side_with s streams.messages past) (sym (numbers_aborted s within past r K.fine (request_in_use past a at)))
 

@@ -16,7 +16,7 @@ use Rattle.mbim_proxy.specs.Setup.{Setup}
 use Rattle.mbim_proxy.specs.Step.{known_now}
 use Rattle.mbim_proxy.specs.ModemStates.{is_ready}
 use Rattle.mbim_proxy.specs.ModemStates as modem
-use Rattle.mbim_proxy.specs.Lists.{merged, list_of, last_list}
+use Rattle.mbim_proxy.specs.Lists.{askers, merged, list_of, last_list}
 use Rattle.mbim_proxy.specs.Forwarding.{own_subscribe}
 use Rattle.mbim_proxy.specs.OwnList.{number_of_list, send_under}
 use Rattle.mbim_proxy.specs.OwnList as own
@@ -60,7 +60,7 @@ module _ (s : Setup) (streams : Streams) where
   -- ---- the list is asked for ----
 
   side_sent : (list : List Pair) (number : Option ℕ) (past : List Fact) → Regular s past → state.send_under s list number (side_now past) ≡ side_now (send_under s list number past)
-  unfolding now is_away modem.state requests_in_use last_number last_list to_modem modem_drained
+  unfolding now is_away modem.state requests_in_use last_number askers last_list to_modem modem_drained
   side_sent list None past R = refl
   side_sent list (Some n) past R = ap (λ (b : ModemSide). let c : ModemSide = record b { last_list = list } in c) (side_forwarded s streams.messages past 0 (own_subscribe list) n (taken_within s past R.new))
 

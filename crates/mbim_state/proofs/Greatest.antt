@@ -17,14 +17,14 @@ use Rattle.mbim_proxy.specs.Delivering.{heard_with, begun_after}
 use Rattle.mbim_state.specs.Asked.{Asked, ask_by}
 use Rattle.mbim_state.specs.declared.asked.Asked.TheVariants.{Open, Command}
 use Rattle.mbim_state.specs.Core.{MbimState, known_by, silences}
-use Rattle.mbim_state.specs.Transitions.{with_side, with_numbers, give_up, after, text, tell_each, opening_ended, waiting_in, ends_opening, is_for, answer_if, respond_if, respond_to, receivers_in, hear_as, hear_each, refuse_as, refuse, expire_in, expire, mbim_handlers}
+use Rattle.mbim_state.specs.Transitions.{with_side, with_numbers, give_up, after, text, tell_each, opening_ended, waiting_of, ends_opening, is_for, answer_if, respond_if, respond_to, receivers_in, hear_as, hear_each, refuse_as, refuse, expire_in, expire, mbim_handlers}
 
 module _ (s : Setup) where
   told_entry : (entry : Entry) (cs : List ℕ) (x : MbimState) → IsAsBefore x (tell_each s entry cs x)
   told_entry entry cs x = told_each give_up (text s entry) (after s entry) cs x
 
   ended : (status : ℕ) (x : MbimState) → IsAsBefore x (ends_opening s status x)
-  ended status x = told_entry (OpenedWith status) (waiting_in x.table.present) (with_side (opening_ended status x.beside) x)
+  ended status x = told_entry (OpenedWith status) (waiting_of x.table.present x.beside.askers) (with_side (opening_ended status x.beside) x)
 
   -- ---- requests that get no answer ----
 

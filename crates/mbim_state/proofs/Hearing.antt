@@ -11,6 +11,7 @@ use Rattle.proxy_history.specs.Decision.{Decision, Replies, Forwards, forwards_u
 use Rattle.proxy_history.specs.Connections.{present, dropped, contains, message_count}
 use Rattle.proxy_history.specs.Requests.{last_number}
 use Rattle.proxy_history.specs.Modem.{now, is_away, to_modem, modem_drained}
+use Rattle.proxy_history.specs.Sound.{IsSound}
 use Rattle.proxy_history.specs.View.{Sent, view}
 use Rattle.proxy_history.specs.Noting.{end_overfull}
 use Rattle.proxy_history.specs.Wording.{text_behind}
@@ -30,15 +31,16 @@ use Rattle.mbim_proxy.specs.OwnReplies.{view_decides}
 use Rattle.mbim_proxy.specs.Step.{view_of, known_now}
 use Rattle.mbim_proxy.specs.Text.{mbim_wording, note}
 use Rattle.mbim_proxy.specs.ModemStates.{IsOpening, state}
-use Rattle.mbim_proxy.specs.Lists.{last_list}
+use Rattle.mbim_proxy.specs.Lists.{askers, last_list}
 use Rattle.mbim_proxy.specs.Forwarding.{wire, wire_of, own_open, request_of, has_room, number_for, forward}
 use Rattle.mbim_proxy.specs.Clients.{command_message, opening_decision, decision_on, forward_for, judge}
 use Rattle.mbim_proxy.specs.Clients as clients
 use Rattle.mbim_proxy.specs.History.{mbim_protocol}
 use Rattle.mbim_proxy.proofs.Walk.{Asks, orderly}
 use Rattle.mbim_state.specs.Core.{Client, client_of, Numbers, ModemSide, MbimState, side_of, kept_of}
-use Rattle.mbim_state.specs.Transitions.{number_at, forwards, opens, decision_of, decision_for, after, text, replies, asks_modem, act_on, hear_client, mbim_handlers}
+use Rattle.mbim_state.specs.Transitions.{number_at, asked_with, forwards, opens, decision_of, decision_for, after, text, replies, asks_modem, act_on, hear_client, mbim_handlers}
 use Rattle.mbim_state.proofs.Regular.{Regular, regular_more, new_by, taken_within}
+use Rattle.mbim_state.proofs.Askers.{asked_is}
 use Rattle.mbim_state.proofs.ClientStates.{ClientState, client_state_of, put_to, judged_own, judged_other}
 use Rattle.mbim_state.proofs.Numbers.{numbers_forwarded, next_is}
 use Rattle.mbim_state.proofs.Keeping as keeping
@@ -66,14 +68,15 @@ module _ (s : Setup) (messages : List (List ℕ)) where
 
   -- ---- what is kept beside the connections ----
 
-  side_judged : (past : List Fact) (c place : ℕ) (m : List ℕ) (verdict : Verdict) → side past ≡ side (Judged c place m verdict ∷ past)
+  side_judged : (past : List Fact) (c place : ℕ) (m : List ℕ) (verdict : Verdict) → IsSound s.limits past → contains c (present past) ≡ true
+      → (let after : ModemSide = record (side past) { askers = asked_with s c verdict (askers past) } in after) ≡ side (Judged c place m verdict ∷ past)
   unfolding now is_away state requests_in_use last_number last_list to_modem modem_drained
-  side_judged past c place m verdict = refl
+  side_judged past c place m verdict sound there = ap (λ (l : List ℕ). let after : ModemSide = record (side past) { askers = l } in after) (asked_is s past c place m verdict sound there)
 
   -- a request goes to the modem
   pub side_forwarded : (past : List Fact) (c : ℕ) (m : List ℕ) (n : ℕ) → modem_drained past ≤ length (to_modem (wire s) past)
       → record (forwards s c m n (side past)) { modem = if is_kind kind.Open m then IsOpening else state s.starts_away past } ≡ side (Forwarded (request_of s c m n past) ∷ past)
-  unfolding now is_away state last_list to_modem modem_drained
+  unfolding now is_away state askers last_list to_modem modem_drained
   side_forwarded past c m n within =
       ap (λ (l : List ℕ). let b : ModemSide = record (forwards s c m n (side past)) { modem = if is_kind kind.Open m then IsOpening else state s.starts_away past; outbox = record { bytes = l; capacity = s.limits.modem_outbox } } in b)
       (sym (drop-append-le (modem_drained past) (to_modem (wire s) past) (wire_of s n m) within))
@@ -102,6 +105,12 @@ module _ (s : Setup) (streams : Streams) where
     abbrev judged : Verdict → List Fact
     judged verdict = Judged c (message_count c past + 1) m verdict ∷ past
 
+    abbrev side_after : Verdict → ModemSide
+    side_after verdict = record (side_now past) { askers = asked_with s c verdict (askers past) }
+
+    judged_side : (verdict : Verdict) → side_after verdict ≡ side_now (judged verdict)
+    judged_side verdict = side_judged s streams.messages past c (message_count c past + 1) m verdict K.fine.sound there
+
     others : (verdict : Verdict) (d : ℕ) → (c == d) ≡ false → client_state_of s (judged verdict) d ≡ client_state_of s past d
     others verdict d differs = judged_other s past c (message_count c past + 1) d m verdict differs
 
@@ -115,8 +124,8 @@ module _ (s : Setup) (streams : Streams) where
     replied : (verdict : Verdict) → Kept (note s (Judged c (message_count c past + 1) m verdict) past) (settled (mbim_handlers s) c (replies s c m verdict one.client one.outbox (side_now past)) x)
     unfolding present dropped connection_of end_overfull
     replied verdict =
-        replying.keeps_replied (mbim_protocol s) (kept_of s) (mbim_handlers s) (Regular s) (follows_connections s) streams (judged verdict) past x c (text s (Sent m verdict) was.client) (λ found. after s (Sent m verdict) was.client) (side_now past)
-        (judged_own s past c (message_count c past + 1) m verdict) (others verdict) refl refl (side_judged s streams.messages past c (message_count c past + 1) m verdict)
+        replying.keeps_replied (mbim_protocol s) (kept_of s) (mbim_handlers s) (Regular s) (follows_connections s) streams (judged verdict) past x c (text s (Sent m verdict) was.client) (λ found. after s (Sent m verdict) was.client) (side_after verdict)
+        (judged_own s past c (message_count c past + 1) m verdict) (others verdict) refl refl (judged_side verdict)
         (regular_more s (Judged c (message_count c past + 1) m verdict) past there tt tt K.fine) there K
 
     -- ---- what is forwarded ----
@@ -160,11 +169,11 @@ module _ (s : Setup) (streams : Streams) where
     forwarded : (n : ℕ) (opens_it : Bool) → Regular s (forward_for opens_it s known c m n past) → Kept (forward_for opens_it s known c m n past) (settled (mbim_handlers s) c (asks_modem opens_it s c m n one.client one.outbox (side_now past)) x)
     unfolding connection_of
     forwarded n true regular =
-        sent_on Waits refl (own_open s) 0 n (opens s n (side_now past))
-        (ap (opens s n) (side_judged s streams.messages past c (message_count c past + 1) m Waits) ∙ side_forwarded s streams.messages (judged Waits) 0 (own_open s) n (within_judged Waits)) regular
+        sent_on Waits refl (own_open s) 0 n (opens s n (side_after Waits))
+        (ap (opens s n) (judged_side Waits) ∙ side_forwarded s streams.messages (judged Waits) 0 (own_open s) n (within_judged Waits)) regular
     forwarded n false regular =
         sent_on Forward refl (command_message s known m) c n (forwards s c (command_message s known m) n (side_now past))
-        (ap (forwards s c (command_message s known m) n) (side_judged s streams.messages past c (message_count c past + 1) m Forward) ∙ side_forwarded s streams.messages (judged Forward) c (command_message s known m) n (within_judged Forward)) regular
+        (ap (forwards s c (command_message s known m) n) (judged_side Forward) ∙ side_forwarded s streams.messages (judged Forward) c (command_message s known m) n (within_judged Forward)) regular
 
     -- ---- whatever is decided ----
 

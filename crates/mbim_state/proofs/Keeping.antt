@@ -2,7 +2,7 @@
 use Rattle.std.proofs.Common.{◌≡◌, ℕ, ◌-◌, ◌≤◌, List, ◌∷◌, length, drop, refl, ap, sym, ◌∙◌, arith}
 use Rattle.std.proofs.lemmas.List.{length-drop, drop-drop}
 use Rattle.proxy_history.specs.Facts.{Fact, NotAdmitted, ModemReturned, ModemDrained}
-use Rattle.proxy_history.specs.Connections.{present, dropped}
+use Rattle.proxy_history.specs.Connections.{present, dropped, without}
 use Rattle.proxy_history.specs.Requests.{last_number}
 use Rattle.proxy_history.specs.Modem.{now, is_away, to_modem, modem_drained}
 use Rattle.proxy_history.specs.View.{view}
@@ -12,12 +12,13 @@ use Rattle.proxy_state.specs.Faithful.{Keeps, FollowsConnections}
 use Rattle.proxy_state.proofs.Keeping as keeping
 use Rattle.mbim_proxy.specs.Setup.{Setup}
 use Rattle.mbim_proxy.specs.ModemStates.{state}
-use Rattle.mbim_proxy.specs.Lists.{last_list}
+use Rattle.mbim_proxy.specs.Lists.{askers, last_list}
 use Rattle.mbim_proxy.specs.Forwarding.{wire}
 use Rattle.mbim_proxy.specs.History.{mbim_protocol}
 use Rattle.mbim_state.specs.Core.{Numbers, ModemSide, MbimState, side_of, kept_of}
 use Rattle.mbim_state.specs.Transitions.{mbim_handlers, regain, take_modem}
 use Rattle.mbim_state.proofs.Regular.{Regular, regular_more, regular_behind, taken_within}
+use Rattle.mbim_state.proofs.Askers.{asked_by_stranger}
 use Rattle.mbim_state.proofs.Numbers.{numbers_of_stranger, numbers_ended}
 
 module _ (s : Setup) where
@@ -25,10 +26,14 @@ module _ (s : Setup) where
   abbrev pub side_with : (messages : List (List ℕ)) → List Fact → Numbers → ModemSide
   side_with messages past numbers = record (side_of s messages past) { numbers = numbers }
 
+  -- and for one who asked for nothing any more
+  abbrev side_left : (messages : List (List ℕ)) → List Fact → (conn : ℕ) → Numbers → ModemSide
+  side_left messages past c numbers = record (side_with messages past numbers) { askers = without c (askers past) }
+
   -- ---- facts of connections ----
 
   pub follows_connections : FollowsConnections (mbim_protocol s) (kept_of s) (mbim_handlers s) (Regular s)
-  unfolding now is_away state requests_in_use last_number last_list to_modem modem_drained
+  unfolding now is_away state requests_in_use last_number askers last_list to_modem modem_drained
   follows_connections = record {
     fine_more = regular_behind s;
     fresh = refl;
@@ -39,8 +44,11 @@ module _ (s : Setup) where
     begun = λ past messages. refl;
     admitted = λ c past messages. refl;
     drained = λ c count past messages. refl;
-    refused = λ c past some absent R messages. ap (side_with messages past) (numbers_of_stranger s past c NotAdmitted some absent R.sound);
-    ended = λ c why messages past. ap (side_with messages past) (sym (numbers_ended s past c why));
+    refused =
+        λ c past some absent R messages.
+        ap (side_left messages past c) (numbers_of_stranger s past c NotAdmitted some absent R.sound)
+        ∙ ap (λ (l : List ℕ). let side : ModemSide = record (side_of s messages past) { askers = l } in side) (asked_by_stranger s.limits past c absent R.sound);
+    ended = λ c why messages past. ap (side_left messages past c) (sym (numbers_ended s past c why));
   }
 
 module _ (s : Setup) (streams : Streams) where
@@ -56,11 +64,11 @@ module _ (s : Setup) (streams : Streams) where
   -- ---- the modem comes back, and takes bytes ----
 
   pub kept_returned : (past : List Fact) (x : MbimState) → Kept past x → Kept (ModemReturned ∷ past) (record x { beside = regain x.beside })
-  unfolding now is_away state requests_in_use last_number last_list to_modem modem_drained present dropped view
+  unfolding now is_away state requests_in_use last_number askers last_list to_modem modem_drained present dropped view
   kept_returned past x K = keeps_side (ModemReturned ∷ past) past x (regain x.beside) (λ d. refl) refl refl (ap regain K.holds.beside) (regular_more s ModemReturned past tt tt tt K.fine) K
 
   pub kept_modem_drained : (past : List Fact) (x : MbimState) (count : ℕ) → count ≤ length x.beside.outbox.bytes → Kept past x → Kept (ModemDrained count ∷ past) (record x { beside = take_modem count x.beside })
-  unfolding now is_away state requests_in_use last_number last_list to_modem modem_drained present dropped view
+  unfolding now is_away state requests_in_use last_number askers last_list to_modem modem_drained present dropped view
   kept_modem_drained past x count within K =
       let queue : x.beside.outbox.bytes ≡ drop (modem_drained past) (to_modem (wire s) past) = ap (λ (b : ModemSide). b.outbox.bytes) K.holds.beside in
       let left : length x.beside.outbox.bytes ≡ length (to_modem (wire s) past) - modem_drained past = ap length queue ∙ length-drop (modem_drained past) (to_modem (wire s) past) in

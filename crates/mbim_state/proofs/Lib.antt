@@ -1,4 +1,5 @@
 pub mod Regular
+pub mod Askers
 pub mod Numbers
 pub mod Keeping
 pub mod ClientStates

@@ -27,7 +27,7 @@ use Rattle.mbim_proxy.specs.Setup.{Setup}
 use Rattle.mbim_proxy.specs.Step.{view_of}
 use Rattle.mbim_proxy.specs.Delivering.{Begun, none_begun, heard_with, begun_after, heard_from, begun_from, deliver}
 use Rattle.mbim_proxy.specs.ModemStates.{state}
-use Rattle.mbim_proxy.specs.Lists.{last_list}
+use Rattle.mbim_proxy.specs.Lists.{askers, last_list}
 use Rattle.mbim_proxy.specs.FromModem as history
 use Rattle.mbim_proxy.specs.History.{mbim_protocol}
 use Rattle.mbim_proxy.proofs.Delivered.{heard_goes_on}
@@ -98,7 +98,7 @@ module _ (s : Setup) (within : HasNumbers s) (streams : Streams) where
 
   -- no client is open any more
   kept_shut : (past : List Fact) (x : MbimState) → Kept past x → Kept (history.close past) (record x { table = record x.table { present = shut_all s x.table.present } })
-  unfolding present dropped now is_away state requests_in_use last_number last_list to_modem modem_drained
+  unfolding present dropped now is_away state requests_in_use last_number askers last_list to_modem modem_drained
   kept_shut past x K = record {
     holds = record {
       connections =
@@ -127,7 +127,7 @@ module _ (s : Setup) (within : HasNumbers s) (streams : Streams) where
 
   -- the modem knows of no request any more, and of its stream nothing is left
   kept_gone : (past : List Fact) (x : MbimState) → Kept past x → KeptWith [] (ModemLost ∷ past) (with_side (lost x.beside) x)
-  unfolding present dropped now is_away state requests_in_use last_number last_list to_modem modem_drained view begun_from
+  unfolding present dropped now is_away state requests_in_use last_number askers last_list to_modem modem_drained view begun_from
   kept_gone past x K =
       let silent : ModemSide = record x.beside { begun = none_begun } in
       keeps_side s (record streams { messages = [] }) (ModemLost ∷ past) past (with_side silent x) (lost x.beside) (λ d. refl) refl refl (ap lost K.holds.beside) (regular_more s ModemLost past tt tt tt K.fine)
@@ -145,7 +145,7 @@ module _ (s : Setup) (within : HasNumbers s) (streams : Streams) where
   at_time time x = with_side (record x.beside { time = time }) x
 
   kept_timed : (past : List Fact) (x : MbimState) (time : ℕ) → now past ≤ time → Kept past x → Kept (TimeIs time ∷ past) (at_time time x)
-  unfolding present dropped now is_away state requests_in_use last_number last_list to_modem modem_drained view
+  unfolding present dropped now is_away state requests_in_use last_number askers last_list to_modem modem_drained view
   kept_timed past x time later K =
       keeps_side s streams (TimeIs time ∷ past) past x (record x.beside { time = time }) (λ d. refl) refl refl
       (ap (λ (b : ModemSide). let c : ModemSide = record b { time = time } in c) K.holds.beside) (regular_more s (TimeIs time) past later tt tt K.fine) K

@@ -92,7 +92,7 @@ module _ (s : Setup) (streams : Streams) (past : List Fact) (x : MbimState) (r :
       ended : is_own_open r ≡ true → Kept (history.end_opening s status (note s fact past)) (ends_opening s status (with_numbers numbers x))
       ended is =
           ⊎_elim
-          (λ (own : r.conn ≡ 0). kept_opened s streams status (note s fact past) (with_numbers numbers x) (kept_own own))
+          (λ (own : r.conn ≡ 0). kept_opened s streams (note s fact past) (with_numbers numbers x) (kept_own own) status)
           (λ (command : IsCommandOf s past r). absurd (let isnt = command.command in cc)) asks
 
       -- where it was to open the modem, those who wait for that are told

@@ -1,14 +1,14 @@
 -- What the end of an opening, and an indication, make of a core: several clients are told.
-use Rattle.std.proofs.Common.{◌≡◌, ℕ, ◌==◌, true, false, List, [], ◌∷◌, map, filter, is_some, refl, ap, sym, ◌∙◌, subst, if◌then◌else◌}
+use Rattle.std.proofs.Common.{◌≡◌, ℕ, Bool, ◌==◌, ◌&&◌, true, false, List, [], ◌∷◌, map, filter, is_some, refl, ap, sym, ◌∙◌, subst, if◌then◌else◌}
 use Rattle.std.specs.List.{IsDistinct}
-use Rattle.std.proofs.lemmas.List.Elements.{All-from_recursion}
+use Rattle.std.proofs.lemmas.List.Elements.{All-from_recursion, recursion_from_All}
 use Rattle.kit_bytes.specs.Indications.{wants}
-use Rattle.kit_bytes.proofs.Lists.{all_filter}
-use Rattle.connections.specs.Table.{Connection}
+use Rattle.kit_bytes.proofs.Lists.{all_filter, all_weaker}
+use Rattle.connections.specs.Table.{Connection, connection_in}
 use Rattle.mbim_frame.specs.Fragment.{body_of}
 use Rattle.mbim_frame.specs.Bodies.{uuid_of, cid_of}
 use Rattle.proxy_history.specs.Facts.{Fact, Indicated, OpeningEnded}
-use Rattle.proxy_history.specs.Connections.{present, dropped, contains}
+use Rattle.proxy_history.specs.Connections.{present, is_present, dropped, contains}
 use Rattle.proxy_history.specs.Requests.{last_number}
 use Rattle.proxy_history.specs.Modem.{now, is_away, to_modem, modem_drained}
 use Rattle.proxy_history.specs.Sound.{IsPresent}
@@ -20,19 +20,22 @@ use Rattle.proxy_state.specs.Requests.{requests_in_use}
 use Rattle.proxy_state.specs.Stands.{Streams, connection_of}
 use Rattle.proxy_state.specs.Chosen.{names_in}
 use Rattle.proxy_state.proofs.Lists.{filter_map_is}
+use Rattle.proxy_state.proofs.Filters.{filter_agree}
+use Rattle.proxy_state.proofs.Keeping.{found_there, found_absent}
 use Rattle.proxy_state.proofs.Names.{distinct_filter}
 use Rattle.proxy_state.proofs.Telling.{AreThere, chosen_there, told_each}
 use Rattle.mbim_proxy.specs.Setup.{Setup}
 use Rattle.mbim_proxy.specs.Step.{blank, view_of, known_now}
 use Rattle.mbim_proxy.specs.ModemStates.{state}
-use Rattle.mbim_proxy.specs.Lists.{last_list, list_of, open_ones, receivers, waiting}
+use Rattle.mbim_proxy.specs.Lists.{askers, last_list, list_of, open_ones, receivers, waiting}
 use Rattle.mbim_proxy.specs.Text.{mbim_wording}
 use Rattle.mbim_proxy.specs.FromModem as history
 use Rattle.mbim_proxy.specs.History.{mbim_protocol}
-use Rattle.mbim_proxy.proofs.Walk.{waiting_are_present}
+use Rattle.mbim_proxy.proofs.Waiting.{waiting_are_present}
 use Rattle.mbim_state.specs.Core.{Client, ModemSide, MbimState, side_of, kept_of}
-use Rattle.mbim_state.specs.Transitions.{with_side, after, text, tell_each, opening_ended, waiting_in, ends_opening, receivers_in, indicate, mbim_handlers}
+use Rattle.mbim_state.specs.Transitions.{with_side, after, text, tell_each, opening_ended, is_waiting, waiting_of, ends_opening, receivers_in, indicate, mbim_handlers}
 use Rattle.mbim_state.proofs.Regular.{Regular, regular_more}
+use Rattle.mbim_state.proofs.Askers.{askers_once, askers_there}
 use Rattle.mbim_state.proofs.ClientStates.{client_state_of, with_entry, client_state_from}
 use Rattle.mbim_state.proofs.Keeping as keeping
 use Rattle.mbim_state.proofs.Keeping.{follows_connections}
@@ -73,18 +76,31 @@ module _ (s : Setup) (streams : Streams) where
 
   -- ---- the opening ends ----
 
-  waiting_made : (past : List Fact) → waiting_in (map (made past) (present past)) ≡ waiting s past
-  unfolding connection_of
-  waiting_made past = ap names_in (filter_map_is (λ (k : Connection Client). is_some k.client.waits) (made past) (present past)) ∙ names_made past (waiting s past)
+  module _ (past : List Fact) (x : MbimState) (K : Kept past x) where
+    waits_is : (c : ℕ) → is_waiting (connection_in c x.table.present) ≡ (is_present c past && is_some (known_now s c past).waits)
+    unfolding connection_of
+    waits_is c = by (is_present c past) refl
+      where
+        by : (b : Bool) → is_present c past ≡ b → is_waiting (connection_in c x.table.present) ≡ (b && is_some (known_now s c past).waits)
+        by true there = ap is_waiting (found_there (mbim_protocol s) (kept_of s) streams past x c K.holds there)
+        by false absent = ap is_waiting (found_absent (mbim_protocol s) (kept_of s) streams past x c K.holds absent)
 
-  -- each that waits is told
-  pub kept_opened : (status : ℕ) (past : List Fact) (x : MbimState) → Kept past x → Kept (history.end_opening s status past) (ends_opening s status x)
-  unfolding present dropped now is_away state requests_in_use last_number last_list to_modem modem_drained
-  kept_opened status past x K =
-      let cs : List ℕ = waiting s past in
-      subst (λ (names : List ℕ). Kept (history.end_opening s status past) (tell_each s (OpenedWith status) names (with_side (opening_ended status x.beside) x))) (sym (ap waiting_in K.holds.connections ∙ waiting_made past))
-      (told past x (opening_ended status x.beside) (OpeningEnded status cs) (OpenedWith status) cs (chosen_there (λ c. is_some (known_now s c past).waits) (present past)) (distinct_filter (λ c. is_some (known_now s c past).waits) (present past) K.holds.names.distinct)
-      (opened_is s past status cs) refl refl (ap (opening_ended status) K.holds.beside) (regular_more s (OpeningEnded status cs) past (waiting_are_present s past) tt tt K.fine) K)
+    waiting_is : waiting_of x.table.present x.beside.askers ≡ waiting s past
+    waiting_is =
+        ap (λ (side : ModemSide). waiting_of x.table.present side.askers) K.holds.beside
+        ∙ filter_agree (λ c. is_waiting (connection_in c x.table.present)) (λ c. is_present c past && is_some (known_now s c past).waits) (askers past)
+        (all_weaker (λ c. contains c (present past) ≡ true) (λ c. is_waiting (connection_in c x.table.present) ≡ (is_present c past && is_some (known_now s c past).waits)) (λ c there. waits_is c)
+        (askers past) (askers_there s.limits past K.fine.sound))
+
+    -- each that waits is told
+    pub kept_opened : (status : ℕ) → Kept (history.end_opening s status past) (ends_opening s status x)
+    unfolding present dropped now is_away state requests_in_use last_number askers last_list to_modem modem_drained
+    kept_opened status =
+        let cs : List ℕ = waiting s past in
+        subst (λ (names : List ℕ). Kept (history.end_opening s status past) (tell_each s (OpenedWith status) names (with_side (opening_ended status x.beside) x))) (sym waiting_is)
+        (told past x (opening_ended status x.beside) (OpeningEnded status cs) (OpenedWith status) cs (recursion_from_All (λ c. is_present c past ≡ true) cs (waiting_are_present s past))
+        (distinct_filter (λ c. is_present c past && is_some (known_now s c past).waits) (askers past) (askers_once past))
+        (opened_is s past status cs) refl refl (ap (opening_ended status) K.holds.beside) (regular_more s (OpeningEnded status cs) past (waiting_are_present s past) tt tt K.fine) K)
 
   -- ---- an indication ----
 
@@ -104,7 +120,7 @@ module _ (s : Setup) (streams : Streams) where
 
   -- those who want it are told
   pub kept_indicated : (m : List ℕ) (past : List Fact) (x : MbimState) → Kept past x → Kept (history.indicate s m past) (indicate s m x)
-  unfolding present dropped now is_away state requests_in_use last_number last_list to_modem modem_drained
+  unfolding present dropped now is_away state requests_in_use last_number askers last_list to_modem modem_drained
   kept_indicated m past x K =
       let uuid : List ℕ = uuid_of (body_of m) in
       let cid : ℕ = cid_of (body_of m) in

@@ -18,7 +18,7 @@ use Rattle.mbim_proxy.specs.Setup.{Setup, mbim_setup, the_space}
 use Rattle.mbim_proxy.specs.Known.{Known}
 use Rattle.mbim_proxy.specs.Delivering.{Begun, none_begun, begun_from}
 use Rattle.mbim_proxy.specs.ModemStates.{ModemState, state}
-use Rattle.mbim_proxy.specs.Lists.{last_list}
+use Rattle.mbim_proxy.specs.Lists.{askers, last_list}
 use Rattle.mbim_proxy.specs.Forwarding.{wire}
 use Rattle.mbim_proxy.specs.History.{mbim_protocol}
 use Rattle.mbim_state.specs.Asked.{Asked, asked_of}
@@ -78,6 +78,8 @@ pub record ModemSide : Type 0 where
   pub away : Bool
   pub modem : ModemState
   pub numbers : Numbers
+  -- the clients that asked to open the modem and had to wait, in the order of that
+  pub askers : List ℕ
   -- the list that the modem was last asked for
   pub last_list : List Pair
   -- what has come of the modem's messages of which more fragments are due
@@ -118,6 +120,7 @@ side_of s messages past = record {
   away = is_away s.starts_away past;
   modem = state s.starts_away past;
   numbers = numbers_of s past;
+  askers = askers past;
   last_list = last_list past;
   begun = begun_from s.longest_body none_begun messages;
   outbox = record { bytes = modem_queue (wire s) past; capacity = s.limits.modem_outbox };

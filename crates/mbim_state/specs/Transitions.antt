@@ -1,5 +1,5 @@
 -- What a core of the MBIM proxy makes of what it meets.
-use Rattle.std.specs.Prelude.{ℕ, suc, zero, ◌-◌, ◌^◌, max, Bool, true, false, not, ◌&&◌, ◌==◌, nat_le, if◌then◌else◌, List, [], ◌∷◌, ◌++◌, length, map, filter, is_some, Option, Some, None}
+use Rattle.std.specs.Prelude.{ℕ, suc, zero, ◌-◌, ◌^◌, max, Bool, true, false, not, ◌&&◌, ◌==◌, nat_le, nat_lt, if◌then◌else◌, List, [], ◌∷◌, ◌++◌, length, map, filter, is_some, Option, Some, None}
 use Rattle.std.specs.List.{list_any}
 use Rattle.kit_bytes.specs.Subscriptions.{Pair, merge}
 use Rattle.kit_bytes.specs.Services.{starting_list}
@@ -11,13 +11,14 @@ use Rattle.mbim_frame.specs.Head.{is_kind, number_of}
 use Rattle.mbim_frame.specs.Fragment.{body_of}
 use Rattle.mbim_frame.specs.Bodies.{uuid_of, cid_of}
 use Rattle.outbox.specs.Queue.{Queue, has_room, queues, takes, clears}
-use Rattle.connections.specs.Table.{Connection}
+use Rattle.connections.specs.Table.{Connection, connection_in}
 use Rattle.connections.specs.Table as connections
 use Rattle.connections.specs.Hearing.{Hearing}
 use Rattle.number_space.specs.declared.space.Row.{Row}
 use Rattle.number_space.specs.Table.{pending_of, row_of, next_number, gives_number, answers, first_due, orphans, resets}
 use Rattle.proxy_history.specs.Events.{Event}
 use Rattle.proxy_history.specs.Facts.{Verdict, Own, Share, Forward, Waits}
+use Rattle.proxy_history.specs.Connections.{without}
 use Rattle.proxy_history.specs.Decision.{Decision, Replies, Forwards, forwards_under}
 use Rattle.proxy_history.specs.Requests.{deadline_of}
 use Rattle.proxy_history.specs.View.{Entry, Sent, Indication, OpenedWith, Shut}
@@ -48,7 +49,15 @@ with_numbers numbers x = record x { beside = record x.beside { numbers = numbers
 
 -- a connection is gone
 abbrev pub give_up : ℕ → ModemSide → ModemSide
-give_up c side = record side { numbers = orphans c side.numbers }
+give_up c side = record side { numbers = orphans c side.numbers; askers = without c side.askers }
+
+-- the client asked to open the modem and has to wait; there is room for all clients that may be there
+abbrev pub asked_last : (room : ℕ) → (conn : ℕ) → List ℕ → List ℕ
+asked_last room c askers = let others : List ℕ = without c askers in if nat_lt (length others) room then others ++ c ∷ [] else others
+
+abbrev pub asked_with : Setup → (conn : ℕ) → Verdict → List ℕ → List ℕ
+asked_with s c Waits askers = asked_last s.limits.connections c askers
+asked_with s c _ askers = askers
 
 -- ---- what the modem is asked ----
 
@@ -93,7 +102,7 @@ abbrev pub replies : Setup → (conn : ℕ) → (message : List ℕ) → Verdict
 replies s c m verdict client outbox side = record {
   client = after s (Sent m verdict) client;
   outbox = queues (text s (Sent m verdict) client) outbox;
-  beside = side;
+  beside = record side { askers = asked_with s c verdict side.askers };
   has_room = has_room (text s (Sent m verdict) client) outbox;
 }
 
@@ -102,7 +111,7 @@ abbrev pub asks_modem : (opens_it : Bool) → Setup → (conn : ℕ) → (messag
 asks_modem true s c m number client outbox side = record {
   client = after s (Sent m Waits) client;
   outbox = outbox;
-  beside = opens s number side;
+  beside = record (opens s number side) { askers = asked_with s c Waits side.askers };
   has_room = true;
 }
 asks_modem false s c m number client outbox side = record {
@@ -144,13 +153,18 @@ opening_ended status side = record side {
   last_list = if status == SUCCESS then starting_list else side.last_list;
 }
 
--- the clients whose requests to open wait, in order of joining
-abbrev pub waiting_in : List (Connection Client) → List ℕ
-waiting_in present = names_in (filter (λ (k : Connection Client). is_some k.client.waits) present)
+-- the request of the client of a connection to open waits
+abbrev pub is_waiting : Option (Connection Client) → Bool
+is_waiting None = false
+is_waiting (Some k) = is_some k.client.waits
 
--- all that wait for it are answered
+-- those of the clients whose requests to open wait
+abbrev pub waiting_of : List (Connection Client) → (names : List ℕ) → List ℕ
+waiting_of present names = filter (λ c. is_waiting (connection_in c present)) names
+
+-- all that wait for it are answered, in the order in which they asked
 abbrev pub ends_opening : Setup → (status : ℕ) → MbimState → MbimState
-ends_opening s status x = tell_each s (OpenedWith status) (waiting_in x.table.present) (with_side (opening_ended status x.beside) x)
+ends_opening s status x = tell_each s (OpenedWith status) (waiting_of x.table.present x.beside.askers) (with_side (opening_ended status x.beside) x)
 
 -- ---- a message of the modem ----
 

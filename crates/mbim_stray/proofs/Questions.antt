@@ -1,5 +1,5 @@
 -- What an MBIM proxy reads off two histories that tell the same is the same.
-use Rattle.std.proofs.Common.{◌≡◌, ℕ, ◌+◌, Bool, not, ◌&&◌, ◌==◌, nat_le, if◌then◌else◌, List, [], ◌∷◌, length, map, filter, refl, ap, ap₂, ◌∙◌, Option, None, is_some}
+use Rattle.std.proofs.Common.{◌≡◌, ℕ, ◌+◌, Bool, not, ◌&&◌, ◌==◌, nat_le, if◌then◌else◌, List, [], ◌∷◌, ◌++◌, length, map, filter, refl, ap, ap₂, ◌∙◌, Option, None, is_some}
 use Rattle.std.specs.List.{list_any}
 use Rattle.kit_bytes.specs.Subscriptions.{Pair, merge}
 use Rattle.kit_bytes.specs.Services.{starting_list}
@@ -7,9 +7,9 @@ use Rattle.kit_bytes.specs.Indications.{wants}
 use Rattle.mbim_frame.specs.declared.kind.MessageKind.TheVariants as kind
 use Rattle.mbim_frame.specs.declared.status.TheConstants.{SUCCESS}
 use Rattle.mbim_frame.specs.Head.{is_kind}
-use Rattle.proxy_history.specs.Facts.{Fact, Request, Own, Share, Forwarded, Indicated, OpeningEnded, ListSent, ModemLost, ModemReturned}
+use Rattle.proxy_history.specs.Facts.{Fact, Request, Own, Share, Waits, Ended, Judged, Forwarded, Indicated, OpeningEnded, ListSent, ModemLost, ModemReturned}
 use Rattle.proxy_history.specs.Decision.{Decision, Replies, forwards_under}
-use Rattle.proxy_history.specs.Connections.{present, message_count}
+use Rattle.proxy_history.specs.Connections.{present, is_present, contains, without, message_count}
 use Rattle.proxy_history.specs.Requests.{in_use, pending, forward_count, next_number, has_share, deadline_of}
 use Rattle.proxy_history.specs.Modem.{now, modem_queue}
 use Rattle.proxy_history.specs.View.{view}
@@ -21,7 +21,7 @@ use Rattle.mbim_proxy.specs.Known.{Known}
 use Rattle.mbim_proxy.specs.OwnReplies.{view_decides}
 use Rattle.mbim_proxy.specs.Step.{blank, known_from, known_now}
 use Rattle.mbim_proxy.specs.ModemStates.{ModemState, IsOpening, is_own_open, is_own, is_ready, state}
-use Rattle.mbim_proxy.specs.Lists.{open_ones, waiting, list_of, merged, last_list, receivers}
+use Rattle.mbim_proxy.specs.Lists.{open_ones, askers, waiting, list_of, merged, last_list, receivers}
 use Rattle.mbim_proxy.specs.Forwarding.{wire, wire_of, own_open, own_subscribe, number_for, request_of}
 use Rattle.mbim_proxy.specs.OwnList.{is_free, is_wanted, number_of_list}
 use Rattle.mbim_proxy.specs.Clients.{command_message, opening_decision, decision_on, decision_for}
@@ -49,6 +49,14 @@ list-told (ListSent list ∷ past) = refl
 list-told (Indicated m [] ∷ past) = list-told past
 list-told (_ ∷ past) = list-told past
 
+askers-told : IsTold askers
+unfolding askers substance
+askers-told [] = refl
+askers-told (Judged c place m Waits ∷ past) = ap (λ (names : List ℕ). without c names ++ c ∷ []) (askers-told past)
+askers-told (Ended c why ∷ past) = ap (without c) (askers-told past)
+askers-told (Indicated m [] ∷ past) = askers-told past
+askers-told (_ ∷ past) = askers-told past
+
 module _ (s : Setup) (a b : List Fact) (same : TellTheSame a b) where
   present_is : present a ≡ present b
   present_is = told present present-told a b same
@@ -74,8 +82,9 @@ module _ (s : Setup) (a b : List Fact) (same : TellTheSame a b) where
 
   pub waiting_is : waiting s a ≡ waiting s b
   waiting_is =
-      ap (filter (λ (c : ℕ). is_some (known_now s c a).waits)) present_is
-      ∙ filter_same (λ (c : ℕ). is_some (known_now s c a).waits) (λ (c : ℕ). is_some (known_now s c b).waits) (present b) (λ c. ap (λ (k : Known). is_some k.waits) (known_is c))
+      ap (filter (λ (c : ℕ). is_present c a && is_some (known_now s c a).waits)) (told askers askers-told a b same)
+      ∙ filter_same (λ (c : ℕ). is_present c a && is_some (known_now s c a).waits) (λ (c : ℕ). is_present c b && is_some (known_now s c b).waits) (askers b)
+      (λ c. ap₂ (λ (there waits : Bool). there && waits) (ap (contains c) present_is) (ap (λ (k : Known). is_some k.waits) (known_is c)))
 
   pub merged_is : merged s a ≡ merged s b
   merged_is = ap merge (ap (map (λ (c : ℕ). list_of s c a)) open_is ∙ map_same (λ (c : ℕ). list_of s c a) (λ (c : ℕ). list_of s c b) (open_ones s b) (λ c. ap (λ (k : Known). k.list) (known_is c)))

@@ -74,11 +74,6 @@ goes_from_between (q ∷ before) r behind pairs =
     ap (λ (b : Bool). cond (not b) (q ∷ without_request r (before ++ r ∷ behind)) (without_request r (before ++ r ∷ behind))) (differs q r first)
     ∙ ap (λ (l : List Request). q ∷ l) (goes_from_between before r behind (tail_pairs Differ q (before ++ r ∷ behind) pairs))
 
-pub filter_none : (p : ℕ → Bool) (n a : ℕ) → ((c : ℕ) → a ≤ c → p c ≡ false) → filter p (range_with_len a n) ≡ []
-filter_none p zero a none = refl
-filter_none p (suc n) a none =
-    ap (λ (b : Bool). cond b (a ∷ filter p (range_with_len (a + 1) n)) (filter p (range_with_len (a + 1) n))) (none a (omega arith)) ∙ filter_none p n (a + 1) (λ c low. none c (omega (arith, low)))
-
 -- what holds of each number from 1 on
 pub each_of : (P : ℕ → Type 0) (n a : ℕ) → 1 ≤ a → ((c : ℕ) → 1 ≤ c → P c) → AllByRecursion P (range_with_len a n)
 each_of P zero a some each = tt

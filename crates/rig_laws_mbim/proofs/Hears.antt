@@ -1,5 +1,5 @@
 -- What an answer of the modem adds to a rig's facts. Lists of facts have the newest first.
-use Rattle.std.proofs.Common.{◌≡◌, ℕ, zero, suc, ◌+◌, ◌^◌, ◌<◌, ◌≤◌, Bool, true, false, not, ◌&&◌, ◌||◌, ◌==◌, is_some, cond, filter, if◌then◌else◌, List, [], ◌∷◌, ◌++◌, length, Option, Some, None, refl, ap, sym, ◌∙◌, arith, subst, lit≤, AllPairs, Contains}
+use Rattle.std.proofs.Common.{◌≡◌, ℕ, zero, suc, ◌+◌, ◌^◌, ◌<◌, ◌≤◌, Bool, true, false, not, ◌&&◌, ◌||◌, ◌==◌, is_some, if◌then◌else◌, List, [], ◌∷◌, ◌++◌, length, Option, Some, None, refl, ap, ap₂, sym, ◌∙◌, arith, subst, lit≤, AllPairs, Contains}
 use Rattle.std.specs.List.{range_with_len}
 use Rattle.std.proofs.lemmas.Bool.{eq-eqb, eqb-true, and_parts}
 use Rattle.std.proofs.lemmas.Bool.Decides.{nat_tests}
@@ -24,8 +24,9 @@ use Rattle.mbim_proxy.specs.Text.{response_text, note}
 use Rattle.mbim_proxy.specs.ModemStates.{is_own_open}
 use Rattle.mbim_proxy.specs.Lists.{waiting}
 use Rattle.mbim_proxy.specs.FromModem.{Heard, IsDone, IsOpenDone, heard_as, end_opening, end_opening_by, opening_status, is_answered_by, first_answered_by, answer_or_late, respond, hear_as, hear_modem}
+use Rattle.mbim_solo.proofs.OneWaits.{one_waits}
 use Rattle.rig_runs.specs.Mbim.{setup}
-use Rattle.rig_laws.proofs.Lists.{goes_from_between, filter_none}
+use Rattle.rig_laws.proofs.Lists.{goes_from_between}
 use Rattle.rig_laws_mbim.proofs.Messages.{answer, cid_for, answer_is, answer_number_is, opened, modem_is_opened, opened_number_is}
 use Rattle.rig_laws_mbim.proofs.Harmless.{IsSteady, steady}
 use Rattle.rig_laws_mbim.proofs.Calm.{Calm, Knows, opening, ready, knows_answered, answered, late, opening_ended}
@@ -157,11 +158,9 @@ module _ (r : Request) (below : r.number < 2 ^ 32) (own : r.conn ≡ 0) (opens :
         noted (Answered r done) past 0 (ap (λ (c : ℕ). c ∷ []) own)
         (λ there. absurd (let none : contains 0 (present past) ≡ false = ap (contains 0) calm.there ∙ not_there joined 1 (omega arith) in let clash : true ≡ false = sym there ∙ none in cc))
 
-    first_alone : (n : ℕ) → 1 ≤ n → (waits : ℕ → Bool) → waits 1 ≡ true → ((c : ℕ) → 2 ≤ c → waits c ≡ false) → filter waits (range_with_len 1 n) ≡ 1 ∷ []
-    first_alone zero some waits first others = absurd (omega arith)
-    first_alone (suc n) some waits first others =
-        ap (λ (b : Bool). cond b (1 ∷ filter waits (range_with_len 2 n)) (filter waits (range_with_len 2 n))) first
-        ∙ ap (λ (l : List ℕ). 1 ∷ l) (filter_none waits n 2 (λ c low. others c low))
+    first_there : (n : ℕ) → 1 ≤ n → contains 1 (range_with_len 1 n) ≡ true
+    first_there zero some = absurd (omega arith)
+    first_there (suc n) some = refl
 
     answered_knows : (c : ℕ) → Knows (opening joined) c (known_now setup c answered_facts)
     answered_knows c = knows_answered calm r done c
@@ -169,13 +168,12 @@ module _ (r : Request) (below : r.number < 2 ^ 32) (own : r.conn ≡ 0) (opens :
     first_waits_alone : waiting setup answered_facts ≡ 1 ∷ []
     unfolding present
     first_waits_alone =
-        ap (filter (λ c. is_some (known_now setup c answered_facts).waits)) calm.there
-        ∙ first_alone joined some (λ c. is_some (known_now setup c answered_facts).waits)
-        (ap (λ (o : Option ℕ). is_some o) (answered_knows 1).waits)
-        (λ c low. ap (λ (o : Option ℕ). is_some o) (answered_knows c).waits ∙ ap (λ (b : Bool). is_some (let o : Option ℕ = if b then Some 2 else None in o)) (other c low))
-      where
-        other : (c : ℕ) → 2 ≤ c → (c == 1) ≡ false
-        other c low = grind (arith, nat_tests, low)
+        one_waits 1 setup answered_facts
+        (ap₂ (λ (there waits : Bool). there && waits) (ap (contains 1) calm.there ∙ first_there joined some) (ap (λ (o : Option ℕ). is_some o) (answered_knows 1).waits))
+        (λ d other.
+        ap (λ (o : Option ℕ). is_present d answered_facts && is_some o) (answered_knows d).waits
+        ∙ ap (λ (b : Bool). is_present d answered_facts && is_some (let o : Option ℕ = if b then Some 2 else None in o)) other
+        ∙ elim (is_present d answered_facts) as (λ b. (b && false) ≡ false) [ true ↦ refl | false ↦ refl ])
 
     told_fits : is_present 1 (OpeningEnded 0 (1 ∷ []) ∷ answered_facts) ≡ true → (bytes_for 1 (OpeningEnded 0 (1 ∷ []) ∷ answered_facts)).is_over ≡ false
     unfolding view present render

@@ -10,7 +10,7 @@ use Rattle.mbim_services.specs.Table.{layout_for}
 use Rattle.mbim_session.specs.Requests.{command_message}
 use Rattle.mbim_proxy.specs.Delivering.{heard_from}
 use Rattle.mbim_proxy.specs.ModemStates.{state}
-use Rattle.mbim_proxy.specs.Lists.{last_list}
+use Rattle.mbim_proxy.specs.Lists.{askers, last_list}
 use Rattle.sim_qmi.specs.State.{client_ids}
 use Rattle.proxy_history.specs.Wording.{told_by}
 use Rattle.proxy_history.specs.History.{add_all, history}
@@ -28,5 +28,5 @@ use Rattle.rig_runs.specs.Stage.{clients_take, ask_all, arrive_each}
 use Rattle.rig_runs.specs.Counts.{refused}
 
 unfoldable pub computed : ⊤
-unfolding digits encode_utf8 cut_from head_text row_at message_of layout_for command_message heard_from state last_list client_ids told_by add_all history stream modem_stream present dropped message_count in_use pending forward_count last_number free_from held now is_away to_modem modem_drained view render end_overfull each_pending alone.pieces_of alone.meet_pieces alone.hear_all alone.meet_parts alone.solo next turns_after clients_take ask_all arrive_each refused
+unfolding digits encode_utf8 cut_from head_text row_at message_of layout_for command_message heard_from state askers last_list client_ids told_by add_all history stream modem_stream present dropped message_count in_use pending forward_count last_number free_from held now is_away to_modem modem_drained view render end_overfull each_pending alone.pieces_of alone.meet_pieces alone.hear_all alone.meet_parts alone.solo next turns_after clients_take ask_all arrive_each refused
 computed = tt

@@ -11,11 +11,11 @@ use Rattle.proxy_history.specs.Noting.{end_overfull, each_pending}
 use Rattle.proxy_history.specs.History.{add_all, history}
 use Rattle.mbim_proxy.specs.Delivering.{heard_from}
 use Rattle.mbim_proxy.specs.ModemStates.{state}
-use Rattle.mbim_proxy.specs.Lists.{last_list}
+use Rattle.mbim_proxy.specs.Lists.{askers, last_list}
 use Rattle.mbim_examples.proofs.lists.lists_are_of_basic_connect.Goals as goal
 
 pub returns : goal.returns
-unfolding cut_from stream modem_stream present message_count in_use pending forward_count last_number free_from now to_modem modem_drained view render told_by end_overfull each_pending add_all history heard_from state last_list
+unfolding cut_from stream modem_stream present message_count in_use pending forward_count last_number free_from now to_modem modem_drained view render told_by end_overfull each_pending add_all history heard_from state askers last_list
 returns c = record {
   modem = refl;
   client = refl;

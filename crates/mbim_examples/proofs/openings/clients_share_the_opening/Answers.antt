@@ -1,7 +1,7 @@
 use Rattle.std.proofs.Common.{refl}
 use Rattle.framing.specs.Cutting.{cut_from}
 use Rattle.proxy_history.specs.Streams.{stream, modem_stream}
-use Rattle.proxy_history.specs.Connections.{present, message_count}
+use Rattle.proxy_history.specs.Connections.{present, dropped, message_count}
 use Rattle.proxy_history.specs.Requests.{in_use, pending, forward_count, last_number, free_from}
 use Rattle.proxy_history.specs.Modem.{now, to_modem, modem_drained}
 use Rattle.proxy_history.specs.View.{view}
@@ -11,15 +11,16 @@ use Rattle.proxy_history.specs.Noting.{end_overfull, each_pending}
 use Rattle.proxy_history.specs.History.{add_all, history}
 use Rattle.mbim_proxy.specs.Delivering.{heard_from}
 use Rattle.mbim_proxy.specs.ModemStates.{state}
-use Rattle.mbim_proxy.specs.Lists.{last_list}
+use Rattle.mbim_proxy.specs.Lists.{askers, last_list}
 use Rattle.mbim_examples.proofs.openings.clients_share_the_opening.Goals as goal
 
 pub returns : goal.returns
-unfolding cut_from stream modem_stream present message_count in_use pending forward_count last_number free_from now to_modem modem_drained view render told_by end_overfull each_pending add_all history heard_from state last_list
+unfolding cut_from stream modem_stream present dropped message_count in_use pending forward_count last_number free_from now to_modem modem_drained view render told_by end_overfull each_pending add_all history heard_from state askers last_list
 returns c = record {
   late = refl;
   late_modem = refl;
   waits = refl;
+  hung_up = refl;
   first = refl;
   modem = refl;
   first_told = refl;

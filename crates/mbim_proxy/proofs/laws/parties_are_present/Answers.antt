@@ -1,7 +1,7 @@
 use Rattle.proxy_history.proofs.SoundLaws.{waiting_are_parties}
 use Rattle.mbim_proxy.specs.History.{history}
 use Rattle.mbim_proxy.proofs.Sound.{histories_are_sound}
-use Rattle.mbim_proxy.proofs.Walk.{waiting_are_present}
+use Rattle.mbim_proxy.proofs.Waiting.{waiting_are_present}
 use Rattle.mbim_proxy.proofs.laws.parties_are_present.Goals as goal
 
 pub returns : goal.returns

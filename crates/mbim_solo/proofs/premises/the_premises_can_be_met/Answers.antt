@@ -13,7 +13,7 @@ use Rattle.proxy_history.specs.History.{add_all, history}
 use Rattle.proxy_solo.specs.Solo.{pieces_of, meet_pieces, hear_all, meet_parts, solo}
 use Rattle.mbim_proxy.specs.Delivering.{heard_from}
 use Rattle.mbim_proxy.specs.ModemStates.{state}
-use Rattle.mbim_proxy.specs.Lists.{last_list}
+use Rattle.mbim_proxy.specs.Lists.{askers, last_list}
 use Rattle.proxy_history.specs.View.{Entry}
 use Rattle.proxy_solo.specs.Law.{tells_of_others}
 use Rattle.mbim_proxy.specs.Step.{view_of}
@@ -23,7 +23,7 @@ use Rattle.mbim_examples.specs.Openings.{both_ask}
 use Rattle.mbim_solo.proofs.premises.the_premises_can_be_met.Goals as goal
 
 pub returns : goal.returns
-unfolding cut_from stream modem_stream present dropped message_count in_use pending forward_count last_number free_from now is_away to_modem modem_drained view render told_by end_overfull each_pending add_all history pieces_of meet_pieces hear_all meet_parts solo heard_from state last_list
+unfolding cut_from stream modem_stream present dropped message_count in_use pending forward_count last_number free_from now is_away to_modem modem_drained view render told_by end_overfull each_pending add_all history pieces_of meet_pieces hear_all meet_parts solo heard_from state askers last_list
 returns c = record {
   sound = (omega arith, (omega arith, (omega arith, (omega arith, (omega arith, (omega arith, (omega arith, (omega arith, (omega arith, (omega arith, (omega arith, tt)))))))))));
   undisturbed = All-from_recursion (λ (entry : Entry). tells_of_others entry ≡ false) (view_of 2 (proxy.history setup both_ask)) (refl, (refl, (refl, (refl, (refl, tt)))));

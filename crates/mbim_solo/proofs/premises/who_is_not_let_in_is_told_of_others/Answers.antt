@@ -12,9 +12,9 @@ use Rattle.proxy_history.specs.History.{add_all, history}
 use Rattle.proxy_solo.specs.Solo.{pieces_of, meet_pieces, hear_all, meet_parts, solo}
 use Rattle.mbim_proxy.specs.Delivering.{heard_from}
 use Rattle.mbim_proxy.specs.ModemStates.{state}
-use Rattle.mbim_proxy.specs.Lists.{last_list}
+use Rattle.mbim_proxy.specs.Lists.{askers, last_list}
 use Rattle.mbim_solo.proofs.premises.who_is_not_let_in_is_told_of_others.Goals as goal
 
 pub returns : goal.returns
-unfolding cut_from stream modem_stream present dropped message_count in_use pending forward_count last_number free_from now is_away to_modem modem_drained view render told_by end_overfull each_pending add_all history pieces_of meet_pieces hear_all meet_parts solo heard_from state last_list
+unfolding cut_from stream modem_stream present dropped message_count in_use pending forward_count last_number free_from now is_away to_modem modem_drained view render told_by end_overfull each_pending add_all history pieces_of meet_pieces hear_all meet_parts solo heard_from state askers last_list
 returns c = record { beside = refl; alone = refl }

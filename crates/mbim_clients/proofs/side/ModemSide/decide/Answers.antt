@@ -10,7 +10,7 @@ pub returns-in-HostError : goal.returns-in-HostError
 returns-in-HostError c = heard_plain c.args.name c.args.message.now c.args.client.now c.args.self.now HostError (sym c.in-HostError.ensures) refl refl own.Silent refl
 
 pub returns-in-Open : goal.returns-in-Open
-returns-in-Open c = c.decide_opening.ensures c.args.name
+returns-in-Open c = c.decide_opening.ensures
 
 pub returns-in-Close : goal.returns-in-Close
 returns-in-Close c =

@@ -1,8 +1,9 @@
-use Rattle.std.proofs.Common.{◌≡◌, ℕ, Bool, true, false, not, ◌&&◌, refl, ap, ap₂, sym, ◌∙◌, Option, Some, None, is_some, is_none, if◌then◌else◌}
+use Rattle.std.proofs.Common.{◌≡◌, ℕ, Bool, true, false, not, ◌&&◌, List, refl, ap, ap₂, sym, ◌∙◌, Option, Some, None, is_some, is_none, if◌then◌else◌}
 use Rattle.mbim_frame.specs.declared.head.MHead.{MHead}
 use Rattle.mbim_proxy.specs.OwnReplies as own
 use Rattle.mbim_proxy.specs.OwnReplies.{may_open}
 use Rattle.mbim_state.specs.Core.{Client, known_by, ModemSide, setup_of}
+use Rattle.mbim_state.specs.Transitions.{asked_last}
 use Rattle.mbim_clients.specs.Side.{state_of}
 use Rattle.mbim_clients.specs.Commands.{opens_under}
 use Rattle.mbim_clients.proofs.Heard.{heard_not_opened, heard_away, heard_ready, heard_waiting, heard_full, heard_asking, heard_as}
@@ -18,6 +19,12 @@ open_now client = record client { opened = true }
 abbrev waits_now : Client → ℕ → Client
 waits_now client number = record client { waits = Some number }
 
+-- the client of this name comes last
+asked_side : (n : ℕ) (was side : ModemSide) (names : List ℕ) → was ≡ side → names ≡ asked_last 64 n was.askers
+    → (let after : ModemSide = record was { askers = names } in let last : ModemSide = record side { askers = asked_last 64 n side.askers } in after ≡ last)
+asked_side n was side names same last =
+    ap (λ (l : List ℕ). let after : ModemSide = record was { askers = l } in after) last ∙ ap (λ (b : ModemSide). let after : ModemSide = record b { askers = asked_last 64 n b.askers } in after) same
+
 -- of a client that asked for fragments of another length
 module _ (client left : Client) (length : ℕ) (same : left ≡ record client { fragment = length }) where
   configured_is : (b : Bool) → left.configured ≡ b → client.configured ≡ b
@@ -30,7 +37,8 @@ module _ (client left : Client) (length : ℕ) (same : left ≡ record client { 
   reply_by b is = ap (λ (b : Bool). if not b then own.NotOpened 14 else own.NotOpened 1) (configured_is b is)
 
 pub returns-then-not-is_configured : goal.returns-then-not-is_configured
-returns-then-not-is_configured c = λ n.
+returns-then-not-is_configured c =
+    let n : ℕ = c.args.name in
     let client : Client = c.args.client.now in
     let unnamed = sym c.is_configured.ensures ∙ c.if-not-is_configured.true in
     heard_as n c.args.message.now client c.args.self.now _ _ _ _ _ _
@@ -38,7 +46,8 @@ returns-then-not-is_configured c = λ n.
     refl c.ask_fragment.ensures refl
 
 pub returns-then-is_some : goal.returns-then-is_some
-returns-then-is_some c = λ n.
+returns-then-is_some c =
+    let n : ℕ = c.args.name in
     let client : Client = c.args.client.now in
     let named = sym c.is_configured.ensures ∙ c.if-not-is_configured.false in
     let waits = ap is_some (sym c.waits.ensures) ∙ sym c.is_some.ensures ∙ c.if-is_some.true in
@@ -47,7 +56,8 @@ returns-then-is_some c = λ n.
     refl c.ask_fragment.ensures refl
 
 pub returns-in_default : goal.returns-in_default
-returns-in_default c = λ n.
+returns-in_default c =
+    let n : ℕ = c.args.name in
     let client : Client = c.args.client.now in
     let side : ModemSide = c.args.self.now in
     let named = sym c.is_configured.ensures ∙ c.if-not-is_configured.false in
@@ -58,7 +68,8 @@ returns-in_default c = λ n.
     refl c.ask_fragment.ensures (c.open_modem.ensures.side ∙ ap (λ (o : Option ℕ). opens_under (setup_of side) o side) c.in_default.is)
 
 pub returns-in-Away : goal.returns-in-Away
-returns-in-Away c = λ n.
+returns-in-Away c =
+    let n : ℕ = c.args.name in
     let client : Client = c.args.client.now in
     let side : ModemSide = c.args.self.now in
     let named = sym c.is_configured.ensures ∙ c.if-not-is_configured.false in
@@ -69,7 +80,8 @@ returns-in-Away c = λ n.
     refl c.ask_fragment.ensures refl
 
 pub returns-in-Ready : goal.returns-in-Ready
-returns-in-Ready c = λ n.
+returns-in-Ready c =
+    let n : ℕ = c.args.name in
     let client : Client = c.args.client.now in
     let side : ModemSide = c.args.self.now in
     let named = sym c.is_configured.ensures ∙ c.if-not-is_configured.false in
@@ -80,7 +92,8 @@ returns-in-Ready c = λ n.
     refl (c.open_now.ensures ∙ ap open_now c.ask_fragment.ensures) refl
 
 pub returns-in-Opening : goal.returns-in-Opening
-returns-in-Opening c = λ n.
+returns-in-Opening c =
+    let n : ℕ = c.args.name in
     let client : Client = c.args.client.now in
     let side : ModemSide = c.args.self.now in
     let named = sym c.is_configured.ensures ∙ c.if-not-is_configured.false in
@@ -88,10 +101,12 @@ returns-in-Opening c = λ n.
     let opening = ap (λ (b : ModemSide). b.modem) (sym c.self.view_is) ∙ ap state_of c.in-Opening.is in
     heard_as n c.args.message.now client side _ _ _ _ _ _
     (heard_waiting n c.args.message.now client side c.args.asked c.requires.opens (may_by client c.ask_fragment.new.self _ c.ask_fragment.ensures true false named waits) opening)
-    refl (c.wait.ensures ∙ ap₂ waits_now c.ask_fragment.ensures (ap (λ (h : MHead). h.number) c.read-number.ensures)) refl
+    refl (c.wait.ensures ∙ ap₂ waits_now c.ask_fragment.ensures (ap (λ (h : MHead). h.number) c.read-number.ensures))
+    (asked_side n _ side c.ask.new.self c.self.view_is c.ask.ensures)
 
 pub returns-in-Some : goal.returns-in-Some
-returns-in-Some c = λ n.
+returns-in-Some c =
+    let n : ℕ = c.args.name in
     let client : Client = c.args.client.now in
     let side : ModemSide = c.args.self.now in
     let named = sym c.is_configured.ensures ∙ c.if-not-is_configured.false in
@@ -99,4 +114,5 @@ returns-in-Some c = λ n.
     let shut = ap (λ (b : ModemSide). b.modem) (sym c.self.view_is) ∙ ap state_of c.in-Shut.is in
     heard_as n c.args.message.now client side _ _ _ _ _ _
     (heard_asking n c.args.message.now client side c.args.asked c.requires.opens (may_by client c.ask_fragment.new.self _ c.ask_fragment.ensures true false named waits) shut c.in-Some.field-0 (sym c.open_modem.ensures.number ∙ c.in-Some.is))
-    refl (c.wait-in-Shut.ensures ∙ ap₂ waits_now c.ask_fragment.ensures (ap (λ (h : MHead). h.number) c.read-number.ensures)) (c.open_modem.ensures.side ∙ ap (λ (o : Option ℕ). opens_under (setup_of side) o side) c.in-Some.is)
+    refl (c.wait-in-Shut.ensures ∙ ap₂ waits_now c.ask_fragment.ensures (ap (λ (h : MHead). h.number) c.read-number.ensures))
+    (asked_side n _ _ c.ask-in-Shut.new.self (c.self-in-Shut.view_is ∙ c.open_modem.ensures.side ∙ ap (λ (o : Option ℕ). opens_under (setup_of side) o side) c.in-Some.is) c.ask-in-Shut.ensures)

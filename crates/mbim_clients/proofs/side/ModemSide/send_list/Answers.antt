@@ -15,7 +15,7 @@ use Rattle.mbim_clients.proofs.side.ModemSide.send_list.Goals as goal
 pub returns-clause-side : goal.returns-clause-side
 returns-clause-side c =
     let inside = c.self.inside in
-    let was : ModemSide = record { device = inside.device; time_limit = inside.time_limit; time = inside.time; away = inside.away; modem = state_of inside.modem; numbers = inside.traffic.numbers; last_list = inside.last_list; begun = record { answer = inside.answer; indication = inside.indication }; outbox = inside.traffic.outbox } in
+    let was : ModemSide = record { device = inside.device; time_limit = inside.time_limit; time = inside.time; away = inside.away; modem = state_of inside.modem; numbers = inside.traffic.numbers; askers = inside.askers; last_list = inside.last_list; begun = record { answer = inside.answer; indication = inside.indication }; outbox = inside.traffic.outbox } in
     let list : List Pair = c.args.list.now in
     let free = ap (λ (side : ModemSide). is_free side) c.self.view_is ∙ sym c.is_free.ensures ∙ c.if-not-is_free.false in
     let other : is_same_list list inside.last_list ≡ false = ap₂ (λ (one other : List Pair). is_same_list one other) (sym c.pairs.ensures.pairs) (sym c.pairs-2.ensures.pairs) ∙ sym c.is_same.ensures ∙ c.if-is_same.false in
