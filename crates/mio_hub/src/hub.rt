@@ -5,11 +5,14 @@ ghost use Rattle.kit_io.specs.Counts.{one_more};
 ghost use Rattle.hub_io.specs.Clients.{fault_of, is_there};
 ghost use Rattle.hub_io.specs.Hub.{NoneFell, SameClients, opened_call, reopen_call, send_call, send_modem_call};
 ghost use Rattle.hub_io.specs.Record.{Paired, Records};
+ghost use Rattle.many_io.specs.Hub.{unnamed_told};
+ghost use Rattle.mio_hub.specs.Ways.{modem_of};
 
 use crate::sockets::Sockets;
 use hub_io::{ConnFaults, Hub, HubEvent};
 use kit_io::{CallCount, Failed, Faults};
 use link_io::Target;
+use many_io::ManyHubEvent;
 use std::alloc::Global;
 use std::fs::{File, Files};
 use std::io;
@@ -46,12 +49,29 @@ impl<'a, R: Net + Clock + Files<File = File>> MioHub<'a, R> {
     /// A hub that isn't open. It takes the memory of its tables here.
     pub fn new(rt: &'a R, alloc: Global) -> io::Result<Self> {
         Ok(MioHub {
-            sockets: Sockets::new(rt, alloc)?,
+            sockets: Sockets::new(rt, alloc, 1)?,
             faults: Faults::none(),
             conn_faults: ConnFaults::none(alloc)?,
             modem_faults: Faults::none(),
             made: CallCount::none(),
         })
+    }
+}
+
+// What is told of the one device, which needs no name.
+fn of_no_device(told: ManyHubEvent) -> HubEvent
+    ensures { result ≡ unnamed_told told }
+{
+    match told {
+        ManyHubEvent::Joined(conn) => HubEvent::Joined(conn),
+        ManyHubEvent::Piece(conn, size) => HubEvent::Piece(conn, size),
+        ManyHubEvent::Left(conn) => HubEvent::Left(conn),
+        ManyHubEvent::ModemPiece(_, size) => HubEvent::ModemPiece(size),
+        ManyHubEvent::ModemGone(_) => HubEvent::ModemGone,
+        ManyHubEvent::Now(time) => HubEvent::Now(time),
+        ManyHubEvent::Room(conn) => HubEvent::Room(conn),
+        ManyHubEvent::ModemRoom(_) => HubEvent::ModemRoom,
+        ManyHubEvent::Stop => HubEvent::Stop,
     }
 }
 
@@ -99,7 +119,7 @@ impl<R: Net + Clock + Files<File = File>> Hub for MioHub<'_, R> {
         ensures names { self.new.sockets.names.greatest ≡ self.old.sockets.names.greatest }
         ensures clients { SameClients (is_there self.old.sockets.names) (is_there self.new.sockets.names) }
         ensures made { self.new.made ≡ one_more self.old.made }
-        ensures reached { OnOk result (IsSome self.new.sockets.modem) }
+        ensures reached { OnOk result (IsSome (modem_of self.new.sockets.ways.ways.items 0)) }
     {
         self.made.add();
         match self.sockets.pair() {
@@ -110,8 +130,8 @@ impl<R: Net + Clock + Files<File = File>> Hub for MioHub<'_, R> {
 
     fn next(&mut self, buf: &mut [u8]) -> Result<HubEvent, Failed> {
         self.made.add();
-        match self.sockets.next(buf) {
-            Ok(event) => Ok(event),
+        match self.sockets.next(1, buf) {
+            Ok(event) => Ok(of_no_device(event)),
             Err(_) => Err(self.faults.fail()),
         }
     }
@@ -144,11 +164,11 @@ impl<R: Net + Clock + Files<File = File>> Hub for MioHub<'_, R> {
         ensures names { self.new.sockets.names.greatest ≡ self.old.sockets.names.greatest }
         ensures clients { SameClients (is_there self.old.sockets.names) (is_there self.new.sockets.names) }
         ensures made { self.new.made ≡ one_more self.old.made }
-        ensures reached { OnOk result (IsSome self.old.sockets.modem) }
-        ensures lost { is_ok result ≡ false → self.new.sockets.modem ≡ None }
+        ensures reached { OnOk result (IsSome (modem_of self.old.sockets.ways.ways.items 0)) }
+        ensures lost { is_ok result ≡ false → modem_of self.new.sockets.ways.ways.items 0 ≡ None }
     {
         self.made.add();
-        match self.sockets.send_modem(bytes) {
+        match self.sockets.send_modem(0, bytes) {
             Ok(count) => Ok(count),
             Err(_) => Err(self.modem_faults.fail()),
         }
@@ -162,11 +182,11 @@ impl<R: Net + Clock + Files<File = File>> Hub for MioHub<'_, R> {
         ensures names { self.new.sockets.names.greatest ≡ self.old.sockets.names.greatest }
         ensures clients { SameClients (is_there self.old.sockets.names) (is_there self.new.sockets.names) }
         ensures made { self.new.made ≡ one_more self.old.made }
-        ensures reached { OnOk result (IsSome self.new.sockets.modem) }
-        ensures closed { is_ok result ≡ false → self.new.sockets.modem ≡ None }
+        ensures reached { OnOk result (IsSome (modem_of self.new.sockets.ways.ways.items 0)) }
+        ensures closed { is_ok result ≡ false → modem_of self.new.sockets.ways.ways.items 0 ≡ None }
     {
         self.made.add();
-        match self.sockets.open_device() {
+        match self.sockets.open_device(0) {
             Ok(()) => Ok(()),
             Err(_) => Err(self.modem_faults.fail()),
         }

@@ -1,12 +1,16 @@
-//! A proxy's clients and its modem over Unix sockets, which are waited for with `mio`.
+//! A proxy's clients and its modems over Unix sockets, which are waited for with `mio`.
 #![tactic(auto)]
 
 mod hub;
 mod line;
+mod many;
 mod modem;
 mod peer;
 mod resting;
 mod sockets;
 mod ticker;
+mod tokens;
+mod ways;
 
 pub use hub::MioHub;
+pub use many::MioManyHub;

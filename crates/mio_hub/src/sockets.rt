@@ -1,19 +1,22 @@
 //! The sockets of a hub, and what is told of them. No clause says what a socket gives or takes.
-ghost use Rattle.std.specs.Prelude.{◌≡◌, ◌<◌, ◌≤◌, true, false, None, length, is_ok, IsSome, IfSome, IfOk, OnOk};
+ghost use Rattle.std.specs.Prelude.{◌≡◌, ◌<◌, ◌≤◌, ℕ, true, false, None, length, is_ok, IsSome, IfSome, IfOk, OnOk};
 ghost use Rattle.std.specs.Option.{option_map};
 ghost use Rattle.std.specs.Result.{result_ok};
 ghost use Rattle.hub_io.specs.Clients.{is_there, TellsOf};
 ghost use Rattle.hub_io.specs.Hub.{FitsBuffer, GoesAlone, NamesRise, ToldOfThose};
 ghost use Rattle.hub_io.specs.declared.hub.HubEvent.TheVariants.{Joined};
+ghost use Rattle.many_io.specs.Hub.{IsOfDevice, unnamed_told};
+ghost use Rattle.mio_hub.specs.Ways.{OthersStay, modem_of};
 
-use crate::line::Line;
-use crate::modem::Modem;
 use crate::peer::{Gave, Peer};
 use crate::resting::{FEW, Resting};
 use crate::ticker::Ticker;
-use hub_io::{HubEvent, NEXT_ROOM, Names, PLACES, place_of};
+use crate::tokens::{LISTENER, device_of};
+use crate::ways::{OfModem, Ways, without_waiting};
+use hub_io::{NEXT_ROOM, Names, PLACES, place_of};
 use kit_bytes::Text;
 use link_io::Target;
+use many_io::ManyHubEvent;
 use mio::event::Event;
 use mio::net::UnixStream;
 use mio::unix::SourceFd;
@@ -25,16 +28,8 @@ use std::io;
 use std::io::ErrorKind;
 use std::net::Net;
 use std::os::fd::AsRawFd;
-use std::os::unix::net;
 use std::rt::Clock;
 use unix_link::{Bridge, Listening, are_same, left_over};
-
-const LISTENER: Token = Token(0);
-
-const MODEM: Token = Token(usize::MAX);
-
-/// Where bytes go out to the modem, where that is a socket of its own.
-const MODEM_OUTPUT: Token = Token(usize::MAX - 1);
 
 /// The sockets of a hub. One wait finds many events, which are then told one by one.
 #[derive(Drop)]
@@ -56,18 +51,15 @@ pub(crate) struct Sockets<'a, R: Files> {
     /// Who is there.
     pub(crate) names: Names,
     resting: Resting,
-    /// The path of the modem's socket.
-    device: Option<Text>,
-    /// Where the modem's pumps connect.
-    bridge: Option<Bridge<'a, R>>,
-    modem: Option<Modem>,
-    /// The modem was lost, which isn't told yet.
-    lost_modem: bool,
+    /// To the modems, by their devices.
+    pub(crate) ways: Ways,
+    /// Where the pumps of devices connect that are reached over them.
+    bridges: Vec<(usize, Bridge<'a, R>)>,
 }
 
 impl<'a, R: Net + Clock + Files<File = File>> Sockets<'a, R> {
-    /// Sockets that aren't open. They take the memory of their tables here.
-    pub(crate) fn new(rt: &'a R, alloc: Global) -> io::Result<Self> {
+    /// Sockets for so many devices that aren't open. They take the memory of their tables here.
+    pub(crate) fn new(rt: &'a R, alloc: Global, devices: usize) -> io::Result<Self> {
         Ok(Sockets {
             rt,
             alloc,
@@ -81,30 +73,68 @@ impl<'a, R: Net + Clock + Files<File = File>> Sockets<'a, R> {
             clients: Slab::with_capacity(alloc, PLACES)?,
             names: Names::none(alloc)?,
             resting: Resting::nobody(),
-            device: None,
-            bridge: None,
-            modem: None,
-            lost_modem: false,
+            ways: Ways::closed(alloc, devices)?,
+            bridges: Vec::with_capacity(alloc, devices)?,
         })
     }
 
-    /// Opens the device where one is named, and listens on a socket of its owner alone. What stands
+    /// Opens the device, where one is named, and listens on a socket of its owner alone. What stands
     /// at its path stays as it is, but for a socket to which nobody listens.
-    pub(crate) fn open(&mut self, socket: &str, device: Option<&Target>) -> io::Result<()>
+    pub(crate) fn open(&mut self, socket: &str, target: Option<&Target>) -> io::Result<()>
         ensures listens { OnOk result (IsSome self.new.listening) }
         ensures names { self.new.names ≡ self.old.names }
     {
-        self.look(socket, device)?;
-        match device {
-            Some(Target::Socket(path)) => {
-                self.device = Some(Text::from_str(self.alloc, path.as_str())?);
-                self.open_device()?;
-            }
-            Some(Target::Bridge(path)) => {
-                self.bridge = Some(Bridge::listen(self.rt, self.alloc, path.as_str())?);
-            }
-            None => {}
+        if let Some(target) = target {
+            look_apart(self.rt, socket, target)?;
         }
+        left_over(self.rt, socket)?;
+        if let Some(target) = target
+            && self.lead(0, target)?
+        {
+            self.open_device(0)?;
+        }
+        self.listen(socket)
+    }
+
+    /// The same with several devices, one that can't be opened being lost from the start.
+    pub(crate) fn open_all(&mut self, socket: &str, targets: &[Target]) -> io::Result<()>
+        ensures listens { OnOk result (IsSome self.new.listening) }
+        ensures names { self.new.names ≡ self.old.names }
+    {
+        for target in targets {
+            look_apart(self.rt, socket, target)?;
+        }
+        left_over(self.rt, socket)?;
+        for device in 0..targets.len() {
+            if self.lead(device, &targets[device])? && self.open_device(device).is_err() {
+                self.ways.lose(device);
+            }
+        }
+        self.listen(socket)
+    }
+
+    /// Names a device's socket, or listens for its pumps, and tells whether it has a socket.
+    fn lead(&mut self, device: usize, target: &Target) -> io::Result<bool>
+        ensures names { self.new.names ≡ self.old.names }
+    {
+        match target {
+            Target::Socket(path) => {
+                let path = Text::from_str(self.alloc, path.as_str())?;
+                self.ways.lead(device, path);
+                Ok(true)
+            }
+            Target::Bridge(path) => {
+                let bridge = Bridge::listen(self.rt, self.alloc, path.as_str())?;
+                self.bridges.push((device, bridge))?;
+                Ok(false)
+            }
+        }
+    }
+
+    fn listen(&mut self, socket: &str) -> io::Result<()>
+        ensures listens { OnOk result (IsSome self.new.listening) }
+        ensures names { self.new.names ≡ self.old.names }
+    {
         let listening = Listening::start(self.rt, self.alloc, socket)?;
         let registry = self.poll.registry();
         let mut source = SourceFd(&listening.as_raw_fd());
@@ -114,75 +144,75 @@ impl<'a, R: Net + Clock + Files<File = File>> Sockets<'a, R> {
         Ok(())
     }
 
-    /// Fails where no socket may be made at the path: it is the device's, or something stands there
-    /// that may not be replaced.
-    fn look(&self, socket: &str, device: Option<&Target>) -> io::Result<()> {
-        if let Some(Target::Socket(path)) = device
-            && are_same(self.rt, socket, path.as_str())
-        {
-            return Err(ErrorKind::AlreadyExists.into());
-        }
-        left_over(self.rt, socket)?;
-        Ok(())
-    }
-
-    /// Connects to the device that was named at the opening. Where pumps reach it, what is left of
-    /// their line is closed, so that they end.
-    pub(crate) fn open_device(&mut self) -> io::Result<()>
-        ensures reached { OnOk result (IsSome self.new.modem) }
-        ensures closed { is_ok result ≡ false → self.new.modem ≡ None }
+    /// Connects to a device whose socket was named at the opening. Where pumps reach it, what is left
+    /// of their line is closed, so that they end.
+    pub(crate) fn open_device(&mut self, device: usize) -> io::Result<()>
+        ensures reached { OnOk result (IsSome (modem_of self.new.ways.ways.items device)) }
+        ensures closed { is_ok result ≡ false → modem_of self.new.ways.ways.items device ≡ None }
+        ensures others { OthersStay device self.old.ways.ways.items self.new.ways.ways.items }
         ensures names { self.new.names ≡ self.old.names }
     {
-        drop(self.modem.take());
-        let Some(path) = &self.device else {
-            return Err(ErrorKind::NotFound.into());
-        };
-        let stream = UnixStream::connect(self.rt, path.as_str())?;
-        let peer = Peer::new(self.poll.registry(), stream, MODEM)?;
-        self.modem = Some(Modem::new(self.alloc, Line::of_socket(peer))?);
-        self.lost_modem = false;
-        Ok(())
+        self.ways
+            .open(self.rt, self.alloc, self.poll.registry(), device)
     }
 
-    /// Waits for the pumps of the bridge that was named at the opening.
+    /// Waits for the pumps of the first bridge that was named at the opening.
     pub(crate) fn pair(&mut self) -> io::Result<()>
-        ensures reached { OnOk result (IsSome self.new.modem) }
+        ensures reached { OnOk result (IsSome (modem_of self.new.ways.ways.items 0)) }
         ensures names { self.new.names ≡ self.old.names }
     {
-        let Some(bridge) = &self.bridge else {
+        let Some((_, bridge)) = self.bridges.first() else {
             return Err(ErrorKind::NotFound.into());
         };
         let pumps = bridge.pair()?;
-        let registry = self.poll.registry();
-        let input = Peer::new(registry, without_waiting(pumps.read)?, MODEM)?;
-        let output = Peer::new(registry, without_waiting(pumps.write)?, MODEM_OUTPUT)?;
-        self.modem = Some(Modem::new(self.alloc, Line::of_pumps(input, output))?);
+        self.ways.pair(self.alloc, self.poll.registry(), 0, pumps)
+    }
+
+    /// Waits for the pumps of each bridge that was named at the opening, one after the other. A device
+    /// whose pumps don't come is lost.
+    pub(crate) fn pair_all(&mut self) -> io::Result<()>
+        ensures names { self.new.names ≡ self.old.names }
+    {
+        if self.bridges.is_empty() {
+            return Err(ErrorKind::NotFound.into());
+        }
+        for (device, bridge) in &self.bridges {
+            let paired = match bridge.pair() {
+                Ok(pumps) => self
+                    .ways
+                    .pair(self.alloc, self.poll.registry(), *device, pumps),
+                Err(error) => Err(error),
+            };
+            if paired.is_err() {
+                self.ways.lose(*device);
+            }
+        }
         Ok(())
     }
 
-    /// Waits for the next event.
-    pub(crate) fn next(&mut self, buf: &mut [u8]) -> io::Result<HubEvent>
+    /// Waits for the next event, of one of so many devices where it is of a modem.
+    pub(crate) fn next(&mut self, devices: usize, buf: &mut [u8]) -> io::Result<ManyHubEvent>
         requires { length buf.old ≡ NEXT_ROOM }
-        ensures fits { IfOk result (λ event. FitsBuffer event NEXT_ROOM) }
-        ensures names { NamesRise (result_ok result) self.old.names.greatest self.new.names.greatest }
-        ensures clients { ToldOfThose (result_ok result) (is_there self.old.names) (is_there self.new.names) }
+        ensures fits { IfOk result (λ event. FitsBuffer (unnamed_told event) NEXT_ROOM) }
+        ensures device { IfOk result (λ event. IsOfDevice event devices) }
+        ensures names { NamesRise (option_map unnamed_told (result_ok result)) self.old.names.greatest self.new.names.greatest }
+        ensures clients { ToldOfThose (option_map unnamed_told (result_ok result)) (is_there self.old.names) (is_there self.new.names) }
     {
         for _ in 0..u64::MAX {
             if self.is_barred {
                 break;
             }
-            if self.lost_modem {
-                self.lost_modem = false;
-                return Ok(HubEvent::ModemGone);
+            if let Some(device) = self.ways.next_lost(devices) {
+                return Ok(ManyHubEvent::ModemGone(device));
             }
             if let Some(event) = self.events.iter().nth(self.at) {
                 let event = *event;
-                if let Some(told) = self.tell(event, buf) {
+                if let Some(told) = self.tell(event, devices, buf) {
                     return Ok(told);
                 }
             } else if let Some(time) = self.ticker.tell() {
                 // behind all that came before the clock was read
-                return Ok(HubEvent::Now(time));
+                return Ok(ManyHubEvent::Now(time));
             } else {
                 self.wait()?;
             }
@@ -195,7 +225,7 @@ impl<'a, R: Net + Clock + Files<File = File>> Sockets<'a, R> {
         ensures names { self.new.names ≡ self.old.names }
     {
         self.at = 0;
-        self.write_to_modem();
+        self.ways.write_gathered();
         self.wake_next();
         let left = self.ticker.left(self.resting.is_empty());
         match self.poll.poll(&mut self.events, Some(left)) {
@@ -208,15 +238,21 @@ impl<'a, R: Net + Clock + Files<File = File>> Sockets<'a, R> {
     }
 
     /// What there is to tell of an event. It is asked again until it is done with.
-    fn tell(&mut self, event: Event, buf: &mut [u8]) -> Option<HubEvent>
+    fn tell(&mut self, event: Event, devices: usize, buf: &mut [u8]) -> Option<ManyHubEvent>
         requires { length buf.old ≡ NEXT_ROOM }
-        ensures fits { IfSome result (λ event. FitsBuffer event NEXT_ROOM) }
+        ensures fits { IfSome result (λ event. FitsBuffer (unnamed_told event) NEXT_ROOM) }
+        ensures device { IfSome result (λ event. IsOfDevice event devices) }
         ensures len { length buf.new ≡ length buf.old }
-        ensures names { TellsOf result self.old.names self.new.names }
+        ensures names { TellsOf (option_map unnamed_told result) self.old.names self.new.names }
     {
+        if let Some(device) = device_of(event.token(), devices) {
+            return self.tell_modem(device, event, buf);
+        }
         match event.token() {
-            LISTENER => self.accept().map(HubEvent::Joined),
-            MODEM | MODEM_OUTPUT => self.tell_modem(event, buf),
+            LISTENER => match self.accept() {
+                Some(name) => Some(ManyHubEvent::Joined(name)),
+                None => None,
+            },
             Token(name) => self.tell_client(name as u64, event, buf),
         }
     }
@@ -264,50 +300,38 @@ impl<'a, R: Net + Clock + Files<File = File>> Sockets<'a, R> {
         }
     }
 
-    fn tell_modem(&mut self, event: Event, buf: &mut [u8]) -> Option<HubEvent>
+    fn tell_modem(&mut self, device: usize, event: Event, buf: &mut [u8]) -> Option<ManyHubEvent>
         requires { length buf.old ≡ NEXT_ROOM }
-        ensures fits { IfSome result (λ event. FitsBuffer event NEXT_ROOM) }
+        ensures fits { IfSome result (λ event. FitsBuffer (unnamed_told event) NEXT_ROOM) }
+        ensures device { (devices : ℕ) → device < devices → IfSome result (λ event. IsOfDevice event devices) }
         ensures len { length buf.new ≡ length buf.old }
-        ensures names { TellsOf result self.old.names self.new.names }
+        ensures names { TellsOf (option_map unnamed_told result) self.old.names self.new.names }
     {
-        let Some(modem) = &mut self.modem else {
-            self.done();
-            return None;
-        };
-        match modem.finds_room(&event) {
-            Ok(true) => return Some(HubEvent::ModemRoom),
-            Ok(false) => {}
-            Err(_) => {
-                self.modem = None;
-                return Some(HubEvent::ModemGone);
-            }
-        }
-        let reading = modem.read(self.poll.registry(), &event, buf);
-        if reading.is_last {
+        let told = self.ways.tell(device, self.poll.registry(), &event, buf);
+        if told.is_last {
             self.done();
         }
-        match reading.gave {
-            Gave::Bytes(count) => Some(HubEvent::ModemPiece(count)),
-            Gave::Nothing => None,
-            Gave::End => {
-                self.modem = None;
-                Some(HubEvent::ModemGone)
-            }
+        match told.of {
+            OfModem::Piece(count) => Some(ManyHubEvent::ModemPiece(device, count)),
+            OfModem::Room => Some(ManyHubEvent::ModemRoom(device)),
+            OfModem::Gone => Some(ManyHubEvent::ModemGone(device)),
+            OfModem::Nothing => None,
         }
     }
 
-    fn tell_client(&mut self, name: u64, event: Event, buf: &mut [u8]) -> Option<HubEvent>
+    fn tell_client(&mut self, name: u64, event: Event, buf: &mut [u8]) -> Option<ManyHubEvent>
         requires { length buf.old ≡ NEXT_ROOM }
-        ensures fits { IfSome result (λ event. FitsBuffer event NEXT_ROOM) }
+        ensures fits { IfSome result (λ event. FitsBuffer (unnamed_told event) NEXT_ROOM) }
+        ensures device { (devices : ℕ) → IfSome result (λ event. IsOfDevice event devices) }
         ensures len { length buf.new ≡ length buf.old }
-        ensures names { TellsOf result self.old.names self.new.names }
+        ensures names { TellsOf (option_map unnamed_told result) self.old.names self.new.names }
     {
         let Some(peer) = peer_of(&mut self.clients, &self.names, name) else {
             self.done();
             return None;
         };
         if peer.finds_room(&event) {
-            return Some(HubEvent::Room(name));
+            return Some(ManyHubEvent::Room(name));
         }
         let reading = peer.read(self.poll.registry(), &event, buf);
         let is_slow = peer.is_slow();
@@ -319,12 +343,12 @@ impl<'a, R: Net + Clock + Files<File = File>> Sockets<'a, R> {
                 if count < FEW || is_slow {
                     self.rest(name);
                 }
-                Some(HubEvent::Piece(name, count))
+                Some(ManyHubEvent::Piece(name, count))
             }
             Gave::Nothing => None,
             Gave::End => {
                 self.hang_up(name);
-                Some(HubEvent::Left(name))
+                Some(ManyHubEvent::Left(name))
             }
         }
     }
@@ -368,34 +392,16 @@ impl<'a, R: Net + Clock + Files<File = File>> Sockets<'a, R> {
         }
     }
 
-    /// Takes bytes for the modem. One that fails is closed.
-    pub(crate) fn send_modem(&mut self, bytes: &[u8]) -> io::Result<usize>
-        ensures reached { OnOk result (IsSome self.old.modem) }
-        ensures lost { is_ok result ≡ false → self.new.modem ≡ None }
+    /// Takes bytes for a device's modem. One that fails is closed.
+    pub(crate) fn send_modem(&mut self, device: usize, bytes: &[u8]) -> io::Result<usize>
+        ensures reached { OnOk result (IsSome (modem_of self.old.ways.ways.items device)) }
+        ensures lost { is_ok result ≡ false → modem_of self.new.ways.ways.items device ≡ None }
+        ensures others { OthersStay device self.old.ways.ways.items self.new.ways.ways.items }
         ensures within { IfOk result (λ count. count ≤ length bytes.now) }
         ensures names { self.new.names ≡ self.old.names }
     {
         let is_last = self.at >= self.events.iter().len();
-        let sent = match &mut self.modem {
-            Some(modem) => modem.take(bytes, is_last),
-            None => Err(ErrorKind::NotConnected.into()),
-        };
-        if sent.is_err() {
-            self.modem = None;
-        }
-        sent
-    }
-
-    /// Writes what was gathered for the modem.
-    fn write_to_modem(&mut self)
-        ensures names { self.new.names ≡ self.old.names }
-    {
-        if let Some(modem) = &mut self.modem
-            && modem.write_gathered().is_err()
-        {
-            self.modem = None;
-            self.lost_modem = true;
-        }
+        self.ways.send(device, bytes, is_last)
     }
 
     /// Closes a client's socket, and asks again for clients that wait.
@@ -428,10 +434,14 @@ fn is_passing(kind: ErrorKind) -> bool {
     )
 }
 
-/// A stream that is read and written without waiting.
-fn without_waiting(stream: net::UnixStream) -> io::Result<UnixStream> {
-    stream.set_nonblocking(true)?;
-    Ok(UnixStream::from_std(stream))
+/// Fails where the path leads to a device's socket.
+fn look_apart<R: Net + Files>(rt: &R, socket: &str, target: &Target) -> io::Result<()> {
+    if let Target::Socket(path) = target
+        && are_same(rt, socket, path.as_str())
+    {
+        return Err(ErrorKind::AlreadyExists.into());
+    }
+    Ok(())
 }
 
 /// The socket of the client of this name, where it is there.
