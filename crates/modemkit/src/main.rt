@@ -9,8 +9,8 @@ use file_io::{Files, StdFiles};
 use hub_io::Hub;
 use kit_io::{Sink, StdSink};
 use link_io::Link;
-use mio_hub::MioHub;
-use program::{Status, give_up, refuse, run};
+use mio_hub::{MioHub, MioManyHub};
+use program::{Status, device_count, give_up, refuse, run, run_proxies};
 use std::alloc::{AllocError, Global};
 use std::cell::Cell;
 use std::io::{BufWriter, Write};
@@ -85,13 +85,48 @@ fn run_read<O: Sink, E: Sink, L: Link, H: Hub, P: Spawner, F: Files>(
     files: &mut F,
 ) -> Status {
     match read_words(rt) {
-        Ok(words) => run_words(rt.alloc(), &words, out, err, link, hub, spawner, files),
+        Ok(words) => run_words(rt, &words, out, err, link, hub, spawner, files),
         Err(_) => refuse(err),
     }
 }
 
-// Does what the words ask, with a bench of its own.
+// Does what the words ask. Those of a proxy of several devices have a hub of their own.
 fn run_words<O: Sink, E: Sink, L: Link, H: Hub, P: Spawner, F: Files>(
+    rt: &HostRuntime,
+    words: &[String],
+    out: &mut O,
+    err: &mut E,
+    link: &mut L,
+    hub: &mut H,
+    spawner: &mut P,
+    files: &mut F,
+) -> Status {
+    match words.first().map(|word| word.as_str()) {
+        Some("qmi-proxies") => run_several(rt, words, err, spawner),
+        _ => run_on_bench(rt.alloc(), words, out, err, link, hub, spawner, files),
+    }
+}
+
+// Serves several devices, with a hub for as many as the words name.
+fn run_several<E: Sink, P: Spawner>(
+    rt: &HostRuntime,
+    words: &[String],
+    err: &mut E,
+    spawner: &mut P,
+) -> Status {
+    let Ok(devices) = device_count(rt.alloc(), words) else {
+        return give_up(err);
+    };
+    let Ok(mut many) = MioManyHub::new(rt, rt.alloc(), devices) else {
+        return give_up(err);
+    };
+    let status = run_proxies(rt.alloc(), words, err, &mut many, spawner);
+    drop(many);
+    status
+}
+
+// Does what the words ask, with a bench of its own.
+fn run_on_bench<O: Sink, E: Sink, L: Link, H: Hub, P: Spawner, F: Files>(
     alloc: Global,
     words: &[String],
     out: &mut O,

@@ -3,6 +3,7 @@ pub mod Ways
 pub mod Tables
 pub mod Running
 pub mod Serving
+pub mod Several
 pub mod Pumping
 pub mod Rigging
 pub mod Telling

@@ -127,7 +127,7 @@ RunsCommand (PduSubmit number text reference) before after result = EndsAs statu
 RunsCommand (Describe path message) before after result = EndsAs status_of result (λ ends. DescribesFile (encode_utf8_all path) message before.files after.files before.out ends after.out)
 RunsCommand (Proxy task) before after result =
     ServesProxy task.kind (asked_in task) (place_of (encode_utf8_all task.device) (encode_utf8_all task.bridge)) before.hub before.spawner result after.hub after.hub_made after.spawner
--- (one proxy for several devices isn't served yet)
+-- (one proxy for several devices has a hub of its own: `run_proxies`)
 RunsCommand (Proxies task) before after result = result ≡ status.Usage usage.UnknownTool
 RunsCommand (Simulator kind socket profile None turns None) before after result =
     EndsAs status_of_sim result (λ ends. sim.Simulates profile (sim.asked_in kind socket turns) (record { files = before.files; hub = before.hub }) (record { files = after.files; hub = after.hub }) ends)

@@ -5,6 +5,7 @@ mod dispatch;
 mod dissecting;
 mod laws;
 mod opening;
+mod proxies;
 mod proxy;
 mod pumping;
 mod report;
@@ -18,6 +19,7 @@ mod tools;
 
 pub use dispatch::run;
 pub use laws::statuses_agree;
+pub use proxies::{device_count, run_proxies};
 pub use report::{give_up, refuse};
 pub use status::Status;
 pub use tools::{run_proxy, run_pump, run_rig, run_simulator, run_tool};

@@ -4,6 +4,7 @@ ghost use Rattle.program.specs.Status.{kind_word};
 use crate::opening::OpenFault;
 use dissect::{CaptureEnd, DissectEnd};
 use hub_io::ServeEnd;
+use many_runs::{ManyEnd, NotOpened};
 use message_tables::TableFault;
 use modem_profile::ProfileFault;
 use modem_rules::RulesFault;
@@ -199,6 +200,21 @@ impl From<OpenFault> for Status {
         match fault {
             OpenFault::Hub => Status::HubFault,
             OpenFault::Start => Status::StartFault,
+        }
+    }
+}
+
+impl From<ManyEnd> for Status {
+    ghost use Rattle.program.specs.Several.{status_of_many};
+
+    ghost from_gives = { λ end status. status ≡ status_of_many end };
+
+    fn from(end: ManyEnd) -> Self {
+        match end {
+            ManyEnd::Served(why) => Status::from(why),
+            ManyEnd::NotOpened(NotOpened::Hub) => Status::HubFault,
+            ManyEnd::NotOpened(NotOpened::Start) => Status::StartFault,
+            ManyEnd::NoMemory => Status::OutOfMemory,
         }
     }
 }
