@@ -15,6 +15,7 @@ PAGES = {
     "modemkit-dissect": (1, "DISSECT", "shows a captured stream in lines", "modemkit dissect [SETTING..] CAPTURE"),
     "modemkit-rig": (1, "RIG", "runs a proxy's core with many clients and with each alone", "modemkit rig [SETTING..]"),
     "modemkit-qmi-proxy": (8, "QMI-PROXY", "lets programs share a QMI modem", "modemkit qmi-proxy -d PATH [SETTING..]"),
+    "modemkit-qmi-proxies": (8, "QMI-PROXIES", "one QMI proxy for up to eight modems", "modemkit qmi-proxies [SETTING..] PATH.."),
     "modemkit-mbim-proxy": (8, "MBIM-PROXY", "lets programs share an MBIM modem", "modemkit mbim-proxy -d PATH [SETTING..]"),
     "modemkit-devices": (7, "DEVICES", "device nodes and the installation of modemkit", ""),
     "modemkit-errors": (7, "ERRORS", "what the numbers of errors mean", ""),

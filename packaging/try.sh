@@ -91,7 +91,7 @@ check "its version is there" sh -c "chroot '$debian' dpkg-query -W modemkit | gr
 check "the proxy goes on" in_debian $asks
 check "man modemkit-qmicli" sh -c "chroot '$debian' env MANPAGER=cat MANWIDTH=80 man modemkit-qmicli | grep -q dms-get-model"
 check "man modemkit" in_debian man modemkit
-check "the units are there" test -e "$debian/usr/lib/systemd/system/modemkit-qmi-proxy@.service" -a -e "$debian/usr/lib/systemd/system/modemkit-mbim-proxy@.service"
+check "the units are there" test -e "$debian/usr/lib/systemd/system/modemkit-qmi-proxy@.service" -a -e "$debian/usr/lib/systemd/system/modemkit-mbim-proxy@.service" -a -e "$debian/usr/lib/systemd/system/modemkit-qmi-proxies.service"
 if in_debian udevadm verify --help >/dev/null 2>&1; then
     check "udevadm takes the rule" in_debian udevadm verify /usr/lib/udev/rules.d/70-modemkit.rules
 else
@@ -99,6 +99,15 @@ else
 fi
 check "systemctl enable: the node's device unit wants the proxy" sh -c "systemctl --root='$debian' enable modemkit-qmi-proxy@cdc-wdm0 &&
     test -L '$debian/etc/systemd/system/dev-cdc-wdm0.device.wants/modemkit-qmi-proxy@cdc-wdm0.service'"
+check "systemctl enable: one proxy for the nodes of a file" sh -c "mkdir -p '$debian/etc/default' && echo 'DEVICES=\"/run/a.sock /run/b.sock\"' >'$debian/etc/default/modemkit-qmi-proxies' &&
+    systemctl --root='$debian' enable modemkit-qmi-proxies && test -L '$debian/etc/systemd/system/multi-user.target.wants/modemkit-qmi-proxies.service'"
+check "what its command does with two simulated modems in the nodes' place" in_debian sh -c '. /etc/default/modemkit-qmi-proxies
+    modemkit modem-sim --socket /run/a.sock & modems=$!; modemkit modem-sim --socket /run/b.sock & modems="$modems $!"
+    until [ -S /run/a.sock ] && [ -S /run/b.sock ]; do sleep 0.05; done
+    modemkit qmi-proxies --socket /run/proxies.sock --no-exit $DEVICES & modems="$modems $!"
+    until [ -S /run/proxies.sock ]; do sleep 0.05; done
+    for device in $DEVICES; do modemkit qmicli -p --socket /run/proxies.sock -d $device --dms-get-model || exit; done
+    kill $modems; rm -f /run/a.sock /run/b.sock /run/proxies.sock'
 check "a tool and a simulated modem of MBIM" in_debian sh -c 'modemkit modem-sim --kind mbim --socket /run/mbim.sock & modem=$!
     until [ -S /run/mbim.sock ]; do sleep 0.05; done; modemkit mbimcli -d /run/mbim.sock --query-device-caps; status=$?; kill $modem; rm -f /run/mbim.sock; exit $status'
 
