@@ -420,10 +420,9 @@ def try_clients():
         halved.send(bytes([byte]))
     point("which gets its device once it says the rest", halved.error() == 0 and halved.is_served())
     long = Client()
-    long.send(b"\x01\xff\xff\x00\x00\x00")
-    for _ in range(2_000):
-        long.send(b"\x00")
-    point("one that begins a message of 65,536 bytes, in pieces of one, gets nothing yet", long.take(0.1) is None)
+    for byte in b"\x01\xff\xff\x00\x00\x00\x00\x01\x00\xff" + bytes(65_525):
+        long.send(bytes([byte]))
+    point("one that says a Proxy Open of 65,536 bytes but for the last, in 65,535 pieces, gets nothing yet", long.take(0.1) is None)
     stranger = Client()
     point("one that opens a device that isn't served is refused (error 3)", stranger.send(opens("c.sock")).error() == 3)
     point("by the first device, of which it may open the path then", stranger.opened("a.sock") and stranger.is_served())
