@@ -3,14 +3,19 @@
 //! runs the cores of its proxies.
 #![tactic(auto)]
 
+ghost use Rattle.std.specs.Prelude.{map, string_bytes};
+ghost use Rattle.program.specs.Several.{HasRoom};
+ghost use Rattle.tool_words.specs.Command.{command_in};
+
 use child_io::{Spawner, StdSpawner};
 use core_bench::Cores;
 use file_io::{Files, StdFiles};
 use hub_io::Hub;
 use kit_io::{Sink, StdSink};
 use link_io::Link;
+use many_io::ManyHub;
 use mio_hub::{MioHub, MioManyHub};
-use program::{Status, device_count, give_up, refuse, run, run_proxies};
+use program::{Status, device_count, give_up, refuse, run};
 use std::alloc::{AllocError, Global};
 use std::cell::Cell;
 use std::io::{BufWriter, Write};
@@ -90,7 +95,7 @@ fn run_read<O: Sink, E: Sink, L: Link, H: Hub, P: Spawner, F: Files>(
     }
 }
 
-// Does what the words ask. Those of a proxy of several devices have a hub of their own.
+// Does what the words ask, with a hub for as many devices as they name.
 fn run_words<O: Sink, E: Sink, L: Link, H: Hub, P: Spawner, F: Files>(
     rt: &HostRuntime,
     words: &[String],
@@ -101,44 +106,44 @@ fn run_words<O: Sink, E: Sink, L: Link, H: Hub, P: Spawner, F: Files>(
     spawner: &mut P,
     files: &mut F,
 ) -> Status {
-    match words.first().map(|word| word.as_str()) {
-        Some("qmi-proxies") => run_several(rt, words, err, spawner),
-        _ => run_on_bench(rt.alloc(), words, out, err, link, hub, spawner, files),
-    }
-}
-
-// Serves several devices, with a hub for as many as the words name.
-fn run_several<E: Sink, P: Spawner>(
-    rt: &HostRuntime,
-    words: &[String],
-    err: &mut E,
-    spawner: &mut P,
-) -> Status {
     let Ok(devices) = device_count(rt.alloc(), words) else {
         return give_up(err);
     };
     let Ok(mut many) = MioManyHub::new(rt, rt.alloc(), devices) else {
         return give_up(err);
     };
-    let status = run_proxies(rt.alloc(), words, err, &mut many, spawner);
+    let status = run_on_bench(
+        rt.alloc(),
+        words,
+        out,
+        err,
+        link,
+        hub,
+        &mut many,
+        spawner,
+        files,
+    );
     drop(many);
     status
 }
 
-// Does what the words ask, with a bench of its own.
-fn run_on_bench<O: Sink, E: Sink, L: Link, H: Hub, P: Spawner, F: Files>(
+// The same, with a bench of its own.
+fn run_on_bench<O: Sink, E: Sink, L: Link, H: Hub, M: ManyHub, P: Spawner, F: Files>(
     alloc: Global,
     words: &[String],
     out: &mut O,
     err: &mut E,
     link: &mut L,
     hub: &mut H,
+    many: &mut M,
     spawner: &mut P,
     files: &mut F,
-) -> Status {
+) -> Status
+    requires { HasRoom (command_in (map string_bytes words.now)) (M.devices many.old) }
+{
     let mut bench = Cores::none();
     let status = run(
-        alloc, words, out, err, link, hub, spawner, files, &mut bench,
+        alloc, words, out, err, link, hub, many, spawner, files, &mut bench,
     );
     drop(bench);
     status

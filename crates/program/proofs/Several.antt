@@ -14,7 +14,7 @@ use Rattle.tool_words.specs.declared.command.ToolCommand.{ToolCommand}
 use Rattle.tool_words.specs.declared.command.ToolCommand.TheVariants.{Qmicli, Mbimcli, Request, PduSubmit, Describe, Proxy, Proxies, Simulator, Pump, Rig, Transparency, Dissect, Version}
 use Rattle.tool_words.specs.declared.fault.UsageKind.{UsageKind}
 use Rattle.tool_words.specs.declared.proxies.ProxiesTask.{ProxiesTask}
-use Rattle.program.specs.Several.{LeavesSeveralAlone, RunsSeveral, ServesSeveral, status_of_many}
+use Rattle.program.specs.Several.{LeavesSeveralAlone, RunsSeveral, ServesIfSeveral, ServesSeveral, status_of_many}
 use Rattle.program.specs.Status.{IsOfProxy, status_of_end, with_stops}
 use Rattle.program.specs.declared.status.Status.TheVariants as status
 
@@ -102,6 +102,22 @@ nothing_of_several (Ok (Dissect kind tables turns capture)) hub made spawner = i
 nothing_of_several (Ok Version) hub made spawner = inr refl
 nothing_of_several (Err why) hub made spawner = inr refl
 
+pub nothing_served : (words : Result ToolCommand UsageKind) (hub : Option (List ManyCall)) (made : ℕ) (spawner : Option (List child.Call)) → ServesIfSeveral words hub spawner status.OutOfMemory hub made spawner
+nothing_served (Ok (Qmicli task)) hub made spawner = tt
+nothing_served (Ok (Mbimcli task)) hub made spawner = tt
+nothing_served (Ok (Request task)) hub made spawner = tt
+nothing_served (Ok (PduSubmit number text reference)) hub made spawner = tt
+nothing_served (Ok (Describe path message)) hub made spawner = tt
+nothing_served (Ok (Proxy task)) hub made spawner = tt
+nothing_served (Ok (Proxies task)) hub made spawner = nothing_done hub made spawner
+nothing_served (Ok (Simulator kind socket profile rules turns keep)) hub made spawner = tt
+nothing_served (Ok (Pump read node bridge)) hub made spawner = tt
+nothing_served (Ok (Rig kind clients messages number)) hub made spawner = tt
+nothing_served (Ok (Transparency kind)) hub made spawner = tt
+nothing_served (Ok (Dissect kind tables turns capture)) hub made spawner = tt
+nothing_served (Ok Version) hub made spawner = tt
+nothing_served (Err why) hub made spawner = tt
+
 pub several_untouched : {M : Type 0} (words : Result ToolCommand UsageKind) (many : M) → LeavesSeveralAlone words many many
 several_untouched (Ok (Qmicli task)) many = refl
 several_untouched (Ok (Mbimcli task)) many = refl
@@ -119,4 +135,4 @@ several_untouched (Ok Version) many = refl
 several_untouched (Err why) many = refl
 
 -- what a run does to the hub of several devices that finds no memory for its words
-pub ruleset untouched = (nothing_of_several, several_untouched)
+pub ruleset untouched = (nothing_of_several, nothing_served, several_untouched)

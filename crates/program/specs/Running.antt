@@ -45,7 +45,7 @@ use Rattle.sim_keeping.specs.Words.{start_words}
 use Rattle.sim_runs.specs.Simulating as sim
 use Rattle.program.specs.declared.status.Status.{Status}
 use Rattle.program.specs.declared.status.Status.TheVariants as status
-use Rattle.program.specs.Status.{EndsAs, status_of, status_of_capture, status_of_keeping, status_of_sim}
+use Rattle.program.specs.Status.{EndsAs, IsOfProxy, status_of, status_of_capture, status_of_keeping, status_of_sim}
 use Rattle.program.specs.Tables.{AsksByTables}
 use Rattle.program.specs.Ways.{Asks, way_to}
 use Rattle.program.specs.Serving.{ServesProxy, asked_in}
@@ -118,7 +118,7 @@ mbim_asked_in form.Json plan = mbim_json plan
 
 -- ---- what the words ask for ----
 
--- a tool asks a modem, also by the tables of a file, makes short messages or describes a file, a proxy or a simulated modem serves, one is kept running, a pump passes on, a rig runs a core on the bench, or a tool alone, a captured stream is shown, and the version is printed
+-- a tool asks a modem, also by the tables of a file, makes short messages or describes a file, a proxy or a simulated modem serves, one of several devices does (`Several.antt` says how), one is kept running, a pump passes on, a rig runs a core on the bench, or a tool alone, a captured stream is shown, and the version is printed
 abbrev pub RunsCommand : ToolCommand → Told → Told → Status → Type 0
 RunsCommand (Qmicli task) before after result = AsksQmi task.link.kind task.form (qmi_plan task) (way_to task.device task.link) (of_tool before) (of_tool after) result
 RunsCommand (Mbimcli task) before after result = Asks (way_to task.device task.link) (mbim_asked_in task.form (mbim_plan task)) (of_tool before) (of_tool after) result
@@ -127,8 +127,7 @@ RunsCommand (PduSubmit number text reference) before after result = EndsAs statu
 RunsCommand (Describe path message) before after result = EndsAs status_of result (λ ends. DescribesFile (encode_utf8_all path) message before.files after.files before.out ends after.out)
 RunsCommand (Proxy task) before after result =
     ServesProxy task.kind (asked_in task) (place_of (encode_utf8_all task.device) (encode_utf8_all task.bridge)) before.hub before.spawner result after.hub after.hub_made after.spawner
--- (one proxy for several devices has a hub of its own: `run_proxies`)
-RunsCommand (Proxies task) before after result = result ≡ status.Usage usage.UnknownTool
+RunsCommand (Proxies task) before after result = IsOfProxy result
 RunsCommand (Simulator kind socket profile None turns None) before after result =
     EndsAs status_of_sim result (λ ends. sim.Simulates profile (sim.asked_in kind socket turns) (record { files = before.files; hub = before.hub }) (record { files = after.files; hub = after.hub }) ends)
 RunsCommand (Simulator kind socket profile (Some rules) turns None) before after result =
@@ -197,7 +196,7 @@ pub record Objects (L H P F O B : Type 0) : Type 0 where
 pub data NoObject : Type 0 where
   Absent : NoObject
 
--- what a command has no use for is left as it was: hub, files and bench by one that asks a modem, hub and bench by one whose request a file gives, all but output by one that makes short messages, all but files and output by one that describes a file, all but hub and children by a proxy, all but hub and files by a simulated modem, the files too where neither profile nor rules are named, all but children by one that is kept running, all but link and files by a pump, all but bench and output by a rig, all but files and output where a captured stream is shown, and all but the output where the version is printed
+-- what a command has no use for is left as it was: hub, files and bench by one that asks a modem, hub and bench by one whose request a file gives, all but output by one that makes short messages, all but files and output by one that describes a file, all but hub and children by a proxy, all but children (and the hub of several devices) by one of several devices, all but hub and files by a simulated modem, the files too where neither profile nor rules are named, all but children by one that is kept running, all but link and files by a pump, all but bench and output by a rig, all but files and output where a captured stream is shown, and all but the output where the version is printed
 abbrev pub CommandLeavesAlone : {L H P F O B : Type 0} → ToolCommand → Objects L H P F O B → Objects L H P F O B → Type 0
 CommandLeavesAlone (Qmicli task) before after = (after.hub ≡ before.hub) × (after.files ≡ before.files) × (after.bench ≡ before.bench)
 CommandLeavesAlone (Mbimcli task) before after = (after.hub ≡ before.hub) × (after.files ≡ before.files) × (after.bench ≡ before.bench)
@@ -205,7 +204,7 @@ CommandLeavesAlone (Request task) before after = (after.hub ≡ before.hub) × (
 CommandLeavesAlone (PduSubmit number text reference) before after = (after.link ≡ before.link) × (after.hub ≡ before.hub) × (after.spawner ≡ before.spawner) × (after.files ≡ before.files) × (after.bench ≡ before.bench)
 CommandLeavesAlone (Describe path message) before after = (after.link ≡ before.link) × (after.hub ≡ before.hub) × (after.spawner ≡ before.spawner) × (after.bench ≡ before.bench)
 CommandLeavesAlone (Proxy task) before after = (after.link ≡ before.link) × (after.files ≡ before.files) × (after.out ≡ before.out) × (after.bench ≡ before.bench)
-CommandLeavesAlone (Proxies task) before after = after ≡ before
+CommandLeavesAlone (Proxies task) before after = (after.link ≡ before.link) × (after.hub ≡ before.hub) × (after.files ≡ before.files) × (after.out ≡ before.out) × (after.bench ≡ before.bench)
 CommandLeavesAlone (Simulator kind socket profile rules turns None) before after = (after.link ≡ before.link) × (after.spawner ≡ before.spawner) × (profile ≡ None → rules ≡ None → after.files ≡ before.files) × (after.out ≡ before.out) × (after.bench ≡ before.bench)
 CommandLeavesAlone (Simulator kind socket profile rules turns (Some most)) before after = (after.link ≡ before.link) × (after.hub ≡ before.hub) × (after.files ≡ before.files) × (after.out ≡ before.out) × (after.bench ≡ before.bench)
 CommandLeavesAlone (Pump read node bridge) before after = (after.hub ≡ before.hub) × (after.spawner ≡ before.spawner) × (after.out ≡ before.out) × (after.bench ≡ before.bench)

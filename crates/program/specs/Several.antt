@@ -1,6 +1,7 @@
 -- What the program does as a proxy of several devices. Lists of calls on a hub have the newest first, those of calls on a spawner the oldest.
 use Rattle.std.specs.Prelude.{◌≡◌, ◌⊎◌, ℕ, List, false, length, Option, Result, Ok, Err}
 use Rattle.std.specs.Str.{encode_utf8_all}
+use Rattle.kit_io.specs.Causes.{Rose}
 use Rattle.child_io.specs.Calls as child
 use Rattle.many_io.specs.Record.{ManyCall}
 use Rattle.many_runs.specs.Running.{Asked, ServesMany}
@@ -57,3 +58,14 @@ RunsSeveral _ hub_old spawner_old result hub_new hub_made spawner_new = (result 
 abbrev pub LeavesSeveralAlone : {M : Type 0} → Result ToolCommand UsageKind → M → M → Type 0
 LeavesSeveralAlone (Ok (Proxies task)) before after = Unit {0}
 LeavesSeveralAlone _ before after = after ≡ before
+
+-- ---- of `run`, whatever the words ----
+
+abbrev pub ServesIfSeveral : Result ToolCommand UsageKind → Option (List ManyCall) → Option (List child.Call) → Status → Option (List ManyCall) → ℕ → Option (List child.Call) → Type 0
+ServesIfSeveral (Ok (Proxies task)) hub_old spawner_old result hub_new hub_made spawner_new = ServesSeveral task hub_old spawner_old result hub_new hub_made spawner_new
+ServesIfSeveral _ hub_old spawner_old result hub_new hub_made spawner_new = Unit {0}
+
+-- a hub's fault comes of a count that rose: that of the hub of several devices where those are served, else that of the hub of one
+abbrev pub FailsOnHub : Result ToolCommand UsageKind → (hub_old hub_new many_old many_new : ℕ) → Type 0
+FailsOnHub (Ok (Proxies task)) hub_old hub_new many_old many_new = Rose many_old many_new
+FailsOnHub _ hub_old hub_new many_old many_new = Rose hub_old hub_new

@@ -1,18 +1,20 @@
-ghost use Rattle.std.specs.Prelude.{◌≡◌, ◌⊎◌, map, string_bytes};
+ghost use Rattle.std.specs.Prelude.{◌≡◌, ◌⊎◌, Ok, map, string_bytes};
 ghost use Rattle.kit_io.specs.Causes.{Rose};
 ghost use Rattle.kit_io.specs.Told.{Grows};
 ghost use Rattle.tool_words.specs.Command.{command_in};
 ghost use Rattle.tool_words.specs.Rig.{IsWithinLimits};
 ghost use Rattle.program.specs.Running.{CommandFailsOnLink, CommandLeavesAlone, FailsOnLink, LeavesAlone, Runs, RunsCommand};
+ghost use Rattle.program.specs.Several.{FailsOnHub, HasRoom, LeavesSeveralAlone, ServesIfSeveral};
 ghost use Rattle.program.specs.Status.{line_of};
 
 use crate::dissecting::dissect_capture;
+use crate::proxies::proxy_modems;
 use crate::report::report;
 use crate::status::Status;
 use crate::telling::tell_version;
 use crate::tools::{
-    other_tool, run_command_of_proxy, run_command_of_pump, run_command_of_rig,
-    run_command_of_simulator, run_command_of_tool,
+    run_command_of_proxy, run_command_of_pump, run_command_of_rig, run_command_of_simulator,
+    run_command_of_tool,
 };
 use child_io::Spawner;
 use core_bench::Bench;
@@ -20,22 +22,30 @@ use file_io::Files;
 use hub_io::Hub;
 use kit_io::Sink;
 use link_io::Link;
+use many_io::ManyHub;
 use std::alloc::Global;
 use tool_words::{ToolCommand, WordFault, command_of};
 
 /// Does all that the program does: what the words ask, as a tool, a proxy, a simulated modem, a pump
 /// or a rig, showing a captured stream, or telling its version. The program ends with the status.
-pub fn run<O: Sink, E: Sink, L: Link, H: Hub, P: Spawner, F: Files, B: Bench>(
+///
+/// The hub of several devices has room for as many as the words name, where they name several
+/// (`device_count`).
+#[tactic(auto, using(crate::proofs::Several::untouched))]
+pub fn run<O: Sink, E: Sink, L: Link, H: Hub, M: ManyHub, P: Spawner, F: Files, B: Bench>(
     alloc: Global,
     words: &[String],
     out: &mut O,
     err: &mut E,
     link: &mut L,
     hub: &mut H,
+    many: &mut M,
     spawner: &mut P,
     files: &mut F,
     bench: &mut B,
 ) -> Status
+    requires { HasRoom (command_in (map string_bytes words.now)) (M.devices many.old) }
+
     // What the words ask for is done, or they are refused.
     ensures runs { Runs (command_in (map string_bytes words.now))
         (record { link = L.calls link.old; hub = H.calls hub.old; spawner = P.calls spawner.old; files = F.calls files.old; out = O.taken out.old; bench = B.runs bench.old; link_made = L.made link.old; hub_made = H.made hub.old; out_made = O.made out.old })
@@ -45,10 +55,14 @@ pub fn run<O: Sink, E: Sink, L: Link, H: Hub, P: Spawner, F: Files, B: Bench>(
         (record { link = link.old; hub = hub.old; spawner = spawner.old; files = files.old; out = out.old; bench = bench.old })
         (record { link = link.new; hub = hub.new; spawner = spawner.new; files = files.new; out = out.new; bench = bench.new }) }
 
+    // Several devices are served on their own hub: each client as by a proxy of its device alone.
+    ensures several { ServesIfSeveral (command_in (map string_bytes words.now)) (M.calls many.old) (P.calls spawner.old) result (M.calls many.new) (M.made many.new) (P.calls spawner.new) }
+    ensures several_apart { LeavesSeveralAlone (command_in (map string_bytes words.now)) many.old many.new }
+
     // It doesn't give up by itself.
     ensures link_fault { result ≡ Status.LinkFault → FailsOnLink (command_in (map string_bytes words.now)) L.faults L.open_faults link.old link.new }
     ensures start_fault { result ≡ Status.StartFault → Rose (P.faults spawner.old) (P.faults spawner.new) }
-    ensures hub_fault { result ≡ Status.HubFault → Rose (H.faults hub.old) (H.faults hub.new) }
+    ensures hub_fault { result ≡ Status.HubFault → FailsOnHub (command_in (map string_bytes words.now)) (H.faults hub.old) (H.faults hub.new) (M.faults many.old) (M.faults many.new) }
     ensures read_fault { result ≡ Status.ReadFault → Rose (F.read_faults files.old) (F.read_faults files.new) }
     ensures write_fault { result ≡ Status.WriteFault → Rose (O.faults out.old) (O.faults out.new) ⊎ Rose (F.write_faults files.old) (F.write_faults files.new) }
 
@@ -56,7 +70,7 @@ pub fn run<O: Sink, E: Sink, L: Link, H: Hub, P: Spawner, F: Files, B: Bench>(
     ensures line { ¬ Rose (E.faults err.old) (E.faults err.new) → Grows (E.taken err.old) (line_of result) (E.taken err.new) }
 {
     let status = match command_of(alloc, words) {
-        Ok(command) => run_command(alloc, command, out, link, hub, spawner, files, bench),
+        Ok(command) => run_command(alloc, command, out, link, hub, many, spawner, files, bench),
         Err(WordFault::Usage(kind)) => Status::Usage { kind },
         Err(WordFault::OutOfMemory) => Status::OutOfMemory,
     };
@@ -65,17 +79,19 @@ pub fn run<O: Sink, E: Sink, L: Link, H: Hub, P: Spawner, F: Files, B: Bench>(
 }
 
 // Does what a command asks.
-fn run_command<O: Sink, L: Link, H: Hub, P: Spawner, F: Files, B: Bench>(
+fn run_command<O: Sink, L: Link, H: Hub, M: ManyHub, P: Spawner, F: Files, B: Bench>(
     alloc: Global,
     command: ToolCommand,
     out: &mut O,
     link: &mut L,
     hub: &mut H,
+    many: &mut M,
     spawner: &mut P,
     files: &mut F,
     bench: &mut B,
 ) -> Status
-    requires { IsWithinLimits command }
+    requires limits { IsWithinLimits command }
+    requires room { HasRoom (Ok command) (M.devices many.old) }
     ensures runs { RunsCommand command
         (record { link = L.calls link.old; hub = H.calls hub.old; spawner = P.calls spawner.old; files = F.calls files.old; out = O.taken out.old; bench = B.runs bench.old; link_made = L.made link.old; hub_made = H.made hub.old; out_made = O.made out.old })
         (record { link = L.calls link.new; hub = H.calls hub.new; spawner = P.calls spawner.new; files = F.calls files.new; out = O.taken out.new; bench = B.runs bench.new; link_made = L.made link.new; hub_made = H.made hub.new; out_made = O.made out.new })
@@ -83,9 +99,11 @@ fn run_command<O: Sink, L: Link, H: Hub, P: Spawner, F: Files, B: Bench>(
     ensures apart { CommandLeavesAlone command
         (record { link = link.old; hub = hub.old; spawner = spawner.old; files = files.old; out = out.old; bench = bench.old })
         (record { link = link.new; hub = hub.new; spawner = spawner.new; files = files.new; out = out.new; bench = bench.new }) }
+    ensures several { ServesIfSeveral (Ok command) (M.calls many.old) (P.calls spawner.old) result (M.calls many.new) (M.made many.new) (P.calls spawner.new) }
+    ensures several_apart { LeavesSeveralAlone (Ok command) many.old many.new }
     ensures link_fault { result ≡ Status.LinkFault → CommandFailsOnLink command L.faults L.open_faults link.old link.new }
     ensures start_fault { result ≡ Status.StartFault → Rose (P.faults spawner.old) (P.faults spawner.new) }
-    ensures hub_fault { result ≡ Status.HubFault → Rose (H.faults hub.old) (H.faults hub.new) }
+    ensures hub_fault { result ≡ Status.HubFault → FailsOnHub (Ok command) (H.faults hub.old) (H.faults hub.new) (M.faults many.old) (M.faults many.new) }
     ensures read_fault { result ≡ Status.ReadFault → Rose (F.read_faults files.old) (F.read_faults files.new) }
     ensures write_fault { result ≡ Status.WriteFault → Rose (O.faults out.old) (O.faults out.new) ⊎ Rose (F.write_faults files.old) (F.write_faults files.new) }
 {
@@ -99,8 +117,9 @@ fn run_command<O: Sink, L: Link, H: Hub, P: Spawner, F: Files, B: Bench>(
         }
         ToolCommand::Proxy(_) => run_command_of_proxy(alloc, command, hub, spawner),
         ToolCommand::Proxies(task) => {
+            let status = proxy_modems(alloc, &task, many, spawner);
             drop(task);
-            other_tool()
+            status
         }
         ToolCommand::Simulator { .. } => {
             run_command_of_simulator(alloc, command, hub, spawner, files)

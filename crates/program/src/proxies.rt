@@ -72,7 +72,7 @@ fn run_command_of_proxies<M: ManyHub, P: Spawner>(
 
 // Serves several devices to the clients of a socket as the words of a proxy want it, over a bridge
 // each where they are nodes.
-fn proxy_modems<M: ManyHub, P: Spawner>(
+pub fn proxy_modems<M: ManyHub, P: Spawner>(
     alloc: Global,
     task: &ProxiesTask,
     many: &mut M,

@@ -1,12 +1,14 @@
 use crate::tool::ToolRow;
-use call_rows::link_of;
+use call_rows::{HubCalls, link_of};
 use child_io::MemSpawner;
 use core_bench::MemBench;
 use file_io::MemFiles;
 use hub_io::{Hub, MemHub};
 use kit_io::{MemSink, Sink};
 use link_io::{Link, MemLink};
-use program::{Status, refuse, run, run_proxy, run_pump, run_rig, run_simulator, run_tool};
+use program::{
+    Status, device_count, refuse, run, run_proxy, run_pump, run_rig, run_simulator, run_tool,
+};
 use std::alloc::{AllocError, Global};
 
 /// What a run of the program left behind.
@@ -17,6 +19,8 @@ pub struct Ran {
     pub err: MemSink,
     pub link: MemLink,
     pub hub: MemHub,
+    // in the place of the hub that the words have no use for
+    spare: MemHub,
     pub kids: MemSpawner,
     pub files: MemFiles,
 }
@@ -46,6 +50,7 @@ fn outside_of(alloc: Global, row: &ToolRow<'_>, whole: bool) -> Result<Ran, Allo
     let err = MemSink::new(alloc, Vec::from_slice(alloc, &row.err_sink)?, 1_000)?;
     let link = link_of(alloc, &row.calls, whole)?;
     let hub = row.hub.hub(alloc)?;
+    let spare = HubCalls::none(alloc).hub(alloc)?;
     let kids = row.kids.spawner(alloc)?;
     let files = row.files.files(alloc)?;
     Ok(Ran {
@@ -54,6 +59,7 @@ fn outside_of(alloc: Global, row: &ToolRow<'_>, whole: bool) -> Result<Ran, Allo
         err,
         link,
         hub,
+        spare,
         kids,
         files,
     })
@@ -66,14 +72,21 @@ impl Ran {
         used.saturating_add(self.out.made())
     }
 
+    // (A row's hub of several devices has room for one.)
     fn run(&mut self, alloc: Global, words: &[String], bench: &mut MemBench) -> Status {
+        match device_count(alloc, words) {
+            Ok(1) => {}
+            _ => return Status::OutOfMemory,
+        }
+        let (hub, many) = hubs(words, &mut self.hub, &mut self.spare);
         run(
             alloc,
             words,
             &mut self.out,
             &mut self.err,
             &mut self.link,
-            &mut self.hub,
+            hub,
+            many,
             &mut self.kids,
             &mut self.files,
             bench,
@@ -91,7 +104,19 @@ impl Ran {
             Some("modem-sim") => run_simulator(alloc, words, err, hub, kids, files),
             Some("pump") => run_pump(alloc, words, err, link, files),
             Some("rig") => run_rig(alloc, words, out, err, bench),
-            _ => run(alloc, words, out, err, link, hub, kids, files, bench),
+            _ => self.run(alloc, words, bench),
         }
+    }
+}
+
+// The hub of one device, and that of several: the row's is the one that its words have a use for.
+fn hubs<'a>(
+    words: &[String],
+    told: &'a mut MemHub,
+    spare: &'a mut MemHub,
+) -> (&'a mut MemHub, &'a mut MemHub) {
+    match words.first().map(|word| word.as_str()) {
+        Some("qmi-proxies") => (spare, told),
+        _ => (told, spare),
     }
 }
