@@ -1,4 +1,5 @@
 """What hostile peers cost a proxy and those beside it. `hostile.sh` starts it."""
+import hashlib
 import os
 import socket
 import struct
@@ -297,6 +298,13 @@ def structures_in_turn(entries=4090, structures=91, cids=85):
     return struct.pack("<I", entries) + b"".join(struct.pack("<II", at, len(one)) for at in places) + one * structures
 
 
+def longest_list(services=1920):
+    """As many services as a simulated modem takes, in no order, with a CID each: the dearest list that it takes."""
+    first, each = 4 + 8 * services, 24
+    structures = b"".join(hashlib.md5(struct.pack("<I", number)).digest() + struct.pack("<II", 1, 1) for number in range(services))
+    return struct.pack("<I", services) + b"".join(struct.pack("<II", first + number * each, each) for number in range(services)) + structures
+
+
 def mbim_client(path, device):
     """An open program, that named the device where it is at a proxy."""
     stream = socket.socket(socket.AF_UNIX)
@@ -333,7 +341,7 @@ def waits(path, device, buffer):
     """How long the sender of a list waits at best, in milliseconds."""
     client, kept, took = mbim_client(path, device), bytearray(), 9e9
     text = fragments(9, BASIC_CONNECT, 19, buffer)
-    for _ in range(3):
+    for _ in range(20):
         began = time.perf_counter()
         client.sendall(text)
         take_done(client, kept)
@@ -377,10 +385,12 @@ def dear_lists():
     proxy = Proxy(modem_path, "mbim")
     lists = [*(shared_list(share=share) for share in (0.02, 0.1, 0.5, 0.9)), structures_in_turn()]
     beside = max(waits_beside(proxy.path, modem_path, buffer) for buffer in lists)
-    for name, path, device, told in (("the MBIM proxy", proxy.path, modem_path, f" ({beside:.2f} at most for another program)"), ("a simulated modem", modem_path, "", "")):
-        sender = max(waits(path, device, buffer) for buffer in lists)
-        show(f"the dearest of five lists of subscriptions of 65 KB, at {name}", sender, 1, f"ms{told}")
+    sender = max(waits(proxy.path, modem_path, buffer) for buffer in lists)
+    show("the dearest of five lists of subscriptions of 65 KB, at the MBIM proxy", sender, 1, f"ms ({beside:.2f} at most for another program)")
     proxy.end()
+    # the modem takes the fragments of all programs for those of one
+    show("the dearest of these lists, at a simulated modem", max(waits(modem_path, "", buffer) for buffer in lists), 1, "ms")
+    show("a list of 1,920 services, at a simulated modem", waits(modem_path, "", longest_list()), 1, "ms")
     modem.terminate()
     modem.wait()
 
