@@ -134,7 +134,9 @@ fn allocate<L: Link>(
     ensures later_open { L.open_faults link.old ≤ L.open_faults link.new }
 {
     let body = QmiRequest::Allocate(service);
-    let reply = carry(alloc, link, incoming, &body, 0, 1, number, plan.timeout)?;
+    let reply = carry(alloc, link, incoming, &body, 0, 1, number, plan.timeout);
+    drop(body);
+    let reply = reply?;
     match reply.answer {
         Carried::Message(message) => {
             take_client(alloc, link, incoming, plan, service, &message, number + 1)
@@ -161,8 +163,12 @@ fn take_client<L: Link>(
     ensures later_open { L.open_faults link.old ≤ L.open_faults link.new }
 {
     let body = QmiRequest::Allocate(service);
-    let answer = read_message(alloc, &body, message)?;
-    if let Some(error) = failure(&answer) {
+    let answer = read_message(alloc, &body, message);
+    drop(body);
+    let answer = answer?;
+    let error = failure(&answer);
+    drop(answer);
+    if let Some(error) = error {
         let end = TunnelEnd::Qmi(failed(error));
         return close_with(link, incoming, number, plan.timeout, end);
     }
@@ -293,7 +299,15 @@ fn release<L: Link>(
         control,
         number,
         plan.timeout,
-    )?;
+    );
+    drop(body);
+    let reply = match reply {
+        Ok(reply) => reply,
+        Err(fault) => {
+            drop(answer);
+            return Err(fault);
+        }
+    };
     match reply.answer {
         Carried::Message(_) => {
             close_with(

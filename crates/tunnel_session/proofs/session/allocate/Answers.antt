@@ -15,6 +15,6 @@ returns-in-Message-clause-allocates g c = λ heard stands.
     let replies = c.in_ok-reply.ensures.asks heard stands in
     Carries-goes _ _ _ (λ result message later more. TakesClient c.args.plan.now c.args.service message (c.args.number + 1) later more result) replies c.take_client.result c.in-Message.message c.in-Message.is (rw c.in-Message.message-is at (c.take_client.ensures.takes replies.later replies.says.2))
 
-pub returns-clause-allocates : goal.returns-clause-allocates
-returns-clause-allocates g c = λ heard stands.
+pub returns-in-Refused-clause-allocates : goal.returns-in-Refused-clause-allocates
+returns-in-Refused-clause-allocates g c = λ heard stands.
     Carries-refused _ _ _ (λ result message later more. TakesClient c.args.plan.now c.args.service message (c.args.number + 1) later more result) (c.in_ok-reply.ensures.asks heard stands) _ c.in-Refused.is (ap (λ (e : TunnelEnd). Ok e) c.in-Refused.end-is)

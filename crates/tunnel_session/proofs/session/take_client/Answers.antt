@@ -1,4 +1,4 @@
-use Rattle.std.proofs.Common.{◌≡◌, None, sym, ◌∙◌, rules}
+use Rattle.std.proofs.Common.{◌≡◌, None, sym, ◌∙◌}
 use Rattle.std.proofs.lemmas.Result.{err_from_is_err_and}
 use Rattle.link_session.proofs.Steps.{Makes-map}
 use Rattle.link_session.specs.Marks.{Placed}
@@ -13,17 +13,17 @@ returns-in_err-answer-clause-takes g c = λ heard stands.
 
 pub returns-in-Some-clause-takes : goal.returns-in-Some-clause-takes
 returns-in-Some-clause-takes g c = λ heard stands.
-    let failure = sym c.failure.ensures ∙ c.in-Some.is in
+    let failure = sym c.failure-error.ensures ∙ c.in-Some.is in
     Makes-read c.in_ok-answer.answer c.in_ok-answer.ensures (Makes-map (λ calls closes. OnSuccess-failure c.in_ok-answer.answer _ _ _ failure closes) (rw c.failed.ensures at (c.close_with.ensures.closes heard stands)))
 
 pub returns-clause-takes : goal.returns-clause-takes
 returns-clause-takes g c = λ heard stands.
-    let none : failure_in c.in_ok-answer.answer ≡ None = search rules in
+    let none : failure_in c.in_ok-answer.answer ≡ None = sym c.failure-error.ensures ∙ c.in_default.is in
     Makes-read c.in_ok-answer.answer c.in_ok-answer.ensures
     (Makes-map (λ calls commands. OnSuccess-none c.in_ok-answer.answer _ _ _ _ _ none (c.allocated-id.result, allocated-in c.tlvs_in.ensures c.as_slice.ensures c.allocated-id.ensures, commands)) (c.run_command.ensures.commands heard stands))
 
 pub allocated-id-requires : goal.allocated-id-requires
 allocated-id-requires g c =
-    let none : failure_in c.in_ok-answer.answer ≡ None = search rules in
+    let none : failure_in c.in_ok-answer.answer ≡ None = sym c.failure-error.ensures ∙ c.in_default.is in
     let message : Placed = record { place = c.args.message.now.place; bytes = c.args.message.now.bytes } in
     rw (c.tlvs_in.ensures, c.as_slice.ensures) (allocated-some c.args.service message c.in_ok-answer.answer none c.in_ok-answer.ensures)
