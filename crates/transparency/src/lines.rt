@@ -26,9 +26,24 @@ pub fn transparency_lines<R: RunsTwice, B: Bench>(
     ensures { IfOk result (λ lines. Shown R.trial (map named_view requests.items) lines (B.runs bench.old) (B.runs bench.new)) }
 {
     let profile = Profile::defaults(alloc)?;
+    let lines = lines_at(alloc, bench, &profile, requests);
+    drop(profile);
+    lines
+}
+
+// The lines of requests, each at a modem of this profile.
+fn lines_at<R: RunsTwice, B: Bench>(
+    alloc: Global,
+    bench: &mut B,
+    profile: &Profile,
+    requests: Vec<NamedRequest<R>>,
+) -> Result<Octets, AllocError>
+    requires { profile.now ≡ default_profile }
+    ensures { IfOk result (λ lines. Shown R.trial (map named_view requests.items) lines (B.runs bench.old) (B.runs bench.new)) }
+{
     let mut lines = Octets::new(alloc);
     for named in requests {
-        add_line(alloc, bench, &profile, named, &mut lines)?;
+        add_line(alloc, bench, profile, named, &mut lines)?;
     }
     Ok(lines)
 }

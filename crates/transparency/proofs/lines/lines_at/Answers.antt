@@ -5,7 +5,7 @@ use Rattle.std.proofs.lemmas.List.{map-append}
 use Rattle.transparency.specs.Lines.{Named, Shown, named_view}
 use Rattle.transparency.specs.declared.lines.NamedRequest.{NamedRequest}
 use Rattle.transparency.proofs.InTurn.{goes_on}
-use Rattle.transparency.proofs.lines.transparency_lines.Goals as goal
+use Rattle.transparency.proofs.lines.lines_at.Goals as goal
 
 pub returns : goal.returns
 returns g c =
