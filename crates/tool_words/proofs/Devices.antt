@@ -1,5 +1,5 @@
 -- One more text, which is a path or isn't.
-use Rattle.std.proofs.Common.{◌≡◌, ◌∙◌, ◌<◌, ◌≤◌, ◌+◌, ℕ, List, [], ◌∷◌, ◌++◌, Option, Some, None, Err, length, map, option_map, take, take_all, drop, ap, sym, refl, slice_index_or, take-append-drop, arith}
+use Rattle.std.proofs.Common.{◌≡◌, ◌∙◌, ◌<◌, ◌+◌, ℕ, List, [], ◌∷◌, ◌++◌, Option, Some, None, Err, length, map, option_map, take, drop, ap, sym, refl, slice_index_or, take-append-drop, arith}
 use Rattle.std.specs.Prelude.{option_and_then}
 use Rattle.std.proofs.lemmas.List.{drop_more, map-append, take_more}
 use Rattle.tool_words.specs.Paths.{devices_in, if_devices, paths_in}

@@ -22,7 +22,7 @@ use Rattle.tool_words.specs.Proxies.{proxies_asked, proxies_if_given, proxies_va
 use Rattle.tool_words.specs.Proxy.{proxy_asked, proxy_spelling, proxy_values, settings_in}
 use Rattle.tool_words.specs.Pump.{pump_asked, pump_if_named, pump_values, reads_named}
 use Rattle.tool_words.specs.QmiCommands.{makes_messages, qmi_asks, qmi_line, qmi_spelling, takes_tables}
-use Rattle.tool_words.specs.Qmicli.{asked_for, asked_with, described, fits_tables, form_given, modem_kind, qmi_asked, qmi_setting_spelling, qmicli_asked, qmicli_values, reference_in, requested, sent_to, submitted}
+use Rattle.tool_words.specs.Qmicli.{asked_for, asked_with, described, fits_tables, follow_in, form_given, modem_kind, qmi_asked, qmi_setting_spelling, qmicli_asked, qmicli_values, reference_in, requested, sent_to, submitted}
 use Rattle.tool_words.specs.Reading.{is_refused}
 use Rattle.tool_words.specs.Rig.{IsWithinLimits, clients_in, messages_in, rig_asked, rig_spelling, rig_values, transparency_values}
 use Rattle.tool_words.specs.Simulator.{simulator_asked, simulator_values}
@@ -165,7 +165,8 @@ requested-fits link cid file rows =
     Fits-each _ file (λ given _.
     Fits-each _ (path_in given) (λ tables _.
     Fits-each _ (value_given qmi_setting_spelling rows setting.Request) (λ called _.
-    Fits-each _ (short_in called) (λ message _. tt))))))
+    Fits-each _ (short_in called) (λ message _.
+    Fits-each _ (follow_in (is_given qmi_setting_spelling rows setting.Follow) (value_given qmi_setting_spelling rows setting.Turns)) (λ follow _. tt)))))))
 
 qmi_asked-fits : (link : LinkSettings) (cid : Option ℕ) (form : AnswerForm) (command : QmiCommand) (rows : List Row) → Fits (qmi_asked link cid form command rows)
 unfolding qmi_asked

@@ -1,5 +1,5 @@
 -- The words of qmicli.
-use Rattle.std.specs.Prelude.{ℕ, List, [], ◌∷◌, Option, Some, None, Bool, not, Result, chars, codes, if◌then◌else◌, option_and_then, unwrap_or}
+use Rattle.std.specs.Prelude.{ℕ, List, [], ◌∷◌, Option, Some, None, Bool, true, false, not, Result, option_map, chars, codes, if◌then◌else◌, option_and_then, unwrap_or}
 use Rattle.clap.specs.Simple.{App}
 use Rattle.clap.specs.Walk.{Row}
 use Rattle.kit_bytes.specs.declared.Kind.{Kind}
@@ -11,7 +11,7 @@ use Rattle.tool_words.specs.Link.{device_in, link_in}
 use Rattle.tool_words.specs.ModemTools.{modem_tool, modem_tool_asked}
 use Rattle.tool_words.specs.QmiCommands.{makes_messages, names_a_message, qmi_asks, qmi_commands, qmi_line, qmi_spelling, reads_messages, takes_tables}
 use Rattle.tool_words.specs.Spelling.{Spelling, flag, valued}
-use Rattle.tool_words.specs.Values.{◌>>=◌, flag_of, number_8_in, number_within, optional, path_in, short_in, split_at}
+use Rattle.tool_words.specs.Values.{◌>>=◌, flag_of, number_8_in, number_within, optional, path_in, short_in, split_at, turns_in}
 use Rattle.tool_words.specs.declared.command.ToolCommand.{ToolCommand}
 use Rattle.tool_words.specs.declared.command.ToolCommand.TheVariants.{Describe, PduSubmit, Qmicli, Request}
 use Rattle.tool_words.specs.declared.fault.UsageKind.{UsageKind}
@@ -23,7 +23,7 @@ use Rattle.tool_words.specs.declared.qmicli.QmiSetting.TheVariants as setting
 
 -- ---- its options ----
 
--- --device-open-mbim, --client-cid N, --client-no-release-cid, --decode-sms, --json, --reference N, --request NAME and --input JSON, beside those of the link
+-- --device-open-mbim, --client-cid N, --client-no-release-cid, --decode-sms, --json, --reference N, --request NAME, --input JSON, --follow and --turns N, beside those of the link
 abbrev pub qmi_setting_spelling : QmiSetting → Spelling
 qmi_setting_spelling setting.DeviceOpenMbim = flag (codes "device-open-mbim")
 qmi_setting_spelling setting.ClientCid = valued (codes "client-cid")
@@ -33,11 +33,13 @@ qmi_setting_spelling setting.Json = flag (codes "json")
 qmi_setting_spelling setting.Reference = valued (codes "reference")
 qmi_setting_spelling setting.Request = valued (codes "request")
 qmi_setting_spelling setting.Input = valued (codes "input")
+qmi_setting_spelling setting.Follow = flag (codes "follow")
+qmi_setting_spelling setting.Turns = valued (codes "turns")
 
 unfoldable pub qmi_settings : List QmiSetting
 qmi_settings =
     setting.DeviceOpenMbim ∷ setting.ClientCid ∷ setting.ClientNoReleaseCid ∷ setting.DecodeSms ∷ setting.Json ∷ setting.Reference
-    ∷ setting.Request ∷ setting.Input ∷ []
+    ∷ setting.Request ∷ setting.Input ∷ setting.Follow ∷ setting.Turns ∷ []
 
 unfoldable pub qmicli_app : App
 qmicli_app = modem_tool (codes "qmicli") qmi_setting_spelling qmi_settings qmi_spelling qmi_commands
@@ -52,6 +54,12 @@ described file name = do
   message ← optional short_in name
   Some (Describe path message)
 
+-- for how many turns is followed, which only a command says that follows
+unfoldable pub follow_in : (follows : Bool) → Option (List ℕ) → Option (Option ℕ)
+follow_in true text = option_map Some (turns_in text)
+follow_in false (Some text) = None
+follow_in false None = Some None
+
 -- the message of a name is sent by a file's tables; it has no values where none are given
 unfoldable pub requested : LinkSettings → Option ℕ → (file : Option (List ℕ)) → List Row → Option ToolCommand
 requested link cid file rows = do
@@ -61,6 +69,7 @@ requested link cid file rows = do
   tables ← path_in given
   called ← value_given qmi_setting_spelling rows setting.Request
   message ← short_in called
+  follow ← follow_in (is_given qmi_setting_spelling rows setting.Follow) (value_given qmi_setting_spelling rows setting.Turns)
   Some (Request (record {
     device = device;
     link = link;
@@ -70,6 +79,7 @@ requested link cid file rows = do
     message = message;
     input = chars (unwrap_or (value_given qmi_setting_spelling rows setting.Input) (codes "{}"));
     json = is_given qmi_setting_spelling rows setting.Json;
+    follow = follow;
   }))
 
 -- the messages are made that carry a text to a number, if any are
@@ -108,11 +118,13 @@ form_given command rows = do
   json ← flag_of (is_given qmi_setting_spelling rows setting.Json) (qmi_asks command)
   form_of decode json
 
--- a message is named and has values beside a command that takes them; a request by tables isn't carried inside an MBIM modem
+-- a message is named, has values and is followed beside a command that takes them; a request by tables isn't carried inside an MBIM modem
 unfoldable pub fits_tables : QmiCommand → List Row → Option Bool
 fits_tables command rows = do
   named ← flag_of (is_given qmi_setting_spelling rows setting.Request) (names_a_message command)
   given ← flag_of (is_given qmi_setting_spelling rows setting.Input) (takes_tables command)
+  follows ← flag_of (is_given qmi_setting_spelling rows setting.Follow) (takes_tables command)
+  turns ← flag_of (is_given qmi_setting_spelling rows setting.Turns) (takes_tables command)
   flag_of (is_given qmi_setting_spelling rows setting.DeviceOpenMbim) (not (takes_tables command))
 
 -- the same, with the settings that only some commands have

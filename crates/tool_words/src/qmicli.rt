@@ -2,7 +2,7 @@ ghost use Rattle.std.specs.Prelude.{◌≡◌, IfOk, option_map};
 ghost use Rattle.clap.specs.Words.{app_of, found_of, rows_of};
 ghost use Rattle.tool_words.specs.Answers.{Answers};
 ghost use Rattle.tool_words.specs.QmiCommands.{qmi_asks};
-ghost use Rattle.tool_words.specs.Qmicli.{asked_for, asked_with, described, fits_tables, form_given, modem_kind, qmi_asked, qmi_setting_spelling, qmi_settings, qmicli_app, qmicli_asked, qmicli_values, reference_in, requested, submitted};
+ghost use Rattle.tool_words.specs.Qmicli.{asked_for, asked_with, described, fits_tables, follow_in, form_given, modem_kind, qmi_asked, qmi_setting_spelling, qmi_settings, qmicli_app, qmicli_asked, qmicli_values, reference_in, requested, submitted};
 ghost use Rattle.tool_words.specs.Values.{Gives, number_within, optional};
 
 use crate::form::{AnswerForm, form_of};
@@ -16,6 +16,7 @@ use crate::qmi_commands::{
 };
 use crate::values::{
     at_comma, flag_of, number_8, number_within, or_fault, path, short, short_if_given, text_of,
+    turns,
 };
 use crate::{ToolCommand, UsageKind, WordFault};
 use clap::{ArgMatches, Command};
@@ -56,6 +57,8 @@ pub struct RequestTask {
     pub input: Text,
     /// Whether the answer is printed as one JSON object, on a line.
     pub json: bool,
+    /// For how many turns the indications are followed behind the answer, if they are.
+    pub follow: Option<u64>,
 }
 
 /// An option of `qmicli` that says how its command is run, beside those of the link.
@@ -69,9 +72,11 @@ pub enum QmiSetting {
     Reference,
     Request,
     Input,
+    Follow,
+    Turns,
 }
 
-static QMI_SETTINGS: [QmiSetting; 8] = [
+static QMI_SETTINGS: [QmiSetting; 10] = [
     QmiSetting::DeviceOpenMbim,
     QmiSetting::ClientCid,
     QmiSetting::ClientNoReleaseCid,
@@ -80,6 +85,8 @@ static QMI_SETTINGS: [QmiSetting; 8] = [
     QmiSetting::Reference,
     QmiSetting::Request,
     QmiSetting::Input,
+    QmiSetting::Follow,
+    QmiSetting::Turns,
 ];
 
 impl ToolOption for QmiSetting {
@@ -95,6 +102,8 @@ impl ToolOption for QmiSetting {
             QmiSetting::Reference => valued("reference"),
             QmiSetting::Request => valued("request"),
             QmiSetting::Input => valued("input"),
+            QmiSetting::Follow => flag("follow"),
+            QmiSetting::Turns => valued("turns"),
         }
     }
 }
@@ -155,6 +164,10 @@ fn requesting(
     let input = text_of(alloc, input)?;
     let keep = is_given(matches, QmiSetting::ClientNoReleaseCid);
     let json = is_given(matches, QmiSetting::Json);
+    let follow = follow_in(
+        is_given(matches, QmiSetting::Follow),
+        value_given(matches, QmiSetting::Turns),
+    )?;
     Ok(ToolCommand::Request(RequestTask {
         device,
         link,
@@ -164,7 +177,23 @@ fn requesting(
         message,
         input,
         json,
+        follow,
     }))
+}
+
+// For how many turns is followed, which only a command says that follows.
+#[tactic(auto, unfolding(crate::specs::Qmicli::follow_in))]
+fn follow_in(follows: bool, text: Option<&str>) -> Result<Option<u64>, WordFault>
+    ensures { Gives (follow_in follows (option_map (λ t. t.now) text.entry)) result }
+{
+    if follows {
+        Ok(Some(turns(text)?))
+    } else {
+        match text {
+            Some(_) => Err(WordFault::Usage(UsageKind::Value)),
+            None => Ok(None),
+        }
+    }
 }
 
 #[tactic(auto, unfolding(crate::specs::Qmicli::submitted))]
@@ -267,6 +296,10 @@ fn fits_tables(command: QmiCommand, matches: &ArgMatches<'_>) -> Result<bool, Wo
     flag_of(named, names_a_message(command))?;
     let given = is_given(matches, QmiSetting::Input);
     flag_of(given, takes_tables(command))?;
+    let follows = is_given(matches, QmiSetting::Follow);
+    flag_of(follows, takes_tables(command))?;
+    let turns = is_given(matches, QmiSetting::Turns);
+    flag_of(turns, takes_tables(command))?;
     let carried = is_given(matches, QmiSetting::DeviceOpenMbim);
     flag_of(carried, !takes_tables(command))
 }
