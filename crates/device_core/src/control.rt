@@ -34,7 +34,9 @@ pub(crate) fn open_proxy<L: Link>(
     ensures later_open { L.open_faults link.old ≤ L.open_faults link.new }
 {
     let body = QmiRequest::ProxyOpen(device.copy(alloc)?);
-    ask(alloc, link, incoming, &body, 0, 1, timeout)
+    let reply = ask(alloc, link, incoming, &body, 0, 1, timeout);
+    drop(body);
+    reply
 }
 
 /// Asks for a client id of a service.
@@ -54,7 +56,9 @@ pub(crate) fn allocate<L: Link>(
     ensures later_open { L.open_faults link.old ≤ L.open_faults link.new }
 {
     let body = QmiRequest::Allocate(service);
-    ask(alloc, link, incoming, &body, 0, number, timeout)
+    let reply = ask(alloc, link, incoming, &body, 0, number, timeout);
+    drop(body);
+    reply
 }
 
 /// Gives a client id of a service back. What the answer says isn't read.
@@ -75,5 +79,7 @@ pub(crate) fn release<L: Link>(
     ensures later_open { L.open_faults link.old ≤ L.open_faults link.new }
 {
     let body = QmiRequest::Release(service, client);
-    exchange(alloc, link, incoming, &body, 0, number, timeout)
+    let found = exchange(alloc, link, incoming, &body, 0, number, timeout);
+    drop(body);
+    found
 }

@@ -75,7 +75,9 @@ pub fn configure<L: Link>(
     ensures later_open { L.open_faults link.old ≤ L.open_faults link.new }
 {
     let configuration = MbimRequest::ProxyConfiguration(device.copy(alloc)?);
-    ask(alloc, link, incoming, &configuration, 1, timeout)
+    let reply = ask(alloc, link, incoming, &configuration, 1, timeout);
+    drop(configuration);
+    reply
 }
 
 /// Goes on once the link leads to the modem: opens it. The next request has this number.

@@ -35,7 +35,9 @@ pub(crate) fn ask_control<L: Link>(
     ensures later { L.faults link.old ≤ L.faults link.new }
     ensures later_open { L.open_faults link.old ≤ L.open_faults link.new }
 {
-    ask(alloc, link, incoming, &body, 0, number, timeout)
+    let reply = ask(alloc, link, incoming, &body, 0, number, timeout);
+    drop(body);
+    reply
 }
 
 /// Gives a client id of a service back. What the answer says isn't read.
@@ -55,5 +57,7 @@ pub(crate) fn release<L: Link>(
     ensures later_open { L.open_faults link.old ≤ L.open_faults link.new }
 {
     let body = QmiRequest::Release(service, client.id);
-    exchange(alloc, link, incoming, &body, 0, client.next, timeout)
+    let found = exchange(alloc, link, incoming, &body, 0, client.next, timeout);
+    drop(body);
+    found
 }

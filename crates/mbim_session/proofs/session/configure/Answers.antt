@@ -8,4 +8,4 @@ returns-in_err-copy-clause-asks g c = λ heard stands.
     let p = err_from_is_err_and c.from_residual.result c.from_residual.ensures.1 in rw (p.1, p.2) (RepliesTo-fails (AsksFor-unmade _ KeepsNothing _ _ _))
 
 pub returns-clause-asks : goal.returns-clause-asks
-returns-clause-asks g c = λ heard stands. rw c.in_ok-copy.ensures at (c.ask.ensures.asks heard stands)
+returns-clause-asks g c = λ heard stands. rw c.in_ok-copy.ensures at (c.ask-reply.ensures.asks heard stands)
