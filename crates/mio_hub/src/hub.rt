@@ -30,9 +30,10 @@ use std::rt::Clock;
 /// A device behind a bridge is away from the loss of a pump on. Its reopening fails, and closes what
 /// is left of the line to its pumps.
 ///
-/// A client that sent fewer than 8 bytes, which are no message, is read again some 2 ms later, and 16
-/// bytes at a time, each some 2 ms behind the last, until a reading finds all that there was. So one
-/// that sends byte by byte costs the others little time.
+/// A client that twice in turn sent fewer than 6 bytes, which are no head of a message, is read again
+/// some 2 ms later, and 16 bytes of it. Behind those that were cheap to read, since they were sent at
+/// once, 64 are read at once, and so on, until a reading finds all that there was; behind others, 16
+/// are, some 2 ms later. So one that sends byte by byte costs the others little time.
 ///
 /// What `send_modem` took is written at the last of the events that one wait found. A modem that is
 /// lost before then is told by `next`.

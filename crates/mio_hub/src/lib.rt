@@ -5,6 +5,7 @@ mod hub;
 mod line;
 mod many;
 mod modem;
+mod pace;
 mod peer;
 mod resting;
 mod sockets;

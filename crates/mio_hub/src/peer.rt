@@ -2,18 +2,16 @@
 ghost use Rattle.std.specs.Prelude.{◌≡◌, ◌<◌, ◌≤◌, length, IfOk};
 ghost use Rattle.mio_hub.specs.Reading.{GaveFits};
 
+use crate::pace::{Pace, is_dear};
 use mio::event::Event;
 use mio::net::UnixStream;
 use mio::{Interest, Registry, Token};
 use std::io::{self, ErrorKind, Read, Write};
+use std::rt::Clock;
+use std::time::Instant;
 
 /// How often a writing is tried that signals interrupt.
 const ATTEMPTS: u32 = 16;
-
-/// How much of a client that sent few bytes at a time is read at once. The system takes up to a
-/// microsecond for each byte that was sent by itself, so that a longer reading keeps the others
-/// waiting.
-const SLICE: usize = 16;
 
 /// What a reading gave.
 #[derive(Clone, Copy)]
@@ -40,8 +38,7 @@ pub(crate) struct Peer {
     token: Token,
     /// The last writing took nothing, and no room was found since.
     is_full: bool,
-    /// It sent few bytes at a time, and no reading since found all that there was.
-    is_slow: bool,
+    pub(crate) pace: Pace,
 }
 
 fn both_ways() -> Interest {
@@ -64,17 +61,12 @@ impl Peer {
             stream,
             token,
             is_full: false,
-            is_slow: false,
+            pace: Pace::free(),
         })
     }
 
     pub(crate) fn is_full(&self) -> bool {
         self.is_full
-    }
-
-    /// It sent few bytes at a time, and may have sent more than was read.
-    pub(crate) fn is_slow(&self) -> bool {
-        self.is_slow
     }
 
     /// Whether an event is about this socket.
@@ -91,15 +83,32 @@ impl Peer {
         finds
     }
 
-    /// Has the registry tell of room alone, and what comes be read in slices.
+    /// Has the registry tell of room alone.
     pub(crate) fn rest(&mut self, registry: &Registry) {
-        self.is_slow = true;
         let _ = registry.reregister(&mut self.stream, self.token, Interest::WRITABLE);
     }
 
     /// Has the registry tell of bytes as well again, also of those that came meanwhile.
     pub(crate) fn wake(&mut self, registry: &Registry) {
         let _ = registry.reregister(&mut self.stream, self.token, both_ways());
+    }
+
+    /// Whether the client is to be left alone for a while behind a piece of so many bytes, which was
+    /// begun to be read at that time: where it is the second in turn of few bytes, or a dear slice.
+    pub(crate) fn rests_behind<R: Clock>(
+        &mut self,
+        rt: &R,
+        registry: &Registry,
+        count: usize,
+        began: Option<Instant>,
+    ) -> bool {
+        if !self.pace.is_sliced() {
+            return self.pace.take(count);
+        }
+        let read = Instant::now(rt).ok();
+        self.wake(registry);
+        let asked = Instant::now(rt).ok();
+        self.pace.take_slice(is_dear(began, read, asked))
     }
 
     /// Reads once for an event, if it says that there is something to read.
@@ -116,7 +125,7 @@ impl Peer {
             match self.stream.read(&mut buf[..room]) {
                 Ok(0) => (Gave::End, true),
                 Ok(count) if count < room => {
-                    self.is_slow = false;
+                    self.pace.found_all();
                     (Gave::Bytes(count), !event.is_read_closed())
                 }
                 Ok(count) => {
@@ -141,10 +150,10 @@ impl Peer {
         ensures some { 0 < result }
         ensures fits { result ≤ len }
     {
-        if self.is_slow && !event.is_read_closed() {
-            len.min(SLICE)
-        } else {
+        if event.is_read_closed() {
             len
+        } else {
+            self.pace.room(len)
         }
     }
 

@@ -2,9 +2,6 @@
 use arrayvec::ArrayVec;
 use hub_io::PLACES;
 
-/// A piece of fewer bytes is no message: the shortest ones, of QMUX and of MBIM, have 12.
-pub(crate) const FEW: usize = 8;
-
 /// Behind so many microseconds a client is read again, at the earliest.
 const REST: u64 = 2_000;
 

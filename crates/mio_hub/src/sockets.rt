@@ -9,7 +9,7 @@ ghost use Rattle.many_io.specs.Hub.{IsOfDevice, unnamed_told};
 ghost use Rattle.mio_hub.specs.Ways.{OthersStay, modem_of};
 
 use crate::peer::{Gave, Peer};
-use crate::resting::{FEW, Resting};
+use crate::resting::Resting;
 use crate::ticker::Ticker;
 use crate::tokens::{LISTENER, device_of};
 use crate::ways::{OfModem, Ways, without_waiting};
@@ -333,14 +333,19 @@ impl<'a, R: Net + Clock + Files<File = File>> Sockets<'a, R> {
         if peer.finds_room(&event) {
             return Some(ManyHubEvent::Room(name));
         }
-        let reading = peer.read(self.poll.registry(), &event, buf);
-        let is_slow = peer.is_slow();
+        let began = peer.pace.begin(self.rt);
+        let registry = self.poll.registry();
+        let reading = peer.read(registry, &event, buf);
+        let rests = match reading.gave {
+            Gave::Bytes(count) => peer.rests_behind(self.rt, registry, count, began),
+            Gave::Nothing | Gave::End => false,
+        };
         if reading.is_last {
             self.done();
         }
         match reading.gave {
             Gave::Bytes(count) => {
-                if count < FEW || is_slow {
+                if rests {
                     self.rest(name);
                 }
                 Some(ManyHubEvent::Piece(name, count))
