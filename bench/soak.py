@@ -724,6 +724,8 @@ class Run:
                 next_event = time.monotonic() + self.draw.uniform(4, 12)
         self.hostile = False
         self.kill_tool()
+        # one that has done with its list, or has opened anew, would ask on
+        self.until(lambda: not self.flux and not any(client.busy for client in self.good), "nobody sets a list, or opens the device, any more")
         for client in self.good:
             client.busy = True
         self.until(lambda: not any(client.asked for client in self.good) and all(client.is_quiet() for client in self.good), "each program gets all that it is due", 60)
