@@ -1,4 +1,4 @@
-ghost use Rattle.std.specs.Prelude.{◌≡◌, Err, IfOk};
+ghost use Rattle.std.specs.Prelude.{◌≡◌, ◌≤◌, Err, IfOk};
 ghost use Rattle.std.specs.List.{AllByRecursion};
 ghost use Rattle.std.specs.Str.{encode_utf8_all};
 ghost use Rattle.kit_io.specs.Causes.{Rose};
@@ -23,6 +23,7 @@ pub fn indications_in_file<F: Files>(
     ensures reads { OfFile (λ told. messages_in told.items) told_in (encode_utf8_all path.now) (F.calls files.old) result (F.calls files.new) }
     ensures sound { IfOk result (λ told. AllByRecursion IsSoundMessage (messages_in told.items)) }
     ensures read_fault { result ≡ Err NoRequest.ReadFault → Rose (F.read_faults files.old) (F.read_faults files.new) }
+    ensures later_read { F.read_faults files.old ≤ F.read_faults files.new }
 {
     match read_file(alloc, files, path.value().as_str()) {
         Ok(text) => told_in(alloc, text.as_slice()),
