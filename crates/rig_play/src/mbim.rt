@@ -57,13 +57,18 @@ impl Protocol for MbimClients {
 
     fn modem(alloc: Global) -> Result<MbimSim, AllocError> {
         let profile = Profile::defaults(alloc)?;
-        MbimSim::open(alloc, &profile)
+        let modem = MbimSim::open(alloc, &profile);
+        drop(profile);
+        modem
     }
 
     fn first(alloc: Global) -> Result<Octets, AllocError> {
         let device = Text::from_str(alloc, DEVICE)?;
         let path = PathText::of(device).unwrap();
-        command_message(alloc, &MbimRequest::ProxyConfiguration(path), 1)
+        let configuration = MbimRequest::ProxyConfiguration(path);
+        let message = command_message(alloc, &configuration, 1);
+        drop(configuration);
+        message
     }
 
     fn second(alloc: Global) -> Result<Octets, AllocError> {
@@ -71,7 +76,10 @@ impl Protocol for MbimClients {
     }
 
     fn request(alloc: Global, _conn: u8, choice: u64, number: u16) -> Result<Octets, AllocError> {
-        command_message(alloc, &asked(choice), u32::from(number))
+        let request = asked(choice);
+        let message = command_message(alloc, &request, u32::from(number));
+        drop(request);
+        message
     }
 
     ghost numbered = { from_3 };

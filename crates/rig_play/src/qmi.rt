@@ -59,21 +59,32 @@ impl Protocol for QmiClients {
 
     fn modem(alloc: Global) -> Result<QmiSim, AllocError> {
         let profile = Profile::defaults(alloc)?;
-        QmiSim::open(alloc, &profile)
+        let modem = QmiSim::open(alloc, &profile);
+        drop(profile);
+        modem
     }
 
     fn first(alloc: Global) -> Result<Octets, AllocError> {
         let device = Text::from_str(alloc, DEVICE)?;
         let path = PathText::of(device).unwrap();
-        write(alloc, &QmiRequest::ProxyOpen(path), 0, 1)
+        let open = QmiRequest::ProxyOpen(path);
+        let message = write(alloc, &open, 0, 1);
+        drop(open);
+        message
     }
 
     fn second(alloc: Global) -> Result<Octets, AllocError> {
-        write(alloc, &QmiRequest::Allocate(NAS), 0, 2)
+        let allocate = QmiRequest::Allocate(NAS);
+        let message = write(alloc, &allocate, 0, 2);
+        drop(allocate);
+        message
     }
 
     fn request(alloc: Global, conn: u8, choice: u64, number: u16) -> Result<Octets, AllocError> {
-        write(alloc, &asked(choice), conn, number)
+        let body = asked(choice);
+        let message = write(alloc, &body, conn, number);
+        drop(body);
+        message
     }
 
     ghost numbered = { from_1 };

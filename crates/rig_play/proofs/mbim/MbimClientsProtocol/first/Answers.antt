@@ -11,8 +11,8 @@ use Rattle.rig_play.proofs.mbim.MbimClientsProtocol.first.Goals as goal
 pub returns-clause-message : goal.returns-clause-message
 returns-clause-message c =
     let path : c.unwrap-path.result ≡ device = is_device c.unwrap-path.result (search rules) in
-    subst (λ path. IfOk c.command_message.result (λ message. message ≡ command_message (ProxyConfiguration path) 1)) path c.command_message.ensures
+    subst (λ path. IfOk c.command_message-message.result (λ message. message ≡ command_message (ProxyConfiguration path) 1)) path c.command_message-message.ensures
 
 pub returns-clause-short : goal.returns-clause-short
 returns-clause-short c =
-    IfOk-weaker c.command_message.result (λ message. message ≡ command_message (ProxyConfiguration device) 1) (λ message. length message ≤ 16384) (λ message is. short_as message is short_configuration) (returns-clause-message c)
+    IfOk-weaker c.command_message-message.result (λ message. message ≡ command_message (ProxyConfiguration device) 1) (λ message. length message ≤ 16384) (λ message is. short_as message is short_configuration) (returns-clause-message c)

@@ -7,4 +7,4 @@ use Rattle.rig_play.proofs.mbim.MbimClientsProtocol.request.Goals as goal
 
 pub returns-clause-short : goal.returns-clause-short
 returns-clause-short c =
-    IfOk-weaker c.command_message.result (λ message. message ≡ command_message (asks_for c.args.choice) c.args.number) (λ message. length message ≤ 16384) (λ message is. short_as message is (short_query c.args.choice c.args.number)) (search rules)
+    IfOk-weaker c.command_message-message.result (λ message. message ≡ command_message (asks_for c.args.choice) c.args.number) (λ message. length message ≤ 16384) (λ message is. short_as message is (short_query c.args.choice c.args.number)) (search rules)

@@ -8,4 +8,4 @@ use Rattle.rig_play.proofs.qmi.QmiClientsProtocol.first.Goals as goal
 pub returns-clause-message : goal.returns-clause-message
 returns-clause-message c =
     let path : c.unwrap-path.result ≡ device = is_device c.unwrap-path.result (search rules) in
-    subst (λ path. IfOk c.write.result (λ message. message ≡ says (ProxyOpen path) 0 1)) path c.write.ensures.message
+    subst (λ path. IfOk c.write-message.result (λ message. message ≡ says (ProxyOpen path) 0 1)) path c.write-message.ensures.message
