@@ -20,7 +20,9 @@ pub fn is_qmi_modem<R: Print>(
 
 fn qmi_sim(alloc: Global, rows: &Rows<'_>, row: &Row<'_>) -> Result<QmiSim, RowFault> {
     let profile = profile_of(alloc, rows, row)?;
-    Ok(QmiSim::open(alloc, &profile)?)
+    let sim = QmiSim::open(alloc, &profile);
+    drop(profile);
+    Ok(sim?)
 }
 
 /// Whether a simulated MBIM modem says what a row tells. Tells what differs.
@@ -39,5 +41,7 @@ pub fn is_mbim_modem<R: Print>(
 
 fn mbim_sim(alloc: Global, rows: &Rows<'_>, row: &Row<'_>) -> Result<TunnelSim, RowFault> {
     let profile = profile_of(alloc, rows, row)?;
-    Ok(TunnelSim::open(alloc, &profile)?)
+    let sim = TunnelSim::open(alloc, &profile);
+    drop(profile);
+    Ok(sim?)
 }
