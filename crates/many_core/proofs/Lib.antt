@@ -8,6 +8,7 @@ pub mod Here
 pub mod Waiting
 pub mod Shown
 pub mod Waits
+pub mod Silent
 pub mod Opening
 pub mod Hearing
 pub mod Sitting

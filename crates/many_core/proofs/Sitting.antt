@@ -118,4 +118,4 @@ module _ (x : ManyCore) (some : 0 < length x.paths) (events : List ManyEvent) (S
       let waits : ℕ → Bool = λ c. nat_lt 0 (length (text_for x c events).waiting) in
       ap (option_map (λ at. from + at))
       (first_of_both (has_waiting x.core.cores) waits from x.core.seats
-      (all_weaker (λ (seat : Seat). place_of seat.conn x.core.seats ≡ Some seat.place) (λ (seat : Seat). has_waiting x.core.cores seat ≡ waits seat.conn) (λ seat at. ap (λ (l : List ℕ). nat_lt 0 (length l)) (place_waits seat.conn seat.place at)) x.core.seats (each_stands [] x.core.seats once)))
+      (all_weaker (λ (seat : Seat). place_of seat.conn x.core.seats ≡ Some seat.place) (λ (seat : Seat). has_waiting x.core.cores seat ≡ waits seat.conn) (λ seat at. ap (λ (l : List ℕ). nat_lt 0 (length l)) (ap (queue_at qmi_handlers x.core.cores) (sym at) ∙ queue_is seat.conn seat.place at)) x.core.seats (each_stands [] x.core.seats once)))

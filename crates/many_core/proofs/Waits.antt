@@ -1,12 +1,17 @@
 -- Whether bytes wait for somebody, and who is the first from a place on.
-use Rattle.std.proofs.Common.{◌≡◌, ℕ, zero, suc, ◌+◌, ◌-◌, ◌<◌, ◌≤◌, Bool, true, false, not, nat_lt, ◌==◌, List, [], ◌∷◌, ◌++◌, length, drop, get_or, position, refl, ap, sym, ◌∙◌, subst, arith, Option, Some, None, is_some}
+use Rattle.std.proofs.Common.{◌≡◌, ℕ, zero, suc, ◌+◌, ◌-◌, ◌<◌, ◌≤◌, Bool, true, false, not, nat_lt, ◌==◌, List, [], ◌∷◌, ◌++◌, length, drop, get_or, slice_get, position, refl, ap, sym, ◌∙◌, subst, arith, Option, Some, None, is_some}
 use Rattle.std.proofs.lemmas.Bool.Decides.{nat_tests}
 use Rattle.std.specs.Option.{option_map}
 use Rattle.kit_bytes.proofs.Sorted.{position_is, position_none}
 use Rattle.connections.specs.Table.{Connection, waiting_or}
 use Rattle.outbox.specs.Fronts.{IsFrontOf}
-use Rattle.many_history.specs.Many.{Seat}
-use Rattle.many_seats.specs.Seats.{IsSeat}
+use Rattle.qmi_state.specs.Core.{QmiCore}
+use Rattle.qmi_state.specs.Transitions.{qmi_handlers}
+use Rattle.many_history.specs.Many.{Place, Undecided, At, Seat}
+use Rattle.many_state.specs.Core.{queue_at, queue_under}
+use Rattle.many_seats.specs.Seats.{IsSeat, IsPlaceOf}
+use Rattle.many_core.specs.Core.{is_at, has_waiting}
+use Rattle.many_core.proofs.Inside.{PlacesFit, fits_at}
 
 abbrev pub wait : List ℕ → Bool
 wait bytes = nat_lt 0 (length bytes)
@@ -43,6 +48,51 @@ drop_length : {X : Type 0} (xs : List X) (from : ℕ) → from ≤ length xs →
 drop_length xs zero within = omega arith
 drop_length [] (suc from) within = absurd (omega (arith, within))
 drop_length (x ∷ xs) (suc from) within = omega (arith, drop_length xs from (omega (arith, within)))
+
+-- ---- device by device ----
+
+module _ (cores : List QmiCore) (seats : List Seat) (from : ℕ) where
+  -- of those from the first place up to the second who are at one of the first devices, nobody has anything waiting
+  abbrev pub NoneOfFirst : ℕ → ℕ → Type 0
+  NoneOfFirst devices place = (k : ℕ) (seat : Seat) → from ≤ k → k < place → IsSeat seat seats k → (d : ℕ) → d < devices → is_at d seat.place ≡ true → has_waiting cores seat ≡ false
+
+  pub of_one_more : (device place earlier : ℕ) → earlier ≤ place → NoneOfFirst device place → ((k : ℕ) (seat : Seat) → from ≤ k → k < earlier → IsSeat seat seats k → is_at device seat.place ≡ true → has_waiting cores seat ≡ false) → NoneOfFirst (device + 1) earlier
+  of_one_more device place earlier less none here k seat low high at d within is = by (d == device) refl
+    where
+      by : (b : Bool) → (d == device) ≡ b → has_waiting cores seat ≡ false
+      by true same = here k seat low high at (let this : d ≡ device = grind (arith, nat_tests, same) in subst (λ (n : ℕ). is_at n seat.place ≡ true) this is)
+      by false other = none k seat low (omega (arith, high, less)) at d (let before : d < device = grind (arith, nat_tests, other, within) in before) is
+
+  -- the first so far has something waiting, or there is none
+  pub still_first : (place earlier : ℕ) → earlier ≤ place → (earlier < place → (seat : Seat) → IsSeat seat seats earlier → has_waiting cores seat ≡ true) → (place < length seats → (seat : Seat) → IsSeat seat seats place → has_waiting cores seat ≡ true)
+      → earlier < length seats → (seat : Seat) → IsSeat seat seats earlier → has_waiting cores seat ≡ true
+  still_first place earlier less new old within seat at = by (earlier == place) refl
+    where
+      by : (b : Bool) → (earlier == place) ≡ b → has_waiting cores seat ≡ true
+      by true is =
+          let same : earlier ≡ place = grind (arith, nat_tests, is) in
+          old (omega (arith, same, within)) seat (subst (λ (n : ℕ). IsSeat seat seats n) same at)
+      by false is = new (let before : earlier < place = grind (arith, nat_tests, is, less) in before) seat at
+
+  of_place : (place : Place) → IsPlaceOf (length cores) place → ((d : ℕ) → d < length cores → is_at d place ≡ true → nat_lt 0 (length (queue_at qmi_handlers cores (Some place))) ≡ false) → nat_lt 0 (length (queue_at qmi_handlers cores (Some place))) ≡ false
+  of_place (Undecided bytes) fits none = refl
+  of_place (At d name) fits none = none d fits (grind (arith, nat_tests))
+
+  -- whoever is at none has nothing waiting
+  pub of_all : (place : ℕ) → place ≤ length seats → PlacesFit (length cores) seats → NoneOfFirst (length cores) place → (k : ℕ) (seat : Seat) → from ≤ k → k < place → IsSeat seat seats k → has_waiting cores seat ≡ false
+  of_all place within fit none k seat low high at = of_place seat.place (fits_at (length cores) seats k seat (omega (arith, high, within)) at fit) (λ d less is. none k seat low high at d less is)
+
+-- nobody has anything waiting at a device where nothing waits under any name
+pub silent_at : (cores : List QmiCore) (d : ℕ) (core : QmiCore) → slice_get cores d ≡ Some core → ((name : ℕ) → queue_under qmi_handlers name (Some core) ≡ []) → (seat : Seat) → is_at d seat.place ≡ true → has_waiting cores seat ≡ false
+silent_at cores d core got silent seat is = by seat.place is
+  where
+    by : (place : Place) → is_at d place ≡ true → nat_lt 0 (length (queue_at qmi_handlers cores (Some place))) ≡ false
+    by (Undecided bytes) is = absurd (cc)
+    by (At e name) is =
+        let same : e ≡ d = grind (arith, nat_tests, is) in
+        ap (λ (n : ℕ). wait (queue_under qmi_handlers name (slice_get cores n))) same ∙ ap (λ (o : Option QmiCore). wait (queue_under qmi_handlers name o)) got ∙ ap wait (silent name)
+
+-- ---- the first ----
 
 module _ (f : Seat → Bool) (seats : List Seat) (from : ℕ) where
   -- none of those from the first place up to the second passes

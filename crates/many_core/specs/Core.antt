@@ -1,14 +1,15 @@
 -- What a core of a proxy of several QMI devices keeps, and what it stands for. Lists of events have the newest first.
-use Rattle.std.specs.Prelude.{◌≡◌, ℕ, ◌+◌, ◌≤◌, Bool, nat_lt, List, [], ◌∷◌, ◌++◌, length, drop, position, slice_get, Option, Some, is_some}
+use Rattle.std.specs.Prelude.{◌≡◌, ℕ, ◌+◌, ◌≤◌, Bool, false, ◌==◌, nat_lt, List, [], ◌∷◌, ◌++◌, length, drop, position, slice_get, Option, Some, None, is_some}
 use Rattle.std.specs.Option.{option_map}
 use Rattle.hub_io.specs.declared.settings.Limits.{Limits}
 use Rattle.proxy_history.specs.Modem.{now, is_away}
 use Rattle.proxy_history.specs.History.{history}
 use Rattle.proxy_history.specs.Rendering.{Rendering}
 use Rattle.qmi_state.specs.Core.{QmiCore}
+use Rattle.qmi_state.specs.Transitions.{qmi_handlers}
 use Rattle.many_history.specs.Events.{ManyEvent}
 use Rattle.many_history.specs.Devices.{Devices}
-use Rattle.many_history.specs.Many.{Seat, place_of, own}
+use Rattle.many_history.specs.Many.{Place, Undecided, At, Seat, place_of, own}
 use Rattle.many_history.specs.Queues as queues
 use Rattle.many_state.specs.Core as several
 use Rattle.qmi_many.specs.Devices.{qmi_devices}
@@ -67,12 +68,22 @@ text_for x c events = queues.text_for (devices_of x) c events
 abbrev pub is_owed : ℕ → ManyCore → Bool
 is_owed c x = is_some (place_of c (x.core.seats ++ x.core.dropped))
 
+-- whoever is there is there for its device as well, so of what waits there for those who were dropped nothing is meant
 abbrev pub has_waiting : List QmiCore → Seat → Bool
-has_waiting cores seat = nat_lt 0 (length (several.waiting_at cores (Some seat.place)))
+has_waiting cores seat = nat_lt 0 (length (several.queue_at qmi_handlers cores (Some seat.place)))
 
 -- the place of the first from this place on for which bytes wait
 abbrev pub first_waiting : ℕ → ManyCore → Option ℕ
 first_waiting from x = option_map (λ at. from + at) (position (has_waiting x.core.cores) (drop from x.core.seats))
+
+abbrev pub is_at : ℕ → Place → Bool
+is_at d (Undecided bytes) = false
+is_at d (At e name) = e == d
+
+-- of those who are there for a device, bytes wait for this one at most, where one is named
+abbrev pub NobodyElseWaits : Option ℕ → QmiCore → Type 0
+NobodyElseWaits None core = Unit {0}
+NobodyElseWaits (Some name) core = (other : ℕ) → (other == name) ≡ false → several.queue_under qmi_handlers other (Some core) ≡ []
 
 -- for the modem of a device, as the definitions say
 abbrev pub modem_queue : ManyCore → ℕ → List ManyEvent → List ℕ

@@ -1,5 +1,6 @@
-ghost use Rattle.std.specs.Prelude.{◌≡◌, ◌<◌, ◌≤◌, ◌++◌, ◌==◌, ℕ, List, [], ◌∷◌, false, length, drop, map, position, None, Some, IfOk, IfSome, IsNone, IsTrue};
+ghost use Rattle.std.specs.Prelude.{◌≡◌, ◌<◌, ◌≤◌, ◌++◌, ◌==◌, ◌&&◌, ℕ, List, [], ◌∷◌, false, true, nat_lt, length, drop, map, position, None, Some, IfOk, IfSome, IsNone, IsTrue};
 ghost use Rattle.std.specs.List.{AllByRecursion};
+ghost use Rattle.connections.specs.Table.{first_waiting as first_waiting_in};
 ghost use Rattle.outbox.specs.Fronts.{IsFrontOf};
 ghost use Rattle.proxy_state.specs.Stands as state;
 ghost use Rattle.proxy_solo.specs.Cores.{hung_up};
@@ -10,12 +11,12 @@ ghost use Rattle.qmi_state.specs.Core.{QmiCore as CoreValue};
 ghost use Rattle.many_history.specs.Events.{ManyEvent as HistoryEvent};
 ghost use Rattle.many_history.specs.Events as history;
 ghost use Rattle.many_history.specs.Many.{Seat as ManySeat, place_of, there, ended};
-ghost use Rattle.many_state.specs.Core.{greatest_after, is_there_in, queue_at, queue_under};
+ghost use Rattle.many_state.specs.Core.{greatest_after, has as has_in, is_there_in, queue_at, queue_under};
 ghost use Rattle.many_seats.specs.Seats.{IsSeat, IsPlaceOf, chosen_in, first_conn};
 ghost use Rattle.many_cores.specs.Cores.{IsCore, HasNoFewer, at_place};
 ghost use Rattle.many_cores.specs.Cores.{met as met_one};
 ghost use Rattle.many_io.specs.Events.{event_of};
-ghost use Rattle.many_core.specs.Core.{Stands, StandsAfter, MayMeet, IsBounded, with_cores, met, settled, step, MovesNobody, waiting_for, text_for, is_owed, has_waiting, first_waiting, modem_queue, time_in, time_at, is_away_at};
+ghost use Rattle.many_core.specs.Core.{Stands, StandsAfter, MayMeet, IsBounded, with_cores, met, settled, step, MovesNobody, waiting_for, text_for, is_owed, is_at, has_waiting, first_waiting, NobodyElseWaits, modem_queue, time_in, time_at, is_away_at};
 
 use framing::LONGEST_PIECE;
 use hub_io::{Event, Limits};
@@ -294,7 +295,7 @@ impl ManyCore {
             return &[];
         };
         match self.seats.chosen_at(place) {
-            Some(chosen) => queued_in(self.cores.at(chosen.device), chosen.name),
+            Some(chosen) => queued_in(self.cores.at(chosen.device), chosen.name, place),
             None => &[],
         }
     }
@@ -385,37 +386,108 @@ impl ManyCore {
         ensures within { IfSome result (λ place. (from ≤ place) × (place < length self.now.core.seats)) }
         ensures fits { IfSome result (λ place. place < usize.MAX) }
     {
+        let mut first = self.seats.present();
+        let mut device = 0;
+        while device < self.cores.count() {
+            first = self.first_waiting_at(device, from, first);
+            device += 1;
+        }
+        if first < self.seats.present() {
+            Some(first)
+        } else {
+            None
+        }
+    }
+
+    // The place of the first connection, from this place on and in front of another one, that is at this
+    // device and for which bytes wait; the other place where there is none.
+    fn first_waiting_at(&self, device: usize, from: usize, end: usize) -> usize
+        requires device { device < length self.now.core.cores }
+        requires order { from ≤ end }
+        requires end { end ≤ length self.now.core.seats }
+        ensures within { (from ≤ result) × (result ≤ end) }
+        ensures found { result < end → (seat : ManySeat) → IsSeat seat self.now.core.seats result → has_waiting self.now.core.cores seat ≡ true }
+        ensures others { (place : ℕ) (seat : ManySeat) → from ≤ place → place < result → IsSeat seat self.now.core.seats place → is_at device seat.place ≡ true → has_waiting self.now.core.cores seat ≡ false }
+    {
+        let core = self.cores.at(device);
+        let Some(first) = core.waiting_from(0) else {
+            return end;
+        };
+        let only = only_waiting(core, first);
         let mut place = from;
-        while place < self.seats.present() {
-            if self.has_waiting(place) {
-                return Some(place);
+        while place < end {
+            if self.waits_at(place, device, only) {
+                return place;
             }
             place += 1;
         }
-        None
+        end
     }
 
-    // Whether bytes wait for the connection of this place.
-    fn has_waiting(&self, place: usize) -> bool
-        requires { place < length self.now.core.seats }
-        ensures { (seat : ManySeat) → IsSeat seat self.now.core.seats place → result ≡ has_waiting self.now.core.cores seat }
+    // Whether the connection of this place is at this device, and bytes wait for it. Where a name is
+    // given, they wait for nobody else there.
+    fn waits_at(&self, place: usize, device: usize, only: Option<u64>) -> bool
+        requires place { place < length self.now.core.seats }
+        requires device { device < length self.now.core.cores }
+        requires only { (core : CoreValue) → IsCore core self.now.core.cores device → NobodyElseWaits only core }
+        ensures { (seat : ManySeat) → IsSeat seat self.now.core.seats place → result ≡ (is_at device seat.place && has_waiting self.now.core.cores seat) }
     {
         match self.seats.chosen_at(place) {
-            Some(chosen) => {
-                let core = self.cores.at(chosen.device);
-                !core.queued(chosen.name).is_empty()
+            Some(chosen) if chosen.device == device => {
+                waits(self.cores.at(device), chosen.name, place, only)
             }
-            None => false,
+            _ => false,
         }
     }
 }
 
-// The first of the bytes that wait for one that is there for its device.
-fn queued_in(core: &QmiCore, name: u64) -> &[u8]
+// Where bytes wait for nobody else at a device than for the first of them, its name.
+fn only_waiting(core: &QmiCore, first: usize) -> Option<u64>
+    requires first { Some first ≡ first_waiting_in 0 core.now.state.table.present }
+    requires within { first < length core.now.state.table.present }
+    requires fits { first < usize.MAX }
+    ensures { NobodyElseWaits result core.now }
+{
+    match core.waiting_from(first + 1) {
+        Some(_) => None,
+        None => Some(core.conn_at(first)),
+    }
+}
+
+// Whether bytes wait for one that is there for its device, likely at this place. Where a name is given,
+// they wait for nobody else there.
+fn waits(core: &QmiCore, name: u64, place: usize, only: Option<u64>) -> bool
+    requires { NobodyElseWaits only core.now }
+    ensures { result ≡ nat_lt 0 (length (queue_under qmi_handlers name (Some core.now))) }
+{
+    match only {
+        Some(other) => name == other && !queued_in(core, name, place).is_empty(),
+        None => !queued_in(core, name, place).is_empty(),
+    }
+}
+
+// Whether somebody of this name is there for a device, likely at this place.
+fn has_at(core: &QmiCore, name: u64, place: usize) -> bool
+    ensures { result ≡ has_in name (Some core.now) }
+{
+    if place < core.present() {
+        if name == core.conn_at(place) {
+            return true;
+        }
+    }
+    has(core, name)
+}
+
+// The first of the bytes that wait for one that is there for its device, likely at this place.
+fn queued_in(core: &QmiCore, name: u64, place: usize) -> &[u8]
     ensures { IsFrontOf result.now (queue_under qmi_handlers name (Some core.now)) }
 {
-    if has(core, name) {
-        core.queued(name)
+    let queue = core.queued(name);
+    if queue.is_empty() {
+        return queue;
+    }
+    if has_at(core, name, place) {
+        queue
     } else {
         &[]
     }

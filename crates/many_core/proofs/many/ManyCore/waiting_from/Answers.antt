@@ -1,30 +1,48 @@
-use Rattle.std.proofs.Common.{◌≡◌, ℕ, ◌<◌, ◌≤◌, Bool, true, false, ◌==◌, length, refl, ap, sym, ◌∙◌, subst, arith}
-use Rattle.std.proofs.lemmas.Bool.Decides.{nat_tests}
-use Rattle.many_history.specs.Many.{Seat}
-use Rattle.many_seats.specs.Seats.{IsSeat}
+use Rattle.std.proofs.Common.{◌≡◌, ℕ, ◌<◌, length, sym, ap, ◌∙◌, subst, arith}
 use Rattle.many_seats.proofs.Names.{first_of}
 use Rattle.many_core.specs.Core.{ManyCore, has_waiting}
-use Rattle.many_core.proofs.Waits.{NoneUpTo, first_here, nobody_first, one_further}
+use Rattle.many_core.proofs.Inside.{PlacesFit}
+use Rattle.many_core.proofs.Waits.{NoneOfFirst, NoneUpTo, first_here, nobody_first, still_first, of_one_more, of_all}
 use Rattle.many_core.proofs.many.ManyCore.waiting_from.Goals as goal
 
-pub loop-place-preserved : goal.loop-place-preserved
-loop-place-preserved c =
+pub loop-device-preserved : goal.loop-device-preserved
+loop-device-preserved c =
     let x = c.args.self.now in
+    let l = c.loop-device in
+    let next = c.first_waiting_at-first in
+    let cores : length x.core.cores ≡ c.count.result = sym (c.count.ensures ∙ ap (λ (v : ManyCore). length v.core.cores) c.self.view_is) in
     record {
-      behind = omega (arith, c.loop-place.invariant.behind);
-      within = omega (arith, c.loop-place-test.true, c.present.ensures, ap (λ (v : ManyCore). length v.core.seats) c.self.view_is);
-      none = one_further (has_waiting x.core.cores) x.core.seats c.args.from c.loop-place.place c.loop-place.invariant.none (λ seat at. sym (c.has_waiting.ensures seat at) ∙ c.if-has_waiting.false);
+      devices = omega (arith, c.loop-device-test.true, cores);
+      behind = next.ensures.within.0;
+      within = omega (arith, next.ensures.within.1, l.invariant.within);
+      found = still_first x.core.cores x.core.seats c.args.from l.first next.result next.ensures.within.1 next.ensures.found l.invariant.found;
+      none = of_one_more x.core.cores x.core.seats c.args.from l.device l.first next.result next.ensures.within.1 l.invariant.none next.ensures.others;
     }
 
-pub returns-then-has_waiting-clause-place : goal.returns-then-has_waiting-clause-place
-returns-then-has_waiting-clause-place c =
+pub returns-then-first-present-clause-place : goal.returns-then-first-present-clause-place
+returns-then-first-present-clause-place c =
     let x = c.args.self.now in
-    let place = c.loop-place.place in
-    let within : place < length x.core.seats = omega (arith, c.loop-place-test.true, c.present.ensures, ap (λ (v : ManyCore). length v.core.seats) c.self.view_is) in
-    let found = first_of x.core.seats place within in
-    first_here (has_waiting x.core.cores) x.core.seats c.args.from place found.0 c.loop-place.invariant.behind within c.loop-place.invariant.none found.1 (sym (c.has_waiting.ensures found.0 found.1) ∙ c.if-has_waiting.true)
+    let l = c.loop-device in
+    let within : l.first < length x.core.seats = omega (arith, c.if-first-present.true, c.present.ensures, ap (λ (v : ManyCore). length v.core.seats) c.self.view_is) in
+    let all : l.device ≡ length x.core.cores = omega (arith, c.loop-device-test.false, c.count.ensures, ap (λ (v : ManyCore). length v.core.cores) c.self.view_is, l.invariant.devices) in
+    let fit : PlacesFit (length x.core.cores) x.core.seats =
+    subst (λ (v : ManyCore). PlacesFit (length v.core.cores) v.core.seats) c.self.view_is (subst (λ (n : ℕ). PlacesFit n c.self.inside.seats.seats) (sym c.self.invariant.count) c.self.invariant.places)
+    in
+    let none : NoneUpTo (has_waiting x.core.cores) x.core.seats c.args.from l.first =
+    of_all x.core.cores x.core.seats c.args.from l.first l.invariant.within fit (subst (λ (n : ℕ). NoneOfFirst x.core.cores x.core.seats c.args.from n l.first) all l.invariant.none)
+    in
+    let found = first_of x.core.seats l.first within in
+    first_here (has_waiting x.core.cores) x.core.seats c.args.from l.first found.0 l.invariant.behind within none found.1 (l.invariant.found within found.0 found.1)
 
-pub returns-clause-place : goal.returns-clause-place
-returns-clause-place c =
+pub returns-else-first-present-clause-place : goal.returns-else-first-present-clause-place
+returns-else-first-present-clause-place c =
     let x = c.args.self.now in
-    nobody_first (has_waiting x.core.cores) x.core.seats c.args.from c.loop-place.place c.requires (omega (arith, c.loop-place-test.false, c.present.ensures, ap (λ (v : ManyCore). length v.core.seats) c.self.view_is)) c.loop-place.invariant.none
+    let l = c.loop-device in
+    let all : l.device ≡ length x.core.cores = omega (arith, c.loop-device-test.false, c.count.ensures, ap (λ (v : ManyCore). length v.core.cores) c.self.view_is, l.invariant.devices) in
+    let fit : PlacesFit (length x.core.cores) x.core.seats =
+    subst (λ (v : ManyCore). PlacesFit (length v.core.cores) v.core.seats) c.self.view_is (subst (λ (n : ℕ). PlacesFit n c.self.inside.seats.seats) (sym c.self.invariant.count) c.self.invariant.places)
+    in
+    let none : NoneUpTo (has_waiting x.core.cores) x.core.seats c.args.from l.first =
+    of_all x.core.cores x.core.seats c.args.from l.first l.invariant.within fit (subst (λ (n : ℕ). NoneOfFirst x.core.cores x.core.seats c.args.from n l.first) all l.invariant.none)
+    in
+    nobody_first (has_waiting x.core.cores) x.core.seats c.args.from l.first c.requires (omega (arith, c.if-first-present.false, c.present.ensures, ap (λ (v : ManyCore). length v.core.seats) c.self.view_is)) none
