@@ -27,21 +27,21 @@ pub fn serve_profile<H: Hub>(
     alloc: Global,
     manner: Manner,
     socket: &PathText,
-    profile: Profile,
+    profile: &Profile,
     turns: u64,
     hub: &mut H,
 ) -> SimEnd
-    ensures serves { Since (H.calls hub.old) (H.calls hub.new) (ServesProfile (asked_of manner socket.now turns) profile result) }
+    ensures serves { Since (H.calls hub.old) (H.calls hub.new) (ServesProfile (asked_of manner socket.now turns) profile.now result) }
     ensures own { ¬ (result ≡ SimEnd.ReadFault) }
     ensures never_lost { ¬ (result ≡ SimEnd.Served ServeEnd.Lost) }
     ensures hub_fault { IsHubFault result → Rose (H.faults hub.old) (H.faults hub.new) }
 {
     match manner.kind {
-        Kind::Qmi => match QmiSim::open(alloc, &profile) {
+        Kind::Qmi => match QmiSim::open(alloc, profile) {
             Ok(sim) => serve_by(alloc, Kind::Qmi, manner.rules, socket, sim, turns, hub),
             Err(AllocError) => SimEnd::OutOfMemory,
         },
-        Kind::Mbim => match TunnelSim::open(alloc, &profile) {
+        Kind::Mbim => match TunnelSim::open(alloc, profile) {
             Ok(sim) => serve_by(alloc, Kind::Mbim, manner.rules, socket, sim, turns, hub),
             Err(AllocError) => SimEnd::OutOfMemory,
         },

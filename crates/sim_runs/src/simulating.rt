@@ -86,7 +86,11 @@ fn simulate_default<H: Hub>(
     ensures hub_fault { IsHubFault result → Rose (H.faults hub.old) (H.faults hub.new) }
 {
     match Profile::defaults(alloc) {
-        Ok(profile) => serve_profile(alloc, manner, socket, profile, turns, hub),
+        Ok(profile) => {
+            let end = serve_profile(alloc, manner, socket, &profile, turns, hub);
+            drop(profile);
+            end
+        }
         Err(AllocError) => SimEnd::OutOfMemory,
     }
 }
@@ -106,7 +110,11 @@ fn simulate_text<H: Hub>(
     ensures hub_fault { IsHubFault result → Rose (H.faults hub.old) (H.faults hub.new) }
 {
     match read_profile(alloc, text) {
-        Ok(profile) => serve_profile(alloc, manner, socket, profile, turns, hub),
+        Ok(profile) => {
+            let end = serve_profile(alloc, manner, socket, &profile, turns, hub);
+            drop(profile);
+            end
+        }
         Err(fault) => SimEnd::from(fault),
     }
 }
