@@ -1,3 +1,9 @@
+pub mod Hearing
+pub mod OnBench
+pub mod Texts
+pub mod QmiAlike
+pub mod MbimAlike
+pub mod CarriedAlike
 pub mod InTurn
 pub mod NoValue
 pub mod Equal

@@ -1,3 +1,11 @@
+pub mod Asking
+pub mod Naming
+pub mod Named
+pub mod Relaying
+pub mod Peers
+pub mod Told
+pub mod QmiTwice
+pub mod MbimTwice
 pub mod Trial
 pub mod Qmi
 pub mod Mbim

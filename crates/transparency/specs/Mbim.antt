@@ -7,7 +7,7 @@ use Rattle.modem_profile.specs.Profile.{default_profile}
 use Rattle.relays.specs.MbimLaw as law
 use Rattle.relays.specs.MbimRuns.{direct_run, through_run}
 use Rattle.printed_ends.specs.Mbim.{Prints}
-use Rattle.tools_twice.specs.MbimTwice as twice
+use Rattle.transparency.specs.MbimTwice as twice
 use Rattle.transparency.specs.Trial.{Trial}
 
 -- how it is planned

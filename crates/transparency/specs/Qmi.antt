@@ -8,7 +8,7 @@ use Rattle.relays.specs.QmiLaw as law
 use Rattle.relays.specs.QmiRuns.{direct_run, through_run}
 use Rattle.printed_ends.specs.declared.printed.Printed.{Printed}
 use Rattle.printed_ends.specs.Qmi.{Prints}
-use Rattle.tools_twice.specs.QmiTwice as twice
+use Rattle.transparency.specs.QmiTwice as twice
 use Rattle.relays.specs.TunnelRuns.{tunnel_run}
 use Rattle.printed_ends.specs.Carried as tunnelled
 use Rattle.transparency.specs.Trial.{Trial}

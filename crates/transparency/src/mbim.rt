@@ -1,47 +1,92 @@
-ghost use Rattle.std.specs.Prelude.{◌≡◌, IfOk};
-ghost use Rattle.transparency.specs.Mbim.{plan_of};
+ghost use Rattle.std.specs.Prelude.{◌≡◌, ◌∷◌, List, OnOk, IfOk};
+ghost use Rattle.std.specs.Str.{encode_utf8_all};
+ghost use Rattle.kit_bytes.specs.declared.kind.Kind.TheVariants.{Mbim};
+ghost use Rattle.mbim_frame.specs.Frame.{size_of};
+ghost use Rattle.core_bench.specs.Runs.{Run};
+ghost use Rattle.rig_stage.specs.Running.{AreTold};
+ghost use Rattle.modem_profile.specs.Limits.{IsWithin};
+ghost use Rattle.mbim_session.specs.Peer.{session_at};
+ghost use Rattle.lone_client.specs.Relay.{through};
+ghost use Rattle.relays.specs.MbimLaw.{IsCommand};
+ghost use Rattle.relays.specs.MbimRuns.{simulated_modem, direct_run, through_run};
+ghost use Rattle.printed_ends.specs.Held.{IsHeld};
+ghost use Rattle.transparency.specs.Peers.{at_modem, cast_of};
+ghost use Rattle.printed_ends.specs.Mbim.{Prints};
+ghost use Rattle.transparency.specs.MbimTwice.{run_of};
 
-use crate::runs_twice::{PATIENCE, RunsTwice, device};
-use core_bench::Bench;
-use mbim_requests::MbimRequest;
+use crate::modem::ModemPeer;
+use crate::proxy::ProxyPeer;
+use crate::ranges::plan_in_range;
+use crate::relaying::play;
+use core_bench::{Bench, Cores};
 use mbim_session::MbimPlan;
 use modem_profile::Profile;
-use printed_ends::Twice;
+use printed_ends::{Held, Twice, hold_mbim};
+use sim_mbim::MbimSim;
 use std::alloc::{AllocError, Global};
-use tools_twice::mbim_twice;
 
-// How a request is planned.
-fn plan_of(alloc: Global, request: MbimRequest) -> Result<MbimPlan, AllocError>
-    ensures { IfOk result (λ plan. plan ≡ plan_of request) }
+/// Runs the command of a plan on a simulated modem of this profile itself, and on another one through
+/// the MBIM proxy of the plan's device, where no time passes and the tool is alone. It prints the same.
+///
+/// What the proxy met is run on the bench too. Whether the plan is proxied isn't read.
+pub fn mbim_twice<B: Bench>(
+    alloc: Global,
+    bench: &mut B,
+    profile: &Profile,
+    plan: MbimPlan,
+) -> Result<Twice, AllocError>
+    ensures direct { IfOk result (λ twice. Prints (direct_run profile.now plan).end twice.direct) }
+    ensures through { IfOk result (λ twice. Prints (through_run profile.now plan).end twice.through) }
+    ensures same { IfOk result (λ twice. IsCommand plan.request → twice.direct ≡ twice.through) }
+    ensures runs { OnOk result ((earlier : List Run) → AreTold (B.runs bench.old) earlier → AreTold (B.runs bench.new) (run_of profile.now plan ∷ earlier)) }
 {
-    match device(alloc) {
-        Ok(device) => Ok(MbimPlan {
-            device,
-            proxied: false,
-            close: true,
-            timeout: PATIENCE,
-            request,
-        }),
-        Err(full) => {
-            drop(request);
-            Err(full)
-        }
-    }
+    let mut plan = plan;
+    let twice = run_twice(alloc, bench, profile, &mut plan);
+    drop(plan);
+    twice
 }
 
-impl RunsTwice for MbimRequest {
-    ghost use Rattle.transparency.specs.Mbim.{mbim_trial};
+// By a plan that is lent.
+fn run_twice<B: Bench>(
+    alloc: Global,
+    bench: &mut B,
+    profile: &Profile,
+    plan: &mut MbimPlan,
+) -> Result<Twice, AllocError>
+    ensures direct { IfOk result (λ twice. Prints (direct_run profile.now plan.old).end twice.direct) }
+    ensures through { IfOk result (λ twice. Prints (through_run profile.now plan.old).end twice.through) }
+    ensures same { IfOk result (λ twice. IsCommand plan.old.request → twice.direct ≡ twice.through) }
+    ensures runs { OnOk result ((earlier : List Run) → AreTold (B.runs bench.old) earlier → AreTold (B.runs bench.new) (run_of profile.now plan.old ∷ earlier)) }
+{
+    plan_in_range(plan);
+    plan.proxied = false;
+    let direct = directly(alloc, profile, plan)?;
+    plan.proxied = true;
+    let through = behind_proxy(alloc, profile, plan)?;
+    let device = plan.device.value().as_str();
+    play::<MbimSim, B>(alloc, bench, profile, device, &through.texts)?;
+    Ok(Twice {
+        direct: direct.printed,
+        through: through.printed,
+    })
+}
 
-    ghost trial = { mbim_trial };
+// The session of a plan with a modem of this profile itself.
+fn directly(alloc: Global, profile: &Profile, plan: &MbimPlan) -> Result<Held, AllocError>
+    ensures limits { OnOk result (IsWithin profile.now) }
+    ensures held { IfOk result (IsHeld Prints (session_at (at_modem size_of (simulated_modem profile.now)) plan.now)) }
+{
+    let modem: ModemPeer<MbimSim> = ModemPeer::open(alloc, profile)?;
+    let held = hold_mbim(alloc, modem, plan)?;
+    Ok(held)
+}
 
-    fn run_twice<B: Bench>(
-        self,
-        alloc: Global,
-        bench: &mut B,
-        profile: &Profile,
-    ) -> Result<Twice, AllocError> {
-        let plan = plan_of(alloc, self)?;
-        let twice = mbim_twice(alloc, bench, profile, plan)?;
-        Ok(twice)
-    }
+// The session of a plan with a modem of this profile through the proxy of the plan's device.
+fn behind_proxy(alloc: Global, profile: &Profile, plan: &MbimPlan) -> Result<Held, AllocError>
+    ensures { IfOk result (IsHeld Prints (session_at (through (cast_of Mbim (encode_utf8_all plan.now.device) size_of (simulated_modem profile.now))) plan.now)) }
+{
+    let device = plan.device.value().as_str();
+    let proxy: ProxyPeer<MbimSim, Cores> = ProxyPeer::open(alloc, profile, device, Cores::none())?;
+    let held = hold_mbim(alloc, proxy, plan)?;
+    Ok(held)
 }

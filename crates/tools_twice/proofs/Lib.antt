@@ -1,6 +1,0 @@
-pub mod Hearing
-pub mod OnBench
-pub mod Texts
-pub mod QmiAlike
-pub mod MbimAlike
-pub mod CarriedAlike
