@@ -1,29 +1,37 @@
 ghost use Rattle.std.specs.Prelude.{◌≡◌, ◌≤◌, length};
+ghost use Rattle.std.specs.List.{AllByRecursion};
 ghost use Rattle.kit_io.specs.Causes.{Rose};
 ghost use Rattle.kit_io.specs.Counts.{together};
-ghost use Rattle.message_tables.specs.View.{message_view};
+ghost use Rattle.message_tables.specs.View.{message_view, messages_in};
 ghost use Rattle.message_tables.specs.WellMade.{IsSoundMessage};
 ghost use Rattle.modem_ways.specs.Reaching.{LinkFails};
+ghost use Rattle.modem_ways.specs.Ways.{path_in};
 ghost use Rattle.tool_runs.specs.Tables.{asked_by_tables};
-ghost use Rattle.program.specs.Status.{IsOfTool};
-ghost use Rattle.program.specs.Tables.{AsksByTables, table_plan};
-ghost use Rattle.program.specs.Ways.{Asks, way_to};
+ghost use Rattle.following_runs.specs.Following.{FollowsModem};
+ghost use Rattle.program.specs.Status.{EndsAs, IsOfTool, status_of};
+ghost use Rattle.program.specs.Tables.{AsksByTables, AsksOnce, FollowsByTables, FollowsTold, follow_plan, table_plan};
+ghost use Rattle.program.specs.Ways.{Asks, Follows, way_to};
 
 use crate::status::Status;
-use crate::tool::ask_device;
+use crate::tool::{ask_device, way_to};
 use child_io::Spawner;
 use file_io::Files;
+use following_runs::{follow_modem, indications_in_file};
 use json_requests::Asked;
 use kit_io::Sink;
 use link_io::Link;
+use message_tables::Message;
+use modem_ways::Way;
 use qmux_frame::LONGEST_TLVS;
 use request_session::{RequestPlan, TlvRequest};
 use sms_print::Decoding;
 use std::alloc::Global;
+use table_following::FollowPlan;
 use table_requests::{TablePlan, request_in_file};
-use tool_words::RequestTask;
+use tool_words::{LinkSettings, RequestTask};
 
-// Asks a QMI modem for a message that a file describes, and prints its answer by the same description.
+// Asks a QMI modem for a message that a file describes, and prints its answer by the same description,
+// and, where the words want them, the indications that come behind it.
 pub fn ask_by_tables<O: Sink, L: Link, P: Spawner, F: Files>(
     alloc: Global,
     task: RequestTask,
@@ -33,6 +41,31 @@ pub fn ask_by_tables<O: Sink, L: Link, P: Spawner, F: Files>(
     files: &mut F,
 ) -> Status
     ensures asks { AsksByTables task (F.calls files.old) (F.calls files.new)
+        (record { link = L.calls link.old; spawner = P.calls spawner.old; out = O.taken out.old; made = together (L.made link.old) (O.made out.old) })
+        (record { link = L.calls link.new; spawner = P.calls spawner.new; out = O.taken out.new; made = together (L.made link.new) (O.made out.new) })
+        result }
+    ensures own { IsOfTool result }
+    ensures link_fault { result ≡ Status.LinkFault → LinkFails (way_to task.device task.link) L.faults L.open_faults link.old link.new }
+    ensures start_fault { result ≡ Status.StartFault → Rose (P.faults spawner.old) (P.faults spawner.new) }
+    ensures read_fault { result ≡ Status.ReadFault → Rose (F.read_faults files.old) (F.read_faults files.new) }
+    ensures write_fault { result ≡ Status.WriteFault → Rose (O.faults out.old) (O.faults out.new) }
+{
+    match task.follow {
+        None => ask_once(alloc, task, out, link, spawner, files),
+        Some(turns) => follow_by_tables(alloc, task, turns, out, link, spawner, files),
+    }
+}
+
+// Asks it, and prints its answer alone.
+fn ask_once<O: Sink, L: Link, P: Spawner, F: Files>(
+    alloc: Global,
+    task: RequestTask,
+    out: &mut O,
+    link: &mut L,
+    spawner: &mut P,
+    files: &mut F,
+) -> Status
+    ensures asks { AsksOnce task (F.calls files.old) (F.calls files.new)
         (record { link = L.calls link.old; spawner = P.calls spawner.old; out = O.taken out.old; made = together (L.made link.old) (O.made out.old) })
         (record { link = L.calls link.new; spawner = P.calls spawner.new; out = O.taken out.new; made = together (L.made link.new) (O.made out.new) })
         result }
@@ -72,6 +105,140 @@ fn ask_with<O: Sink, L: Link, P: Spawner>(
     ensures start_fault { result ≡ Status.StartFault → Rose (P.faults spawner.old) (P.faults spawner.new) }
     ensures write_fault { result ≡ Status.WriteFault → Rose (O.faults out.old) (O.faults out.new) }
 {
+    let (settings, plan) = plan_of(task, asked);
+    let (device, decoding) = (&plan.session().device, Decoding::Nothing);
+    let status = ask_device(
+        alloc, device, &settings, &plan, decoding, out, link, spawner,
+    );
+    drop(plan);
+    status
+}
+
+// Reads the indications that the file tells, and follows them behind the answer.
+fn follow_by_tables<O: Sink, L: Link, P: Spawner, F: Files>(
+    alloc: Global,
+    task: RequestTask,
+    turns: u64,
+    out: &mut O,
+    link: &mut L,
+    spawner: &mut P,
+    files: &mut F,
+) -> Status
+    ensures follows { FollowsByTables task turns (F.calls files.old) (F.calls files.new)
+        (record { link = L.calls link.old; spawner = P.calls spawner.old; out = O.taken out.old; made = together (L.made link.old) (O.made out.old) })
+        (record { link = L.calls link.new; spawner = P.calls spawner.new; out = O.taken out.new; made = together (L.made link.new) (O.made out.new) })
+        result }
+    ensures own { IsOfTool result }
+    ensures link_fault { result ≡ Status.LinkFault → LinkFails (way_to task.device task.link) L.faults L.open_faults link.old link.new }
+    ensures start_fault { result ≡ Status.StartFault → Rose (P.faults spawner.old) (P.faults spawner.new) }
+    ensures read_fault { result ≡ Status.ReadFault → Rose (F.read_faults files.old) (F.read_faults files.new) }
+    ensures write_fault { result ≡ Status.WriteFault → Rose (O.faults out.old) (O.faults out.new) }
+{
+    match indications_in_file(alloc, files, &task.tables) {
+        Ok(told) => follow_told(alloc, task, told, turns, out, link, spawner, files),
+        Err(none) => {
+            drop(task);
+            Status::from(none)
+        }
+    }
+}
+
+// Follows the indications that are told behind the answer to the request that the file gives.
+fn follow_told<O: Sink, L: Link, P: Spawner, F: Files>(
+    alloc: Global,
+    task: RequestTask,
+    told: Vec<Message>,
+    turns: u64,
+    out: &mut O,
+    link: &mut L,
+    spawner: &mut P,
+    files: &mut F,
+) -> Status
+    requires { AllByRecursion IsSoundMessage (messages_in told.items) }
+    ensures follows { FollowsTold task told.items turns (F.calls files.old) (F.calls files.new)
+        (record { link = L.calls link.old; spawner = P.calls spawner.old; out = O.taken out.old; made = together (L.made link.old) (O.made out.old) })
+        (record { link = L.calls link.new; spawner = P.calls spawner.new; out = O.taken out.new; made = together (L.made link.new) (O.made out.new) })
+        result }
+    ensures own { IsOfTool result }
+    ensures link_fault { result ≡ Status.LinkFault → LinkFails (way_to task.device task.link) L.faults L.open_faults link.old link.new }
+    ensures start_fault { result ≡ Status.StartFault → Rose (P.faults spawner.old) (P.faults spawner.new) }
+    ensures read_fault { result ≡ Status.ReadFault → Rose (F.read_faults files.old) (F.read_faults files.new) }
+    ensures write_fault { result ≡ Status.WriteFault → Rose (O.faults out.old) (O.faults out.new) }
+{
+    match request_in_file(alloc, files, &task.tables, &task.message, &task.input) {
+        Ok(asked) => follow_with(alloc, task, asked, told, turns, out, link, spawner),
+        Err(none) => {
+            drop((task, told));
+            Status::from(none)
+        }
+    }
+}
+
+// Follows them behind the answer to this request.
+fn follow_with<O: Sink, L: Link, P: Spawner>(
+    alloc: Global,
+    task: RequestTask,
+    asked: Asked,
+    told: Vec<Message>,
+    turns: u64,
+    out: &mut O,
+    link: &mut L,
+    spawner: &mut P,
+) -> Status
+    requires short { length asked.tlvs ≤ LONGEST_TLVS }
+    requires sound { IsSoundMessage (message_view asked.message) }
+    requires told_sound { AllByRecursion IsSoundMessage (messages_in told.items) }
+    ensures follows { Follows (way_to task.device task.link) (follow_plan task asked told.items turns)
+        (record { link = L.calls link.old; spawner = P.calls spawner.old; out = O.taken out.old; made = together (L.made link.old) (O.made out.old) })
+        (record { link = L.calls link.new; spawner = P.calls spawner.new; out = O.taken out.new; made = together (L.made link.new) (O.made out.new) })
+        result }
+    ensures own { IsOfTool result }
+    ensures read_fault { ¬ (result ≡ Status.ReadFault) }
+    ensures link_fault { result ≡ Status.LinkFault → LinkFails (way_to task.device task.link) L.faults L.open_faults link.old link.new }
+    ensures start_fault { result ≡ Status.StartFault → Rose (P.faults spawner.old) (P.faults spawner.new) }
+    ensures write_fault { result ≡ Status.WriteFault → Rose (O.faults out.old) (O.faults out.new) }
+{
+    let Ok(way) = way_to(alloc, &task.device, &task.link) else {
+        drop((task, asked, told));
+        return Status::OutOfMemory;
+    };
+    let (settings, plan) = plan_of(task, asked);
+    drop(settings);
+    let plan = FollowPlan::new(plan, told, turns);
+    let status = follow_on(alloc, &way, &plan, out, link, spawner);
+    drop(plan);
+    status
+}
+
+// Follows them on this way.
+fn follow_on<O: Sink, L: Link, P: Spawner>(
+    alloc: Global,
+    way: &Way,
+    plan: &FollowPlan,
+    out: &mut O,
+    link: &mut L,
+    spawner: &mut P,
+) -> Status
+    ensures follows { EndsAs status_of result (λ ends. FollowsModem (path_in way.now) plan.now
+        (record { link = L.calls link.old; spawner = P.calls spawner.old; out = O.taken out.old; made = together (L.made link.old) (O.made out.old) })
+        (record { link = L.calls link.new; spawner = P.calls spawner.new; out = O.taken out.new; made = together (L.made link.new) (O.made out.new) })
+        ends) }
+    ensures own { IsOfTool result }
+    ensures read_fault { ¬ (result ≡ Status.ReadFault) }
+    ensures link_fault { result ≡ Status.LinkFault → LinkFails (path_in way.now) L.faults L.open_faults link.old link.new }
+    ensures start_fault { result ≡ Status.StartFault → Rose (P.faults spawner.old) (P.faults spawner.new) }
+    ensures write_fault { result ≡ Status.WriteFault → Rose (O.faults out.old) (O.faults out.new) }
+{
+    Status::from(follow_modem(alloc, way, plan, out, link, spawner))
+}
+
+// The link's settings, and the plan of the request that the file gives.
+fn plan_of(task: RequestTask, asked: Asked) -> (LinkSettings, TablePlan)
+    requires short { length asked.tlvs ≤ LONGEST_TLVS }
+    requires sound { IsSoundMessage (message_view asked.message) }
+    ensures settings { result.0 ≡ task.link }
+    ensures plan { result.1 ≡ table_plan task asked }
+{
     let settings = task.link;
     let request = TlvRequest {
         service: asked.message.service,
@@ -87,10 +254,5 @@ fn ask_with<O: Sink, L: Link, P: Spawner>(
         request,
     };
     let plan = TablePlan::new(session, asked.message, task.json);
-    let (device, decoding) = (&plan.session().device, Decoding::Nothing);
-    let status = ask_device(
-        alloc, device, &settings, &plan, decoding, out, link, spawner,
-    );
-    drop(plan);
-    status
+    (settings, plan)
 }

@@ -30,7 +30,7 @@ use tool_runs::{
 use tool_words::{AnswerForm, LinkSettings, MbimTask, QmiTask};
 
 // The way of a tool to the device of its modem.
-fn way_to(alloc: Global, device: &PathText, settings: &LinkSettings) -> Result<Way, AllocError>
+pub fn way_to(alloc: Global, device: &PathText, settings: &LinkSettings) -> Result<Way, AllocError>
     ensures { IfOk result (λ way. path_in way ≡ way_to device.now settings.now) }
 {
     let device = device.value().as_str();

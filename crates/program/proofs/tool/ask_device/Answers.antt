@@ -11,4 +11,4 @@ returns-clause-link_fault g c = λ e. rw (← c.in-Ok.ensures) (c.ask_modem.ensu
 
 -- or no memory was there for it
 pub returns-in_default-clause-asks : goal.returns-in_default-clause-asks
-returns-in_default-clause-asks g c = inr (refl, Grows-none _, Grows-none _, Grows-none _)
+returns-in_default-clause-asks g c = inr (refl, (Grows-none _, Grows-none _, Grows-none _))
