@@ -17,7 +17,18 @@ fn spelled(alloc: Global, command: &Result<ToolCommand, WordFault>) -> Result<St
 
 /// The request that words ask for, as text, where they ask a modem.
 pub fn requested(alloc: Global, words: &[String]) -> Result<Option<String>, RowFault> {
-    match command_of(alloc, words) {
+    let command = command_of(alloc, words);
+    let text = request_in(alloc, &command);
+    drop(command);
+    text
+}
+
+// The request of a command to a modem, as text.
+fn request_in(
+    alloc: Global,
+    command: &Result<ToolCommand, WordFault>,
+) -> Result<Option<String>, RowFault> {
+    match command {
         Ok(ToolCommand::Qmicli(task)) => Ok(Some(format!(in alloc; "{:?}", task.request)?)),
         Ok(ToolCommand::Mbimcli(task)) => Ok(Some(format!(in alloc; "{:?}", task.request)?)),
         _ => Ok(None),

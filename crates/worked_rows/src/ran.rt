@@ -10,6 +10,7 @@ use program::{
     Status, device_count, refuse, run, run_proxy, run_pump, run_rig, run_simulator, run_tool,
 };
 use std::alloc::{AllocError, Global};
+use std::mem::replace;
 
 /// What a run of the program left behind.
 #[derive(Drop)]
@@ -34,25 +35,22 @@ pub fn run_row(
     bench: &mut MemBench,
 ) -> Result<Ran, AllocError> {
     let mut ran = outside_of(alloc, row, whole)?;
-    ran.status = if row.ends.unread {
+    let status = if row.ends.unread {
         refuse(&mut ran.err)
     } else if whole {
         ran.run(alloc, &row.words, bench)
     } else {
         ran.run_as_tool(alloc, &row.words, bench)
     };
+    drop(replace(&mut ran.status, status));
     Ok(ran)
 }
 
 // An outside that answers as the row tells, before the run.
 fn outside_of(alloc: Global, row: &ToolRow<'_>, whole: bool) -> Result<Ran, AllocError> {
-    let out = MemSink::new(alloc, Vec::from_slice(alloc, &row.sink)?, 10_000)?;
-    let err = MemSink::new(alloc, Vec::from_slice(alloc, &row.err_sink)?, 1_000)?;
-    let link = link_of(alloc, &row.calls, whole)?;
-    let hub = row.hub.hub(alloc)?;
-    let spare = HubCalls::none(alloc).hub(alloc)?;
-    let kids = row.kids.spawner(alloc)?;
-    let files = row.files.files(alloc)?;
+    let (out, err) = sinks_of(alloc, row)?;
+    let (hub, spare) = hubs_of(alloc, row)?;
+    let (link, kids, files) = others_of(alloc, row, whole)?;
     Ok(Ran {
         status: Status::Done,
         out,
@@ -63,6 +61,32 @@ fn outside_of(alloc: Global, row: &ToolRow<'_>, whole: bool) -> Result<Ran, Allo
         kids,
         files,
     })
+}
+
+// The standard output, and that of faults.
+fn sinks_of(alloc: Global, row: &ToolRow<'_>) -> Result<(MemSink, MemSink), AllocError> {
+    let out = MemSink::new(alloc, Vec::from_slice(alloc, &row.sink)?, 10_000)?;
+    let err = MemSink::new(alloc, Vec::from_slice(alloc, &row.err_sink)?, 1_000)?;
+    Ok((out, err))
+}
+
+// The hub that the row tells of, and the one that its words have no use for.
+fn hubs_of(alloc: Global, row: &ToolRow<'_>) -> Result<(MemHub, MemHub), AllocError> {
+    let hub = row.hub.hub(alloc)?;
+    let spare = HubCalls::none(alloc).hub(alloc)?;
+    Ok((hub, spare))
+}
+
+// The link, the children and the files.
+fn others_of(
+    alloc: Global,
+    row: &ToolRow<'_>,
+    whole: bool,
+) -> Result<(MemLink, MemSpawner, MemFiles), AllocError> {
+    let link = link_of(alloc, &row.calls, whole)?;
+    let kids = row.kids.spawner(alloc)?;
+    let files = row.files.files(alloc)?;
+    Ok((link, kids, files))
 }
 
 impl Ran {

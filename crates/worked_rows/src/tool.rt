@@ -143,8 +143,13 @@ fn read_tool_row<'a>(
         },
         times: 1,
     };
-    told.add_lines(alloc, rows, row)?;
-    Ok(told)
+    match told.add_lines(alloc, rows, row) {
+        Ok(()) => Ok(told),
+        Err(fault) => {
+            drop(told);
+            Err(fault)
+        }
+    }
 }
 
 impl<'a> Ends<'a> {
