@@ -274,10 +274,10 @@ def spoilt(ends):
     return play
 
 
-def fresh(behind=None):
-    if os.path.exists("modem.sock"):
-        os.unlink("modem.sock")
-    modem = Modem("modem.sock")
+def fresh(behind=None, at="modem.sock"):
+    if os.path.exists(at):
+        os.unlink(at)
+    modem = Modem(at)
     modem.behind = behind
     return modem
 
@@ -391,6 +391,43 @@ def try_ours():
     point("our proxy: its end is the link's end, status 0", found == (0, ANSWER + 2 * REPORTED, ""), str(found))
 
 
+def try_loss():
+    modem = fresh()
+    if os.path.exists("proxy.sock"):
+        os.unlink("proxy.sock")
+    proxy = subprocess.Popen([program, "qmi-proxy", "-d", "modem.sock", "--socket", "proxy.sock", "--exit-when-lost"], stdout=subprocess.DEVNULL, stderr=subprocess.DEVNULL)
+    wait_until(lambda: os.path.exists("proxy.sock"))
+    following = Following("-p", "--socket", "proxy.sock")
+    shown = following.has(ANSWER, 10)
+    modem.wire.end()
+    found = following.end()
+    point("our proxy with --exit-when-lost: a modem that is lost ends the link, status 0", shown and found == (0, ANSWER, "") and proxy.wait() == 4, str(found))
+
+
+def try_several():
+    modems = {name: fresh(at=name) for name in ("one.sock", "two.sock")}
+    proxy = subprocess.Popen([program, "qmi-proxies", "--socket", "several.sock", *modems], stdout=subprocess.DEVNULL, stderr=subprocess.DEVNULL)
+    wait_until(lambda: os.path.exists("several.sock"))
+    first, second = (Following("-p", "--socket", "several.sock", device=name) for name in modems)
+    answered = first.has(ANSWER, 10) and second.has(ANSWER, 10)
+    heard = [modem.heard for modem in modems.values()]
+    point("one proxy of two modems: both that follow have the same client id, each of its own", answered and heard == [["asks 1"]] * 2, f"{first.out} {second.out} {heard}")
+    modems["one.sock"].wire.send(report(1))
+    point("one proxy of two modems: what one modem tells is shown by its own alone", first.has(ANSWER + REPORTED) and second.stays(ANSWER), f"{first.out} {second.out}")
+    modems["two.sock"].wire.send(report(EVERYBODY))
+    point("one proxy of two modems: also what it tells to all", second.has(ANSWER + REPORTED) and first.stays(ANSWER + REPORTED), f"{first.out} {second.out}")
+    lost = modems["two.sock"].wire
+    lost.end()
+    opened = wait_until(lambda: modems["two.sock"].wire is not lost)
+    modems["two.sock"].wire.send(report(EVERYBODY))
+    stay = second.stays(ANSWER + REPORTED) and first.stays(ANSWER + REPORTED)
+    point("one proxy of two modems: a modem that is lost ends no program, and what it tells later is for nobody", opened and stay, f"{first.out} {second.out}")
+    proxy.terminate()
+    proxy.wait()
+    found = [one.end()[0] for one in (first, second)]
+    point("one proxy of two modems: its end is the link's end, status 0", found == [0, 0], str(found))
+
+
 def is_taken():
     return " @qmi-proxy\n" in open("/proc/net/unix").read()
 
@@ -415,6 +452,8 @@ def try_theirs():
 
 def try_proxies():
     try_ours()
+    try_loss()
+    try_several()
     try_theirs()
 
 
