@@ -1,4 +1,5 @@
 use hub_io::{HubAnswer, HubCall, HubEvent, HubTurn, MemHub};
+use many_memory::MemManyHub;
 use row_text::{RowFault, Rows, differs_at};
 use std::alloc::{AllocError, Global};
 
@@ -6,6 +7,8 @@ use std::alloc::{AllocError, Global};
 #[derive(Drop)]
 pub struct HubCalls {
     calls: Vec<(HubCall, Vec<u8>)>,
+    // The device of each, with no bytes.
+    devices: Vec<(usize, Vec<u8>)>,
 }
 
 impl HubCalls {
@@ -13,6 +16,7 @@ impl HubCalls {
     pub fn none(alloc: Global) -> Self {
         HubCalls {
             calls: Vec::new(alloc),
+            devices: Vec::new(alloc),
         }
     }
 
@@ -29,22 +33,48 @@ impl HubCalls {
         value: &str,
     ) -> Result<bool, RowFault> {
         if let Some(call) = call_with_path(key) {
-            self.push(call, Vec::from_slice(alloc, value.as_bytes())?)?;
-        } else if let Some(call) = call_of(key, value)? {
-            self.push(call, Vec::new(alloc))?;
+            let device = self.named(call);
+            self.push(
+                alloc,
+                device,
+                call,
+                Vec::from_slice(alloc, value.as_bytes())?,
+            )?;
+        } else if let Some((device, call)) = call_of(key, value)? {
+            self.push(alloc, device, call, Vec::new(alloc))?;
         } else if let Some((verb, whom)) = key.split_once(' ')
             && (verb == "from" || verb == "to")
         {
             let bytes = rows.bytes_of(value)?;
-            self.push(piece_of(verb == "to", whom, bytes.len())?, bytes)?;
+            let (device, call) = piece_of(verb == "to", whom, bytes.len())?;
+            self.push(alloc, device, call, bytes)?;
         } else {
             return Ok(false);
         }
         Ok(true)
     }
 
-    fn push(&mut self, call: HubCall, bytes: Vec<u8>) -> Result<(), RowFault> {
+    // Which device a path is of that an opening names: the one behind those that it named already.
+    fn named(&self, call: HubCall) -> usize {
+        let is_path = |call| matches!(call, HubCall::ToSocket | HubCall::ToBridge);
+        let mut count = 0usize;
+        if is_path(call) {
+            for (call, _) in &self.calls {
+                count = count.saturating_add(usize::from(is_path(*call)));
+            }
+        }
+        count
+    }
+
+    fn push(
+        &mut self,
+        alloc: Global,
+        device: usize,
+        call: HubCall,
+        bytes: Vec<u8>,
+    ) -> Result<(), RowFault> {
         self.calls.push((call, bytes))?;
+        self.devices.push((device, Vec::new(alloc)))?;
         Ok(())
     }
 
@@ -53,6 +83,24 @@ impl HubCalls {
         let turns = self.turns(alloc)?;
         let answers = self.answers(alloc)?;
         MemHub::new(alloc, turns, answers, 100, 10_000)
+    }
+
+    /// The same of so many devices.
+    pub fn many(&self, alloc: Global, devices: usize) -> Result<MemManyHub<MemHub>, AllocError> {
+        let hub = self.hub(alloc)?;
+        let coming = self.coming(alloc)?;
+        MemManyHub::new(alloc, devices, hub, coming, 100, 10_000)
+    }
+
+    // The device of each turn.
+    fn coming(&self, alloc: Global) -> Result<Vec<usize>, AllocError> {
+        let mut coming = Vec::new(alloc);
+        for ((call, _), (device, _)) in self.calls.iter().zip(&self.devices) {
+            if is_turn(*call) {
+                coming.push(*device)?;
+            }
+        }
+        Ok(coming)
     }
 
     fn turns(&self, alloc: Global) -> Result<Vec<HubTurn>, AllocError> {
@@ -79,6 +127,14 @@ impl HubCalls {
     pub fn differs_at(&self, hub: &MemHub) -> Option<usize> {
         differs_at(hub.log(), &self.calls)
     }
+
+    /// Which call on a hub of several devices isn't, or isn't of the device that is told.
+    pub fn differs_in(&self, many: &MemManyHub<MemHub>) -> Option<usize> {
+        match differs_at(many.log().calls(), &self.calls) {
+            Some(at) => Some(at),
+            None => differs_at(many.log().devices(), &self.devices),
+        }
+    }
 }
 
 // The call, whose bytes are a path, that a key of a row tells of.
@@ -92,53 +148,80 @@ fn call_with_path(key: &str) -> Option<HubCall> {
     }
 }
 
-// The call with no bytes that a key of a row tells of.
-fn call_of(key: &str, value: &str) -> Result<Option<HubCall>, RowFault> {
-    Ok(Some(match key {
+// The call with no bytes that a key of a row tells of, and its device.
+fn call_of(key: &str, value: &str) -> Result<Option<(usize, HubCall)>, RowFault> {
+    if let Some(call) = call_on_modem(key) {
+        return Ok(Some((device_of(value)?, call)));
+    }
+    let call = match key {
         "hub pairs" => HubCall::Paired { ok: true },
         "hub pair fails" => HubCall::Paired { ok: false },
         "joins" => HubCall::Told(HubEvent::Joined(value.parse::<u64>()?)),
         "leaves" => HubCall::Told(HubEvent::Left(value.parse::<u64>()?)),
-        "lost" => HubCall::Told(HubEvent::ModemGone),
         "clock" => HubCall::Told(HubEvent::Now(value.parse::<u64>()?)),
         "hub ends" => HubCall::Told(HubEvent::Stop),
         "hub fails" => HubCall::NextFailed,
-        "reopens" => HubCall::Reopened,
-        "reopen fails" => HubCall::ReopenFailed,
         "hangs up" => HubCall::HungUp {
             conn: value.parse::<u64>()?,
         },
         _ => return Ok(None),
-    }))
+    };
+    Ok(Some((0, call)))
 }
 
-// Bytes that are sent and taken whole, that can't be sent, or that come.
-fn piece_of(sent: bool, whom: &str, count: usize) -> Result<HubCall, RowFault> {
+// The call with no bytes that is of a modem.
+fn call_on_modem(key: &str) -> Option<HubCall> {
+    match key {
+        "lost" => Some(HubCall::Told(HubEvent::ModemGone)),
+        "reopens" => Some(HubCall::Reopened),
+        "reopen fails" => Some(HubCall::ReopenFailed),
+        _ => None,
+    }
+}
+
+// The device of a modem, which isn't named where it is the first or the only one.
+fn device_of(value: &str) -> Result<usize, RowFault> {
+    let value = value.trim();
+    if value.is_empty() {
+        return Ok(0);
+    }
+    Ok(value.parse::<usize>()?)
+}
+
+// Bytes that are sent and taken whole, that can't be sent, or that come; and of which device.
+fn piece_of(sent: bool, whom: &str, count: usize) -> Result<(usize, HubCall), RowFault> {
     if sent && let Some(whom) = whom.strip_suffix(" fails") {
         return failed_to(whom);
     }
-    if whom == "modem" {
-        return Ok(if sent {
+    if let Some(device) = whom.strip_prefix("modem") {
+        let call = if sent {
             HubCall::SentModem { taken: count }
         } else {
             HubCall::Told(HubEvent::ModemPiece(count))
-        });
+        };
+        return Ok((device_of(device)?, call));
     }
     let conn = whom.parse::<u64>()?;
-    Ok(if sent {
+    let call = if sent {
         HubCall::Sent { conn, taken: count }
     } else {
         HubCall::Told(HubEvent::Piece(conn, count))
-    })
+    };
+    Ok((0, call))
 }
 
-// A send that fails.
-fn failed_to(whom: &str) -> Result<HubCall, RowFault> {
-    if whom == "modem" {
-        return Ok(HubCall::SendModemFailed);
+// A send that fails, and to which device.
+fn failed_to(whom: &str) -> Result<(usize, HubCall), RowFault> {
+    if let Some(device) = whom.strip_prefix("modem") {
+        return Ok((device_of(device)?, HubCall::SendModemFailed));
     }
     let conn = whom.parse::<u64>()?;
-    Ok(HubCall::SendFailed { conn })
+    Ok((0, HubCall::SendFailed { conn }))
+}
+
+// Whether the hub tells something so.
+fn is_turn(call: HubCall) -> bool {
+    matches!(call, HubCall::NextFailed | HubCall::Told(_))
 }
 
 // The turn by which the hub tells something so.
