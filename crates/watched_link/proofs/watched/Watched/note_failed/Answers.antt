@@ -1,0 +1,5 @@
+use Rattle.kit_io.proofs.Told.{Grows-append}
+use Rattle.watched_link.proofs.watched.Watched.note_failed.Goals as goal
+
+pub returns-clause-notes : goal.returns-clause-notes
+returns-clause-notes g c = (_, Grows-append c.call.ensures c.said.ensures)
