@@ -6,6 +6,8 @@ use file_io::MemFiles;
 use hub_io::{Hub, MemHub};
 use kit_io::{MemSink, Sink};
 use link_io::{Link, MemLink};
+use many_io::ManyHub;
+use many_memory::MemManyHub;
 use program::{
     Status, device_count, refuse, run, run_proxy, run_pump, run_rig, run_simulator, run_tool,
 };
@@ -20,8 +22,8 @@ pub struct Ran {
     pub err: MemSink,
     pub link: MemLink,
     pub hub: MemHub,
-    // in the place of the hub that the words have no use for
-    spare: MemHub,
+    // that of several devices
+    pub many: MemManyHub<MemHub>,
     pub kids: MemSpawner,
     pub files: MemFiles,
 }
@@ -49,7 +51,7 @@ pub fn run_row(
 // An outside that answers as the row tells, before the run.
 fn outside_of(alloc: Global, row: &ToolRow<'_>, whole: bool) -> Result<Ran, AllocError> {
     let (out, err) = sinks_of(alloc, row)?;
-    let (hub, spare) = hubs_of(alloc, row)?;
+    let (hub, many) = hubs_of(alloc, row)?;
     let (link, kids, files) = others_of(alloc, row, whole)?;
     Ok(Ran {
         status: Status::Done,
@@ -57,7 +59,7 @@ fn outside_of(alloc: Global, row: &ToolRow<'_>, whole: bool) -> Result<Ran, Allo
         err,
         link,
         hub,
-        spare,
+        many,
         kids,
         files,
     })
@@ -70,11 +72,23 @@ fn sinks_of(alloc: Global, row: &ToolRow<'_>) -> Result<(MemSink, MemSink), Allo
     Ok((out, err))
 }
 
-// The hub that the row tells of, and the one that its words have no use for.
-fn hubs_of(alloc: Global, row: &ToolRow<'_>) -> Result<(MemHub, MemHub), AllocError> {
-    let hub = row.hub.hub(alloc)?;
-    let spare = HubCalls::none(alloc).hub(alloc)?;
-    Ok((hub, spare))
+// The hub of one device, and that of as many as the words name. The calls of a row are on the one that
+// its words have a use for.
+fn hubs_of(alloc: Global, row: &ToolRow<'_>) -> Result<(MemHub, MemManyHub<MemHub>), AllocError> {
+    let none = HubCalls::none(alloc);
+    let devices = device_count(alloc, &row.words)?;
+    if is_of_several(&row.words) {
+        let hub = none.hub(alloc)?;
+        Ok((hub, row.hub.many(alloc, devices)?))
+    } else {
+        let hub = row.hub.hub(alloc)?;
+        Ok((hub, none.many(alloc, devices)?))
+    }
+}
+
+/// Whether these words are those of a proxy of several devices.
+pub fn is_of_several(words: &[String]) -> bool {
+    matches!(words.first().map(|word| word.as_str()), Some("qmi-proxies"))
 }
 
 // The link, the children and the files.
@@ -92,25 +106,26 @@ fn others_of(
 impl Ran {
     /// How many calls were made on what children serve, and on the output.
     pub fn made(&self) -> u64 {
-        let used = self.link.made().saturating_add(self.hub.made());
+        let hubs = Hub::made(&self.hub).saturating_add(ManyHub::made(&self.many));
+        let used = self.link.made().saturating_add(hubs);
         used.saturating_add(self.out.made())
     }
 
-    // (A row's hub of several devices has room for one.)
     fn run(&mut self, alloc: Global, words: &[String], bench: &mut MemBench) -> Status {
-        match device_count(alloc, words) {
-            Ok(1) => {}
-            _ => return Status::OutOfMemory,
+        let Ok(devices) = device_count(alloc, words) else {
+            return Status::OutOfMemory;
+        };
+        if devices != self.many.devices() {
+            return Status::OutOfMemory;
         }
-        let (hub, many) = hubs(words, &mut self.hub, &mut self.spare);
         run(
             alloc,
             words,
             &mut self.out,
             &mut self.err,
             &mut self.link,
-            hub,
-            many,
+            &mut self.hub,
+            &mut self.many,
             &mut self.kids,
             &mut self.files,
             bench,
@@ -130,17 +145,5 @@ impl Ran {
             Some("rig") => run_rig(alloc, words, out, err, bench),
             _ => self.run(alloc, words, bench),
         }
-    }
-}
-
-// The hub of one device, and that of several: the row's is the one that its words have a use for.
-fn hubs<'a>(
-    words: &[String],
-    told: &'a mut MemHub,
-    spare: &'a mut MemHub,
-) -> (&'a mut MemHub, &'a mut MemHub) {
-    match words.first().map(|word| word.as_str()) {
-        Some("qmi-proxies") => (spare, told),
-        _ => (told, spare),
     }
 }

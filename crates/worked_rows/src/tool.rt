@@ -1,5 +1,5 @@
 use crate::asked::{asked, requested};
-use crate::ran::{Ran, run_row};
+use crate::ran::{Ran, is_of_several, run_row};
 use call_rows::{
     Call, FileCalls, HubCalls, KidCalls, Noted, made_by, made_calls, push_calls, told_calls,
 };
@@ -50,6 +50,9 @@ use std::alloc::Global;
 ///     to N: BYTES         to modem: BYTES     what is sent, and is taken whole
 ///     to N fails: BYTES   to modem fails: BYTES       or can't be sent
 ///     reopens:            reopen fails:       hangs up: N
+///
+/// On a hub of several devices, `device` or `bridge` stands once for each of them, and the device of a
+/// modem is named: `from modem 1`, `to modem 1`, `lost: 1`, `reopens: 1`. It is 0 where it isn't.
 ///
 /// and all that is run on the bench:
 ///
@@ -305,7 +308,11 @@ fn calls_as_told<R: Print>(
 ) -> Result<bool, RowFault> {
     let files = told.files.differs_at(&ran.files);
     let kids = told.kids.differs_at(alloc, &ran.kids, ran.made())?;
-    let hub = told.hub.differs_at(&ran.hub);
+    let hub = if is_of_several(&told.words) {
+        told.hub.differs_in(&ran.many)
+    } else {
+        told.hub.differs_at(&ran.hub)
+    };
     let same = is(rt, place, "the file call that differs", None, files)
         && is(rt, place, "the child call that differs", None, kids)
         && is(rt, place, "the hub call that differs", None, hub);
