@@ -150,6 +150,8 @@ class Modem(threading.Thread):
         self.listener.bind(path)
         self.listener.listen(8)
         self.answer, self.asked = b"", []
+        # what is told behind the answer, upon which the modem hangs up
+        self.behind = b""
 
     def run(self):
         while True:
@@ -160,24 +162,33 @@ class Modem(threading.Thread):
                     rest += piece
                     while len(rest) >= 3 and len(rest) > int.from_bytes(rest[1:3], "little"):
                         end = int.from_bytes(rest[1:3], "little") + 1
-                        connection.sendall(self.reply(rest[:end]))
+                        reply, is_last = self.reply(rest[:end])
+                        connection.sendall(reply)
                         rest = rest[end:]
+                        if is_last:
+                            connection.shutdown(socket.SHUT_RDWR)
 
     def reply(self, message):
         service, client = message[4], message[5]
         head = 6 + (2 if service == 0 else 3)
         identity, tlvs = message[head : head + 2], message[head + 4 :]
-        success = tlv(2, bytes(4))
+        success, behind = tlv(2, bytes(4)), b""
         if service == 0 and identity in (b"\x22\x00", b"\x23\x00") and not self.for_control:
             # Allocate CID, and Release CID
             success += tlv(1, tlvs[3:4] + (b"\x01" if identity == b"\x22\x00" else tlvs[4:5]))
         else:
             self.asked.append((service, int.from_bytes(identity, "little"), tlvs))
             success += self.answer
+            behind = self.behind
         number = message[7:8] if service == 0 else message[7:9]
         kind = b"\x01" if service == 0 else b"\x02"
         body = kind + number + identity + len(success).to_bytes(2, "little") + success
-        return b"\x01" + (5 + len(body)).to_bytes(2, "little") + b"\x80" + bytes([service, client]) + body
+        return framed(service, client, body) + behind, bool(behind)
+
+
+def framed(service, client, body):
+    """A message of the modem."""
+    return b"\x01" + (5 + len(body)).to_bytes(2, "little") + b"\x80" + bytes([service, client]) + body
 
 
 def main():
@@ -211,8 +222,65 @@ def main():
                         print(f"  {entry['name']}: isn't refused for {why}")
             others = "".join(f", {count} refused for {why}" for why, count in sorted(others.items()))
             print(f"{os.path.basename(path)}: {len(messages)} messages, {sent} sent {rounds} times, {differ} differ{others}", flush=True)
-            failed += differ
+            failed += differ + follow(program, f"{room}/modem", path, entries, Drawn(here, drawing), modem, rounds)
     sys.exit(failed > 0)
+
+
+def follow(program, path, tables, entries, drawn, modem, rounds):
+    """Follows each indication of a file behind the answer to one of its messages; how many are shown otherwise than they are told."""
+    told = [entry for entry in entries if entry.get("type") == "Indication" and entry["service"] != "CTL"]
+    asked = message_of(entries, drawn)
+    if not told or not asked:
+        return 0
+    differ, unknown = 0, set()
+    for _ in range(rounds):
+        wanted, modem.behind = [], b""
+        for entry in told:
+            values, octets = indication(entry, told, drawn, unknown)
+            wanted.append(values)
+            head = b"\x04" + bytes(2) + int(entry["id"], 0).to_bytes(2, "little") + len(octets).to_bytes(2, "little")
+            modem.behind += framed(SERVICES[entry["service"]], drawn.random.choice([1, 255]), head + octets)
+        modem.answer, modem.for_control = b"", False
+        words = [program, "qmicli", "-d", path, "--tables", tables, "--request", asked["name"], "--json", "--follow"]
+        ran = subprocess.run(words, capture_output=True, timeout=60, check=False)
+        shown = [json.loads(line) for line in ran.stdout.decode().splitlines()[1:]]
+        if ran.returncode or len(shown) != len(wanted):
+            differ += 1
+            print(f"  {asked['name']}: status {ran.returncode}, {ran.stderr.decode().strip()}, {len(shown)} indications shown of {len(wanted)}")
+        for printed, values in zip(shown, wanted):
+            if not is_printed(values, printed):
+                differ += 1
+                print(f"  {values['indication']}: printed {json.dumps(printed)} in place of {values}")
+    modem.behind = b""
+    by_id = f", {len(unknown)} of them by their ids" if unknown else ""
+    print(f"{os.path.basename(tables)}: {len(told)} indications, told {rounds} times, {differ} differ{by_id}", flush=True)
+    return differ
+
+
+def message_of(entries, drawn):
+    """A message that can be asked for."""
+    names = [entry["name"] for entry in entries if entry.get("type") == "Message"]
+    for entry in entries:
+        try:
+            if entry.get("type") == "Message" and names.count(entry["name"]) == 1:
+                drawn.tlvs(entry.get("input", []), ())
+                drawn.tlvs(entry.get("output", []), (2,))
+                return entry
+        except Unknown:
+            pass
+    return None
+
+
+def indication(entry, told, drawn, unknown):
+    """The values of an indication as they are to be printed, and its TLVs. The first one of an id that is known counts."""
+    for first in (other for other in told if other["id"] == entry["id"]):
+        try:
+            _, values, octets = drawn.tlvs(first.get("output", []), ())
+            return {**values, "indication": first["name"]}, octets
+        except Unknown:
+            unknown.add(first["name"])
+    octets = bytes(drawn.random.randrange(256) for _ in range(5))
+    return {"0x10": Bytes(octets), "indication": f"0x{int(entry['id'], 0):04X}"}, tlv(0x10, octets)
 
 
 def is_refused(program, path, tables, entry):
