@@ -70,9 +70,9 @@ class Client:
         self.stream.sendall(message)
         return take(self.stream, self.kept)
 
-    def request(self):
+    def request(self, tlvs=b""):
         self.number = self.number % 65535 + 1
-        return qmi(DMS, self.id, 0, self.number, GET_MODEL)
+        return qmi(DMS, self.id, 0, self.number, GET_MODEL, tlvs)
 
 
 # What runs
@@ -196,17 +196,17 @@ def delays(client, count=20_000):
 
 DRIBBLE = """
 import socket, sys
-path, device, count = sys.argv[1], sys.argv[2], int(sys.argv[3])
+path, device, count, length, step = sys.argv[1], sys.argv[2], *map(int, sys.argv[3:])
 sys.argv = ["hostile", "", ""]
 source = open(%r).read().split("# The measures")[0]
 exec(source)
 clients = [Client(path, device) for _ in range(count)]
 print("ready", flush=True)
 while True:
-    requests = [client.request() for client in clients]
-    for at in range(len(requests[0])):
+    requests = [client.request(tlv(9, bytes(length)) if length else b"") for client in clients]
+    for at in range(0, len(requests[0]), step):
         for client, request in zip(clients, requests):
-            client.stream.send(request[at:at + 1])
+            client.stream.send(request[at:at + step])
     for client in clients:
         try:
             client.stream.recv(65536, socket.MSG_DONTWAIT)
@@ -215,14 +215,14 @@ while True:
 """
 
 
-def byte_by_byte():
-    """The delays of a client beside 16 that send a byte at a time."""
+def in_pieces(length, step, how, most):
+    """The delays of a client beside 16 that send so many bytes in pieces of so many."""
     modem = Modem()
     proxy = Proxy(modem.path)
     os.sched_setaffinity(0, {2 % os.cpu_count()})
     client = Client(proxy.path, modem.path)
     alone = min(delays(client) for _ in range(ROUNDS))
-    words = ["taskset", "-c", str(3 % os.cpu_count()), sys.executable, "-c", DRIBBLE % os.path.abspath(__file__), proxy.path, modem.path, "16"]
+    words = ["taskset", "-c", str(3 % os.cpu_count()), sys.executable, "-c", DRIBBLE % os.path.abspath(__file__), proxy.path, modem.path, "16", str(length), str(step)]
     others = subprocess.Popen(words, stdout=subprocess.PIPE, text=True)
     others.stdout.readline()
     beside = min(delays(client) for _ in range(ROUNDS))
@@ -231,7 +231,7 @@ def byte_by_byte():
     os.sched_setaffinity(0, range(os.cpu_count()))
     proxy.end()
     modem.end()
-    show("the delay that 1 of 100 requests exceeds, beside 16 clients that send byte by byte", beside[0] / alone[0], 2, f"times ({alone[0]:.0f} us alone, {beside[0]:.0f} us beside; medians {alone[1]:.0f}, {beside[1]:.0f})")
+    show(f"the delay that 1 of 100 requests exceeds, beside 16 clients that send {how}", beside[0] / alone[0], most, f"times ({alone[0]:.0f} us alone, {beside[0]:.0f} us beside; medians {alone[1]:.0f}, {beside[1]:.0f})")
 
 
 def passing_by(a_second=1000):
@@ -397,7 +397,8 @@ def dear_lists():
 
 if __name__ == "__main__":
     strays()
-    byte_by_byte()
+    in_pieces(0, 1, "byte by byte", 2)
+    in_pieces(60_000, 16, "60 KB 16 bytes at a time", 5)
     passing_by()
     dear_lists()
     sys.exit(1 if beyond else 0)

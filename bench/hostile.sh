@@ -1,5 +1,5 @@
 #!/bin/sh
-# What hostile peers cost the QMI proxy and those beside it: a flood of messages for nobody, clients that send byte by byte, and programs
+# What hostile peers cost the QMI proxy and those beside it: a flood of messages for nobody, clients that send in small pieces, and programs
 # that connect and go at once; and how long the dearest lists of subscriptions hold the MBIM proxy and a simulated modem up.
 # MODEMKIT names a program that is built already. Status 1 where a figure is beyond its limit, which is printed beside it.
 top=$(CDPATH= cd -- "$(dirname -- "$0")/.." && pwd) || exit 70

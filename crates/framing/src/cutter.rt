@@ -131,6 +131,10 @@ fn drop_front(buffer: &mut Vec<u8>, count: usize)
     ensures capacity { vec_capacity buffer.new ≡ vec_capacity buffer.old }
     ensures bytes { AreBytes buffer.new.items }
 {
+    // nothing is moved where all stays, however much that is
+    if count == 0 {
+        return;
+    }
     let left = buffer.len() - count;
     buffer.copy_within(count.., 0);
     buffer.truncate(left);
