@@ -106,24 +106,11 @@ start_network-spelled apn username password ip_type range =
       ),
     )
 
+-- a request without values gives no TLV
 pub spelled : AreSpelled
-spelled request.GetServiceVersionInfo range = refl
-spelled request.DmsGetCapabilities range = refl
-spelled request.DmsGetManufacturer range = refl
-spelled request.DmsGetModel range = refl
-spelled request.DmsGetRevision range = refl
-spelled request.DmsGetMsisdn range = refl
-spelled request.DmsGetIds range = refl
-spelled request.DmsGetOperatingMode range = refl
 spelled (request.DmsSetOperatingMode mode) range = one u8 (number mode) (mode ∷ []) (byte-unsigned mode range)
-spelled request.NasGetSignalStrength range = refl
-spelled request.NasNetworkScan range = refl
-spelled request.NasGetServingSystem range = refl
-spelled request.NasGetHomeNetwork range = refl
 spelled (request.WdsStartNetwork apn username password ip_type) range = start_network-spelled apn username password ip_type range
 spelled (request.WdsStopNetwork handle) range = one table.u32 (number handle) (u32_bytes handle) (number_bytes-unsigned 4 handle (omega arith))
-spelled request.WdsGetPacketServiceStatus range = refl
-spelled request.WdsGetChannelRates range = refl
 spelled request.WdsGetCurrentSettings range = (tlv 0x10 (u32_bytes wanted_settings), [], refl, (u32_bytes wanted_settings, refl, number_bytes-unsigned 4 wanted_settings (omega arith)), refl)
 spelled (request.WmsRawSend pdu) range =
     sequence (field "format" u8) (unnamed (list16 u8)) (number point_to_point) (bytes_of pdu) (point_to_point ∷ []) (u16_bytes (length pdu) ++ pdu)
@@ -143,3 +130,4 @@ spelled (request.ProxyOpen path) range = one table.text (text_of path) (encode_u
 spelled (request.Allocate service) range = one u8 (number service) (service ∷ []) (byte-unsigned service range)
 spelled (request.Release service cid) range =
     sequence (unnamed u8) (unnamed u8) (number service) (number cid) (service ∷ []) (cid ∷ []) (byte-unsigned service range.0) (byte-unsigned cid range.1)
+spelled _ range = refl
