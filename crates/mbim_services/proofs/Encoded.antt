@@ -64,39 +64,28 @@ there_with words sent (Some layout) fits = let e = canon-within words LONGEST_BU
 there : (words : ℕ) (sent : Sent) → SentFits words sent (layout_sent sent.row sent.set) → HasBuffer (layout_sent sent.row sent.set) sent.values
 there words sent fits = there_with words sent (layout_sent sent.row sent.set) fits
 
+-- a request without values has a buffer with no bytes
 pub encoded : RequestsHaveBuffers
-encoded request.QueryDeviceCaps range = there 0 (sent_by request.QueryDeviceCaps) (tt, refl)
-encoded request.QuerySubscriberReadyStatus range = there 0 (sent_by request.QuerySubscriberReadyStatus) (tt, refl)
-encoded request.QueryRadioState range = there 0 (sent_by request.QueryRadioState) (tt, refl)
 encoded (request.SetRadioState on) range = there 0 (sent_by (request.SetRadioState on)) ((switch_fits on, tt), refl)
-encoded request.QueryPinState range = there 0 (sent_by request.QueryPinState) (tt, refl)
-encoded request.QueryHomeProvider range = there 0 (sent_by request.QueryHomeProvider) (tt, refl)
 encoded request.QueryVisibleProviders range = there 0 (sent_by request.QueryVisibleProviders) ((omega arith, tt), refl)
-encoded request.QueryRegistrationState range = there 0 (sent_by request.QueryRegistrationState) (tt, refl)
-encoded request.QueryPacketServiceState range = there 0 (sent_by request.QueryPacketServiceState) (tt, refl)
 encoded request.AttachPacketService range = there 0 (sent_by request.AttachPacketService) ((omega arith, tt), refl)
 encoded request.DetachPacketService range = there 0 (sent_by request.DetachPacketService) ((omega arith, tt), refl)
-encoded request.QuerySignalState range = there 0 (sent_by request.QuerySignalState) (tt, refl)
 encoded (request.Connect session access username password ip_type) range = there 500 (sent_by (request.Connect session access username password ip_type)) ((range.0, (omega arith, (given_fits access range.1, (given_fits username range.2, (given_fits password range.3, (omega arith, (omega arith, (ip_type_fits ip_type, (refl, tt))))))))), refl)
 encoded (request.Disconnect session) range = there 500 (sent_by (request.Disconnect session)) ((range, (omega arith, (nothing_fits, (nothing_fits, (nothing_fits, (omega arith, (omega arith, (omega arith, (refl, tt))))))))), refl)
 encoded (request.QueryConnectionState session) range = there 0 (sent_by (request.QueryConnectionState session)) ((range, (omega arith, (omega arith, (omega arith, (refl, (omega arith, tt)))))), refl)
 encoded (request.QueryIpConfiguration session) range = there 0 (sent_by (request.QueryIpConfiguration session)) ((range, (omega arith, (omega arith, (omega arith, (refl, (omega arith, (refl, (tt, (tt, (omega arith, (refl, (omega arith, (refl, (omega arith, (omega arith, tt))))))))))))))), refl)
-encoded request.QueryDeviceServices range = there 0 (sent_by request.QueryDeviceServices) (tt, refl)
-encoded request.QueryPacketStatistics range = there 0 (sent_by request.QueryPacketStatistics) (tt, refl)
-encoded request.SmsQueryConfiguration range = there 0 (sent_by request.SmsQueryConfiguration) (tt, refl)
 encoded request.SmsReadAll range = there 0 (sent_by request.SmsReadAll) ((omega arith, (omega arith, (omega arith, tt))), refl)
 encoded (request.SmsRead index) range = there 0 (sent_by (request.SmsRead index)) ((omega arith, (omega arith, (range, tt))), refl)
 encoded (request.SmsDelete index) range = there 0 (sent_by (request.SmsDelete index)) ((omega arith, (range, tt)), refl)
-encoded request.SmsQueryStoreStatus range = there 0 (sent_by request.SmsQueryStoreStatus) (tt, refl)
 encoded (request.UssdInitiate scheme payload) range = there 64 (sent_by (request.UssdInitiate scheme payload)) ((omega arith, (omega (arith, range.0), (omega (arith, range.1), tt))), refl)
 encoded (request.UssdContinue scheme payload) range = there 64 (sent_by (request.UssdContinue scheme payload)) ((omega arith, (omega (arith, range.0), (omega (arith, range.1), tt))), refl)
 encoded request.UssdCancel range = there 0 (sent_by request.UssdCancel) ((omega arith, (omega arith, (omega arith, tt))), refl)
-encoded request.PhonebookQueryConfiguration range = there 0 (sent_by request.PhonebookQueryConfiguration) (tt, refl)
 encoded request.PhonebookReadAll range = there 0 (sent_by request.PhonebookReadAll) ((omega arith, (omega arith, tt)), refl)
 encoded (request.PhonebookRead index) range = there 0 (sent_by (request.PhonebookRead index)) ((omega arith, (range, tt)), refl)
 encoded (request.PhonebookDelete index) range = there 0 (sent_by (request.PhonebookDelete index)) ((omega arith, (range, tt)), refl)
 encoded (request.PhonebookWrite name phone index) range = there 500 (sent_by (request.PhonebookWrite name phone index)) ((flag_fits index, (index_fits index range.2, (text_fits 500 phone range.1, (text_fits 500 name range.0, tt)))), refl)
 encoded (request.ProxyConfiguration path) range = there 2048 (sent_by (request.ProxyConfiguration path)) ((text_fits 2048 path range, (omega arith, tt)), refl)
+encoded body range = there 0 (sent_by body) (tt, refl)
 
 -- ---- what is sent ----
 
