@@ -101,33 +101,15 @@ deleted state index (Some message) distinct = distinct
 
 served : (profile : Profile) (state : State) (request : Request) → AreDistinct state → AreDistinct (serves profile state request).state
 unfolding AreDistinct
-served profile state (Ctl ctl.GetVersionInfo) distinct = distinct
 served profile state (Ctl (ctl.Allocate service)) distinct = allocated state service (free_id state.clients service) distinct (free_isnt_given state.clients service)
 served profile state (Ctl (ctl.Release service id)) distinct = released state service id (is_given state.clients service id) distinct
-served profile state (Ctl ctl.Sync) distinct = distinct
-served profile state (Ctl ctl.ProxyOpen) distinct = distinct
-served profile state (Wds wds.StartNetwork) distinct = distinct
 served profile state (Wds (wds.StopNetwork handle)) distinct = stopped state (state.connected && handle == state.handle) distinct
-served profile state (Wds wds.GetPacketServiceStatus) distinct = distinct
-served profile state (Wds wds.GetChannelRates) distinct = distinct
-served profile state (Wds wds.GetCurrentSettings) distinct = distinct
-served profile state (Dms dms.GetCapabilities) distinct = distinct
-served profile state (Dms dms.GetManufacturer) distinct = distinct
-served profile state (Dms dms.GetModel) distinct = distinct
-served profile state (Dms dms.GetRevision) distinct = distinct
-served profile state (Dms dms.GetMsisdn) distinct = distinct
-served profile state (Dms dms.GetIds) distinct = distinct
-served profile state (Dms dms.GetOperatingMode) distinct = distinct
+served profile state (Wms (wms.RawRead index)) distinct = read state (message_at state index) distinct
+served profile state (Wms (wms.Delete (Some index))) distinct = deleted state index (message_at state index) distinct
+-- no other touches them, such as these
 served profile state (Dms (dms.SetOperatingMode mode)) distinct = distinct
 served profile state (Nas nas.GetSignalStrength) distinct = distinct
-served profile state (Nas nas.NetworkScan) distinct = distinct
-served profile state (Nas nas.GetServingSystem) distinct = distinct
-served profile state (Nas nas.GetHomeNetwork) distinct = distinct
-served profile state (Wms wms.RawSend) distinct = distinct
-served profile state (Wms (wms.RawRead index)) distinct = read state (message_at state index) distinct
-served profile state (Wms (wms.Delete None)) distinct = distinct
-served profile state (Wms (wms.Delete (Some index))) distinct = deleted state index (message_at state index) distinct
-served profile state (Wms wms.ListMessages) distinct = distinct
+served profile state request distinct = distinct
 
 taken : (profile : Profile) (state : State) (message : List ℕ) (found : Result Request ℕ) → AreDistinct state → AreDistinct (takes profile state (head_of message) found).state
 taken profile state message (Err error) distinct = distinct

@@ -1,5 +1,5 @@
 -- A request of the table is refused exactly where its input 0x01 is missing or unreadable.
-use Rattle.std.proofs.Common.{◌≡◌, ℕ, zero, suc, ◌<◌, Bool, true, false, nat_le, List, [], ◌∷◌, ◌++◌, length, get_or, take, drop, Option, Some, None, refl, sym, ◌∙◌, ap, subst, arith}
+use Rattle.std.proofs.Common.{◌≡◌, ℕ, zero, suc, ◌<◌, Bool, true, false, nat_le, List, [], ◌∷◌, ◌++◌, length, get_or, take, drop, Option, Some, None, refl, sym, ◌∙◌, ap, subst, arith, rules}
 use Rattle.std.proofs.lemmas.Bool.{lt-ltb}
 use Rattle.std.proofs.lemmas.Option.{same_Some}
 use Rattle.std.specs.Prelude.{◌↔◌, ◌==◌, cond, is_some, option_map, option_and_then}
@@ -26,6 +26,7 @@ use Rattle.sim_qmi.specs.Inputs.{byte_in, word_in}
 use Rattle.sim_qmi.specs.Laws.{LacksInput, OnlyTheInputIsMissed}
 use Rattle.sim_qmi.specs.Requests.{main_input, index_input, request_in}
 use Rattle.sim_qmi.specs.Wms.{index_in}
+use Rattle.sim_qmi.proofs.Halves.{has_input, with_input, others, all_lines, each_so}
 
 -- ---- bytes of a TLV ----
 
@@ -219,77 +220,26 @@ by_input : (row : Row) (tlvs : List ℕ) (R : Option Value → Option Request) �
 by_input row tlvs R has none reads =
     (λ is. record { has = has; missing = no_value (input_of row main_input tlvs) (input_of row main_input tlvs) R refl reads is }, λ lacks. ap R lacks.missing ∙ none)
 
-each : AllByRecursion Refuses rows
-each = (
-  λ tlvs are. (λ is. absurd cc, λ lacks. absurd (cc lacks.has)),
+of_input : AllByRecursion Refuses with_input
+of_input = (
+  λ tlvs are. by_input table.allocate tlvs (λ x. option_map Ctl (option_map ctl.Allocate (option_and_then byte_in x))) refl refl (λ v is none. byte_reads tlvs v are is (unmapped ctl.Allocate (byte_in v) (unmapped Ctl (option_map ctl.Allocate (byte_in v)) none))),
   (
-    λ tlvs are. by_input table.allocate tlvs (λ x. option_map Ctl (option_map ctl.Allocate (option_and_then byte_in x))) refl refl (λ v is none. byte_reads tlvs v are is (unmapped ctl.Allocate (byte_in v) (unmapped Ctl (option_map ctl.Allocate (byte_in v)) none))),
+    λ tlvs are. by_input table.release tlvs (λ x. option_map Ctl (option_and_then release_in x)) refl refl (λ v is none. release_reads (table.unnamed table.u8).name (table.unnamed table.u8).name tlvs v are is (unmapped Ctl (release_in v) none)),
     (
-      λ tlvs are. by_input table.release tlvs (λ x. option_map Ctl (option_and_then release_in x)) refl refl (λ v is none. release_reads (table.unnamed table.u8).name (table.unnamed table.u8).name tlvs v are is (unmapped Ctl (release_in v) none)),
+      λ tlvs are. by_input table.proxy_open tlvs (λ x. option_map Ctl (option_map (λ (path : Value). ctl.ProxyOpen) x)) refl refl (λ v is none. cc),
       (
-        λ tlvs are. (λ is. absurd cc, λ lacks. absurd (cc lacks.has)),
+        λ tlvs are. by_input table.set_operating_mode tlvs (λ x. option_map Dms (option_map dms.SetOperatingMode (option_and_then byte_in x))) refl refl (λ v is none. byte_reads tlvs v are is (unmapped dms.SetOperatingMode (byte_in v) (unmapped Dms (option_map dms.SetOperatingMode (byte_in v)) none))),
         (
-          λ tlvs are. by_input table.proxy_open tlvs (λ x. option_map Ctl (option_map (λ (path : Value). ctl.ProxyOpen) x)) refl refl (λ v is none. cc),
+          λ tlvs are. by_input table.stop_network tlvs (λ x. option_map Wds (option_map wds.StopNetwork (option_and_then word_in x))) refl refl (λ v is none. word_reads tlvs v are is (unmapped wds.StopNetwork (word_in v) (unmapped Wds (option_map wds.StopNetwork (word_in v)) none))),
           (
-            λ tlvs are. (λ is. absurd cc, λ lacks. absurd (cc lacks.has)),
+            λ tlvs are. by_input table.raw_send tlvs (λ x. option_map Wms (option_map (λ (message : Value). wms.RawSend) x)) refl refl (λ v is none. cc),
             (
-              λ tlvs are. (λ is. absurd cc, λ lacks. absurd (cc lacks.has)),
+              λ tlvs are. by_input table.raw_read tlvs (λ x. option_map Wms (option_map wms.RawRead (option_and_then index_in x))) refl refl (λ v is none. index_reads (table.field "storage" table.u8).name (table.field "index" table.u32).name tlvs v are is (unmapped wms.RawRead (index_in v) (unmapped Wms (option_map wms.RawRead (index_in v)) none))),
               (
-                λ tlvs are. (λ is. absurd cc, λ lacks. absurd (cc lacks.has)),
+                λ tlvs are. by_input table.delete tlvs (λ x. option_map Wms (option_map (λ (storage : Value). wms.Delete (option_and_then word_in (input_of table.delete index_input tlvs))) x)) refl refl (λ v is none. cc),
                 (
-                  λ tlvs are. (λ is. absurd cc, λ lacks. absurd (cc lacks.has)),
-                  (
-                    λ tlvs are. (λ is. absurd cc, λ lacks. absurd (cc lacks.has)),
-                    (
-                      λ tlvs are. (λ is. absurd cc, λ lacks. absurd (cc lacks.has)),
-                      (
-                        λ tlvs are. (λ is. absurd cc, λ lacks. absurd (cc lacks.has)),
-                        (
-                          λ tlvs are. by_input table.set_operating_mode tlvs (λ x. option_map Dms (option_map dms.SetOperatingMode (option_and_then byte_in x))) refl refl (λ v is none. byte_reads tlvs v are is (unmapped dms.SetOperatingMode (byte_in v) (unmapped Dms (option_map dms.SetOperatingMode (byte_in v)) none))),
-                          (
-                            λ tlvs are. (λ is. absurd cc, λ lacks. absurd (cc lacks.has)),
-                            (
-                              λ tlvs are. (λ is. absurd cc, λ lacks. absurd (cc lacks.has)),
-                              (
-                                λ tlvs are. (λ is. absurd cc, λ lacks. absurd (cc lacks.has)),
-                                (
-                                  λ tlvs are. (λ is. absurd cc, λ lacks. absurd (cc lacks.has)),
-                                  (
-                                    λ tlvs are. (λ is. absurd cc, λ lacks. absurd (cc lacks.has)),
-                                    (
-                                      λ tlvs are. by_input table.stop_network tlvs (λ x. option_map Wds (option_map wds.StopNetwork (option_and_then word_in x))) refl refl (λ v is none. word_reads tlvs v are is (unmapped wds.StopNetwork (word_in v) (unmapped Wds (option_map wds.StopNetwork (word_in v)) none))),
-                                      (
-                                        λ tlvs are. (λ is. absurd cc, λ lacks. absurd (cc lacks.has)),
-                                        (
-                                          λ tlvs are. (λ is. absurd cc, λ lacks. absurd (cc lacks.has)),
-                                          (
-                                            λ tlvs are. (λ is. absurd cc, λ lacks. absurd (cc lacks.has)),
-                                            (
-                                              λ tlvs are. by_input table.raw_send tlvs (λ x. option_map Wms (option_map (λ (message : Value). wms.RawSend) x)) refl refl (λ v is none. cc),
-                                              (
-                                                λ tlvs are. by_input table.raw_read tlvs (λ x. option_map Wms (option_map wms.RawRead (option_and_then index_in x))) refl refl (λ v is none. index_reads (table.field "storage" table.u8).name (table.field "index" table.u32).name tlvs v are is (unmapped wms.RawRead (index_in v) (unmapped Wms (option_map wms.RawRead (index_in v)) none))),
-                                                (
-                                                  λ tlvs are. by_input table.delete tlvs (λ x. option_map Wms (option_map (λ (storage : Value). wms.Delete (option_and_then word_in (input_of table.delete index_input tlvs))) x)) refl refl (λ v is none. cc),
-                                                  (
-                                                    λ tlvs are. by_input table.list_messages tlvs (λ x. option_map Wms (option_map (λ (storage : Value). wms.ListMessages) x)) refl refl (λ v is none. cc),
-                                                    tt,
-                                                  ),
-                                                ),
-                                              ),
-                                            ),
-                                          ),
-                                        ),
-                                      ),
-                                    ),
-                                  ),
-                                ),
-                              ),
-                            ),
-                          ),
-                        ),
-                      ),
-                    ),
-                  ),
+                  λ tlvs are. by_input table.list_messages tlvs (λ x. option_map Wms (option_map (λ (storage : Value). wms.ListMessages) x)) refl refl (λ v is none. cc),
+                  tt,
                 ),
               ),
             ),
@@ -299,6 +249,24 @@ each = (
     ),
   ),
 )
+
+-- a request without this input always asks something
+record IsAsked (row : Row) : Type 0 where
+  pub none : has_input row ≡ false
+  pub asked : (tlvs : List ℕ) → is_some (request_in row tlvs) ≡ true
+
+some_isnt : {A : Type 0} (o : Option A) → is_some o ≡ true → o ≡ None → ⊥
+some_isnt None is none = absurd cc
+some_isnt (Some a) is none = absurd cc
+
+never_refused : (row : Row) → IsAsked row → Refuses row
+never_refused row is tlvs are = (λ none. absurd (some_isnt (request_in row tlvs) (is.asked tlvs) none), λ lacks. absurd (let wrong : false ≡ true = sym is.none ∙ lacks.has in cc))
+
+asked_always : AllByRecursion IsAsked others
+asked_always = search rules
+
+each : AllByRecursion Refuses rows
+each = all_lines Refuses of_input (each_so IsAsked Refuses others never_refused asked_always)
 
 pub only_input : OnlyTheInputIsMissed
 unfolding row_at

@@ -1,6 +1,7 @@
 pub mod Pairs
 pub mod ClientIds
 pub mod Storage
+pub mod Halves
 pub mod Rows
 pub mod Fits
 pub mod Writing

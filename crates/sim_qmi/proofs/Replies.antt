@@ -9,7 +9,7 @@ use Rattle.modem_profile.specs.Profile.{Profile}
 use Rattle.qmi_services.specs.Table.{Output}
 use Rattle.sim_modem.specs.Sim.{state_after}
 use Rattle.sim_qmi.specs.declared.request.Request.{Request}
-use Rattle.sim_qmi.specs.declared.request.Request.TheVariants.{Ctl, Wds, Dms, Nas, Wms}
+use Rattle.sim_qmi.specs.declared.request.Request.TheVariants.{Dms}
 use Rattle.sim_qmi.specs.declared.dms.DmsRequest.TheVariants as dms
 use Rattle.sim_qmi.specs.Laws.{EachRequestIsAnswered, RepliesTo, told_behind}
 use Rattle.sim_qmi.specs.Modem.{Exchange, answer_tlvs, indications, machine, response, serves, takes, takes_kind}
@@ -19,18 +19,8 @@ use Rattle.sim_qmi.specs.Step.{Answer, Step, failure}
 
 -- what is told behind the response to a request
 indicated : (profile : Profile) (after : State) (request : Request) → indications profile after request ≡ told_behind profile (Ok request) after
-indicated profile after (Ctl request) = refl
-indicated profile after (Wds request) = refl
-indicated profile after (Dms dms.GetCapabilities) = refl
-indicated profile after (Dms dms.GetManufacturer) = refl
-indicated profile after (Dms dms.GetModel) = refl
-indicated profile after (Dms dms.GetRevision) = refl
-indicated profile after (Dms dms.GetMsisdn) = refl
-indicated profile after (Dms dms.GetIds) = refl
-indicated profile after (Dms dms.GetOperatingMode) = refl
 indicated profile after (Dms (dms.SetOperatingMode mode)) = refl
-indicated profile after (Nas request) = refl
-indicated profile after (Wms request) = refl
+indicated profile after request = refl
 
 module _ (profile : Profile) (before : State) (message : List ℕ) where
   abbrev brings : Result Request ℕ → Exchange

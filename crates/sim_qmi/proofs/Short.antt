@@ -85,15 +85,13 @@ abbrev bare : State → State
 bare state = record state { mode = 0; messages = [] }
 
 bare_same : (state : State) (r : CtlRequest) → (ctl_step (bare state) r).answer ≡ (ctl_step state r).answer
-bare_same state ctl.GetVersionInfo = refl
 bare_same state (ctl.Allocate service) = by (free_id state.clients service)
   where
     by : (o : Option ℕ) → (allocates (bare state) service o).answer ≡ (allocates state service o).answer
     by None = refl
     by (Some id) = refl
 bare_same state (ctl.Release service id) = elim (is_given state.clients service id) as (λ b. (if b then record { answer = success (Some (client_id service id) ∷ []); state = without_client (bare state) service id } else refused (bare state) invalid_client_id).answer ≡ (if b then record { answer = success (Some (client_id service id) ∷ []); state = without_client state service id } else refused state invalid_client_id).answer) [ true ↦ refl | false ↦ refl ]
-bare_same state ctl.Sync = refl
-bare_same state ctl.ProxyOpen = refl
+bare_same state _ = refl
 
 bare_is_sound : (state : State) → IsSound (bare state)
 bare_is_sound state = record { mode = lit< tt; stored = refl }
@@ -109,18 +107,8 @@ ctl_is_quiet profile state (Some r) within range = (
 -- ---- requests of other services ----
 
 tells_none : (profile : Profile) (state : State) (request : Request) → (sets_mode (Ok request) && is_any_given state.clients table.nas) ≡ false → indications profile (serves profile state request).state request ≡ []
-tells_none profile state (Ctl request) none = refl
-tells_none profile state (Wds request) none = refl
-tells_none profile state (Dms dms.GetCapabilities) none = refl
-tells_none profile state (Dms dms.GetManufacturer) none = refl
-tells_none profile state (Dms dms.GetModel) none = refl
-tells_none profile state (Dms dms.GetRevision) none = refl
-tells_none profile state (Dms dms.GetMsisdn) none = refl
-tells_none profile state (Dms dms.GetIds) none = refl
-tells_none profile state (Dms dms.GetOperatingMode) none = refl
 tells_none profile state (Dms (dms.SetOperatingMode mode)) none = ap (λ (b : Bool). if b then indication profile mode else []) none
-tells_none profile state (Nas request) none = refl
-tells_none profile state (Wms request) none = refl
+tells_none profile state request none = refl
 
 pub is_quiet : (profile : Profile) (state : State) (found : Result Request ℕ) → IsWithin profile → IsSound state → ((r : Request) → found ≡ Ok r → IsInRange r) → (sets_mode found && is_any_given state.clients table.nas) ≡ false → IsQuiet profile state found
 unfolding IsQuiet
