@@ -1,11 +1,15 @@
 -- The lines of the table, by their services and ids.
-use Rattle.std.proofs.Common.{◌≡◌, ℕ, true, false, List, Some, arith, rules, sym, ap, subst}
+use Rattle.std.proofs.Common.{◌≡◌, ℕ, true, false, List, Option, Some, None, arith, rules, refl, sym, ◌∙◌, ap, subst}
 use Rattle.std.proofs.lemmas.Bool.{eq-eqb}
 use Rattle.std.proofs.lemmas.Bool.Decides.{nat_tests}
 use Rattle.std.specs.Cmp.Derive.{both_true}
-use Rattle.std.specs.Prelude.{find, ◌==◌, ◌&&◌}
+use Rattle.std.proofs.lemmas.Option.{same_Some}
+use Rattle.std.specs.Prelude.{find, ◌==◌, ◌&&◌, IsSome, option_map}
 use Rattle.std.specs.List.{AllByRecursion}
-use Rattle.qmi_services.specs.Table.{Row, rows}
+use Rattle.qmi_requests.specs.declared.QmiRequest.{QmiRequest}
+use Rattle.qmi_requests.specs.declared.QmiRequest.TheVariants as request
+use Rattle.qmi_services.specs.Table.{Row, row_of, rows}
+use Rattle.qmi_services.specs.Answers.{AreWellMade}
 use Rattle.qmi_services.specs.Modem.{is_at, row_at, IsWellMadeRow}
 use Rattle.qmi_services.proofs.Found.{find-holds}
 
@@ -30,3 +34,24 @@ other_id a b service id other = grind (arith, nat_tests)
 
 pub other-eqb : (a b : ℕ) → (a ≡ b → ⊥) → (a == b) ≡ false
 other-eqb a b other = grind (arith, nat_tests)
+
+-- each request's line is found
+pub row_found : (body : QmiRequest) → row_at (row_of body).service (row_of body).id ≡ Some (row_of body)
+unfolding row_at
+row_found request.GetServiceVersionInfo = refl
+row_found _ = refl
+
+pub outputs-well_made : (body : QmiRequest) → AreWellMade (row_of body).output
+unfolding row_at
+outputs-well_made body = (row-well_made rows (row_of body).service (row_of body).id (row_of body) refl (sym (row_found body))).output
+
+pub line-found : (body : QmiRequest) (all : List Row) (service id : ℕ) → all ≡ rows → service ≡ (row_of body).service → id ≡ (row_of body).id → find (is_at service id) all ≡ Some (row_of body)
+line-found body all service id is service_is id_is = row_at-is all service id is ∙ ap (λ (n : ℕ). row_at n id) service_is ∙ ap (row_at (row_of body).service) id_is ∙ row_found body
+
+module _ {A : Type 0} (view : A → Row) (row : Row) where
+  pub is-there : (found : Option A) → option_map view found ≡ Some row → IsSome found
+  is-there None is = absurd cc
+  is-there (Some a) is = refl
+
+  pub is-line : (found : Option A) (a : A) → option_map view found ≡ Some row → found ≡ Some a → view a ≡ row
+  is-line found a is there = same_Some (view a) row (ap (option_map view) (sym there) ∙ is)

@@ -1,4 +1,4 @@
--- The message that a request sends, and its bytes.
+-- The bytes of the message that a request sends.
 -- Source: the inputs in libqmi's data/qmi-service-*.json, and how its src/qmicli/qmicli-*.c fill them.
 use Rattle.std.specs.Prelude.{ℕ, List, [], ◌∷◌, ◌++◌, length, Option, Some, None}
 use Rattle.std.specs.Str.{encode_utf8_all}
@@ -6,36 +6,7 @@ use Rattle.kit_bytes.specs.Numbers.{u16_bytes, u32_bytes}
 use Rattle.tlv_codec.specs.Tlv.{Entry}
 use Rattle.qmi_requests.specs.declared.QmiRequest.{QmiRequest}
 use Rattle.qmi_requests.specs.declared.QmiRequest.TheVariants as request
-use Rattle.qmi_services.specs.Table as table
-use Rattle.qmi_services.specs.Table.{Row}
-
--- the line of the table
-abbrev pub row_of : QmiRequest → Row
-row_of request.GetServiceVersionInfo = table.get_version_info
-row_of request.DmsGetCapabilities = table.get_capabilities
-row_of request.DmsGetManufacturer = table.get_manufacturer
-row_of request.DmsGetModel = table.get_model
-row_of request.DmsGetRevision = table.get_revision
-row_of request.DmsGetMsisdn = table.get_msisdn
-row_of request.DmsGetIds = table.get_ids
-row_of request.DmsGetOperatingMode = table.get_operating_mode
-row_of (request.DmsSetOperatingMode mode) = table.set_operating_mode
-row_of request.NasGetSignalStrength = table.get_signal_strength
-row_of request.NasNetworkScan = table.network_scan
-row_of request.NasGetServingSystem = table.get_serving_system
-row_of request.NasGetHomeNetwork = table.get_home_network
-row_of (request.WdsStartNetwork apn username password ip_type) = table.start_network
-row_of (request.WdsStopNetwork handle) = table.stop_network
-row_of request.WdsGetPacketServiceStatus = table.get_packet_service_status
-row_of request.WdsGetChannelRates = table.get_channel_rates
-row_of request.WdsGetCurrentSettings = table.get_current_settings
-row_of (request.WmsRawSend pdu) = table.raw_send
-row_of (request.WmsRawRead storage index) = table.raw_read
-row_of (request.WmsDelete storage index) = table.delete
-row_of (request.WmsListMessages storage) = table.list_messages
-row_of (request.ProxyOpen path) = table.proxy_open
-row_of (request.Allocate service) = table.allocate
-row_of (request.Release service cid) = table.release
+pub use Rattle.qmi_services.specs.Table.{row_of}
 
 -- ---- the TLVs ----
 

@@ -7,6 +7,8 @@ use Rattle.qmi_shapes.specs.Form.{Form, unsigned, signed, string, array, sequenc
 use Rattle.qmi_shapes.specs.View.{NamedForm, fields_of}
 use Rattle.message_tables.specs.Tlvs.{TlvForm}
 use Rattle.qmux_frame.specs.Control as control
+use Rattle.qmi_requests.specs.declared.QmiRequest.{QmiRequest}
+use Rattle.qmi_requests.specs.declared.QmiRequest.TheVariants as request
 
 -- a TLV of an answer, and whether a success always has it
 pub record Output : Type 0 where
@@ -195,3 +197,33 @@ rows =
     get_serving_system ∷ get_home_network ∷ start_network ∷ stop_network ∷ get_packet_service_status ∷
     get_channel_rates ∷ get_current_settings ∷ raw_send ∷ raw_read ∷ delete ∷
     list_messages ∷ []
+
+-- ---- which request sends which ----
+
+-- the line that a request has
+abbrev pub row_of : QmiRequest → Row
+row_of request.GetServiceVersionInfo = get_version_info
+row_of request.DmsGetCapabilities = get_capabilities
+row_of request.DmsGetManufacturer = get_manufacturer
+row_of request.DmsGetModel = get_model
+row_of request.DmsGetRevision = get_revision
+row_of request.DmsGetMsisdn = get_msisdn
+row_of request.DmsGetIds = get_ids
+row_of request.DmsGetOperatingMode = get_operating_mode
+row_of (request.DmsSetOperatingMode mode) = set_operating_mode
+row_of request.NasGetSignalStrength = get_signal_strength
+row_of request.NasNetworkScan = network_scan
+row_of request.NasGetServingSystem = get_serving_system
+row_of request.NasGetHomeNetwork = get_home_network
+row_of (request.WdsStartNetwork apn username password ip_type) = start_network
+row_of (request.WdsStopNetwork handle) = stop_network
+row_of request.WdsGetPacketServiceStatus = get_packet_service_status
+row_of request.WdsGetChannelRates = get_channel_rates
+row_of request.WdsGetCurrentSettings = get_current_settings
+row_of (request.WmsRawSend pdu) = raw_send
+row_of (request.WmsRawRead storage index) = raw_read
+row_of (request.WmsDelete storage index) = delete
+row_of (request.WmsListMessages storage) = list_messages
+row_of (request.ProxyOpen path) = proxy_open
+row_of (request.Allocate service) = allocate
+row_of (request.Release service cid) = release

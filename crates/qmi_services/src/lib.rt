@@ -3,7 +3,7 @@
 
 mod answers;
 mod laws;
-mod messages;
+pub mod messages;
 mod modem;
 mod requests;
 mod table;

@@ -1,23 +1,24 @@
-//! The table of messages.
+//! The table of messages, and their ids.
 
 ghost use Rattle.std.specs.Prelude.{◌≡◌, map};
-ghost use Rattle.qmi_services.specs.Table.{rows};
+ghost use Rattle.qmi_services.specs.Table.{row_of, rows};
 ghost use Rattle.qmi_services.specs.View.{row_view};
 
 use crate::table::Format::{I8, List8, List16, List32, Sequence, Text, Text8, U8, U16, U32};
 use crate::table::Output::{Needed, Optional};
 use crate::table::{FieldFormat, Row, TlvFormat};
+use qmi_requests::QmiRequest;
 use qmux_frame::control;
 
-const CTL: u8 = 0;
+pub const CTL: u8 = 0;
 
-const WDS: u8 = 1;
+pub const WDS: u8 = 1;
 
-const DMS: u8 = 2;
+pub const DMS: u8 = 2;
 
-const NAS: u8 = 3;
+pub const NAS: u8 = 3;
 
-const WMS: u8 = 5;
+pub const WMS: u8 = 5;
 
 pub(crate) static GET_VERSION_INFO: Row = Row {
     service: CTL,
@@ -84,9 +85,11 @@ pub(crate) static PROXY_OPEN: Row = Row {
     indicated: false,
 };
 
+pub const GET_CAPABILITIES_ID: u16 = 0x0020;
+
 pub(crate) static GET_CAPABILITIES: Row = Row {
     service: DMS,
-    id: 0x0020,
+    id: GET_CAPABILITIES_ID,
     name: "Get Capabilities",
     input: &[],
     output: &[Needed(TlvFormat(
@@ -103,45 +106,55 @@ pub(crate) static GET_CAPABILITIES: Row = Row {
     indicated: false,
 };
 
+pub const GET_MANUFACTURER_ID: u16 = 0x0021;
+
 pub(crate) static GET_MANUFACTURER: Row = Row {
     service: DMS,
-    id: 0x0021,
+    id: GET_MANUFACTURER_ID,
     name: "Get Manufacturer",
     input: &[],
     output: &[Needed(TlvFormat(0x01, "Manufacturer", Text))],
     indicated: false,
 };
 
+pub const GET_MODEL_ID: u16 = 0x0022;
+
 pub(crate) static GET_MODEL: Row = Row {
     service: DMS,
-    id: 0x0022,
+    id: GET_MODEL_ID,
     name: "Get Model",
     input: &[],
     output: &[Needed(TlvFormat(0x01, "Model", Text))],
     indicated: false,
 };
 
+pub const GET_REVISION_ID: u16 = 0x0023;
+
 pub(crate) static GET_REVISION: Row = Row {
     service: DMS,
-    id: 0x0023,
+    id: GET_REVISION_ID,
     name: "Get Revision",
     input: &[],
     output: &[Needed(TlvFormat(0x01, "Revision", Text))],
     indicated: false,
 };
 
+pub const GET_MSISDN_ID: u16 = 0x0024;
+
 pub(crate) static GET_MSISDN: Row = Row {
     service: DMS,
-    id: 0x0024,
+    id: GET_MSISDN_ID,
     name: "Get MSISDN",
     input: &[],
     output: &[Needed(TlvFormat(0x01, "MSISDN", Text))],
     indicated: false,
 };
 
+pub const GET_IDS_ID: u16 = 0x0025;
+
 pub(crate) static GET_IDS: Row = Row {
     service: DMS,
-    id: 0x0025,
+    id: GET_IDS_ID,
     name: "Get IDs",
     input: &[],
     output: &[
@@ -152,27 +165,33 @@ pub(crate) static GET_IDS: Row = Row {
     indicated: false,
 };
 
+pub const GET_OPERATING_MODE_ID: u16 = 0x002D;
+
 pub(crate) static GET_OPERATING_MODE: Row = Row {
     service: DMS,
-    id: 0x002D,
+    id: GET_OPERATING_MODE_ID,
     name: "Get Operating Mode",
     input: &[],
     output: &[Needed(TlvFormat(0x01, "Mode", U8))],
     indicated: false,
 };
 
+pub const SET_OPERATING_MODE_ID: u16 = 0x002E;
+
 pub(crate) static SET_OPERATING_MODE: Row = Row {
     service: DMS,
-    id: 0x002E,
+    id: SET_OPERATING_MODE_ID,
     name: "Set Operating Mode",
     input: &[TlvFormat(0x01, "", U8)],
     output: &[],
     indicated: false,
 };
 
+pub const GET_SIGNAL_STRENGTH_ID: u16 = 0x0020;
+
 pub(crate) static GET_SIGNAL_STRENGTH: Row = Row {
     service: NAS,
-    id: 0x0020,
+    id: GET_SIGNAL_STRENGTH_ID,
     name: "Get Signal Strength",
     input: &[],
     output: &[Needed(TlvFormat(
@@ -186,9 +205,11 @@ pub(crate) static GET_SIGNAL_STRENGTH: Row = Row {
     indicated: false,
 };
 
+pub const NETWORK_SCAN_ID: u16 = 0x0021;
+
 pub(crate) static NETWORK_SCAN: Row = Row {
     service: NAS,
-    id: 0x0021,
+    id: NETWORK_SCAN_ID,
     name: "Network Scan",
     input: &[],
     output: &[Needed(TlvFormat(
@@ -204,9 +225,11 @@ pub(crate) static NETWORK_SCAN: Row = Row {
     indicated: false,
 };
 
+pub const GET_SERVING_SYSTEM_ID: u16 = 0x0024;
+
 pub(crate) static GET_SERVING_SYSTEM: Row = Row {
     service: NAS,
-    id: 0x0024,
+    id: GET_SERVING_SYSTEM_ID,
     name: "Get Serving System",
     input: &[],
     output: &[
@@ -235,9 +258,11 @@ pub(crate) static GET_SERVING_SYSTEM: Row = Row {
     indicated: true,
 };
 
+pub const GET_HOME_NETWORK_ID: u16 = 0x0025;
+
 pub(crate) static GET_HOME_NETWORK: Row = Row {
     service: NAS,
-    id: 0x0025,
+    id: GET_HOME_NETWORK_ID,
     name: "Get Home Network",
     input: &[],
     output: &[Needed(TlvFormat(
@@ -252,9 +277,11 @@ pub(crate) static GET_HOME_NETWORK: Row = Row {
     indicated: false,
 };
 
+pub const START_NETWORK_ID: u16 = 0x0020;
+
 pub(crate) static START_NETWORK: Row = Row {
     service: WDS,
-    id: 0x0020,
+    id: START_NETWORK_ID,
     name: "Start Network",
     input: &[
         TlvFormat(0x14, "APN", Text),
@@ -266,27 +293,33 @@ pub(crate) static START_NETWORK: Row = Row {
     indicated: false,
 };
 
+pub const STOP_NETWORK_ID: u16 = 0x0021;
+
 pub(crate) static STOP_NETWORK: Row = Row {
     service: WDS,
-    id: 0x0021,
+    id: STOP_NETWORK_ID,
     name: "Stop Network",
     input: &[TlvFormat(0x01, "", U32)],
     output: &[],
     indicated: false,
 };
 
+pub const GET_PACKET_SERVICE_STATUS_ID: u16 = 0x0022;
+
 pub(crate) static GET_PACKET_SERVICE_STATUS: Row = Row {
     service: WDS,
-    id: 0x0022,
+    id: GET_PACKET_SERVICE_STATUS_ID,
     name: "Get Packet Service Status",
     input: &[],
     output: &[Needed(TlvFormat(0x01, "Connection", U8))],
     indicated: false,
 };
 
+pub const GET_CHANNEL_RATES_ID: u16 = 0x0023;
+
 pub(crate) static GET_CHANNEL_RATES: Row = Row {
     service: WDS,
-    id: 0x0023,
+    id: GET_CHANNEL_RATES_ID,
     name: "Get Channel Rates",
     input: &[],
     output: &[Needed(TlvFormat(
@@ -302,9 +335,11 @@ pub(crate) static GET_CHANNEL_RATES: Row = Row {
     indicated: false,
 };
 
+pub const GET_CURRENT_SETTINGS_ID: u16 = 0x002D;
+
 pub(crate) static GET_CURRENT_SETTINGS: Row = Row {
     service: WDS,
-    id: 0x002D,
+    id: GET_CURRENT_SETTINGS_ID,
     name: "Get Current Settings",
     input: &[TlvFormat(0x10, "", U32)],
     output: &[
@@ -318,9 +353,11 @@ pub(crate) static GET_CURRENT_SETTINGS: Row = Row {
     indicated: false,
 };
 
+pub const RAW_SEND_ID: u16 = 0x0020;
+
 pub(crate) static RAW_SEND: Row = Row {
     service: WMS,
-    id: 0x0020,
+    id: RAW_SEND_ID,
     name: "Raw Send",
     input: &[TlvFormat(
         0x01,
@@ -331,9 +368,11 @@ pub(crate) static RAW_SEND: Row = Row {
     indicated: false,
 };
 
+pub const RAW_READ_ID: u16 = 0x0022;
+
 pub(crate) static RAW_READ: Row = Row {
     service: WMS,
-    id: 0x0022,
+    id: RAW_READ_ID,
     name: "Raw Read",
     input: &[TlvFormat(
         0x01,
@@ -352,9 +391,11 @@ pub(crate) static RAW_READ: Row = Row {
     indicated: false,
 };
 
+pub const DELETE_ID: u16 = 0x0024;
+
 pub(crate) static DELETE: Row = Row {
     service: WMS,
-    id: 0x0024,
+    id: DELETE_ID,
     name: "Delete",
     input: &[
         TlvFormat(0x01, "storage", U8),
@@ -364,9 +405,11 @@ pub(crate) static DELETE: Row = Row {
     indicated: false,
 };
 
+pub const LIST_MESSAGES_ID: u16 = 0x0031;
+
 pub(crate) static LIST_MESSAGES: Row = Row {
     service: WMS,
-    id: 0x0031,
+    id: LIST_MESSAGES_ID,
     name: "List Messages",
     input: &[TlvFormat(0x01, "storage", U8)],
     output: &[Needed(TlvFormat(
@@ -409,4 +452,38 @@ pub(crate) fn rows() -> [&'static Row; 26]
         &DELETE,
         &LIST_MESSAGES,
     ]
+}
+
+/// The service and the id of a request's message.
+pub(crate) fn address_of(body: &QmiRequest) -> (u8, u16)
+    ensures service { result.0 ≡ (row_of body.now).service }
+    ensures id { result.1 ≡ (row_of body.now).id }
+{
+    match body {
+        QmiRequest::GetServiceVersionInfo => (CTL, control::GET_VERSION_INFO),
+        QmiRequest::DmsGetCapabilities => (DMS, GET_CAPABILITIES_ID),
+        QmiRequest::DmsGetManufacturer => (DMS, GET_MANUFACTURER_ID),
+        QmiRequest::DmsGetModel => (DMS, GET_MODEL_ID),
+        QmiRequest::DmsGetRevision => (DMS, GET_REVISION_ID),
+        QmiRequest::DmsGetMsisdn => (DMS, GET_MSISDN_ID),
+        QmiRequest::DmsGetIds => (DMS, GET_IDS_ID),
+        QmiRequest::DmsGetOperatingMode => (DMS, GET_OPERATING_MODE_ID),
+        QmiRequest::DmsSetOperatingMode(_) => (DMS, SET_OPERATING_MODE_ID),
+        QmiRequest::NasGetSignalStrength => (NAS, GET_SIGNAL_STRENGTH_ID),
+        QmiRequest::NasNetworkScan => (NAS, NETWORK_SCAN_ID),
+        QmiRequest::NasGetServingSystem => (NAS, GET_SERVING_SYSTEM_ID),
+        QmiRequest::NasGetHomeNetwork => (NAS, GET_HOME_NETWORK_ID),
+        QmiRequest::WdsStartNetwork { .. } => (WDS, START_NETWORK_ID),
+        QmiRequest::WdsStopNetwork(_) => (WDS, STOP_NETWORK_ID),
+        QmiRequest::WdsGetPacketServiceStatus => (WDS, GET_PACKET_SERVICE_STATUS_ID),
+        QmiRequest::WdsGetChannelRates => (WDS, GET_CHANNEL_RATES_ID),
+        QmiRequest::WdsGetCurrentSettings => (WDS, GET_CURRENT_SETTINGS_ID),
+        QmiRequest::WmsRawSend(_) => (WMS, RAW_SEND_ID),
+        QmiRequest::WmsRawRead { .. } => (WMS, RAW_READ_ID),
+        QmiRequest::WmsDelete { .. } => (WMS, DELETE_ID),
+        QmiRequest::WmsListMessages(_) => (WMS, LIST_MESSAGES_ID),
+        QmiRequest::ProxyOpen(_) => (CTL, control::PROXY_OPEN),
+        QmiRequest::Allocate(_) => (CTL, control::ALLOCATE),
+        QmiRequest::Release(_, _) => (CTL, control::RELEASE),
+    }
 }

@@ -47,7 +47,8 @@ pub fn message_at(service: u8, id: u16) -> Option<Message>
     Some(Message { row })
 }
 
-fn row_in(rows: &[&'static Row], service: u8, id: u16) -> Option<&'static Row>
+/// The line of a table with this service and this id.
+pub(crate) fn row_in(rows: &[&'static Row], service: u8, id: u16) -> Option<&'static Row>
     ensures { option_map (λ row. row_view row.now) result ≡ find (is_at service id) (map (λ row. row_view row.now) rows.now) }
 {
     for row in rows {

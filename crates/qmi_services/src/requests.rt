@@ -5,7 +5,8 @@ ghost use Rattle.tlv_codec.specs.Tlv.{tlv_text};
 ghost use Rattle.qmi_services.specs.Requests.{byte_given, inputs_of, point_to_point, row_of, text_given, tlv};
 ghost use Rattle.qmi_services.specs.View.{row_view};
 
-use crate::messages;
+use crate::messages::{address_of, rows};
+use crate::modem::row_in;
 use crate::table::Row;
 use kit_bytes::{Octets, ShortOctets, ShortText, u16_bytes, u32_bytes};
 use qmi_requests::QmiRequest;
@@ -62,20 +63,8 @@ fn write_inputs(alloc: Global, out: &mut Octets, body: &QmiRequest) -> Result<()
         QmiRequest::ProxyOpen(path) => write_value(out, 0x01, path.value().as_str().as_bytes()),
         QmiRequest::Allocate(service) => write_value(out, 0x01, &[*service]),
         QmiRequest::Release(service, cid) => write_value(out, 0x01, &[*service, *cid]),
-        QmiRequest::GetServiceVersionInfo
-        | QmiRequest::DmsGetCapabilities
-        | QmiRequest::DmsGetManufacturer
-        | QmiRequest::DmsGetModel
-        | QmiRequest::DmsGetRevision
-        | QmiRequest::DmsGetMsisdn
-        | QmiRequest::DmsGetIds
-        | QmiRequest::DmsGetOperatingMode
-        | QmiRequest::NasGetSignalStrength
-        | QmiRequest::NasNetworkScan
-        | QmiRequest::NasGetServingSystem
-        | QmiRequest::NasGetHomeNetwork
-        | QmiRequest::WdsGetPacketServiceStatus
-        | QmiRequest::WdsGetChannelRates => Ok(()),
+        // The others have no inputs.
+        _ => Ok(()),
     }
 }
 
@@ -125,45 +114,20 @@ fn write_byte(out: &mut Octets, kind: u8, byte: &Option<u8>) -> Result<(), Alloc
 pub fn service_of(body: &QmiRequest) -> u8
     ensures { result ≡ (row_of body.now).service }
 {
-    row_of(body).service
+    address_of(body).0
 }
 
 /// The id of a request's message.
 pub fn message_of(body: &QmiRequest) -> u16
     ensures { result ≡ (row_of body.now).id }
 {
-    row_of(body).id
+    address_of(body).1
 }
 
 /// The line of the table that a request has.
 pub(crate) fn row_of(body: &QmiRequest) -> &'static Row
     ensures { row_view result.now ≡ row_of body.now }
 {
-    match body {
-        QmiRequest::GetServiceVersionInfo => &messages::GET_VERSION_INFO,
-        QmiRequest::DmsGetCapabilities => &messages::GET_CAPABILITIES,
-        QmiRequest::DmsGetManufacturer => &messages::GET_MANUFACTURER,
-        QmiRequest::DmsGetModel => &messages::GET_MODEL,
-        QmiRequest::DmsGetRevision => &messages::GET_REVISION,
-        QmiRequest::DmsGetMsisdn => &messages::GET_MSISDN,
-        QmiRequest::DmsGetIds => &messages::GET_IDS,
-        QmiRequest::DmsGetOperatingMode => &messages::GET_OPERATING_MODE,
-        QmiRequest::DmsSetOperatingMode(_) => &messages::SET_OPERATING_MODE,
-        QmiRequest::NasGetSignalStrength => &messages::GET_SIGNAL_STRENGTH,
-        QmiRequest::NasNetworkScan => &messages::NETWORK_SCAN,
-        QmiRequest::NasGetServingSystem => &messages::GET_SERVING_SYSTEM,
-        QmiRequest::NasGetHomeNetwork => &messages::GET_HOME_NETWORK,
-        QmiRequest::WdsStartNetwork { .. } => &messages::START_NETWORK,
-        QmiRequest::WdsStopNetwork(_) => &messages::STOP_NETWORK,
-        QmiRequest::WdsGetPacketServiceStatus => &messages::GET_PACKET_SERVICE_STATUS,
-        QmiRequest::WdsGetChannelRates => &messages::GET_CHANNEL_RATES,
-        QmiRequest::WdsGetCurrentSettings => &messages::GET_CURRENT_SETTINGS,
-        QmiRequest::WmsRawSend(_) => &messages::RAW_SEND,
-        QmiRequest::WmsRawRead { .. } => &messages::RAW_READ,
-        QmiRequest::WmsDelete { .. } => &messages::DELETE,
-        QmiRequest::WmsListMessages(_) => &messages::LIST_MESSAGES,
-        QmiRequest::ProxyOpen(_) => &messages::PROXY_OPEN,
-        QmiRequest::Allocate(_) => &messages::ALLOCATE,
-        QmiRequest::Release(_, _) => &messages::RELEASE,
-    }
+    let (service, id) = address_of(body);
+    row_in(&rows(), service, id).unwrap()
 }
