@@ -1,5 +1,5 @@
 -- Whether an answer reads, and whether it is a success, are what is read of it.
-use Rattle.std.proofs.Common.{◌≡◌, ℕ, zero, suc, ◌<◌, inl, inr, Bool, true, false, not, ◌==◌, ◌&&◌, ◌||◌, if◌then◌else◌, nat_lt, List, [], ◌∷◌, ◌++◌, length, take, Option, Some, None, Ok, Err, refl, sym, ◌∙◌, ap, subst, arith, append_assoc, rules}
+use Rattle.std.proofs.Common.{◌≡◌, ℕ, zero, suc, ◌<◌, inl, inr, Bool, true, false, not, ◌==◌, ◌&&◌, ◌||◌, if◌then◌else◌, nat_lt, List, [], ◌∷◌, ◌++◌, length, take, Option, Some, None, Ok, Err, refl, sym, ◌∙◌, ap, subst, arith, append_assoc}
 use Rattle.std.proofs.Math.Seq.{take-append_seam}
 use Rattle.std.proofs.lemmas.Bool.{false_from_ne_true}
 use Rattle.std.proofs.lemmas.Bool.Decides.{nat_tests}
@@ -19,10 +19,10 @@ use Rattle.qmi_values.specs.Numbers.{little_endian, twos_complement, AreBytes}
 use Rattle.qmi_values.specs.Spelling.{Follows, IsCount, EachSpells, Spells, FieldsSpell}
 use Rattle.qmi_values.proofs.Spellings.{parts, list_of-values_of}
 use Rattle.qmi_requests.specs.declared.QmiRequest.{QmiRequest}
-use Rattle.qmi_requests.specs.declared.QmiRequest.TheVariants as request
 use Rattle.qmi_services.specs.Table.{Output}
 use Rattle.qmi_services.specs.Requests.{row_of}
 use Rattle.qmi_services.specs.declared.answers.QmiAnswer.TheVariants.{Success, Failure}
+use Rattle.qmi_services.proofs.Lines.{outputs-well_made}
 use Rattle.qmi_services.specs.Answers as answer
 use Rattle.qmi_services.specs.Answers.{IsSuccess, FieldValue, Says, AllSay, IsUnread, AnyUnread, AreWellMade}
 use Rattle.link_session.specs.declared.fault.SessionFault.TheVariants as fault
@@ -368,34 +368,6 @@ any_unread (output ∷ outputs) tlvs made (inl first) =
     first_false (is_read output (tlv_value output.tlv.kind tlvs)) (are_read outputs tlvs) (unread_not output (tlv_value output.tlv.kind tlvs) made.0 first)
 any_unread (output ∷ outputs) tlvs made (inr any) = second_false (is_read output (tlv_value output.tlv.kind tlvs)) (are_read outputs tlvs) (any_unread outputs tlvs made.1 any)
 
--- the forms of the table are well made
-well_made : (body : QmiRequest) → AreWellMade (row_of body).output
-well_made request.GetServiceVersionInfo = search rules
-well_made request.DmsGetCapabilities = search rules
-well_made request.DmsGetManufacturer = search rules
-well_made request.DmsGetModel = search rules
-well_made request.DmsGetRevision = search rules
-well_made request.DmsGetMsisdn = search rules
-well_made request.DmsGetIds = search rules
-well_made request.DmsGetOperatingMode = search rules
-well_made (request.DmsSetOperatingMode mode) = tt
-well_made request.NasGetSignalStrength = search rules
-well_made request.NasNetworkScan = search rules
-well_made request.NasGetServingSystem = search rules
-well_made request.NasGetHomeNetwork = search rules
-well_made (request.WdsStartNetwork apn username password ip_type) = search rules
-well_made (request.WdsStopNetwork handle) = tt
-well_made request.WdsGetPacketServiceStatus = search rules
-well_made request.WdsGetChannelRates = search rules
-well_made request.WdsGetCurrentSettings = search rules
-well_made (request.WmsRawSend pdu) = search rules
-well_made (request.WmsRawRead storage index) = search rules
-well_made (request.WmsDelete storage index) = tt
-well_made (request.WmsListMessages storage) = search rules
-well_made (request.ProxyOpen path) = tt
-well_made (request.Allocate service) = search rules
-well_made (request.Release service cid) = search rules
-
 -- ---- answers ----
 
 module _ (body : QmiRequest) (message : Placed) where
@@ -415,7 +387,7 @@ module _ (body : QmiRequest) (message : Placed) where
   is_good fields framed ((error, is), say) =
       let outcome : Outcome = record { status = 0; error = error } in
       let reads_so : reads body message.bytes ≡ true =
-      reads_as (Some outcome) true is (all_read outputs tlvs fields (well_made body) say) ∙ ap (λ (b : Bool). b && true) framed in
+      reads_as (Some outcome) true is (all_read outputs tlvs fields (outputs-well_made body) say) ∙ ap (λ (b : Bool). b && true) framed in
       (reads_so, both_true (reads body message.bytes) (is_success (outcome_in tlvs)) reads_so (ap is_success is))
 
   is_failed : (error : ℕ) → is_framed message.bytes ≡ true → answer.Reads outputs tlvs (answer.failure error) → (reads body message.bytes ≡ true) × (succeeds body message.bytes ≡ false)
@@ -432,7 +404,7 @@ module _ (body : QmiRequest) (message : Placed) where
   is_unread : answer.Reads outputs tlvs answer.unread → reads body message.bytes ≡ false
   is_unread (inl none) = reads_as None (are_read outputs tlvs) none refl ∙ second_false (is_framed message.bytes) false refl
   is_unread (inr ((error, is), any)) =
-      reads_as (Some (record { status = 0; error = error })) false is (any_unread outputs tlvs (well_made body) any) ∙ second_false (is_framed message.bytes) false refl
+      reads_as (Some (record { status = 0; error = error })) false is (any_unread outputs tlvs (outputs-well_made body) any) ∙ second_false (is_framed message.bytes) false refl
 
   is_unframed : is_framed message.bytes ≡ false → reads body message.bytes ≡ false
   unfolding reads
