@@ -3,7 +3,7 @@ ghost use Rattle.mbim_services.specs.declared.answers.AnswerFault.TheVariants.{O
 ghost use Rattle.mbim_services.specs.Requests.{sent_by};
 ghost use Rattle.mbim_services.specs.Answers.{Answers, fault_of};
 
-use crate::requests::row_of;
+use crate::requests::layout_done;
 use mbim_fields::{FieldFault, FieldShape, FieldVal, decode_fields};
 use mbim_requests::MbimRequest;
 use std::alloc::{AllocError, Global};
@@ -60,7 +60,7 @@ pub fn done(
     if status != 0 {
         return Ok(MbimAnswer::Failure(status));
     }
-    let shape = row_of(body).done;
+    let shape = layout_done(body);
     let val = decode_fields(alloc, &shape, buffer)?;
     Ok(MbimAnswer::Success(shape, val))
 }

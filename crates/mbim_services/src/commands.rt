@@ -1,14 +1,16 @@
-//! The table of commands: the layouts of the buffers of each.
+//! The table of commands: the CID and the layouts of the buffers of each.
 
 ghost use Rattle.std.specs.Prelude.{◌≡◌, map};
+ghost use Rattle.mbim_services.specs.Requests.{sent_by};
 ghost use Rattle.mbim_services.specs.Table.{rows};
-ghost use Rattle.mbim_services.specs.View.{row_view};
+ghost use Rattle.mbim_services.specs.View.{row_view, service_view};
 
 use crate::table::{Row, Service};
 use mbim_fields::Fixed::{Ipv4, Ipv6, PrefixedIpv4, PrefixedIpv6};
 use mbim_fields::Form::{Each, One, Perhaps, Run};
 use mbim_fields::Item::{Binary, InPlace, Structure, Text};
 use mbim_fields::{Field, FieldShape, Fixed, Form};
+use mbim_requests::MbimRequest;
 
 const U32: Form = One(InPlace(Fixed::U32));
 
@@ -106,9 +108,11 @@ const PHONEBOOK_ENTRY: FieldShape = FieldShape(&[
     Field("Name", TEXT),
 ]);
 
+pub const DEVICE_CAPS_CID: u32 = 1;
+
 pub(crate) static DEVICE_CAPS: Row = Row {
     service: Service::BasicConnect,
-    cid: 1,
+    cid: DEVICE_CAPS_CID,
     query: Some(EMPTY),
     set: None,
     done: FieldShape(&[
@@ -127,9 +131,11 @@ pub(crate) static DEVICE_CAPS: Row = Row {
     ]),
 };
 
+pub const SUBSCRIBER_READY_CID: u32 = 2;
+
 pub(crate) static SUBSCRIBER_READY: Row = Row {
     service: Service::BasicConnect,
-    cid: 2,
+    cid: SUBSCRIBER_READY_CID,
     query: Some(EMPTY),
     set: None,
     done: FieldShape(&[
@@ -142,17 +148,21 @@ pub(crate) static SUBSCRIBER_READY: Row = Row {
     ]),
 };
 
+pub const RADIO_STATE_CID: u32 = 3;
+
 pub(crate) static RADIO_STATE: Row = Row {
     service: Service::BasicConnect,
-    cid: 3,
+    cid: RADIO_STATE_CID,
     query: Some(EMPTY),
     set: Some(FieldShape(&[Field("RadioState", U32)])),
     done: RADIO_STATES,
 };
 
+pub const PIN_CID: u32 = 4;
+
 pub(crate) static PIN: Row = Row {
     service: Service::BasicConnect,
-    cid: 4,
+    cid: PIN_CID,
     query: Some(EMPTY),
     set: None,
     done: FieldShape(&[
@@ -162,17 +172,21 @@ pub(crate) static PIN: Row = Row {
     ]),
 };
 
+pub const HOME_PROVIDER_CID: u32 = 6;
+
 pub(crate) static HOME_PROVIDER: Row = Row {
     service: Service::BasicConnect,
-    cid: 6,
+    cid: HOME_PROVIDER_CID,
     query: Some(EMPTY),
     set: None,
     done: PROVIDER,
 };
 
+pub const VISIBLE_PROVIDERS_CID: u32 = 8;
+
 pub(crate) static VISIBLE_PROVIDERS: Row = Row {
     service: Service::BasicConnect,
-    cid: 8,
+    cid: VISIBLE_PROVIDERS_CID,
     query: Some(FieldShape(&[Field("Action", U32)])),
     set: None,
     done: FieldShape(&[
@@ -181,9 +195,11 @@ pub(crate) static VISIBLE_PROVIDERS: Row = Row {
     ]),
 };
 
+pub const REGISTER_STATE_CID: u32 = 9;
+
 pub(crate) static REGISTER_STATE: Row = Row {
     service: Service::BasicConnect,
-    cid: 9,
+    cid: REGISTER_STATE_CID,
     query: Some(EMPTY),
     set: None,
     done: FieldShape(&[
@@ -199,17 +215,21 @@ pub(crate) static REGISTER_STATE: Row = Row {
     ]),
 };
 
+pub const PACKET_SERVICE_CID: u32 = 10;
+
 pub(crate) static PACKET_SERVICE: Row = Row {
     service: Service::BasicConnect,
-    cid: 10,
+    cid: PACKET_SERVICE_CID,
     query: Some(EMPTY),
     set: Some(FieldShape(&[Field("PacketServiceAction", U32)])),
     done: PACKET_STATE,
 };
 
+pub const SIGNAL_STATE_CID: u32 = 11;
+
 pub(crate) static SIGNAL_STATE: Row = Row {
     service: Service::BasicConnect,
-    cid: 11,
+    cid: SIGNAL_STATE_CID,
     query: Some(EMPTY),
     set: None,
     done: FieldShape(&[
@@ -221,9 +241,11 @@ pub(crate) static SIGNAL_STATE: Row = Row {
     ]),
 };
 
+pub const CONNECT_CID: u32 = 12;
+
 pub(crate) static CONNECT: Row = Row {
     service: Service::BasicConnect,
-    cid: 12,
+    cid: CONNECT_CID,
     query: Some(CONNECTION),
     set: Some(FieldShape(&[
         Field("SessionId", U32),
@@ -239,17 +261,21 @@ pub(crate) static CONNECT: Row = Row {
     done: CONNECTION,
 };
 
+pub const IP_CONFIGURATION_CID: u32 = 15;
+
 pub(crate) static IP_CONFIGURATION: Row = Row {
     service: Service::BasicConnect,
-    cid: 15,
+    cid: IP_CONFIGURATION_CID,
     query: Some(IP_SETTINGS),
     set: None,
     done: IP_SETTINGS,
 };
 
+pub const DEVICE_SERVICES_CID: u32 = 16;
+
 pub(crate) static DEVICE_SERVICES: Row = Row {
     service: Service::BasicConnect,
-    cid: 16,
+    cid: DEVICE_SERVICES_CID,
     query: Some(EMPTY),
     set: None,
     done: FieldShape(&[
@@ -259,17 +285,21 @@ pub(crate) static DEVICE_SERVICES: Row = Row {
     ]),
 };
 
+pub const SUBSCRIBE_LIST_CID: u32 = 19;
+
 pub(crate) static SUBSCRIBE_LIST: Row = Row {
     service: Service::BasicConnect,
-    cid: 19,
+    cid: SUBSCRIBE_LIST_CID,
     query: None,
     set: Some(EVENTS),
     done: EVENTS,
 };
 
+pub const PACKET_STATISTICS_CID: u32 = 20;
+
 pub(crate) static PACKET_STATISTICS: Row = Row {
     service: Service::BasicConnect,
-    cid: 20,
+    cid: PACKET_STATISTICS_CID,
     query: Some(EMPTY),
     set: None,
     done: FieldShape(&[
@@ -284,9 +314,11 @@ pub(crate) static PACKET_STATISTICS: Row = Row {
     ]),
 };
 
+pub const SMS_CONFIGURATION_CID: u32 = 1;
+
 pub(crate) static SMS_CONFIGURATION: Row = Row {
     service: Service::Sms,
-    cid: 1,
+    cid: SMS_CONFIGURATION_CID,
     query: Some(EMPTY),
     set: None,
     done: FieldShape(&[
@@ -298,9 +330,11 @@ pub(crate) static SMS_CONFIGURATION: Row = Row {
     ]),
 };
 
+pub const SMS_READ_CID: u32 = 2;
+
 pub(crate) static SMS_READ: Row = Row {
     service: Service::Sms,
-    cid: 2,
+    cid: SMS_READ_CID,
     query: Some(FieldShape(&[
         Field("Format", U32),
         Field("Flag", U32),
@@ -314,25 +348,31 @@ pub(crate) static SMS_READ: Row = Row {
     ]),
 };
 
+pub const SMS_DELETE_CID: u32 = 4;
+
 pub(crate) static SMS_DELETE: Row = Row {
     service: Service::Sms,
-    cid: 4,
+    cid: SMS_DELETE_CID,
     query: None,
     set: Some(FieldShape(&[Field("Flag", U32), Field("MessageIndex", U32)])),
     done: EMPTY,
 };
 
+pub const SMS_STORE_STATUS_CID: u32 = 5;
+
 pub(crate) static SMS_STORE_STATUS: Row = Row {
     service: Service::Sms,
-    cid: 5,
+    cid: SMS_STORE_STATUS_CID,
     query: Some(EMPTY),
     set: None,
     done: FieldShape(&[Field("Flag", U32), Field("MessageIndex", U32)]),
 };
 
+pub const USSD_EXCHANGE_CID: u32 = 1;
+
 pub(crate) static USSD_EXCHANGE: Row = Row {
     service: Service::Ussd,
-    cid: 1,
+    cid: USSD_EXCHANGE_CID,
     query: None,
     set: Some(FieldShape(&[
         Field("Action", U32),
@@ -347,9 +387,11 @@ pub(crate) static USSD_EXCHANGE: Row = Row {
     ]),
 };
 
+pub const PHONEBOOK_CONFIGURATION_CID: u32 = 1;
+
 pub(crate) static PHONEBOOK_CONFIGURATION: Row = Row {
     service: Service::Phonebook,
-    cid: 1,
+    cid: PHONEBOOK_CONFIGURATION_CID,
     query: Some(EMPTY),
     set: None,
     done: FieldShape(&[
@@ -361,9 +403,11 @@ pub(crate) static PHONEBOOK_CONFIGURATION: Row = Row {
     ]),
 };
 
+pub const PHONEBOOK_READ_CID: u32 = 2;
+
 pub(crate) static PHONEBOOK_READ: Row = Row {
     service: Service::Phonebook,
-    cid: 2,
+    cid: PHONEBOOK_READ_CID,
     query: Some(FieldShape(&[Field("FilterFlag", U32), Field("FilterIndex", U32)])),
     set: None,
     done: FieldShape(&[
@@ -372,17 +416,21 @@ pub(crate) static PHONEBOOK_READ: Row = Row {
     ]),
 };
 
+pub const PHONEBOOK_DELETE_CID: u32 = 3;
+
 pub(crate) static PHONEBOOK_DELETE: Row = Row {
     service: Service::Phonebook,
-    cid: 3,
+    cid: PHONEBOOK_DELETE_CID,
     query: None,
     set: Some(FieldShape(&[Field("FilterFlag", U32), Field("FilterIndex", U32)])),
     done: EMPTY,
 };
 
+pub const PHONEBOOK_WRITE_CID: u32 = 4;
+
 pub(crate) static PHONEBOOK_WRITE: Row = Row {
     service: Service::Phonebook,
-    cid: 4,
+    cid: PHONEBOOK_WRITE_CID,
     query: None,
     set: Some(FieldShape(&[
         Field("SaveFlag", U32),
@@ -393,9 +441,11 @@ pub(crate) static PHONEBOOK_WRITE: Row = Row {
     done: EMPTY,
 };
 
+pub const PROXY_CONFIGURATION_CID: u32 = 1;
+
 pub(crate) static PROXY_CONFIGURATION: Row = Row {
     service: Service::ProxyControl,
-    cid: 1,
+    cid: PROXY_CONFIGURATION_CID,
     query: None,
     set: Some(FieldShape(&[Field("DevicePath", TEXT), Field("Timeout", U32)])),
     done: EMPTY,
@@ -431,4 +481,48 @@ pub(crate) fn rows() -> [&'static Row; 24]
         &PHONEBOOK_WRITE,
         &PROXY_CONFIGURATION,
     ]
+}
+
+/// The service and the CID of a request's command.
+pub(crate) fn address_of(body: &MbimRequest) -> (Service, u32)
+    ensures service { service_view result.0 ≡ (sent_by body.now).row.service }
+    ensures cid { result.1 ≡ (sent_by body.now).row.cid }
+{
+    match body {
+        MbimRequest::QueryDeviceCaps => (Service::BasicConnect, DEVICE_CAPS_CID),
+        MbimRequest::QuerySubscriberReadyStatus => (Service::BasicConnect, SUBSCRIBER_READY_CID),
+        MbimRequest::QueryRadioState => (Service::BasicConnect, RADIO_STATE_CID),
+        MbimRequest::SetRadioState(_) => (Service::BasicConnect, RADIO_STATE_CID),
+        MbimRequest::QueryPinState => (Service::BasicConnect, PIN_CID),
+        MbimRequest::QueryHomeProvider => (Service::BasicConnect, HOME_PROVIDER_CID),
+        MbimRequest::QueryVisibleProviders => (Service::BasicConnect, VISIBLE_PROVIDERS_CID),
+        MbimRequest::QueryRegistrationState => (Service::BasicConnect, REGISTER_STATE_CID),
+        MbimRequest::QueryPacketServiceState => (Service::BasicConnect, PACKET_SERVICE_CID),
+        MbimRequest::AttachPacketService => (Service::BasicConnect, PACKET_SERVICE_CID),
+        MbimRequest::DetachPacketService => (Service::BasicConnect, PACKET_SERVICE_CID),
+        MbimRequest::QuerySignalState => (Service::BasicConnect, SIGNAL_STATE_CID),
+        MbimRequest::Connect { .. } => (Service::BasicConnect, CONNECT_CID),
+        MbimRequest::Disconnect(_) => (Service::BasicConnect, CONNECT_CID),
+        MbimRequest::QueryConnectionState(_) => (Service::BasicConnect, CONNECT_CID),
+        MbimRequest::QueryIpConfiguration(_) => (Service::BasicConnect, IP_CONFIGURATION_CID),
+        MbimRequest::QueryDeviceServices => (Service::BasicConnect, DEVICE_SERVICES_CID),
+        MbimRequest::QueryPacketStatistics => (Service::BasicConnect, PACKET_STATISTICS_CID),
+        MbimRequest::SmsQueryConfiguration => (Service::Sms, SMS_CONFIGURATION_CID),
+        MbimRequest::SmsReadAll => (Service::Sms, SMS_READ_CID),
+        MbimRequest::SmsRead(_) => (Service::Sms, SMS_READ_CID),
+        MbimRequest::SmsDelete(_) => (Service::Sms, SMS_DELETE_CID),
+        MbimRequest::SmsQueryStoreStatus => (Service::Sms, SMS_STORE_STATUS_CID),
+        MbimRequest::UssdInitiate(_, _) => (Service::Ussd, USSD_EXCHANGE_CID),
+        MbimRequest::UssdContinue(_, _) => (Service::Ussd, USSD_EXCHANGE_CID),
+        MbimRequest::UssdCancel => (Service::Ussd, USSD_EXCHANGE_CID),
+        MbimRequest::PhonebookQueryConfiguration => (
+            Service::Phonebook,
+            PHONEBOOK_CONFIGURATION_CID,
+        ),
+        MbimRequest::PhonebookReadAll => (Service::Phonebook, PHONEBOOK_READ_CID),
+        MbimRequest::PhonebookRead(_) => (Service::Phonebook, PHONEBOOK_READ_CID),
+        MbimRequest::PhonebookDelete(_) => (Service::Phonebook, PHONEBOOK_DELETE_CID),
+        MbimRequest::PhonebookWrite { .. } => (Service::Phonebook, PHONEBOOK_WRITE_CID),
+        MbimRequest::ProxyConfiguration(_) => (Service::ProxyControl, PROXY_CONFIGURATION_CID),
+    }
 }

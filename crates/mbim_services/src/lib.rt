@@ -4,7 +4,7 @@
 #![tactic(auto)]
 
 mod answers;
-mod commands;
+pub mod commands;
 mod event_list;
 mod events;
 pub mod examples;

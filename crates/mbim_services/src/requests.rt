@@ -7,11 +7,11 @@ ghost use Rattle.mbim_fields.specs.Canon.{canon};
 ghost use Rattle.mbim_fields.specs.View.{shape_view, value_view, val_view};
 ghost use Rattle.mbim_services.specs.Requests as spec;
 ghost use Rattle.mbim_services.specs.Requests.{IsInRange, IsIndex, IsText, sent_by, buffer_sent};
-ghost use Rattle.mbim_services.specs.View.{row_view};
+ghost use Rattle.mbim_services.specs.Table.{layout_sent};
 
-use crate::commands;
+use crate::commands::address_of;
 use crate::sent::Command;
-use crate::table::Row;
+use crate::table::{Way, layout};
 use kit_bytes::{Octets, PathText, ShortOctets, ShortText, Text};
 use mbim_fields::{EncodeFault, FieldShape, FieldVal, FieldValue, encode_fields};
 use mbim_requests::{ContextIpType, MbimRequest};
@@ -37,13 +37,13 @@ pub fn command(alloc: Global, body: &MbimRequest) -> Result<Command, AllocError>
     ensures buffer { IfOk result (λ command. buffer_sent (sent_by body.now) ≡ Some command.buffer) }
     ensures short { IfOk result (λ command. length command.buffer ≤ LONGEST_BUFFER) }
 {
-    let row = row_of(body);
+    let (service, cid) = address_of(body);
     let set = sets(body);
     let values = FieldVal::from(values_of(alloc, body)?);
-    let buffer = encoded(alloc, row.layout_sent(set), &values)?;
+    let buffer = encoded(alloc, layout_sent(body, set), &values)?;
     Ok(Command {
-        uuid: row.service.uuid(),
-        cid: row.cid,
+        uuid: service.uuid(),
+        cid,
         set,
         buffer,
     })
@@ -66,44 +66,24 @@ fn encoded(
     }
 }
 
-// The line of the table that a request has.
-pub(crate) fn row_of(body: &MbimRequest) -> &'static Row
-    ensures { row_view result.now ≡ (sent_by body.now).row }
+// The layout of the buffer of its set, or of its query.
+fn layout_sent(body: &MbimRequest, set: bool) -> Option<FieldShape>
+    ensures { option_map shape_view result ≡ layout_sent (sent_by body.now).row set }
 {
-    match body {
-        MbimRequest::QueryDeviceCaps => &commands::DEVICE_CAPS,
-        MbimRequest::QuerySubscriberReadyStatus => &commands::SUBSCRIBER_READY,
-        MbimRequest::QueryRadioState => &commands::RADIO_STATE,
-        MbimRequest::SetRadioState(_) => &commands::RADIO_STATE,
-        MbimRequest::QueryPinState => &commands::PIN,
-        MbimRequest::QueryHomeProvider => &commands::HOME_PROVIDER,
-        MbimRequest::QueryVisibleProviders => &commands::VISIBLE_PROVIDERS,
-        MbimRequest::QueryRegistrationState => &commands::REGISTER_STATE,
-        MbimRequest::QueryPacketServiceState => &commands::PACKET_SERVICE,
-        MbimRequest::AttachPacketService => &commands::PACKET_SERVICE,
-        MbimRequest::DetachPacketService => &commands::PACKET_SERVICE,
-        MbimRequest::QuerySignalState => &commands::SIGNAL_STATE,
-        MbimRequest::Connect { .. } => &commands::CONNECT,
-        MbimRequest::Disconnect(_) => &commands::CONNECT,
-        MbimRequest::QueryConnectionState(_) => &commands::CONNECT,
-        MbimRequest::QueryIpConfiguration(_) => &commands::IP_CONFIGURATION,
-        MbimRequest::QueryDeviceServices => &commands::DEVICE_SERVICES,
-        MbimRequest::QueryPacketStatistics => &commands::PACKET_STATISTICS,
-        MbimRequest::SmsQueryConfiguration => &commands::SMS_CONFIGURATION,
-        MbimRequest::SmsReadAll => &commands::SMS_READ,
-        MbimRequest::SmsRead(_) => &commands::SMS_READ,
-        MbimRequest::SmsDelete(_) => &commands::SMS_DELETE,
-        MbimRequest::SmsQueryStoreStatus => &commands::SMS_STORE_STATUS,
-        MbimRequest::UssdInitiate(_, _) => &commands::USSD_EXCHANGE,
-        MbimRequest::UssdContinue(_, _) => &commands::USSD_EXCHANGE,
-        MbimRequest::UssdCancel => &commands::USSD_EXCHANGE,
-        MbimRequest::PhonebookQueryConfiguration => &commands::PHONEBOOK_CONFIGURATION,
-        MbimRequest::PhonebookReadAll => &commands::PHONEBOOK_READ,
-        MbimRequest::PhonebookRead(_) => &commands::PHONEBOOK_READ,
-        MbimRequest::PhonebookDelete(_) => &commands::PHONEBOOK_DELETE,
-        MbimRequest::PhonebookWrite { .. } => &commands::PHONEBOOK_WRITE,
-        MbimRequest::ProxyConfiguration(_) => &commands::PROXY_CONFIGURATION,
+    let (service, cid) = address_of(body);
+    if set {
+        layout(service.uuid(), cid, Way::Set)
+    } else {
+        layout(service.uuid(), cid, Way::Query)
     }
+}
+
+/// The layout of the buffer of its answer.
+pub(crate) fn layout_done(body: &MbimRequest) -> FieldShape
+    ensures { shape_view result ≡ (sent_by body.now).row.done }
+{
+    let (service, cid) = address_of(body);
+    layout(service.uuid(), cid, Way::Done).unwrap()
 }
 
 // Whether a request's command changes something.

@@ -1,6 +1,6 @@
 ghost use Rattle.std.specs.Prelude.{◌≡◌, map, option_map};
 ghost use Rattle.mbim_fields.specs.View.{shape_view};
-ghost use Rattle.mbim_services.specs.Table.{is_of, find, layout_in, layout_sent, layout_for};
+ghost use Rattle.mbim_services.specs.Table.{is_of, find, layout_in, layout_for};
 ghost use Rattle.mbim_services.specs.View.{row_view, service_view};
 
 use crate::commands::rows;
@@ -75,13 +75,6 @@ impl Row {
             Way::Set => self.set,
             Way::Done => Some(self.done),
         }
-    }
-
-    // The layout of the buffer of its set, or of its query.
-    pub(crate) fn layout_sent(&self, set: bool) -> Option<FieldShape>
-        ensures { option_map shape_view result ≡ layout_sent (row_view self.now) set }
-    {
-        if set { self.set } else { self.query }
     }
 
     fn is_of(&self, service: Uuid, cid: u32) -> bool
