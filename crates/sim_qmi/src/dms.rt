@@ -12,25 +12,10 @@ use crate::inputs::byte_in;
 use crate::state::ModemState;
 use crate::values::{LTE, MAX_RX, MAX_TX, list_of_one, text};
 use modem_profile::{AsciiText, Profile};
+use qmi_services::messages;
 use qmi_values::Val;
 use std::alloc::{AllocError, Global};
 use tlv_values::sequence;
-
-const GET_CAPABILITIES: u16 = 0x0020;
-
-const GET_MANUFACTURER: u16 = 0x0021;
-
-const GET_MODEL: u16 = 0x0022;
-
-const GET_REVISION: u16 = 0x0023;
-
-const GET_MSISDN: u16 = 0x0024;
-
-const GET_IDS: u16 = 0x0025;
-
-const GET_OPERATING_MODE: u16 = 0x002d;
-
-const SET_OPERATING_MODE: u16 = 0x002e;
 
 // A data service in the circuit-switched domain.
 const DATA_SERVICE_CS: u64 = 1;
@@ -57,14 +42,14 @@ impl DmsRequest {
         ensures { result ≡ dms_request id (option_map val_view input.now) }
     {
         match id {
-            GET_CAPABILITIES => Some(DmsRequest::GetCapabilities),
-            GET_MANUFACTURER => Some(DmsRequest::GetManufacturer),
-            GET_MODEL => Some(DmsRequest::GetModel),
-            GET_REVISION => Some(DmsRequest::GetRevision),
-            GET_MSISDN => Some(DmsRequest::GetMsisdn),
-            GET_IDS => Some(DmsRequest::GetIds),
-            GET_OPERATING_MODE => Some(DmsRequest::GetOperatingMode),
-            SET_OPERATING_MODE => {
+            messages::GET_CAPABILITIES_ID => Some(DmsRequest::GetCapabilities),
+            messages::GET_MANUFACTURER_ID => Some(DmsRequest::GetManufacturer),
+            messages::GET_MODEL_ID => Some(DmsRequest::GetModel),
+            messages::GET_REVISION_ID => Some(DmsRequest::GetRevision),
+            messages::GET_MSISDN_ID => Some(DmsRequest::GetMsisdn),
+            messages::GET_IDS_ID => Some(DmsRequest::GetIds),
+            messages::GET_OPERATING_MODE_ID => Some(DmsRequest::GetOperatingMode),
+            messages::SET_OPERATING_MODE_ID => {
                 let mode = byte_in(input.as_ref()?)?;
                 Some(DmsRequest::SetOperatingMode { mode })
             }

@@ -9,18 +9,10 @@ use crate::answer::Answer;
 use crate::state::ModemState;
 use crate::values::{LTE, list_of_one, text};
 use modem_profile::Profile;
+use qmi_services::messages;
 use qmi_values::Val;
 use std::alloc::{AllocError, Global};
 use tlv_values::sequence;
-
-const GET_SIGNAL_STRENGTH: u16 = 0x0020;
-
-const NETWORK_SCAN: u16 = 0x0021;
-
-/// Its indication has the same id.
-pub(crate) const GET_SERVING_SYSTEM: u16 = 0x0024;
-
-const GET_HOME_NETWORK: u16 = 0x0025;
 
 // The status of a network that serves.
 const CURRENT_SERVING: u64 = 1;
@@ -48,10 +40,10 @@ impl NasRequest {
         ensures { result ≡ nas_request id }
     {
         match id {
-            GET_SIGNAL_STRENGTH => Some(NasRequest::GetSignalStrength),
-            NETWORK_SCAN => Some(NasRequest::NetworkScan),
-            GET_SERVING_SYSTEM => Some(NasRequest::GetServingSystem),
-            GET_HOME_NETWORK => Some(NasRequest::GetHomeNetwork),
+            messages::GET_SIGNAL_STRENGTH_ID => Some(NasRequest::GetSignalStrength),
+            messages::NETWORK_SCAN_ID => Some(NasRequest::NetworkScan),
+            messages::GET_SERVING_SYSTEM_ID => Some(NasRequest::GetServingSystem),
+            messages::GET_HOME_NETWORK_ID => Some(NasRequest::GetHomeNetwork),
             _ => None,
         }
     }

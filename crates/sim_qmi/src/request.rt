@@ -2,9 +2,9 @@ ghost use Rattle.std.specs.Prelude.{◌≡◌, IfOk};
 ghost use Rattle.qmi_services.specs.View.{row_view};
 ghost use Rattle.sim_qmi.specs.Requests.{request_in};
 
-use crate::services::{CTL, DMS, NAS, WDS};
 use crate::{CtlRequest, DmsRequest, NasRequest, WdsRequest, WmsRequest};
 use qmi_services::Message;
+use qmi_services::messages::{CTL, DMS, NAS, WDS};
 use std::alloc::{AllocError, Global};
 
 // An input that each message with it needs.

@@ -12,10 +12,10 @@ ghost use Rattle.sim_qmi.specs.Step.{failure};
 ghost use Rattle.sim_qmi.specs.View.{answer_view};
 
 use crate::answer::Answer;
-use crate::nas::{GET_SERVING_SYSTEM, serving_system};
-use crate::services::NAS;
+use crate::nas::serving_system;
 use kit_bytes::Octets;
 use modem_profile::Profile;
+use qmi_services::messages::{GET_SERVING_SYSTEM_ID, NAS};
 use qmi_services::{Message, message_at};
 use qmux_frame::{Head, MessageKind, NewMessage, Sender, reply_to, result_reply};
 use std::alloc::{AllocError, Global};
@@ -67,7 +67,8 @@ pub(crate) fn indication(alloc: Global, profile: &Profile, mode: u8) -> Result<O
         client: EVERY_CLIENT,
         flags: MessageKind::Indication.flags(NAS),
         number: 0,
-        message: GET_SERVING_SYSTEM,
+        // Its indication has the id of the request.
+        message: GET_SERVING_SYSTEM_ID,
     };
     indication.write(alloc, tlvs.as_slice())
 }
@@ -78,7 +79,7 @@ fn system_tlvs(alloc: Global, profile: &Profile, mode: u8) -> Result<Octets, All
     ensures exact { IfOk result (λ tlvs. tlvs ≡ tlv_text (output_tlvs get_serving_system.output (serving_system profile.now mode))) }
     ensures short { IfOk result (λ tlvs. length tlvs ≤ 4096) }
 {
-    let message = message_at(NAS, GET_SERVING_SYSTEM).unwrap();
+    let message = message_at(NAS, GET_SERVING_SYSTEM_ID).unwrap();
     let values = serving_system(alloc, profile, mode)?;
     let mut tlvs = Octets::new(alloc);
     message.write_outputs(alloc, &mut tlvs, &values)?;

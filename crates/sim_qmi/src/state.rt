@@ -8,9 +8,9 @@ ghost use Rattle.sim_qmi.specs.Wms.{deletes, sends};
 ghost use Rattle.sim_qmi.specs.Values.{number_after};
 
 use crate::ClientId;
-use crate::services::CTL;
 use kit_bytes::Octets;
 use modem_profile::Profile;
+use qmi_services::messages::CTL;
 use qmux_frame::Head;
 use std::alloc::{AllocError, Global};
 use std::marker::Model;

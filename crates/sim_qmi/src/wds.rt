@@ -10,19 +10,10 @@ use crate::errors::INVALID_CLIENT_ID;
 use crate::inputs::word_in;
 use crate::state::ModemState;
 use crate::values::{MAX_RX, MAX_TX, address};
+use qmi_services::messages;
 use qmi_values::Val;
 use std::alloc::{AllocError, Global};
 use tlv_values::sequence;
-
-const START_NETWORK: u16 = 0x0020;
-
-const STOP_NETWORK: u16 = 0x0021;
-
-const GET_PACKET_SERVICE_STATUS: u16 = 0x0022;
-
-const GET_CHANNEL_RATES: u16 = 0x0023;
-
-const GET_CURRENT_SETTINGS: u16 = 0x002d;
 
 /// What a request to service 1 asks.
 #[derive(Clone, Copy, Debug, PartialEq, Eq)]
@@ -42,14 +33,14 @@ impl WdsRequest {
         ensures { result ≡ wds_request id (option_map val_view input.now) }
     {
         match id {
-            START_NETWORK => Some(WdsRequest::StartNetwork),
-            STOP_NETWORK => {
+            messages::START_NETWORK_ID => Some(WdsRequest::StartNetwork),
+            messages::STOP_NETWORK_ID => {
                 let handle = word_in(input.as_ref()?)?;
                 Some(WdsRequest::StopNetwork { handle })
             }
-            GET_PACKET_SERVICE_STATUS => Some(WdsRequest::GetPacketServiceStatus),
-            GET_CHANNEL_RATES => Some(WdsRequest::GetChannelRates),
-            GET_CURRENT_SETTINGS => Some(WdsRequest::GetCurrentSettings),
+            messages::GET_PACKET_SERVICE_STATUS_ID => Some(WdsRequest::GetPacketServiceStatus),
+            messages::GET_CHANNEL_RATES_ID => Some(WdsRequest::GetChannelRates),
+            messages::GET_CURRENT_SETTINGS_ID => Some(WdsRequest::GetCurrentSettings),
             _ => None,
         }
     }

@@ -12,17 +12,10 @@ use crate::errors::INVALID_CLIENT_ID;
 use crate::inputs::{second_in, word_in};
 use crate::state::ModemState;
 use kit_bytes::Octets;
+use qmi_services::messages;
 use qmi_values::Val;
 use std::alloc::{AllocError, Global};
 use tlv_values::{list, list_of_bytes, sequence};
-
-const RAW_SEND: u16 = 0x0020;
-
-const RAW_READ: u16 = 0x0022;
-
-const DELETE: u16 = 0x0024;
-
-const LIST_MESSAGES: u16 = 0x0031;
 
 // The tag of a message that was received and read.
 const TAG: u64 = 0;
@@ -48,17 +41,17 @@ impl WmsRequest {
     {
         let input = input.as_ref();
         match id {
-            RAW_SEND => input.map(|_| WmsRequest::RawSend),
-            RAW_READ => {
+            messages::RAW_SEND_ID => input.map(|_| WmsRequest::RawSend),
+            messages::RAW_READ_ID => {
                 let index = index_in(input?)?;
                 Some(WmsRequest::RawRead { index })
             }
-            DELETE => {
+            messages::DELETE_ID => {
                 let _storage = input?;
                 let index = number_in(index);
                 Some(WmsRequest::Delete { index })
             }
-            LIST_MESSAGES => input.map(|_| WmsRequest::ListMessages),
+            messages::LIST_MESSAGES_ID => input.map(|_| WmsRequest::ListMessages),
             _ => None,
         }
     }
