@@ -12,37 +12,10 @@ use crate::services::device_services;
 use crate::sessions::ip_configuration;
 use crate::values::{list, no_text, number, number_at, structure, text, uuid, zero, zeros};
 use mbim_fields::FieldValue;
+use mbim_services::commands;
 use modem_profile::Profile;
 use std::alloc::{AllocError, Global};
 use uuid::Uuid;
-
-const DEVICE_CAPS: u32 = 1;
-
-const SUBSCRIBER_READY: u32 = 2;
-
-const RADIO_STATE: u32 = 3;
-
-const PIN: u32 = 4;
-
-const HOME_PROVIDER: u32 = 6;
-
-const VISIBLE_PROVIDERS: u32 = 8;
-
-const REGISTER_STATE: u32 = 9;
-
-const PACKET_SERVICE: u32 = 10;
-
-const SIGNAL_STATE: u32 = 11;
-
-const CONNECT: u32 = 12;
-
-const IP_CONFIGURATION: u32 = 15;
-
-const DEVICE_SERVICES: u32 = 16;
-
-pub(crate) const SUBSCRIBE_LIST: u32 = 19;
-
-const PACKET_STATISTICS: u32 = 20;
 
 // What a switch of the radio may be: off and on.
 const OFF: u64 = 0;
@@ -73,19 +46,22 @@ impl Modem {
         ensures { IfOk result (λ told. option_map (λ values. map value_view values.items) told ≡ spec.answer_to_query cid (map value_view asked.now) self.now) }
     {
         match cid {
-            DEVICE_CAPS => Ok(Some(device_caps(alloc, &self.profile)?)),
-            SUBSCRIBER_READY => Ok(Some(subscriber_ready(alloc, &self.profile)?)),
-            RADIO_STATE => Ok(Some(self.radio_state(alloc)?)),
-            PIN => Ok(Some(zeros(alloc, 3)?)),
-            HOME_PROVIDER => Ok(Some(provider(alloc, &self.profile)?)),
-            VISIBLE_PROVIDERS => self.visible_providers(alloc, number_at(asked, 0)),
-            REGISTER_STATE => Ok(Some(self.register_state(alloc)?)),
-            PACKET_SERVICE => Ok(Some(self.packet_service(alloc)?)),
-            SIGNAL_STATE => Ok(Some(signal_state(alloc)?)),
-            CONNECT => Ok(Some(self.connection(alloc, number_at(asked, 0))?)),
-            IP_CONFIGURATION => Ok(Some(ip_configuration(alloc, number_at(asked, 0))?)),
-            DEVICE_SERVICES => Ok(Some(device_services(alloc)?)),
-            PACKET_STATISTICS => Ok(Some(zeros(alloc, 8)?)),
+            commands::DEVICE_CAPS_CID => Ok(Some(device_caps(alloc, &self.profile)?)),
+            commands::SUBSCRIBER_READY_CID => Ok(Some(subscriber_ready(alloc, &self.profile)?)),
+            commands::RADIO_STATE_CID => Ok(Some(self.radio_state(alloc)?)),
+            commands::PIN_CID => Ok(Some(zeros(alloc, 3)?)),
+            commands::HOME_PROVIDER_CID => Ok(Some(provider(alloc, &self.profile)?)),
+            commands::VISIBLE_PROVIDERS_CID => self.visible_providers(alloc, number_at(asked, 0)),
+            commands::REGISTER_STATE_CID => Ok(Some(self.register_state(alloc)?)),
+            commands::PACKET_SERVICE_CID => Ok(Some(self.packet_service(alloc)?)),
+            commands::SIGNAL_STATE_CID => Ok(Some(signal_state(alloc)?)),
+            commands::CONNECT_CID => Ok(Some(self.connection(alloc, number_at(asked, 0))?)),
+            commands::IP_CONFIGURATION_CID => Ok(Some(ip_configuration(
+                alloc,
+                number_at(asked, 0),
+            )?)),
+            commands::DEVICE_SERVICES_CID => Ok(Some(device_services(alloc)?)),
+            commands::PACKET_STATISTICS_CID => Ok(Some(zeros(alloc, 8)?)),
             _ => Ok(None),
         }
     }
@@ -101,9 +77,9 @@ impl Modem {
         ensures left { OnOk result (self.new ≡ modem_left self.old (spec.answer_to_set cid (map value_view asked.now) self.old)) }
     {
         match cid {
-            RADIO_STATE => self.set_radio(alloc, number_at(asked, 0)),
-            PACKET_SERVICE => self.set_packet_service(alloc, number_at(asked, 0)),
-            CONNECT => self.connect(alloc, number_at(asked, 0), number_at(asked, 1)),
+            commands::RADIO_STATE_CID => self.set_radio(alloc, number_at(asked, 0)),
+            commands::PACKET_SERVICE_CID => self.set_packet_service(alloc, number_at(asked, 0)),
+            commands::CONNECT_CID => self.connect(alloc, number_at(asked, 0), number_at(asked, 1)),
             _ => Ok(None),
         }
     }

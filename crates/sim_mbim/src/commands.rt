@@ -5,13 +5,13 @@ ghost use Rattle.mbim_fields.specs.View.{value_view};
 ghost use Rattle.sim_mbim.specs.Commands as spec;
 ghost use Rattle.sim_mbim.specs.Modem.{Modem, Outcome, values_told, modem_left};
 
-use crate::basic_connect::SUBSCRIBE_LIST;
 use crate::modem::Modem;
 use crate::ussd::set_ussd;
 use kit_bytes::{Octets, services};
 use mbim_fields::{EncodeFault, FieldFault, FieldVal, FieldValue, decode_fields, encode_fields};
 use mbim_frame::CommandHead;
 use mbim_frame::status::{INVALID_PARAMETERS, NO_DEVICE_SUPPORT, SUCCESS};
+use mbim_services::commands::SUBSCRIBE_LIST_CID;
 use mbim_services::{Service, Way, layout};
 use std::alloc::{AllocError, Global};
 use uuid::Uuid;
@@ -149,7 +149,7 @@ impl Modem {
 fn is_list_set(head: &CommandHead) -> bool
     ensures { result ≡ spec.is_list_set head.now }
 {
-    head.set && head.uuid == Service::BasicConnect.uuid() && head.cid == SUBSCRIBE_LIST
+    head.set && head.uuid == Service::BasicConnect.uuid() && head.cid == SUBSCRIBE_LIST_CID
 }
 
 // The reply to a command that came to an outcome with these values.

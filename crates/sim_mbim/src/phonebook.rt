@@ -9,16 +9,9 @@ use crate::modem::Modem;
 use crate::places::{Kept, forget, values_asked};
 use crate::values::{list, number, number_at, structure, text, text_at, zeros};
 use mbim_fields::FieldValue;
+use mbim_services::commands;
 use modem_profile::{PhonebookEntry, is_phonebook_text};
 use std::alloc::{AllocError, Global};
-
-const CONFIGURATION: u32 = 1;
-
-const READ: u32 = 2;
-
-const DELETE: u32 = 3;
-
-const WRITE: u32 = 4;
 
 // Where an entry is to be kept: in a place that isn't used, or under an index.
 const SAVE_UNUSED: u64 = 0;
@@ -36,8 +29,12 @@ impl Modem {
         ensures { IfOk result (λ told. option_map (λ values. map value_view values.items) told ≡ spec.answer_to_query cid (map value_view asked.now) self.now) }
     {
         match cid {
-            CONFIGURATION => Ok(Some(zeros(alloc, 5)?)),
-            READ => self.read_entries(alloc, number_at(asked, 0), number_at(asked, 1)),
+            commands::PHONEBOOK_CONFIGURATION_CID => Ok(Some(zeros(alloc, 5)?)),
+            commands::PHONEBOOK_READ_CID => self.read_entries(
+                alloc,
+                number_at(asked, 0),
+                number_at(asked, 1),
+            ),
             _ => Ok(None),
         }
     }
@@ -53,8 +50,12 @@ impl Modem {
         ensures left { OnOk result (self.new ≡ modem_left self.old (spec.answer_to_set cid (map value_view asked.now) self.old)) }
     {
         match cid {
-            DELETE => Ok(self.delete_entries(alloc, number_at(asked, 0), number_at(asked, 1))),
-            WRITE => {
+            commands::PHONEBOOK_DELETE_CID => Ok(self.delete_entries(
+                alloc,
+                number_at(asked, 0),
+                number_at(asked, 1),
+            )),
+            commands::PHONEBOOK_WRITE_CID => {
                 let number = text_at(alloc, asked, 2)?;
                 let name = text_at(alloc, asked, 3)?;
                 let entry = PhonebookEntry { number, name };

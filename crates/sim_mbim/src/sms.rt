@@ -10,15 +10,8 @@ use crate::places::{Kept, forget, values_asked};
 use crate::values::{list, no_text, number, number_at, octets, structure, zero, zeros};
 use kit_bytes::Octets;
 use mbim_fields::FieldValue;
+use mbim_services::commands;
 use std::alloc::{AllocError, Global};
-
-const CONFIGURATION: u32 = 1;
-
-const READ: u32 = 2;
-
-const DELETE: u32 = 4;
-
-const STORE_STATUS: u32 = 5;
 
 // The one format of messages.
 const PDU: u64 = 0;
@@ -34,12 +27,12 @@ impl Modem {
         ensures { IfOk result (λ told. option_map (λ values. map value_view values.items) told ≡ spec.answer_to_query cid (map value_view asked.now) self.now) }
     {
         match cid {
-            CONFIGURATION => Ok(Some(configuration(alloc)?)),
-            READ => {
+            commands::SMS_CONFIGURATION_CID => Ok(Some(configuration(alloc)?)),
+            commands::SMS_READ_CID => {
                 let (format, flag) = (number_at(asked, 0), number_at(asked, 1));
                 self.read_messages(alloc, format, flag, number_at(asked, 2))
             }
-            STORE_STATUS => Ok(Some(zeros(alloc, 2)?)),
+            commands::SMS_STORE_STATUS_CID => Ok(Some(zeros(alloc, 2)?)),
             _ => Ok(None),
         }
     }
@@ -55,7 +48,11 @@ impl Modem {
         ensures left { OnOk result (self.new ≡ modem_left self.old (spec.answer_to_set cid (map value_view asked.now) self.old)) }
     {
         match cid {
-            DELETE => Ok(self.delete_messages(alloc, number_at(asked, 0), number_at(asked, 1))),
+            commands::SMS_DELETE_CID => Ok(self.delete_messages(
+                alloc,
+                number_at(asked, 0),
+                number_at(asked, 1),
+            )),
             _ => Ok(None),
         }
     }

@@ -6,9 +6,8 @@ ghost use Rattle.sim_mbim.specs.Ussd as spec;
 
 use crate::values::{number, number_at, octets_at, zero};
 use mbim_fields::FieldValue;
+use mbim_services::commands::USSD_EXCHANGE_CID;
 use std::alloc::{AllocError, Global};
-
-const EXCHANGE: u32 = 1;
 
 // The actions are to begin a dialogue, to go on with it, and to end it.
 const LAST_ACTION: u64 = 2;
@@ -21,7 +20,7 @@ pub(crate) fn set_ussd(
 ) -> Result<Option<Vec<FieldValue>>, AllocError>
     ensures { IfOk result (λ told. option_map (λ values. map value_view values.items) told ≡ spec.answer_to_set cid (map value_view asked.now)) }
 {
-    if cid != EXCHANGE || number_at(asked, 0) > LAST_ACTION {
+    if cid != USSD_EXCHANGE_CID || number_at(asked, 0) > LAST_ACTION {
         return Ok(None);
     }
     let scheme = number_at(asked, 1);
