@@ -1,6 +1,6 @@
 -- The layouts of the buffers of MBIM's commands: a line for each command.
 -- Source: the tables of the services Basic Connect, SMS, USSD and Phonebook in the USB-IF MBIM specification 1.0, and libmbim's data/mbim-service-proxy-control.json.
-use Rattle.std.specs.Prelude.{ℕ, List, [], ◌∷◌, Option, Some, None, Bool, chars, codes, bytes_eq, ◌==◌, ◌&&◌, if◌then◌else◌}
+use Rattle.std.specs.Prelude.{ℕ, List, [], ◌∷◌, Option, Some, None, Bool, chars, codes, map, filter, bytes_eq, ◌==◌, ◌&&◌, if◌then◌else◌}
 use Prim.Native.String.{String}
 use Rattle.kit_bytes.specs.declared.services.TheConstants.{BASIC_CONNECT, SMS, USSD, PHONEBOOK, STK}
 use Rattle.mbim_fields.specs.Layout as layout
@@ -235,3 +235,12 @@ find (row ∷ rows) service cid way = if is_of row service cid then layout_in ro
 -- the layout of a buffer, if the table has one
 unfoldable pub layout_for : List ℕ → ℕ → Way → Option Layout
 layout_for service cid way = find rows service cid way
+
+-- ---- the commands of a service ----
+
+-- their CIDs, in the order of these rows
+abbrev pub cids_among : (service : List ℕ) → List Row → List ℕ
+cids_among service among = map (λ row. row.cid) (filter (λ row. bytes_eq row.service service) among)
+
+abbrev pub service_cids : (service : List ℕ) → List ℕ
+service_cids service = cids_among service rows

@@ -23,4 +23,4 @@ pub use lists::{LONGEST_LIST, MOST_PAIRS, run_length, write_events};
 pub use paths::config_path_is;
 pub use requests::{LONGEST_BUFFER, command};
 pub use sent::Command;
-pub use table::{Service, Way, layout};
+pub use table::{Service, Way, layout, service_cids};

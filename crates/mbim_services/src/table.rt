@@ -1,11 +1,12 @@
-ghost use Rattle.std.specs.Prelude.{◌≡◌, map, option_map};
+ghost use Rattle.std.specs.Prelude.{◌≡◌, ◌++◌, [], ◌∷◌, map, option_map, IfOk, OnOk};
 ghost use Rattle.mbim_fields.specs.View.{shape_view};
-ghost use Rattle.mbim_services.specs.Table.{is_of, find, layout_in, layout_for};
+ghost use Rattle.mbim_services.specs.Table.{is_of, find, layout_in, layout_for, cids_among, service_cids};
 ghost use Rattle.mbim_services.specs.View.{row_view, service_view};
 
 use crate::commands::rows;
 use kit_bytes::services;
 use mbim_fields::FieldShape;
+use std::alloc::{AllocError, Global};
 use uuid::Uuid;
 
 /// A service, which is a set of commands.
@@ -101,4 +102,31 @@ fn find(rows: &[&Row], service: Uuid, cid: u32, way: Way) -> Option<FieldShape>
         }
     }
     None
+}
+
+/// The CIDs of a service's commands, in the order of the table.
+pub fn service_cids(alloc: Global, service: Service) -> Result<Vec<u32>, AllocError>
+    ensures { IfOk result (λ cids. cids.items ≡ service_cids (service_view service)) }
+{
+    cids_among(alloc, &rows(), service.uuid())
+}
+
+fn cids_among(alloc: Global, rows: &[&Row], service: Uuid) -> Result<Vec<u32>, AllocError>
+    ensures { IfOk result (λ cids. cids.items ≡ cids_among service (map (λ row. row_view row.now) rows.now)) }
+{
+    let mut cids = Vec::new(alloc);
+    for row in rows {
+        push_cid(&mut cids, row, service)?;
+    }
+    Ok(cids)
+}
+
+// Adds the CID of a command of this service.
+fn push_cid(cids: &mut Vec<u32>, row: &Row, service: Uuid) -> Result<(), AllocError>
+    ensures { OnOk result (cids.new.items ≡ cids.old.items ++ cids_among service (row_view row.now ∷ [])) }
+{
+    if row.service.uuid() == service {
+        cids.push(row.cid)?;
+    }
+    Ok(())
 }

@@ -1,12 +1,12 @@
 -- What the modem answers to the commands of the service Basic Connect.
 -- Source: the USB-IF MBIM specification 1.0, section 10.5, for what the numbers mean.
-use Rattle.std.specs.Prelude.{ℕ, ◌+◌, ◌/◌, ◌%◌, ◌==◌, nat_lt, bytes_eq, Bool, true, false, not, List, [], ◌∷◌, ◌++◌, length, map, filter, replicate, Option, Some, None, option_and_then, if◌then◌else◌}
+use Rattle.std.specs.Prelude.{ℕ, ◌+◌, ◌/◌, ◌%◌, ◌==◌, nat_lt, Bool, true, false, not, List, [], ◌∷◌, ◌++◌, length, map, filter, replicate, Option, Some, None, option_and_then, if◌then◌else◌}
 use Rattle.std.specs.List.{list_any}
 use Rattle.kit_bytes.specs.Subscriptions.{Pair, normal_form, by_service}
 use Rattle.mbim_fields.specs.Value.{Value, number, uuid_of, octets, text_of, absent}
 use Rattle.mbim_services.specs.SubscribeLists.{list_of_buffer, list_values}
 use Rattle.mbim_services.specs.Table as table
-use Rattle.mbim_services.specs.Table.{rows}
+use Rattle.mbim_services.specs.Table.{service_cids}
 use Rattle.mbim_services.specs.Requests.{no_text, no_elements}
 use Rattle.modem_profile.specs.Profile.{Profile}
 use Rattle.subscriptions.specs.declared.pair_list.TheConstants.{LONGEST_LIST}
@@ -26,15 +26,11 @@ initialized = number 1
 abbrev pub subscriber_ready : Profile → List Value
 subscriber_ready p = initialized ∷ no_text ∷ no_text ∷ values.zero ∷ number 1 ∷ list (text_of p.msisdn ∷ []) ∷ []
 
--- the CIDs of a service in the table of commands
-abbrev pub cids_of : (service : List ℕ) → List ℕ
-cids_of service = map (λ row. row.cid) (filter (λ row. bytes_eq row.service service) rows)
-
 abbrev pub service_with : (service cids : List ℕ) → Value
 service_with service cids = structure (uuid_of service ∷ values.zero ∷ values.zero ∷ number (length cids) ∷ list (map number cids) ∷ [])
 
 abbrev pub device_service : (service : List ℕ) → Value
-device_service service = service_with service (cids_of service)
+device_service service = service_with service (service_cids service)
 
 abbrev pub device_services : List Value
 device_services = number 4 ∷ values.zero ∷ list (map device_service (table.basic_connect ∷ table.sms ∷ table.ussd ∷ table.phonebook ∷ [])) ∷ []
