@@ -18,13 +18,14 @@ use Rattle.mbim_requests.specs.declared.MbimRequest.{MbimRequest}
 use Rattle.mbim_requests.specs.declared.MbimRequest.TheVariants as request
 use Rattle.mbim_services.specs.Table as table
 use Rattle.mbim_services.specs.Table.{layout_for, layout_sent}
+use Rattle.mbim_services.specs.declared.table.Way.TheVariants.{Done}
 use Rattle.mbim_services.specs.Requests.{sent_by, IsInRange}
 use Rattle.mbim_services.proofs.Encoded as requests
 use Rattle.mbim_session.specs.Requests.{command_head, buffer_for}
 use Rattle.modem_profile.specs.declared.phonebook.PhonebookEntry.{PhonebookEntry}
 use Rattle.modem_profile.specs.Profile.{Profile}
 use Rattle.modem_profile.specs.Limits.{is_phonebook_text, IsPhonebookEntry, IsWithin}
-use Rattle.sim_mbim.specs.Values.{number_at, text_at, zeros}
+use Rattle.sim_mbim.specs.Values.{number_at, text_at}
 use Rattle.sim_mbim.specs.Places.{kept_from, kept_at, asked, values_asked, without}
 use Rattle.sim_mbim.specs.Modem.{Modem, Outcome, becomes, unchanged}
 use Rattle.sim_mbim.specs.BasicConnect as basic_connect
@@ -128,6 +129,18 @@ module _ (profile : Profile) (within : IsWithin profile) where
 
   by_bound : (layout : Layout) (values : List Value) → rooms layout [] values + most_fields layout values ≤ 65508 → length (unwrap_or (canon layout values) []) ≤ 65508
   by_bound layout values few = omega (arith, encoded_short layout values, few)
+
+  -- what holds of the layout, where there is one
+  abbrev HasRoom : Option Layout → List Value → Type 0
+  HasRoom found values = IfSome found (λ layout. rooms layout [] values + most_fields layout values ≤ 65508)
+
+  room_fits : (found : Option Layout) (values : List Value) → HasRoom found values → length (unwrap_or (option_and_then (λ layout. canon layout values) found) []) ≤ 65508
+  room_fits None values few = omega arith
+  room_fits (Some layout) values few = by_bound layout values few
+
+  outcome_fits : (head : CommandHead) (o : Option Outcome) → IfSome o (λ o. HasRoom (layout_for head.uuid head.cid Done) o.values) → IfSome o (Fits head)
+  outcome_fits head None few = tt
+  outcome_fits head (Some o) few = room_fits (layout_for head.uuid head.cid Done) o.values few
 
   -- ---- lists of messages and entries ----
 
@@ -257,33 +270,25 @@ module _ (profile : Profile) (within : IsWithin profile) where
   unfolding layout_for
   answers_fit request.QueryDeviceCaps is range = answered request.QueryDeviceCaps (λ values. by_bound table.device_caps.done (basic_connect.device_caps profile) (omega (arith, text_most profile.imei, within.imei.short, text_most profile.revision, within.revision.short, text_most profile.model, within.model.short)))
   answers_fit request.QuerySubscriberReadyStatus is range = answered request.QuerySubscriberReadyStatus (λ values. by_bound table.subscriber_ready.done (basic_connect.subscriber_ready profile) (omega (arith, text_most profile.msisdn, within.msisdn.short)))
-  answers_fit request.QueryRadioState is range = answered request.QueryRadioState (λ values. by_bound table.radio_state.done (basic_connect.radio_state m) (omega arith))
   answers_fit (request.SetRadioState on) is range = answered (request.SetRadioState on) (λ values. radio_fits on (number_at values 0))
-  answers_fit request.QueryPinState is range = answered request.QueryPinState (λ values. by_bound table.pin.done (zeros 3) (omega arith))
   answers_fit request.QueryHomeProvider is range = answered request.QueryHomeProvider (λ values. by_bound table.home_provider.done (basic_connect.provider profile) (omega (arith, text_most (provider_id profile), provider_short, text_most profile.operator, within.operator.short)))
   answers_fit request.QueryVisibleProviders is range = answered request.QueryVisibleProviders (λ values. providers_fit (number_at values 0))
-  answers_fit request.QueryRegistrationState is range = answered request.QueryRegistrationState (λ values. by_bound table.register_state.done (basic_connect.register_state m) (omega arith))
-  answers_fit request.QueryPacketServiceState is range = answered request.QueryPacketServiceState (λ values. by_bound table.packet_service.done (basic_connect.packet_service m) (omega arith))
   answers_fit request.AttachPacketService is range = answered request.AttachPacketService (λ values. packet_fits (number_at values 0))
   answers_fit request.DetachPacketService is range = answered request.DetachPacketService (λ values. packet_fits (number_at values 0))
-  answers_fit request.QuerySignalState is range = answered request.QuerySignalState (λ values. by_bound table.signal_state.done (basic_connect.signal_state) (omega arith))
   answers_fit (request.Connect session access username password ip_type) is range = answered (request.Connect session access username password ip_type) (λ values. connect_fits (number_at values 0) (number_at values 1))
   answers_fit (request.Disconnect session) is range = answered (request.Disconnect session) (λ values. connect_fits (number_at values 0) (number_at values 1))
   answers_fit (request.QueryConnectionState session) is range = answered (request.QueryConnectionState session) (λ values. by_bound table.connect.done (basic_connect.connection (number_at values 0) m) (omega arith))
   answers_fit (request.QueryIpConfiguration session) is range = answered (request.QueryIpConfiguration session) (λ values. by_bound table.ip_configuration.done (basic_connect.ip_configuration (number_at values 0)) (omega arith))
-  answers_fit request.QueryDeviceServices is range = answered request.QueryDeviceServices (λ values. by_bound table.device_services.done (basic_connect.device_services) (omega arith))
-  answers_fit request.QueryPacketStatistics is range = answered request.QueryPacketStatistics (λ values. by_bound table.packet_statistics.done (zeros 8) (omega arith))
-  answers_fit request.SmsQueryConfiguration is range = answered request.SmsQueryConfiguration (λ values. by_bound table.sms_configuration.done (sms.configuration) (omega arith))
   answers_fit request.SmsReadAll is range = answered request.SmsReadAll (λ values. told_fits sms_head (sms.read (number_at values 0) (number_at values 1) (number_at values 2) m) (reads_messages (number_at values 0) (number_at values 1) (number_at values 2)))
   answers_fit (request.SmsRead index) is range = answered (request.SmsRead index) (λ values. told_fits sms_head (sms.read (number_at values 0) (number_at values 1) (number_at values 2) m) (reads_messages (number_at values 0) (number_at values 1) (number_at values 2)))
   answers_fit (request.SmsDelete index) is range = answered (request.SmsDelete index) (λ values. by_option (Fits (command_head (request.SmsDelete index))) (without (number_at values 0) (number_at values 1) m.messages) (λ left. becomes (record m { messages = left }) []) (λ left. by_bound table.sms_delete.done [] (omega arith)))
-  answers_fit request.SmsQueryStoreStatus is range = answered request.SmsQueryStoreStatus (λ values. by_bound table.sms_store_status.done (zeros 2) (omega arith))
   answers_fit (request.UssdInitiate scheme payload) is range = ussd_answered (request.UssdInitiate scheme payload) range ussd_layout refl (ussd_fits scheme payload range.1)
   answers_fit (request.UssdContinue scheme payload) is range = ussd_answered (request.UssdContinue scheme payload) range ussd_layout refl (ussd_fits scheme payload range.1)
   answers_fit request.UssdCancel is range = ussd_answered request.UssdCancel range ussd_layout refl (ussd_fits 0 [] (omega arith))
-  answers_fit request.PhonebookQueryConfiguration is range = answered request.PhonebookQueryConfiguration (λ values. by_bound table.phonebook_configuration.done (zeros 5) (omega arith))
   answers_fit request.PhonebookReadAll is range = answered request.PhonebookReadAll (λ values. told_fits phonebook_head (phonebook.read (number_at values 0) (number_at values 1) m) (reads_entries (number_at values 0) (number_at values 1)))
   answers_fit (request.PhonebookRead index) is range = answered (request.PhonebookRead index) (λ values. told_fits phonebook_head (phonebook.read (number_at values 0) (number_at values 1) m) (reads_entries (number_at values 0) (number_at values 1)))
   answers_fit (request.PhonebookDelete index) is range = answered (request.PhonebookDelete index) (λ values. by_option (Fits (command_head (request.PhonebookDelete index))) (without (number_at values 0) (number_at values 1) m.entries) (λ left. becomes (record m { entries = left }) []) (λ left. by_bound table.phonebook_delete.done [] (omega arith)))
   answers_fit (request.PhonebookWrite name phone index) is range = answered (request.PhonebookWrite name phone index) (λ values. write_fits (record { number = text_at values 2; name = text_at values 3 }) (number_at values 0) (number_at values 1))
   answers_fit (request.ProxyConfiguration path) is range = absurd is
+  -- the others are answered with numbers and with texts that don't change
+  answers_fit body is range = answered body (λ values. outcome_fits (command_head body) (outcome (command_head body) values m) (omega arith))

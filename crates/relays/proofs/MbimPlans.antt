@@ -39,38 +39,9 @@ abbrev is_quiet : CommandHead → Bool
 is_quiet head = (is_written head && not (bytes_eq head.uuid proxy_control)) && (not (is_list head) && not (is_radio_set head))
 
 sorted : (r : MbimRequest) → IsCommand r → (is_quiet (command_head r) ≡ true) ⊎ ((on : Bool) × (r ≡ request.SetRadioState on))
-sorted request.QueryDeviceCaps is = inl refl
-sorted request.QuerySubscriberReadyStatus is = inl refl
-sorted request.QueryRadioState is = inl refl
 sorted (request.SetRadioState on) is = inr (on, refl)
-sorted request.QueryPinState is = inl refl
-sorted request.QueryHomeProvider is = inl refl
-sorted request.QueryVisibleProviders is = inl refl
-sorted request.QueryRegistrationState is = inl refl
-sorted request.QueryPacketServiceState is = inl refl
-sorted request.AttachPacketService is = inl refl
-sorted request.DetachPacketService is = inl refl
-sorted request.QuerySignalState is = inl refl
-sorted (request.Connect session access username password ip_type) is = inl refl
-sorted (request.Disconnect session) is = inl refl
-sorted (request.QueryConnectionState session) is = inl refl
-sorted (request.QueryIpConfiguration session) is = inl refl
-sorted request.QueryDeviceServices is = inl refl
-sorted request.QueryPacketStatistics is = inl refl
-sorted request.SmsQueryConfiguration is = inl refl
-sorted request.SmsReadAll is = inl refl
-sorted (request.SmsRead index) is = inl refl
-sorted (request.SmsDelete index) is = inl refl
-sorted request.SmsQueryStoreStatus is = inl refl
-sorted (request.UssdInitiate scheme payload) is = inl refl
-sorted (request.UssdContinue scheme payload) is = inl refl
-sorted request.UssdCancel is = inl refl
-sorted request.PhonebookQueryConfiguration is = inl refl
-sorted request.PhonebookReadAll is = inl refl
-sorted (request.PhonebookRead index) is = inl refl
-sorted (request.PhonebookDelete index) is = inl refl
-sorted (request.PhonebookWrite name phone index) is = inl refl
 sorted (request.ProxyConfiguration path) is = absurd is
+sorted _ is = inl refl
 
 pub record IsPlain (head : CommandHead) : Type 0 where
   pub uuid : length head.uuid ≡ 16

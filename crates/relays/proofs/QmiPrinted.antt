@@ -2,7 +2,6 @@
 use Rattle.std.proofs.Common.{◌≡◌, ◌⊎◌, inl, inr, ℕ, Bool, true, false, List, [], ◌++◌, Option, Some, None, refl, ap, sym, ◌∙◌, subst}
 use Rattle.qmux_frame.specs.Head.{tlvs_in}
 use Rattle.qmi_requests.specs.declared.QmiRequest.{QmiRequest}
-use Rattle.qmi_services.specs.Modem.{row_at}
 use Rattle.qmi_services.specs.Requests.{row_of}
 use Rattle.device_core.specs.Peer.{LastWord, OfAnswer, EndsAs, EndsWith}
 use Rattle.device_core.specs.Session.{Reads, end_with}
@@ -16,10 +15,10 @@ use Rattle.qmux_frame.specs.Head.{is_framed}
 use Rattle.qmi_services.specs.declared.answers.QmiAnswer.{QmiAnswer}
 use Rattle.qmi_services.specs.declared.answers.QmiAnswer.TheVariants.{Success, Failure}
 use Rattle.qmi_services.specs.declared.answers.QmiEnd.{QmiEnd}
-use Rattle.qmi_services.specs.Answers.{Reading, unread, failure, success, fields_view, AreWellMade}
+use Rattle.qmi_services.specs.Answers.{Reading, unread, failure, success, fields_view}
 use Rattle.qmi_services.specs.Answers.{Answers as Answers_of, Reads as Reads_tlvs}
-use Rattle.qmi_services.specs.Table.{Output, rows}
-use Rattle.qmi_services.proofs.Lines.{row-well_made}
+use Rattle.qmi_services.specs.Table.{Output}
+use Rattle.qmi_services.proofs.Lines.{outputs-well_made}
 use Rattle.qmi_services.proofs.OneWay.{one_way}
 use Rattle.print_text.specs.Lines.{or_ok}
 use Rattle.qmicli_print.specs.Answer.{field_text, kept_text, end_text}
@@ -27,7 +26,7 @@ use Rattle.twin_sessions.specs.QmiRuns.{ReadsAs, Alike}
 use Rattle.twin_sessions.proofs.QmiSessions as twin
 use Rattle.relays.specs.QmiRuns.{setup_of, direct_run, through_run}
 use Rattle.relays.specs.QmiLaw.{PrintsTheSame, SessionsEndAlike, RelaysMayCome, ToolsPrintTheSame}
-use Rattle.relays.proofs.QmiServed.{row_found, modem, is_served}
+use Rattle.relays.proofs.QmiServed.{modem, is_served}
 
 pub sessions_end_alike : SessionsEndAlike
 sessions_end_alike profile plan within sound is = twin.sessions_end_alike (setup_of plan) (modem profile) plan refl refl (is_served profile plan within sound is)
@@ -69,22 +68,18 @@ never_unread : (answer : QmiAnswer) → reading_of answer ≡ unread → ⊥
 never_unread (Success fields) is = absurd (cc)
 never_unread (Failure error) is = absurd (cc)
 
-made : (body : QmiRequest) → AreWellMade (row_of body).output
-unfolding row_at
-made body = (row-well_made rows (row_of body).service (row_of body).id (row_of body) refl (sym (row_found body))).output
-
 module _ (body : QmiRequest) (a b : Placed) (same : ReadsAs a.bytes b.bytes) where
   abbrev outputs : List Output
   outputs = (row_of body).output
 
   -- both of the same bytes
   one : (x y : Reading) → Reads_tlvs outputs (tlvs_in a.bytes) x → Reads_tlvs outputs (tlvs_in b.bytes) y → x ≡ y
-  one x y is_x is_y = one_way outputs (tlvs_in a.bytes) x y (made body) is_x (subst (λ (l : List ℕ). Reads_tlvs outputs l y) (sym same.tlvs) is_y)
+  one x y is_x is_y = one_way outputs (tlvs_in a.bytes) x y (outputs-well_made body) is_x (subst (λ (l : List ℕ). Reads_tlvs outputs l y) (sym same.tlvs) is_y)
 
   -- an answer that reads, and one that doesn't
   never : (answer : QmiAnswer) (framed : Bool) → is_framed a.bytes ≡ true → Reads_tlvs outputs (tlvs_in a.bytes) (reading_of answer) → (is_framed a.bytes ≡ false) ⊎ Reads_tlvs outputs (tlvs_in a.bytes) unread → ⊥
   never answer framed is reads (inl isnt) = let both : true ≡ false = sym is ∙ isnt in absurd (cc)
-  never answer framed is reads (inr other) = never_unread answer (one_way outputs (tlvs_in a.bytes) (reading_of answer) unread (made body) reads other)
+  never answer framed is reads (inr other) = never_unread answer (one_way outputs (tlvs_in a.bytes) (reading_of answer) unread (outputs-well_made body) reads other)
 
   moved : (is_framed b.bytes ≡ false) ⊎ Reads_tlvs outputs (tlvs_in b.bytes) unread → (is_framed a.bytes ≡ false) ⊎ Reads_tlvs outputs (tlvs_in a.bytes) unread
   moved (inl isnt) = inl (same.framed ∙ isnt)

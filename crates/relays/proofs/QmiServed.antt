@@ -1,5 +1,5 @@
 -- A fresh simulated modem serves every plan of a tool.
-use Rattle.std.proofs.Common.{◌≡◌, ◌⊎◌, inl, inr, ℕ, ◌<◌, Bool, true, false, ◌||◌, ◌==◌, ◌%◌, if◌then◌else◌, List, [], ◌∷◌, Some, None, refl, ap, sym, ◌∙◌, arith, subst}
+use Rattle.std.proofs.Common.{◌≡◌, ◌⊎◌, inl, inr, ℕ, ◌<◌, Bool, true, false, ◌||◌, ◌==◌, ◌%◌, if◌then◌else◌, List, [], ◌∷◌, None, refl, ap, sym, ◌∙◌, arith, subst}
 use Rattle.std.proofs.lemmas.Bool.{eqb-true}
 use Rattle.tlv_codec.specs.Tlv.{tlv_text, first_value}
 use Rattle.qmux_frame.specs.declared.head.Head.{Head}
@@ -10,6 +10,7 @@ use Rattle.qmi_requests.specs.declared.QmiRequest.{QmiRequest}
 use Rattle.qmi_requests.specs.declared.QmiRequest.TheVariants as request
 use Rattle.qmi_services.specs.Modem.{row_at}
 use Rattle.qmi_services.specs.Requests.{row_of, inputs_of}
+use Rattle.qmi_services.proofs.Lines.{row_found}
 use Rattle.device_core.specs.declared.plan.QmiPlan.{QmiPlan}
 use Rattle.device_core.specs.Requests.{Request, message_of, new_message}
 use Rattle.device_core.specs.Session.{service, allocate, release}
@@ -28,87 +29,29 @@ use Rattle.relays.specs.QmiLaw.{IsCommand, IsPlan}
 
 -- ---- the requests' lines of the table ----
 
-pub row_found : (body : QmiRequest) → row_at (row_of body).service (row_of body).id ≡ Some (row_of body)
-unfolding row_at
-row_found request.GetServiceVersionInfo = refl
-row_found request.DmsGetCapabilities = refl
-row_found request.DmsGetManufacturer = refl
-row_found request.DmsGetModel = refl
-row_found request.DmsGetRevision = refl
-row_found request.DmsGetMsisdn = refl
-row_found request.DmsGetIds = refl
-row_found request.DmsGetOperatingMode = refl
-row_found (request.DmsSetOperatingMode mode) = refl
-row_found request.NasGetSignalStrength = refl
-row_found request.NasNetworkScan = refl
-row_found request.NasGetServingSystem = refl
-row_found request.NasGetHomeNetwork = refl
-row_found (request.WdsStartNetwork a b c d) = refl
-row_found (request.WdsStopNetwork handle) = refl
-row_found request.WdsGetPacketServiceStatus = refl
-row_found request.WdsGetChannelRates = refl
-row_found request.WdsGetCurrentSettings = refl
-row_found (request.WmsRawSend pdu) = refl
-row_found (request.WmsRawRead a b) = refl
-row_found (request.WmsDelete a b) = refl
-row_found (request.WmsListMessages a) = refl
-row_found (request.ProxyOpen path) = refl
-row_found (request.Allocate service) = refl
-row_found (request.Release service client) = refl
+is_one : (n : ℕ) (wds dms nas wms : Bool) → (n == 1) ≡ wds → (n == 2) ≡ dms → (n == 3) ≡ nas → (n == 5) ≡ wms → (wds || dms || nas || wms) ≡ true → IsService n
+is_one n true dms nas wms a b c d is = of_wds (eqb-true n 1 a)
+is_one n false true nas wms a b c d is = of_dms (eqb-true n 2 b)
+is_one n false false true wms a b c d is = of_nas (eqb-true n 3 c)
+is_one n false false false true a b c d is = of_wms (eqb-true n 5 d)
+is_one n false false false false a b c d is = absurd (cc)
+
+is_service : (n : ℕ) → (n == 1 || n == 2 || n == 3 || n == 5) ≡ true → IsService n
+is_service n is = is_one n (n == 1) (n == 2) (n == 3) (n == 5) refl refl refl refl is
 
 which_service : (body : QmiRequest) → IsCommand body → ((row_of body).service == 0) ≡ false → IsService (row_of body).service
 which_service request.GetServiceVersionInfo is some = absurd (cc)
-which_service request.DmsGetCapabilities is some = of_dms refl
-which_service request.DmsGetManufacturer is some = of_dms refl
-which_service request.DmsGetModel is some = of_dms refl
-which_service request.DmsGetRevision is some = of_dms refl
-which_service request.DmsGetMsisdn is some = of_dms refl
-which_service request.DmsGetIds is some = of_dms refl
-which_service request.DmsGetOperatingMode is some = of_dms refl
-which_service (request.DmsSetOperatingMode mode) is some = of_dms refl
-which_service request.NasGetSignalStrength is some = of_nas refl
-which_service request.NasNetworkScan is some = of_nas refl
-which_service request.NasGetServingSystem is some = of_nas refl
-which_service request.NasGetHomeNetwork is some = of_nas refl
-which_service (request.WdsStartNetwork a b c d) is some = of_wds refl
-which_service (request.WdsStopNetwork handle) is some = of_wds refl
-which_service request.WdsGetPacketServiceStatus is some = of_wds refl
-which_service request.WdsGetChannelRates is some = of_wds refl
-which_service request.WdsGetCurrentSettings is some = of_wds refl
-which_service (request.WmsRawSend pdu) is some = of_wms refl
-which_service (request.WmsRawRead a b) is some = of_wms refl
-which_service (request.WmsDelete a b) is some = of_wms refl
-which_service (request.WmsListMessages a) is some = of_wms refl
 which_service (request.ProxyOpen path) is some = absurd is
 which_service (request.Allocate service) is some = absurd is
 which_service (request.Release service client) is some = absurd is
+which_service body is some = is_service (row_of body).service refl
 
 is_version : (body : QmiRequest) → IsCommand body → ((row_of body).service == 0) ≡ true → ((row_of body).id ≡ 0x21) × (first_value 1 (inputs_of body) ≡ None)
 is_version request.GetServiceVersionInfo is none = (refl, refl)
-is_version request.DmsGetCapabilities is none = absurd (cc)
-is_version request.DmsGetManufacturer is none = absurd (cc)
-is_version request.DmsGetModel is none = absurd (cc)
-is_version request.DmsGetRevision is none = absurd (cc)
-is_version request.DmsGetMsisdn is none = absurd (cc)
-is_version request.DmsGetIds is none = absurd (cc)
-is_version request.DmsGetOperatingMode is none = absurd (cc)
-is_version (request.DmsSetOperatingMode mode) is none = absurd (cc)
-is_version request.NasGetSignalStrength is none = absurd (cc)
-is_version request.NasNetworkScan is none = absurd (cc)
-is_version request.NasGetServingSystem is none = absurd (cc)
-is_version request.NasGetHomeNetwork is none = absurd (cc)
-is_version (request.WdsStartNetwork a b c d) is none = absurd (cc)
-is_version (request.WdsStopNetwork handle) is none = absurd (cc)
-is_version request.WdsGetPacketServiceStatus is none = absurd (cc)
-is_version request.WdsGetChannelRates is none = absurd (cc)
-is_version request.WdsGetCurrentSettings is none = absurd (cc)
-is_version (request.WmsRawSend pdu) is none = absurd (cc)
-is_version (request.WmsRawRead a b) is none = absurd (cc)
-is_version (request.WmsDelete a b) is none = absurd (cc)
-is_version (request.WmsListMessages a) is none = absurd (cc)
 is_version (request.ProxyOpen path) is none = absurd is
 is_version (request.Allocate service) is none = absurd is
 is_version (request.Release service client) is none = absurd is
+is_version _ is none = absurd (cc)
 
 number_short : (head : Head) → head.number < 256 → short_number head ≡ head.number
 number_short head small = elim (head.service == 0) as (λ b. (if b then head.number % 256 else head.number) ≡ head.number) [ true ↦ omega (arith, small) | false ↦ refl ]
