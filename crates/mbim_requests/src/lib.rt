@@ -46,6 +46,7 @@ pub enum MbimRequest {
     QueryIpConfiguration(u32),
     QueryDeviceServices,
     QueryPacketStatistics,
+    QueryEmergencyMode,
     SmsQueryConfiguration,
     SmsReadAll,
     /// The index of the message.

@@ -147,6 +147,7 @@ sent_by (request.QueryConnectionState session) = asks table.connect (number sess
 sent_by (request.QueryIpConfiguration session) = asks table.ip_configuration (ip_configuration_of session)
 sent_by request.QueryDeviceServices = asks table.device_services []
 sent_by request.QueryPacketStatistics = asks table.packet_statistics []
+sent_by request.QueryEmergencyMode = asks table.emergency_mode []
 sent_by request.SmsQueryConfiguration = asks table.sms_configuration []
 sent_by request.SmsReadAll = asks table.sms_read (pdu ∷ all ∷ zero ∷ [])
 sent_by (request.SmsRead index) = asks table.sms_read (pdu ∷ one ∷ number index ∷ [])

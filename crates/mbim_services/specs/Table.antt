@@ -178,6 +178,9 @@ subscribe_list = command basic_connect 19 none (fields events) events
 abbrev pub packet_statistics : Row
 packet_statistics = command basic_connect 20 empty none (field "InDiscards" u32 ∷ field "InErrors" u32 ∷ field "InOctets" u64 ∷ field "InPackets" u64 ∷ field "OutOctets" u64 ∷ field "OutPackets" u64 ∷ field "OutErrors" u32 ∷ field "OutDiscards" u32 ∷ [])
 
+abbrev pub emergency_mode : Row
+emergency_mode = command basic_connect 22 empty none (field "EmergencyMode" u32 ∷ [])
+
 abbrev pub sms_configuration : Row
 sms_configuration = command sms 1 empty none (field "SmsStorageState" u32 ∷ field "Format" u32 ∷ field "MaxMessages" u32 ∷ field "CdmaShortMessageSize" u32 ∷ field "ScAddress" text ∷ [])
 
@@ -210,7 +213,7 @@ proxy_configuration = command proxy_control 1 none (fields configuration) []
 
 abbrev pub rows : List Row
 rows =
-    device_caps ∷ subscriber_ready ∷ radio_state ∷ pin ∷ home_provider ∷ visible_providers ∷ register_state ∷ packet_service ∷ signal_state ∷ connect ∷ ip_configuration ∷ device_services ∷ subscribe_list ∷ packet_statistics ∷ sms_configuration ∷ sms_read ∷ sms_delete ∷ sms_store_status ∷ ussd_exchange ∷ phonebook_configuration ∷ phonebook_read ∷ phonebook_delete ∷ phonebook_write ∷ proxy_configuration ∷ []
+    device_caps ∷ subscriber_ready ∷ radio_state ∷ pin ∷ home_provider ∷ visible_providers ∷ register_state ∷ packet_service ∷ signal_state ∷ connect ∷ ip_configuration ∷ device_services ∷ subscribe_list ∷ packet_statistics ∷ emergency_mode ∷ sms_configuration ∷ sms_read ∷ sms_delete ∷ sms_store_status ∷ ussd_exchange ∷ phonebook_configuration ∷ phonebook_read ∷ phonebook_delete ∷ phonebook_write ∷ proxy_configuration ∷ []
 
 -- ---- finding a layout ----
 

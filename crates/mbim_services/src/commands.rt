@@ -314,6 +314,16 @@ pub(crate) static PACKET_STATISTICS: Row = Row {
     ]),
 };
 
+pub const EMERGENCY_MODE_CID: u32 = 22;
+
+pub(crate) static EMERGENCY_MODE: Row = Row {
+    service: Service::BasicConnect,
+    cid: EMERGENCY_MODE_CID,
+    query: Some(EMPTY),
+    set: None,
+    done: FieldShape(&[Field("EmergencyMode", U32)]),
+};
+
 pub const SMS_CONFIGURATION_CID: u32 = 1;
 
 pub(crate) static SMS_CONFIGURATION: Row = Row {
@@ -452,7 +462,7 @@ pub(crate) static PROXY_CONFIGURATION: Row = Row {
 };
 
 // All of them.
-pub(crate) fn rows() -> [&'static Row; 24]
+pub(crate) fn rows() -> [&'static Row; 25]
     ensures { map (λ row. row_view row.now) result ≡ rows }
 {
     [
@@ -470,6 +480,7 @@ pub(crate) fn rows() -> [&'static Row; 24]
         &DEVICE_SERVICES,
         &SUBSCRIBE_LIST,
         &PACKET_STATISTICS,
+        &EMERGENCY_MODE,
         &SMS_CONFIGURATION,
         &SMS_READ,
         &SMS_DELETE,
@@ -507,6 +518,7 @@ pub(crate) fn address_of(body: &MbimRequest) -> (Service, u32)
         MbimRequest::QueryIpConfiguration(_) => (Service::BasicConnect, IP_CONFIGURATION_CID),
         MbimRequest::QueryDeviceServices => (Service::BasicConnect, DEVICE_SERVICES_CID),
         MbimRequest::QueryPacketStatistics => (Service::BasicConnect, PACKET_STATISTICS_CID),
+        MbimRequest::QueryEmergencyMode => (Service::BasicConnect, EMERGENCY_MODE_CID),
         MbimRequest::SmsQueryConfiguration => (Service::Sms, SMS_CONFIGURATION_CID),
         MbimRequest::SmsReadAll => (Service::Sms, SMS_READ_CID),
         MbimRequest::SmsRead(_) => (Service::Sms, SMS_READ_CID),

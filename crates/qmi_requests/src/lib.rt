@@ -23,6 +23,7 @@ pub enum QmiRequest {
     NasNetworkScan,
     NasGetServingSystem,
     NasGetHomeNetwork,
+    NasGetDrx,
     /// What isn't there isn't sent. The IP family is 4 or 6.
     WdsStartNetwork {
         apn: Option<ShortText>,

@@ -161,6 +161,9 @@ get_serving_system = and_indication (message nas 0x0024 "Get Serving System" [] 
 abbrev pub get_home_network : Row
 get_home_network = message nas 0x0025 "Get Home Network" [] (needed 0x01 "Home network" plmn ∷ [])
 
+abbrev pub get_drx : Row
+get_drx = message nas 0x0089 "Get DRX" [] (optional 0x10 "DRX" u32 ∷ [])
+
 abbrev pub start_network : Row
 start_network = message wds 0x0020 "Start Network" (input 0x14 "APN" text ∷ input 0x17 "user" text ∷ input 0x18 "password" text ∷ input 0x19 "IP family" u8 ∷ []) (needed 0x01 "Packet data handle" u32 ∷ [])
 
@@ -194,7 +197,7 @@ rows =
     get_version_info ∷ allocate ∷ release ∷ sync ∷ proxy_open ∷
     get_capabilities ∷ get_manufacturer ∷ get_model ∷ get_revision ∷ get_msisdn ∷
     get_ids ∷ get_operating_mode ∷ set_operating_mode ∷ get_signal_strength ∷ network_scan ∷
-    get_serving_system ∷ get_home_network ∷ start_network ∷ stop_network ∷ get_packet_service_status ∷
+    get_serving_system ∷ get_home_network ∷ get_drx ∷ start_network ∷ stop_network ∷ get_packet_service_status ∷
     get_channel_rates ∷ get_current_settings ∷ raw_send ∷ raw_read ∷ delete ∷
     list_messages ∷ []
 
@@ -215,6 +218,7 @@ row_of request.NasGetSignalStrength = get_signal_strength
 row_of request.NasNetworkScan = network_scan
 row_of request.NasGetServingSystem = get_serving_system
 row_of request.NasGetHomeNetwork = get_home_network
+row_of request.NasGetDrx = get_drx
 row_of (request.WdsStartNetwork apn username password ip_type) = start_network
 row_of (request.WdsStopNetwork handle) = stop_network
 row_of request.WdsGetPacketServiceStatus = get_packet_service_status

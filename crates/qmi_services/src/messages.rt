@@ -277,6 +277,17 @@ pub(crate) static GET_HOME_NETWORK: Row = Row {
     indicated: false,
 };
 
+pub const GET_DRX_ID: u16 = 0x0089;
+
+pub(crate) static GET_DRX: Row = Row {
+    service: NAS,
+    id: GET_DRX_ID,
+    name: "Get DRX",
+    input: &[],
+    output: &[Optional(TlvFormat(0x10, "DRX", U32))],
+    indicated: false,
+};
+
 pub const START_NETWORK_ID: u16 = 0x0020;
 
 pub(crate) static START_NETWORK: Row = Row {
@@ -421,7 +432,7 @@ pub(crate) static LIST_MESSAGES: Row = Row {
 };
 
 /// All of them.
-pub(crate) fn rows() -> [&'static Row; 26]
+pub(crate) fn rows() -> [&'static Row; 27]
     ensures { map (λ row. row_view row.now) result ≡ rows }
 {
     [
@@ -442,6 +453,7 @@ pub(crate) fn rows() -> [&'static Row; 26]
         &NETWORK_SCAN,
         &GET_SERVING_SYSTEM,
         &GET_HOME_NETWORK,
+        &GET_DRX,
         &START_NETWORK,
         &STOP_NETWORK,
         &GET_PACKET_SERVICE_STATUS,
@@ -473,6 +485,7 @@ pub(crate) fn address_of(body: &QmiRequest) -> (u8, u16)
         QmiRequest::NasNetworkScan => (NAS, NETWORK_SCAN_ID),
         QmiRequest::NasGetServingSystem => (NAS, GET_SERVING_SYSTEM_ID),
         QmiRequest::NasGetHomeNetwork => (NAS, GET_HOME_NETWORK_ID),
+        QmiRequest::NasGetDrx => (NAS, GET_DRX_ID),
         QmiRequest::WdsStartNetwork { .. } => (WDS, START_NETWORK_ID),
         QmiRequest::WdsStopNetwork(_) => (WDS, STOP_NETWORK_ID),
         QmiRequest::WdsGetPacketServiceStatus => (WDS, GET_PACKET_SERVICE_STATUS_ID),

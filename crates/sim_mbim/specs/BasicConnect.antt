@@ -227,6 +227,7 @@ answer_to_query cid asked m =
     else if cid == table.ip_configuration.cid then Some (ip_configuration (number_at asked 0))
     else if cid == table.device_services.cid then Some device_services
     else if cid == table.packet_statistics.cid then Some (zeros 8)
+    else if cid == table.emergency_mode.cid then Some (zeros 1)
     else None
 
 abbrev pub answer_to_set : (cid : ℕ) → List Value → Modem → Option Outcome

@@ -47,6 +47,7 @@ pub record AnswersHaveEncodings : Type 0 where
   pub device_services : HasEncoding table.device_services basic_connect.device_services
   pub subscribe_list : (list : List Pair) → AllByRecursion IsPair list → length (list_buffer list) < 2 ^ 32 → HasEncoding table.subscribe_list (list_values (by_service list))
   pub packet_statistics : HasEncoding table.packet_statistics (zeros 8)
+  pub emergency_mode : HasEncoding table.emergency_mode (zeros 1)
   pub sms_configuration : HasEncoding table.sms_configuration sms.configuration
   pub sms_read : (kept : List (ℕ × List ℕ)) → length kept ≤ 100 → AllByRecursion IsMessage kept → HasEncoding table.sms_read (sms.list_of (map sms.message kept))
   pub sms_delete : HasEncoding table.sms_delete []

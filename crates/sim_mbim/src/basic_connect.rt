@@ -62,6 +62,7 @@ impl Modem {
             )?)),
             commands::DEVICE_SERVICES_CID => Ok(Some(device_services(alloc)?)),
             commands::PACKET_STATISTICS_CID => Ok(Some(zeros(alloc, 8)?)),
+            commands::EMERGENCY_MODE_CID => Ok(Some(zeros(alloc, 1)?)),
             _ => Ok(None),
         }
     }

@@ -33,7 +33,7 @@ use Rattle.sim_qmi.specs.Dms.{capabilities, dms_row, dms_step}
 use Rattle.sim_qmi.specs.Errors.{invalid_client_id}
 use Rattle.sim_qmi.specs.Fits.{Fits, IsInRange}
 use Rattle.sim_qmi.specs.Modem.{serves}
-use Rattle.sim_qmi.specs.Nas.{nas_row, nas_step, networks, plmn, serving_system, signal}
+use Rattle.sim_qmi.specs.Nas.{drx, nas_row, nas_step, networks, plmn, serving_system, signal}
 use Rattle.sim_qmi.specs.Requests.{row_of}
 use Rattle.sim_qmi.specs.State.{IsSound, State, client_ids, free_id, is_given, is_stored, message_at, without_client}
 use Rattle.sim_qmi.specs.Step.{refused, success}
@@ -166,6 +166,7 @@ nas_fits profile state nas.GetServingSystem within = serving_system_fits profile
 nas_fits profile state nas.GetHomeNetwork within =
     let short : length (spelling table.plmn (plmn profile)) ≤ 200 = plmn_short profile within in
     one (output_of table.get_home_network) (plmn profile) (plmn_of_form profile within) (omega arith)
+nas_fits profile state nas.GetDrx within = one (output_of table.get_drx) (number drx) refl (lit≤ tt)
 
 -- ---- WDS ----
 

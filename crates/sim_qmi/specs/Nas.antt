@@ -6,7 +6,7 @@ use Rattle.qmi_services.specs.Table as table
 use Rattle.qmi_services.specs.Table.{Row}
 use Rattle.modem_profile.specs.Profile.{Profile}
 use Rattle.sim_qmi.specs.declared.nas.NasRequest.{NasRequest}
-use Rattle.sim_qmi.specs.declared.nas.NasRequest.TheVariants.{GetSignalStrength, NetworkScan, GetServingSystem, GetHomeNetwork}
+use Rattle.sim_qmi.specs.declared.nas.NasRequest.TheVariants.{GetSignalStrength, NetworkScan, GetServingSystem, GetHomeNetwork, GetDrx}
 use Rattle.sim_qmi.specs.State.{State}
 use Rattle.sim_qmi.specs.Step.{Step, answered}
 use Rattle.sim_qmi.specs.Values.{list, lte}
@@ -20,6 +20,7 @@ nas_request id =
     else if id == table.network_scan.id then Some NetworkScan
     else if id == table.get_serving_system.id then Some GetServingSystem
     else if id == table.get_home_network.id then Some GetHomeNetwork
+    else if id == table.get_drx.id then Some GetDrx
     else None
 
 -- its line of the table
@@ -28,6 +29,7 @@ nas_row GetSignalStrength = table.get_signal_strength
 nas_row NetworkScan = table.network_scan
 nas_row GetServingSystem = table.get_serving_system
 nas_row GetHomeNetwork = table.get_home_network
+nas_row GetDrx = table.get_drx
 
 -- ---- what is answered ----
 
@@ -72,8 +74,14 @@ system mode = sequence_of (number (registration mode) ∷ number attached ∷ nu
 abbrev pub serving_system : Profile → (mode : ℕ) → List (Option Value)
 serving_system profile mode = Some (system mode) ∷ None ∷ Some (plmn profile) ∷ []
 
+-- how often a modem that sleeps listens: every 32 frames
+-- Source: the enum QmiNasDrx there.
+abbrev pub drx : ℕ
+drx = 6
+
 abbrev pub nas_step : Profile → State → NasRequest → Step
 nas_step profile state GetSignalStrength = answered state (Some (signal profile) ∷ [])
 nas_step profile state NetworkScan = answered state (Some (networks profile) ∷ [])
 nas_step profile state GetServingSystem = answered state (serving_system profile state.mode)
 nas_step profile state GetHomeNetwork = answered state (Some (plmn profile) ∷ [])
+nas_step profile state GetDrx = answered state (Some (number drx) ∷ [])

@@ -25,6 +25,9 @@ const ATTACHED: u64 = 1;
 
 const NETWORK_3GPP: u64 = 2;
 
+// It listens every 32 frames.
+const DRX: u64 = 6;
+
 /// What a request to service 3 asks.
 #[derive(Clone, Copy, Debug, PartialEq, Eq)]
 pub(crate) enum NasRequest {
@@ -32,6 +35,7 @@ pub(crate) enum NasRequest {
     NetworkScan,
     GetServingSystem,
     GetHomeNetwork,
+    GetDrx,
 }
 
 impl NasRequest {
@@ -44,6 +48,7 @@ impl NasRequest {
             messages::NETWORK_SCAN_ID => Some(NasRequest::NetworkScan),
             messages::GET_SERVING_SYSTEM_ID => Some(NasRequest::GetServingSystem),
             messages::GET_HOME_NETWORK_ID => Some(NasRequest::GetHomeNetwork),
+            messages::GET_DRX_ID => Some(NasRequest::GetDrx),
             _ => None,
         }
     }
@@ -66,6 +71,7 @@ pub(crate) fn answer(
             Ok(Answer::Success(values))
         }
         NasRequest::GetHomeNetwork => Answer::with(alloc, plmn(alloc, profile)?),
+        NasRequest::GetDrx => Answer::with(alloc, Val::U(DRX)),
     }
 }
 

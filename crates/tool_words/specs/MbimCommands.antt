@@ -84,6 +84,7 @@ mbim_line command.QueryConnectionState = with_value (codes "query-connection-sta
 mbim_line command.QueryIpConfiguration = with_value (codes "query-ip-configuration") number_32_in (λ session_id. request.QueryIpConfiguration session_id)
 mbim_line command.QueryDeviceServices = plain (codes "query-device-services") request.QueryDeviceServices
 mbim_line command.QueryPacketStatistics = plain (codes "query-packet-statistics") request.QueryPacketStatistics
+mbim_line command.QueryEmergencyMode = plain (codes "query-emergency-mode") request.QueryEmergencyMode
 mbim_line command.SmsQueryConfiguration = plain (codes "sms-query-configuration") request.SmsQueryConfiguration
 mbim_line command.SmsReadAll = plain (codes "sms-read-all") request.SmsReadAll
 mbim_line command.SmsRead = with_value (codes "sms-read") number_32_in (λ index. request.SmsRead index)
@@ -106,7 +107,7 @@ mbim_commands =
     command.QueryDeviceCaps ∷ command.QuerySubscriberReadyStatus ∷ command.QueryRadioState
     ∷ command.QueryPinState ∷ command.QueryHomeProvider ∷ command.QueryVisibleProviders
     ∷ command.QueryRegistrationState ∷ command.QuerySignalState ∷ command.QueryPacketServiceState
-    ∷ command.QueryDeviceServices ∷ command.QueryPacketStatistics
+    ∷ command.QueryDeviceServices ∷ command.QueryPacketStatistics ∷ command.QueryEmergencyMode
     ∷ command.SetRadioState ∷ command.AttachPacketService ∷ command.DetachPacketService
     ∷ command.Connect ∷ command.Disconnect ∷ command.QueryConnectionState ∷ command.QueryIpConfiguration
     ∷ command.PhonebookQueryConfiguration ∷ command.PhonebookRead ∷ command.PhonebookReadAll ∷ command.PhonebookWrite ∷ command.PhonebookDelete

@@ -65,6 +65,7 @@ qmi_line command.NasGetSignalStrength = plain (codes "nas-get-signal-strength") 
 qmi_line command.NasNetworkScan = plain (codes "nas-network-scan") request.NasNetworkScan
 qmi_line command.NasGetServingSystem = plain (codes "nas-get-serving-system") request.NasGetServingSystem
 qmi_line command.NasGetHomeNetwork = plain (codes "nas-get-home-network") request.NasGetHomeNetwork
+qmi_line command.NasGetDrx = plain (codes "nas-get-drx") request.NasGetDrx
 qmi_line command.WdsStartNetwork = with_value (codes "wds-start-network") start_network_in (λ start. start)
 qmi_line command.WdsStopNetwork = with_value (codes "wds-stop-network") number_32_in (λ handle. request.WdsStopNetwork handle)
 qmi_line command.WdsGetPacketServiceStatus = plain (codes "wds-get-packet-service-status") request.WdsGetPacketServiceStatus
@@ -86,7 +87,7 @@ qmi_commands =
     command.GetServiceVersionInfo
     ∷ command.DmsGetCapabilities ∷ command.DmsGetManufacturer ∷ command.DmsGetModel ∷ command.DmsGetRevision
     ∷ command.DmsGetMsisdn ∷ command.DmsGetIds ∷ command.DmsGetOperatingMode ∷ command.DmsSetOperatingMode
-    ∷ command.NasGetSignalStrength ∷ command.NasNetworkScan ∷ command.NasGetServingSystem ∷ command.NasGetHomeNetwork
+    ∷ command.NasGetSignalStrength ∷ command.NasNetworkScan ∷ command.NasGetServingSystem ∷ command.NasGetHomeNetwork ∷ command.NasGetDrx
     ∷ command.WdsStartNetwork ∷ command.WdsStopNetwork ∷ command.WdsGetPacketServiceStatus ∷ command.WdsGetChannelRates
     ∷ command.WdsGetCurrentSettings
     ∷ command.WmsRawSend ∷ command.WmsRawRead ∷ command.WmsDelete ∷ command.WmsListMessages

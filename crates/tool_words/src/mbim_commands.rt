@@ -33,6 +33,7 @@ pub enum MbimCommand {
     QueryIpConfiguration,
     QueryDeviceServices,
     QueryPacketStatistics,
+    QueryEmergencyMode,
     SmsQueryConfiguration,
     SmsReadAll,
     SmsRead,
@@ -48,7 +49,7 @@ pub enum MbimCommand {
     PhonebookWrite,
 }
 
-static MBIM_COMMANDS: [MbimCommand; 31] = [
+static MBIM_COMMANDS: [MbimCommand; 32] = [
     MbimCommand::QueryDeviceCaps,
     MbimCommand::QuerySubscriberReadyStatus,
     MbimCommand::QueryRadioState,
@@ -60,6 +61,7 @@ static MBIM_COMMANDS: [MbimCommand; 31] = [
     MbimCommand::QueryPacketServiceState,
     MbimCommand::QueryDeviceServices,
     MbimCommand::QueryPacketStatistics,
+    MbimCommand::QueryEmergencyMode,
     MbimCommand::SetRadioState,
     MbimCommand::AttachPacketService,
     MbimCommand::DetachPacketService,
@@ -105,6 +107,7 @@ impl ToolOption for MbimCommand {
             MbimCommand::QueryIpConfiguration => valued("query-ip-configuration"),
             MbimCommand::QueryDeviceServices => flag("query-device-services"),
             MbimCommand::QueryPacketStatistics => flag("query-packet-statistics"),
+            MbimCommand::QueryEmergencyMode => flag("query-emergency-mode"),
             MbimCommand::SmsQueryConfiguration => flag("sms-query-configuration"),
             MbimCommand::SmsReadAll => flag("sms-read-all"),
             MbimCommand::SmsRead => valued("sms-read"),
@@ -163,6 +166,7 @@ impl PlainCommand for MbimCommand {
             MbimCommand::QuerySignalState => Some(MbimRequest::QuerySignalState),
             MbimCommand::QueryDeviceServices => Some(MbimRequest::QueryDeviceServices),
             MbimCommand::QueryPacketStatistics => Some(MbimRequest::QueryPacketStatistics),
+            MbimCommand::QueryEmergencyMode => Some(MbimRequest::QueryEmergencyMode),
             MbimCommand::SmsQueryConfiguration => Some(MbimRequest::SmsQueryConfiguration),
             MbimCommand::SmsReadAll => Some(MbimRequest::SmsReadAll),
             MbimCommand::SmsQueryStoreStatus => Some(MbimRequest::SmsQueryStoreStatus),

@@ -27,6 +27,7 @@ pub enum QmiCommand {
     NasNetworkScan,
     NasGetServingSystem,
     NasGetHomeNetwork,
+    NasGetDrx,
     WdsStartNetwork,
     WdsStopNetwork,
     WdsGetPacketServiceStatus,
@@ -41,7 +42,7 @@ pub enum QmiCommand {
     DescribeTables,
 }
 
-static QMI_COMMANDS: [QmiCommand; 25] = [
+static QMI_COMMANDS: [QmiCommand; 26] = [
     QmiCommand::GetServiceVersionInfo,
     QmiCommand::DmsGetCapabilities,
     QmiCommand::DmsGetManufacturer,
@@ -55,6 +56,7 @@ static QMI_COMMANDS: [QmiCommand; 25] = [
     QmiCommand::NasNetworkScan,
     QmiCommand::NasGetServingSystem,
     QmiCommand::NasGetHomeNetwork,
+    QmiCommand::NasGetDrx,
     QmiCommand::WdsStartNetwork,
     QmiCommand::WdsStopNetwork,
     QmiCommand::WdsGetPacketServiceStatus,
@@ -87,6 +89,7 @@ impl ToolOption for QmiCommand {
             QmiCommand::NasNetworkScan => flag("nas-network-scan"),
             QmiCommand::NasGetServingSystem => flag("nas-get-serving-system"),
             QmiCommand::NasGetHomeNetwork => flag("nas-get-home-network"),
+            QmiCommand::NasGetDrx => flag("nas-get-drx"),
             QmiCommand::WdsStartNetwork => valued("wds-start-network"),
             QmiCommand::WdsStopNetwork => valued("wds-stop-network"),
             QmiCommand::WdsGetPacketServiceStatus => flag("wds-get-packet-service-status"),
@@ -169,6 +172,7 @@ impl PlainCommand for QmiCommand {
             QmiCommand::NasNetworkScan => Some(QmiRequest::NasNetworkScan),
             QmiCommand::NasGetServingSystem => Some(QmiRequest::NasGetServingSystem),
             QmiCommand::NasGetHomeNetwork => Some(QmiRequest::NasGetHomeNetwork),
+            QmiCommand::NasGetDrx => Some(QmiRequest::NasGetDrx),
             QmiCommand::WdsGetPacketServiceStatus => Some(QmiRequest::WdsGetPacketServiceStatus),
             QmiCommand::WdsGetChannelRates => Some(QmiRequest::WdsGetChannelRates),
             QmiCommand::WdsGetCurrentSettings => Some(QmiRequest::WdsGetCurrentSettings),
