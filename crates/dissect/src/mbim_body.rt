@@ -153,7 +153,7 @@ fn push_fields(
 {
     let val = match decode_fields(alloc, shape, buffer) {
         Ok(val) => val,
-        Err(FieldFault::OutOfMemory) => return Err(AllocError),
+        Err(FieldFault::TooLarge | FieldFault::OutOfMemory) => return Err(AllocError),
         Err(FieldFault::OutOfRange { .. } | FieldFault::Lone { .. }) => {
             push_bytes(text, buffer)?;
             return Ok(());

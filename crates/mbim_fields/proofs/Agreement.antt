@@ -9,8 +9,9 @@ use Rattle.mbim_fields.specs.Value.{Value, octets, text_of, absent, elements, me
 use Rattle.mbim_fields.specs.Reading.{Read, and_then, within, fixed_at, run_at, Part, part_at, read_each, read_run, read_perhaps, text_in, read_item, read_form, read_fields, read}
 use Rattle.mbim_fields.specs.Fields.{IsAt, PointsAt, StandInRow, Stands, FormStands, FieldsStand, Fields}
 use Rattle.mbim_fields.specs.declared.fault.FieldFault.{FieldFault}
-use Rattle.mbim_fields.specs.declared.fault.FieldFault.TheVariants.{OutOfRange, Lone, OutOfMemory}
-use Rattle.mbim_fields.specs.Decoding.{Refuses, IsRefused}
+use Rattle.mbim_fields.specs.declared.fault.FieldFault.TheVariants.{OutOfRange, Lone, TooLarge, OutOfMemory}
+use Rattle.mbim_fields.specs.Footprint.{footprint, footprint_limit}
+use Rattle.mbim_fields.specs.Decoding.{Ends, IsRefused}
 use Rattle.mbim_fields.proofs.Readings.{list_of-values_of, values_of-list_of}
 
 -- ---- steps ----
@@ -24,14 +25,14 @@ text_in-is bytes place is = search rules
 pub slice-none : (whole : List ℕ) (at count : ℕ) → count ≡ 0 → slice_range whole at (at + count) ≡ []
 slice-none whole at count none = let nothing : (at + count) - at ≡ 0 = omega (arith, none) in ap (λ (n : ℕ). take n (drop at whole)) nothing
 
-zero_or : (n : ℕ) → (n ≡ 0) ⊎ (n ≢ 0)
+pub zero_or : (n : ℕ) → (n ≡ 0) ⊎ (n ≢ 0)
 zero_or zero = inl refl
 zero_or (suc n) = inr (λ is. omega (arith, is))
 
-part_at-none : (whole : List ℕ) (base at : ℕ) → number_at whole (at + 4) 4 ≡ 0 → part_at whole base at ≡ Ok (record { bytes = []; place = base + at })
+pub part_at-none : (whole : List ℕ) (base at : ℕ) → number_at whole (at + 4) 4 ≡ 0 → part_at whole base at ≡ Ok (record { bytes = []; place = base + at })
 part_at-none whole base at none = search rules
 
-part_at-some : (whole : List ℕ) (base at : ℕ) → number_at whole (at + 4) 4 ≢ 0 → number_at whole at 4 + number_at whole (at + 4) 4 ≤ length whole
+pub part_at-some : (whole : List ℕ) (base at : ℕ) → number_at whole (at + 4) 4 ≢ 0 → number_at whole at 4 + number_at whole (at + 4) 4 ≤ length whole
     → part_at whole base at ≡ Ok (record { bytes = slice_range whole (number_at whole at 4) (number_at whole at 4 + number_at whole (at + 4) 4); place = base + number_at whole at 4 })
 part_at-some whole base at some fits = search rules
 
@@ -79,14 +80,14 @@ run-ends fixed whole (value ∷ more ∷ values) at row some =
     let rest = run-ends fixed whole (more ∷ values) (at + size fixed) row.1 (omega arith) in
     omega (arith, rest)
 
-run-none : (fixed : Fixed) (whole : List ℕ) (count base at : ℕ) → count ≡ 0 → read_run fixed count whole base at ≡ Ok (elements no_more)
+pub run-none : (fixed : Fixed) (whole : List ℕ) (count base at : ℕ) → count ≡ 0 → read_run fixed count whole base at ≡ Ok (elements no_more)
 run-none fixed whole count base at none = search rules
 
-run-some : (fixed : Fixed) (whole : List ℕ) (count base at : ℕ) → count ≢ 0 → number_at whole at 4 + count * size fixed ≤ length whole
+pub run-some : (fixed : Fixed) (whole : List ℕ) (count base at : ℕ) → count ≢ 0 → number_at whole at 4 + count * size fixed ≤ length whole
     → read_run fixed count whole base at ≡ Ok (elements (values_of (run_at fixed count whole (number_at whole at 4))))
 run-some fixed whole count base at some fits = search rules
 
-run-past : (fixed : Fixed) (whole : List ℕ) (count base at : ℕ) → count ≢ 0 → length whole < number_at whole at 4 + count * size fixed → read_run fixed count whole base at ≡ Err (OutOfRange (base + at))
+pub run-past : (fixed : Fixed) (whole : List ℕ) (count base at : ℕ) → count ≢ 0 → length whole < number_at whole at 4 + count * size fixed → read_run fixed count whole base at ≡ Err (OutOfRange (base + at))
 run-past fixed whole count base at some past = search rules
 
 run-read : (fixed : Fixed) (whole : List ℕ) (values : List Value) (count base at : ℕ) → length values ≡ count → StandInRow (λ value there. IsAt fixed value whole there) (size fixed) values (number_at whole at 4)
@@ -98,13 +99,13 @@ run-read fixed whole (value ∷ values) count base at is row =
     let values_are = subst (λ (n : ℕ). value ∷ values ≡ run_at fixed n whole (number_at whole at 4)) is (run-is fixed whole (value ∷ values) (number_at whole at 4) row) in
     run-some fixed whole count base at (λ none. omega (arith, is, none)) fits ∙ ap (λ (l : List Value). Ok (elements (values_of l))) (sym values_are)
 
-perhaps-none : (fixed : Fixed) (whole : List ℕ) (base at : ℕ) → number_at whole at 4 ≡ 0 → read_perhaps fixed whole base at ≡ Ok absent
+pub perhaps-none : (fixed : Fixed) (whole : List ℕ) (base at : ℕ) → number_at whole at 4 ≡ 0 → read_perhaps fixed whole base at ≡ Ok absent
 perhaps-none fixed whole base at none = search rules
 
-perhaps-some : (fixed : Fixed) (whole : List ℕ) (base at : ℕ) → number_at whole at 4 ≢ 0 → number_at whole at 4 + size fixed ≤ length whole → read_perhaps fixed whole base at ≡ Ok (fixed_at fixed whole (number_at whole at 4))
+pub perhaps-some : (fixed : Fixed) (whole : List ℕ) (base at : ℕ) → number_at whole at 4 ≢ 0 → number_at whole at 4 + size fixed ≤ length whole → read_perhaps fixed whole base at ≡ Ok (fixed_at fixed whole (number_at whole at 4))
 perhaps-some fixed whole base at some fits = search rules
 
-perhaps-past : (fixed : Fixed) (whole : List ℕ) (base at : ℕ) → number_at whole at 4 ≢ 0 → length whole < number_at whole at 4 + size fixed → read_perhaps fixed whole base at ≡ Err (OutOfRange (base + at))
+pub perhaps-past : (fixed : Fixed) (whole : List ℕ) (base at : ℕ) → number_at whole at 4 ≢ 0 → length whole < number_at whole at 4 + size fixed → read_perhaps fixed whole base at ≡ Err (OutOfRange (base + at))
 perhaps-past fixed whole base at some past = search rules
 
 mutual
@@ -148,17 +149,17 @@ mutual
 
 -- ---- what is read stands ----
 
-and_then-ok : {A B : Type 0} (r : Read A) (next : A → Read B) (b : B) → and_then r next ≡ Ok b → (a : A) × (r ≡ Ok a) × (next a ≡ Ok b)
+pub and_then-ok : {A B : Type 0} (r : Read A) (next : A → Read B) (b : B) → and_then r next ≡ Ok b → (a : A) × (r ≡ Ok a) × (next a ≡ Ok b)
 and_then-ok (Err fault) next b is = absurd cc
 and_then-ok (Ok a) next b is = (a, refl, is)
 
-Ok-same : {A : Type 0} (r : Read A) (a b : A) → r ≡ Ok a → r ≡ Ok b → a ≡ b
+pub Ok-same : {A : Type 0} (r : Read A) (a b : A) → r ≡ Ok a → r ≡ Ok b → a ≡ b
 Ok-same r a b is also = let h = sym is ∙ also in cc
 
 within-not : {A : Type 0} (whole : List ℕ) (end place : ℕ) (r : Read A) → length whole < end → within whole end place r ≡ Err (OutOfRange place)
 within-not whole end place r past = search rules
 
-within-ok : {A : Type 0} (whole : List ℕ) (end place : ℕ) (r : Read A) (a : A) → within whole end place r ≡ Ok a → (end ≤ length whole) × (r ≡ Ok a)
+pub within-ok : {A : Type 0} (whole : List ℕ) (end place : ℕ) (r : Read A) (a : A) → within whole end place r ≡ Ok a → (end ≤ length whole) × (r ≡ Ok a)
 within-ok whole end place r a is = elim (order (length whole) end) [
   | inl past ↦ absurd (let h = sym (within-not whole end place r past) ∙ is in cc)
   | inr fits ↦ (fits, sym (within-is whole end place r fits) ∙ is)
@@ -171,13 +172,13 @@ true_or false = inr refl
 text_in-not : (bytes : List ℕ) (place : ℕ) → is_utf16 bytes ≡ false → text_in bytes place ≡ Err (Lone place)
 text_in-not bytes place isnt = search rules
 
-text_in-ok : (bytes : List ℕ) (place : ℕ) (value : Value) → text_in bytes place ≡ Ok value → IsTrue (is_utf16 bytes) × (text_of (utf16_text bytes) ≡ value)
+pub text_in-ok : (bytes : List ℕ) (place : ℕ) (value : Value) → text_in bytes place ≡ Ok value → IsTrue (is_utf16 bytes) × (text_of (utf16_text bytes) ≡ value)
 text_in-ok bytes place value is = elim (true_or (is_utf16 bytes)) [
   | inl utf16 ↦ (utf16, Ok-same _ _ _ (text_in-is bytes place utf16) is)
   | inr not ↦ absurd (let h = sym (text_in-not bytes place not) ∙ is in cc)
 ]
 
-part_at-past : (whole : List ℕ) (base at : ℕ) → number_at whole (at + 4) 4 ≢ 0 → length whole < number_at whole at 4 + number_at whole (at + 4) 4 → part_at whole base at ≡ Err (OutOfRange (base + at))
+pub part_at-past : (whole : List ℕ) (base at : ℕ) → number_at whole (at + 4) 4 ≢ 0 → length whole < number_at whole at 4 + number_at whole (at + 4) 4 → part_at whole base at ≡ Err (OutOfRange (base + at))
 part_at-past whole base at some past = search rules
 
 part_at-ok : (Holds : List ℕ → Type 0) (whole : List ℕ) (base at : ℕ) (part : Part) → part_at whole base at ≡ Ok part → Holds part.bytes → PointsAt Holds whole at
@@ -291,7 +292,8 @@ read-stand layout values buffer is = let s = fields-sound layout buffer 0 [] val
 pub one-reading : (layout : Layout) (v w : List Value) (buffer : List ℕ) → Fields layout v buffer → Fields layout w buffer → v ≡ w
 one-reading layout v w buffer in_v in_w = Ok-same _ _ _ (stand-read layout v buffer in_v) (stand-read layout w buffer in_w)
 
-pub refused : (layout : Layout) (buffer : List ℕ) (fault : FieldFault) → Refuses (read layout buffer) fault → IsRefused layout buffer fault
-refused layout buffer (OutOfRange place) is = (λ values stand. let h = sym (stand-read layout values buffer stand) ∙ is in absurd cc, is)
-refused layout buffer (Lone place) is = (λ values stand. let h = sym (stand-read layout values buffer stand) ∙ is in absurd cc, is)
+pub refused : (layout : Layout) (buffer : List ℕ) (fault : FieldFault) → Ends (read layout buffer) (footprint layout buffer) footprint_limit fault → IsRefused layout buffer fault
+refused layout buffer (OutOfRange place) is = (λ values stand. let h = sym (stand-read layout values buffer stand) ∙ is.0 in absurd cc, is.0, is.1)
+refused layout buffer (Lone place) is = (λ values stand. let h = sym (stand-read layout values buffer stand) ∙ is.0 in absurd cc, is.0, is.1)
+refused layout buffer TooLarge is = is
 refused layout buffer OutOfMemory is = tt

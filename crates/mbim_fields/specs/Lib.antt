@@ -1,6 +1,7 @@
 pub mod Layout
 pub mod Value
 pub mod Reading
+pub mod Footprint
 pub mod Fields
 pub mod Canon
 pub mod View

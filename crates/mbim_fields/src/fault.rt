@@ -34,7 +34,10 @@ pub enum FieldFault {
     /// The pair at this place points at a text that isn't UTF-16.
     #[error("the text of the pair at byte {place} isn't UTF-16")]
     Lone { place: usize },
-    /// There is no memory for the values, or they would take more than 16 MiB.
+    /// What is read counts as more than 16 MiB: 32 bytes for each value, and the bytes that it has.
+    #[error("the values are too many")]
+    TooLarge,
+    /// There is no memory for the values.
     #[error("out of memory")]
     OutOfMemory,
 }

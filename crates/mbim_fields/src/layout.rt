@@ -1,9 +1,11 @@
 ghost use Rattle.std.specs.Prelude.{◌≡◌, ◌*◌, ◌^◌, ◌≤◌, map, IfSome, IsNone};
 ghost use Rattle.mbim_fields.specs.Layout.{size, width};
 ghost use Rattle.mbim_fields.specs.Value.{room};
+ghost use Rattle.mbim_fields.specs.Footprint.{fixed_footprint};
 ghost use Rattle.mbim_fields.specs.View.{fixed_view, item_view, form_view, value_view};
 
 use crate::FieldValue;
+use crate::memory::VALUE_FOOTPRINT;
 use crate::value::count_in;
 
 /// What always takes the same number of bytes.
@@ -75,6 +77,19 @@ impl Fixed {
             Fixed::U64 | Fixed::PrefixedIpv4 => 8,
             Fixed::Uuid | Fixed::Ipv6 => 16,
             Fixed::PrefixedIpv6 => 20,
+        }
+    }
+
+    // How many bytes of memory its value counts as.
+    pub(crate) fn footprint(self) -> usize
+        ensures { result ≡ fixed_footprint (fixed_view self) }
+    {
+        match self {
+            Fixed::U32 | Fixed::U64 | Fixed::Uuid => VALUE_FOOTPRINT,
+            Fixed::Ipv4 => VALUE_FOOTPRINT + 4,
+            Fixed::Ipv6 => VALUE_FOOTPRINT + 16,
+            Fixed::PrefixedIpv4 => 3 * VALUE_FOOTPRINT + 4,
+            Fixed::PrefixedIpv6 => 3 * VALUE_FOOTPRINT + 16,
         }
     }
 }

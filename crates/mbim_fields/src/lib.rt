@@ -16,6 +16,9 @@ mod value;
 pub use decoding::decode_fields;
 pub use encoding::encode_fields;
 pub use fault::{EncodeFault, FieldFault};
-pub use laws::{buffer_has_one_reading, buffer_has_what_is_read, encoding_has_its_values};
+pub use laws::{
+    buffer_counts_as_its_values, buffer_has_one_reading, buffer_has_what_is_read,
+    encoding_has_its_values,
+};
 pub use layout::{Field, FieldShape, Fixed, Form, Item};
 pub use value::{FieldVal, FieldValue};

@@ -1,27 +1,31 @@
-ghost use Rattle.std.specs.Prelude.{◌≡◌, ◌++◌, [], ◌∷◌, IfOk, OnOk};
+ghost use Rattle.std.specs.Prelude.{◌≡◌, ◌+◌, ◌*◌, IfOk, IfErr};
+ghost use Rattle.mbim_fields.specs.Footprint.{footprint_limit};
+ghost use Rattle.mbim_fields.specs.Decoding.{Exceeds};
 
-use crate::FieldValue;
-use kit_bytes::Octets;
-use std::alloc::{AllocError, Global};
-use std::cell::Cell;
-use std::mem::size_of;
+use crate::FieldFault;
+use std::alloc::Global;
 
-// How many bytes the values of one buffer may take.
-const MOST_BYTES: usize = 16_777_216;
+// How many bytes the values of one buffer count as at most.
+const FOOTPRINT_LIMIT: usize = 16_777_216;
+
+// How many bytes a value counts as, beside those that it has.
+pub(crate) const VALUE_FOOTPRINT: usize = 32;
 
 // The memory for the values of one buffer. Pairs may point at the same data, so that a buffer of 60 KB
-// can have 25 million values: what they take is counted, and past a limit it counts as want of memory.
+// can have 25 million values: what they count as is taken from a limit.
 #[derive(Drop)]
 pub(crate) struct Memory {
     alloc: Global,
-    left: Cell<usize>,
+    left: usize,
 }
 
 impl Memory {
-    pub(crate) fn new(alloc: Global) -> Self {
+    pub(crate) fn new(alloc: Global) -> Self
+        ensures { result.left ≡ footprint_limit }
+    {
         Memory {
             alloc,
-            left: Cell::new(MOST_BYTES),
+            left: FOOTPRINT_LIMIT,
         }
     }
 
@@ -29,33 +33,32 @@ impl Memory {
         self.alloc
     }
 
-    // Counts so many bytes.
-    pub(crate) fn take(&self, size: usize) -> Result<(), AllocError> {
-        let Some(left) = self.left.get().checked_sub(size) else {
-            return Err(AllocError);
+    // Takes so many bytes from what is left.
+    pub(crate) fn take(&mut self, footprint: usize) -> Result<(), FieldFault>
+        ensures ok { IfOk result (λ _. self.new.left + footprint ≡ self.old.left) }
+        ensures err { IfErr result (Exceeds footprint self.old.left) }
+    {
+        let Some(left) = self.left.checked_sub(footprint) else {
+            return Err(FieldFault::TooLarge);
         };
-        self.left.set(left);
+        self.left = left;
         Ok(())
     }
 
-    // Adds a value to a list.
-    pub(crate) fn push(
-        &self,
-        values: &mut Vec<FieldValue>,
-        value: FieldValue,
-    ) -> Result<(), AllocError>
-        ensures { OnOk result (values.new.items ≡ values.old.items ++ value ∷ []) }
+    // Takes what a list of so many counts as, each of which counts as so many bytes.
+    pub(crate) fn take_list(&mut self, count: usize, footprint: usize) -> Result<(), FieldFault>
+        ensures ok { IfOk result (λ _. self.new.left + (32 + count * footprint) ≡ self.old.left) }
+        ensures err { IfErr result (Exceeds (32 + count * footprint) self.old.left) }
     {
-        self.take(size_of::<FieldValue>())?;
-        values.push(value)?;
+        self.take(VALUE_FOOTPRINT)?;
+        let left = self.left;
+        let Some(elements) = count.checked_mul(footprint) else {
+            return Err(FieldFault::TooLarge);
+        };
+        let Some(left) = left.checked_sub(elements) else {
+            return Err(FieldFault::TooLarge);
+        };
+        self.left = left;
         Ok(())
-    }
-
-    // A copy of these bytes.
-    pub(crate) fn copy(&self, bytes: &[u8]) -> Result<Octets, AllocError>
-        ensures { IfOk result (λ octets. octets ≡ bytes.now) }
-    {
-        self.take(bytes.len())?;
-        Octets::from_slice(self.alloc, bytes)
     }
 }

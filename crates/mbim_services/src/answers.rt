@@ -1,7 +1,7 @@
 ghost use Rattle.std.specs.Prelude.{◌≡◌};
 ghost use Rattle.mbim_services.specs.declared.answers.AnswerFault.TheVariants.{OutOfMemory};
 ghost use Rattle.mbim_services.specs.Requests.{sent_by};
-ghost use Rattle.mbim_services.specs.Answers.{Answers, fault_of};
+ghost use Rattle.mbim_services.specs.Answers.{Answers, Fits, fault_of};
 
 use crate::requests::layout_done;
 use mbim_fields::{FieldFault, FieldShape, FieldVal, decode_fields};
@@ -24,6 +24,9 @@ pub enum AnswerFault {
     /// It tells of success, and its buffer has no values in the command's layout.
     #[error("the answer doesn't read")]
     Unread,
+    /// It tells of success, and what is read of its buffer counts as more than 16 MiB.
+    #[error("the answer's values are too many")]
+    TooLarge,
     #[error("out of memory")]
     OutOfMemory,
 }
@@ -42,6 +45,7 @@ impl From<FieldFault> for AnswerFault {
     fn from(fault: FieldFault) -> Self {
         match fault {
             FieldFault::OutOfRange { .. } | FieldFault::Lone { .. } => AnswerFault::Unread,
+            FieldFault::TooLarge => AnswerFault::TooLarge,
             FieldFault::OutOfMemory => AnswerFault::OutOfMemory,
         }
     }
@@ -55,7 +59,8 @@ pub fn done(
     status: u32,
     buffer: &[u8],
 ) -> Result<MbimAnswer, AnswerFault>
-    ensures { Answers (sent_by body.now).row.done status buffer.now result }
+    ensures says { Answers (sent_by body.now).row.done status buffer.now result }
+    ensures fits { Fits (sent_by body.now).row.done buffer.now result }
 {
     if status != 0 {
         return Ok(MbimAnswer::Failure(status));

@@ -150,6 +150,7 @@ fn read_body(
     match done(alloc, request, head.status, buffer_in(body)) {
         Ok(answer) => Ok(MbimEnd::Answer(answer)),
         Err(AnswerFault::Unread) => Err(SessionFault::Broken { place: begin }),
-        Err(AnswerFault::OutOfMemory) => Err(SessionFault::OutOfMemory),
+        // (Values that are too many are told as want of memory.)
+        Err(AnswerFault::TooLarge | AnswerFault::OutOfMemory) => Err(SessionFault::OutOfMemory),
     }
 }

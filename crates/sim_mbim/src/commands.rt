@@ -59,7 +59,7 @@ impl Modem {
         };
         match decode_fields(alloc, &shape, buffer) {
             Ok(asked) => Ok(self.reply_to_values(alloc, head, asked.as_slice())?),
-            Err(FieldFault::OutOfMemory) => Err(AllocError),
+            Err(FieldFault::TooLarge | FieldFault::OutOfMemory) => Err(AllocError),
             Err(FieldFault::OutOfRange { .. } | FieldFault::Lone { .. }) => {
                 Ok(refused(alloc, INVALID_PARAMETERS))
             }
