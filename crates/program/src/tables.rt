@@ -9,7 +9,7 @@ ghost use Rattle.modem_ways.specs.Ways.{path_in};
 ghost use Rattle.tool_runs.specs.Tables.{asked_by_tables};
 ghost use Rattle.following_runs.specs.Following.{FollowsModem};
 ghost use Rattle.program.specs.Status.{EndsAs, IsOfTool, status_of};
-ghost use Rattle.program.specs.Tables.{AsksByTables, AsksOnce, FollowsByTables, FollowsTold, follow_plan, table_plan};
+ghost use Rattle.program.specs.Tables.{AsksByTables, FollowsByTables, follow_plan, table_plan};
 ghost use Rattle.program.specs.Ways.{Asks, Follows, way_to};
 
 use crate::status::Status;
@@ -51,36 +51,14 @@ pub fn ask_by_tables<O: Sink, L: Link, P: Spawner, F: Files>(
     ensures write_fault { result ≡ Status.WriteFault → Rose (O.faults out.old) (O.faults out.new) }
 {
     match task.follow {
-        None => ask_once(alloc, task, out, link, spawner, files),
+        None => match request_in_file(alloc, files, &task.tables, &task.message, &task.input) {
+            Ok(asked) => ask_with(alloc, task, asked, out, link, spawner),
+            Err(none) => {
+                drop(task);
+                Status::from(none)
+            }
+        },
         Some(turns) => follow_by_tables(alloc, task, turns, out, link, spawner, files),
-    }
-}
-
-// Asks it, and prints its answer alone.
-fn ask_once<O: Sink, L: Link, P: Spawner, F: Files>(
-    alloc: Global,
-    task: RequestTask,
-    out: &mut O,
-    link: &mut L,
-    spawner: &mut P,
-    files: &mut F,
-) -> Status
-    ensures asks { AsksOnce task (F.calls files.old) (F.calls files.new)
-        (record { link = L.calls link.old; spawner = P.calls spawner.old; out = O.taken out.old; made = together (L.made link.old) (O.made out.old) })
-        (record { link = L.calls link.new; spawner = P.calls spawner.new; out = O.taken out.new; made = together (L.made link.new) (O.made out.new) })
-        result }
-    ensures own { IsOfTool result }
-    ensures link_fault { result ≡ Status.LinkFault → LinkFails (way_to task.device task.link) L.faults L.open_faults link.old link.new }
-    ensures start_fault { result ≡ Status.StartFault → Rose (P.faults spawner.old) (P.faults spawner.new) }
-    ensures read_fault { result ≡ Status.ReadFault → Rose (F.read_faults files.old) (F.read_faults files.new) }
-    ensures write_fault { result ≡ Status.WriteFault → Rose (O.faults out.old) (O.faults out.new) }
-{
-    match request_in_file(alloc, files, &task.tables, &task.message, &task.input) {
-        Ok(asked) => ask_with(alloc, task, asked, out, link, spawner),
-        Err(none) => {
-            drop(task);
-            Status::from(none)
-        }
     }
 }
 
@@ -134,37 +112,13 @@ fn follow_by_tables<O: Sink, L: Link, P: Spawner, F: Files>(
     ensures read_fault { result ≡ Status.ReadFault → Rose (F.read_faults files.old) (F.read_faults files.new) }
     ensures write_fault { result ≡ Status.WriteFault → Rose (O.faults out.old) (O.faults out.new) }
 {
-    match indications_in_file(alloc, files, &task.tables) {
-        Ok(told) => follow_told(alloc, task, told, turns, out, link, spawner, files),
+    let told = match indications_in_file(alloc, files, &task.tables) {
+        Ok(told) => told,
         Err(none) => {
             drop(task);
-            Status::from(none)
+            return Status::from(none);
         }
-    }
-}
-
-// Follows the indications that are told behind the answer to the request that the file gives.
-fn follow_told<O: Sink, L: Link, P: Spawner, F: Files>(
-    alloc: Global,
-    task: RequestTask,
-    told: Vec<Message>,
-    turns: u64,
-    out: &mut O,
-    link: &mut L,
-    spawner: &mut P,
-    files: &mut F,
-) -> Status
-    requires { AllByRecursion IsSoundMessage (messages_in told.items) }
-    ensures follows { FollowsTold task told.items turns (F.calls files.old) (F.calls files.new)
-        (record { link = L.calls link.old; spawner = P.calls spawner.old; out = O.taken out.old; made = together (L.made link.old) (O.made out.old) })
-        (record { link = L.calls link.new; spawner = P.calls spawner.new; out = O.taken out.new; made = together (L.made link.new) (O.made out.new) })
-        result }
-    ensures own { IsOfTool result }
-    ensures link_fault { result ≡ Status.LinkFault → LinkFails (way_to task.device task.link) L.faults L.open_faults link.old link.new }
-    ensures start_fault { result ≡ Status.StartFault → Rose (P.faults spawner.old) (P.faults spawner.new) }
-    ensures read_fault { result ≡ Status.ReadFault → Rose (F.read_faults files.old) (F.read_faults files.new) }
-    ensures write_fault { result ≡ Status.WriteFault → Rose (O.faults out.old) (O.faults out.new) }
-{
+    };
     match request_in_file(alloc, files, &task.tables, &task.message, &task.input) {
         Ok(asked) => follow_with(alloc, task, asked, told, turns, out, link, spawner),
         Err(none) => {
