@@ -53,20 +53,34 @@ fn run_above<W: Write>(rt: &HostRuntime, lines: &mut W) -> Status {
 
 // Does what the words ask, over sockets, processes and files.
 fn run_over<O: Sink, E: Sink>(rt: &HostRuntime, out: &mut O, err: &mut E) -> Status {
-    let socket = Cell::new(-1);
-    let mut link = UnixLink::new(rt, rt.alloc(), &socket);
-    let mut files = StdFiles::new(rt, &socket);
     let Ok(mut spawner) = spawner_of(rt) else {
         return give_up(err);
     };
-    let Ok(mut hub) = MioHub::new(rt, rt.alloc()) else {
-        return give_up(err);
-    };
-    let status = run_read(rt, out, err, &mut link, &mut hub, &mut spawner, &mut files);
-    drop(hub);
+    let status = run_beside(rt, out, err, &mut spawner);
     if !matches!(status, Status::Done | Status::Denied { .. }) {
         tell_complaints(rt, &mut spawner);
     }
+    drop(spawner);
+    status
+}
+
+// The same, where children can be started.
+fn run_beside<O: Sink, E: Sink, P: Spawner>(
+    rt: &HostRuntime,
+    out: &mut O,
+    err: &mut E,
+    spawner: &mut P,
+) -> Status {
+    let Ok(mut hub) = MioHub::new(rt, rt.alloc()) else {
+        return give_up(err);
+    };
+    let socket = Cell::new(-1);
+    let mut link = UnixLink::new(rt, rt.alloc(), &socket);
+    let mut files = StdFiles::new(rt, &socket);
+    let status = run_read(rt, out, err, &mut link, &mut hub, spawner, &mut files);
+    drop(hub);
+    drop(files);
+    drop(link);
     status
 }
 
