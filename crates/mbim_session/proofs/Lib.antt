@@ -1,4 +1,5 @@
 pub mod Fragments
+pub mod Hearing
 pub mod Peers
 pub mod Sending
 pub mod Steps

@@ -16,7 +16,7 @@ use Rattle.mbim_session.specs.Requests.{opening, commanding, closing}
 use Rattle.mbim_session.specs.Answers.{Reads, ReadsOpening}
 
 -- what ends the session before the command
-abbrev pub UnlessRefused : Option MbimEnd → List Call → Result MbimEnd SessionFault → Type 0 → Type 0
+abbrev pub UnlessRefused : {E : Type 0} → Option E → List Call → Result E SessionFault → Type 0 → Type 0
 UnlessRefused None calls result Then = Then
 UnlessRefused (Some end) calls result Then = Stops (Ok end) calls result
 

@@ -30,12 +30,13 @@ use Rattle.mbim_session.specs.Answers as answers
 use Rattle.mbim_session.specs.Answers.{field_of}
 use Rattle.mbim_session.specs.Requests.{is_error}
 use Rattle.mbim_session.specs.Peer.{Verdict, Unread, Refuses, Succeeds, HasVerdict, is_success, opens, verdict}
+use Rattle.mbim_session.specs.Session.{UnlessRefused}
 use Rattle.mbim_session.proofs.Peers as mbim_peers
 use Rattle.tunnel_session.specs.declared.carried.Carried.{Carried}
 use Rattle.tunnel_session.specs.declared.carried.Carried.TheVariants as carried
 use Rattle.tunnel_session.specs.declared.ends.TunnelEnd.{TunnelEnd}
 use Rattle.tunnel_session.specs.Carried.{carried_in}
-use Rattle.tunnel_session.specs.Session.{Carries, Chooses, Closes, Commands, CommandsAs, Finishes, OnMessage, OnSuccess, Opens, Session, UnlessRefused, allocating, configuration, control, direct, end_with, given, keeping, no_memory, proxied, refusal_in, releasing, without}
+use Rattle.tunnel_session.specs.Session.{Carries, Chooses, Closes, Commands, CommandsAs, Finishes, OnMessage, OnSuccess, Opens, Session, allocating, configuration, control, direct, end_with, given, keeping, no_memory, proxied, refusal_in, releasing, without}
 use Rattle.tunnel_session.specs.Peer.{LastWord, NoAnswer, OfAnswer, OfConfiguration, OfOpen, EndsWith, SessionsEndAsAtPeers, came_then, carry_then, choose_at, close_at, command_at, finish, given_at, leave_at, open_at, take_at, tunnel_at, unanswered}
 
 false_if : (b c : Bool) → c ≡ false → b && c ≡ false

@@ -21,13 +21,7 @@ use Rattle.tunnel_session.specs.declared.ends.TunnelEnd.{TunnelEnd}
 use Rattle.tunnel_session.specs.declared.ends.TunnelEnd.TheVariants.{Qmi}
 use Rattle.tunnel_session.specs.Carried.{Reads}
 use Rattle.tunnel_session.specs.Requests.{carrying}
-use Rattle.tunnel_session.specs.Session.{Carries, Closes, OnMessage, OnSuccess, UnlessRefused}
-
-pub UnlessRefused-some : {refused : Option TunnelEnd} {end : TunnelEnd} (Then : Type 0) → refused ≡ Some end → UnlessRefused refused [] (Ok end) Then
-UnlessRefused-some Then is = rw is (refl, refl)
-
-pub UnlessRefused-none : {refused : Option TunnelEnd} {Then : Type 0} (calls : List Call) (result : Result TunnelEnd SessionFault) → refused ≡ None → Then → UnlessRefused refused calls result Then
-UnlessRefused-none calls result is goes_on = rw is goes_on
+use Rattle.tunnel_session.specs.Session.{Carries, Closes, OnMessage, OnSuccess}
 
 -- ---- an answer that is there ----
 

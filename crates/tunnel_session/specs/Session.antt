@@ -19,6 +19,7 @@ use Rattle.mbim_session.specs.declared.plan.MbimEnd.{MbimEnd}
 use Rattle.mbim_session.specs.declared.plan.MbimEnd.TheVariants as mbim
 use Rattle.mbim_session.specs.Answers as answers
 use Rattle.mbim_session.specs.Requests.{closing, commanding, opening}
+use Rattle.mbim_session.specs.Session.{UnlessRefused}
 use Rattle.device_core.specs.declared.plan.QmiPlan.{QmiPlan}
 use Rattle.device_core.specs.Requests.{Request, wanted_by}
 use Rattle.device_core.specs.Session as qmi
@@ -37,10 +38,6 @@ abbrev pub refusal_in : MbimEnd → Option TunnelEnd
 refusal_in (mbim.Answer (answer.Success shape val)) = None
 refusal_in (mbim.Answer (answer.Failure status)) = Some (Mbim status)
 refusal_in (mbim.FunctionError code) = Some (FunctionError code)
-
-abbrev pub UnlessRefused : Option TunnelEnd → List Call → Result TunnelEnd SessionFault → Type 0 → Type 0
-UnlessRefused None calls result Then = Then
-UnlessRefused (Some end) calls result Then = Stops (Ok end) calls result
 
 -- a status or a FUNCTION_ERROR for a request ends it too
 abbrev pub OnMessage : Carried → List Call → Result TunnelEnd SessionFault → (Placed → Type 0) → Type 0

@@ -77,6 +77,9 @@ fn hear<L: Link>(
     ensures later_open { L.open_faults link.old ≤ L.open_faults link.new }
 {
     let found = exchange(link, incoming, messages, coming, timeout)?;
-    let answer = read(alloc, wanted, coming, found.place, incoming.bytes(found))?;
-    Ok(Reply { found, answer })
+    let carried = read(alloc, wanted, coming, found.place, incoming.bytes(found))?;
+    Ok(Reply {
+        found,
+        answer: carried,
+    })
 }

@@ -46,11 +46,11 @@ pub fn tunnel_session<L: Link>(
     ensures later_open { L.open_faults link.old ≤ L.open_faults link.new }
 {
     let mut incoming = Incoming::open(alloc)?;
-    ask_all(alloc, link, &mut incoming, plan)
+    carry_all(alloc, link, &mut incoming, plan)
 }
 
-/// All that a plan asks, where nothing has come yet.
-fn ask_all<L: Link>(
+/// All requests of a plan, where nothing has come yet.
+fn carry_all<L: Link>(
     alloc: Global,
     link: &mut L,
     incoming: &mut Incoming<Mbim>,
@@ -64,8 +64,8 @@ fn ask_all<L: Link>(
     if !plan.proxied {
         return open_modem(alloc, link, incoming, plan, 1);
     }
-    let reply = configure(alloc, link, incoming, &plan.device, plan.timeout)?;
-    if let Some(refused) = refusal(reply.answer) {
+    let configured = configure(alloc, link, incoming, &plan.device, plan.timeout)?;
+    if let Some(refused) = refusal(configured.answer) {
         return Ok(refused);
     }
     open_modem(alloc, link, incoming, plan, 2)

@@ -1,9 +1,9 @@
 use Rattle.std.proofs.Common.{◌≡◌, None, sym, ◌∙◌, rules}
 use Rattle.std.proofs.lemmas.Result.{err_from_is_err_and}
 use Rattle.link_session.specs.Waiting.{nothing_heard}
-use Rattle.link_session.proofs.Steps.{Makes-map, Makes-none, Step-read, Step-unread}
+use Rattle.link_session.proofs.Steps.{Makes-map, Step-unread}
 use Rattle.mbim_session.specs.Session.{direct, proxied, refusal_in}
-use Rattle.mbim_session.proofs.Steps.{UnlessRefused-none, UnlessRefused-some}
+use Rattle.mbim_session.proofs.Steps.{Step-granted, Step-refused}
 use Rattle.mbim_session.proofs.session.ask_all.Goals as goal
 
 pub returns-then-not-plan-clause-session : goal.returns-then-not-plan-clause-session
@@ -19,11 +19,10 @@ returns-in_err-reply-clause-session g c = λ stands.
 pub returns-in-Some-clause-session : goal.returns-in-Some-clause-session
 returns-in-Some-clause-session g c = λ stands.
     let replies = c.in_ok-reply.ensures.asks nothing_heard stands in
-    Makes-map (λ calls step. proxied c.if-not-plan.false step) (Step-read replies (Makes-none _ (UnlessRefused-some _ (sym c.refusal.ensures ∙ c.in-Some.is))))
+    Makes-map (λ calls step. proxied c.if-not-plan.false step) (Step-refused refusal_in replies _ (sym c.refusal.ensures ∙ c.in-Some.is))
 
 pub returns-clause-session : goal.returns-clause-session
 returns-clause-session g c = λ stands.
     let replies = c.in_ok-reply.ensures.asks nothing_heard stands in
     let none : refusal_in c.in_ok-reply.reply.answer ≡ None = search rules in
-    Makes-map (λ calls step. proxied c.if-not-plan.false step)
-    (Step-read replies (Makes-map (λ calls opens. UnlessRefused-none _ _ none opens) (c.open_modem-2.ensures.opens replies.later replies.says.2)))
+    Makes-map (λ calls step. proxied c.if-not-plan.false step) (Step-granted refusal_in replies _ none (c.open_modem-2.ensures.opens replies.later replies.says.2))

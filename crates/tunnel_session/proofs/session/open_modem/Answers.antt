@@ -3,7 +3,7 @@ use Rattle.std.specs.Prelude.{option_and_then}
 use Rattle.std.proofs.lemmas.Result.{err_from_is_err_and}
 use Rattle.link_session.proofs.Steps.{Makes-map, Makes-none, Step-read, Step-unread}
 use Rattle.tunnel_session.specs.Session.{refusal_in}
-use Rattle.tunnel_session.proofs.Steps.{UnlessRefused-none, UnlessRefused-some}
+use Rattle.mbim_session.proofs.Steps.{UnlessRefused-none, UnlessRefused-some}
 use Rattle.tunnel_session.proofs.session.open_modem.Goals as goal
 
 pub returns-in_err-reply-clause-opens : goal.returns-in_err-reply-clause-opens
