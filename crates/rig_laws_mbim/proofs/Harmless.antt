@@ -24,7 +24,7 @@ use Rattle.rig_runs.specs.Mbim.{setup}
 use Rattle.rig_runs.specs.MbimExamples.{configuration, open_2}
 use Rattle.rig_runs.specs.Counts.{IsForShare}
 use Rattle.rig_runs.specs.MbimLines.{tells_refusal, refuses, passes_share, AreForShares}
-use Rattle.rig_laws.proofs.Undisturbed.{undisturbed_entry, undisturbed_joining}
+use Rattle.rig_laws.proofs.Undisturbed.{LetsAlone, undisturbed_by}
 use Rattle.rig_laws_mbim.proofs.Messages.{configuring, configuration_is, opening_is}
 
 -- a command that comes whole
@@ -55,28 +55,21 @@ AreHarmless (fact ∷ past) = IsHarmless fact past × AreHarmless past
 
 -- ---- nobody is told of others ----
 
+lets_alone : (fact : Fact) (past : List Fact) → IsHarmless fact past → LetsAlone fact
+lets_alone (IdHeld r) past is = absurd is
+lets_alone (Ended c why) past is = absurd is
+lets_alone (Judged c place m Own) past is = refl
+lets_alone (Judged c place m Ready) past is = refl
+lets_alone (Judged c place m Waits) past is = refl
+lets_alone (Judged c place m Forward) past is = refl
+lets_alone (Judged c place m Share) past is = refl
+lets_alone (Judged c place m _) past is = absurd is
+lets_alone _ past is = tt
+
 pub undisturbed : (c : ℕ) (past : List Fact) → AreHarmless past → AreUndisturbed (view_of c past)
 unfolding view
 undisturbed c [] all = tt
-undisturbed c (Admitted d ∷ past) all = undisturbed_joining (d == c) (view_of c past) (undisturbed c past all.1)
-undisturbed c (Ended d why ∷ past) all = absurd all.0
-undisturbed c (Judged d place m Own ∷ past) all = undisturbed_entry (d == c) (Sent m Own) (view_of c past) refl (undisturbed c past all.1)
-undisturbed c (Judged d place m Forward ∷ past) all = undisturbed_entry (d == c) (Sent m Forward) (view_of c past) refl (undisturbed c past all.1)
-undisturbed c (Judged d place m Ready ∷ past) all = undisturbed_entry (d == c) (Sent m Ready) (view_of c past) refl (undisturbed c past all.1)
-undisturbed c (Judged d place m Waits ∷ past) all = undisturbed_entry (d == c) (Sent m Waits) (view_of c past) refl (undisturbed c past all.1)
-undisturbed c (Judged d place m Share ∷ past) all = undisturbed_entry (d == c) (Sent m Share) (view_of c past) refl (undisturbed c past all.1)
-undisturbed c (Judged d place m Foreign ∷ past) all = absurd all.0
-undisturbed c (Judged d place m Away ∷ past) all = absurd all.0
-undisturbed c (Judged d place m Full ∷ past) all = absurd all.0
-undisturbed c (Answered r m ∷ past) all = undisturbed_entry (r.conn == c) (Response r.place (blank m)) (view_of c past) refl (undisturbed c past all.1)
-undisturbed c (IdHeld r ∷ past) all = absurd all.0
-undisturbed c (Expired r ∷ past) all = undisturbed_entry (r.conn == c) (Refused r.place NoAnswer) (view_of c past) refl (undisturbed c past all.1)
-undisturbed c (Aborted r ∷ past) all = absurd all.0
-undisturbed c (Indicated m receivers ∷ past) all = absurd all.0
-undisturbed c (OpeningEnded status receivers ∷ past) all = undisturbed_entry (contains c receivers) (OpenedWith status) (view_of c past) refl (undisturbed c past all.1)
-undisturbed c (SessionsClosed receivers ∷ past) all = absurd all.0
-undisturbed c (Drained d count ∷ past) all = undisturbed_entry (d == c) (Collected count) (view_of c past) refl (undisturbed c past all.1)
-undisturbed c (_ ∷ past) all = undisturbed c past all.1
+undisturbed c (fact ∷ past) all = undisturbed_by blank c fact past (lets_alone fact past all.0) (undisturbed c past all.1)
 
 -- ---- what holds of what each client's view tells ----
 
