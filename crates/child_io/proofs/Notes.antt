@@ -3,8 +3,8 @@ use Rattle.std.proofs.Common.{◌≡◌, ℕ, ◌+◌, ◌<◌, ℤ, Bool, List,
 use Rattle.std.proofs.lemmas.List.{append-nil, map_push, take_more}
 use Rattle.std.proofs.lemmas.List.Sums.{fold-append}
 use Rattle.kit_io.specs.Record.{Noted}
-use Rattle.kit_io.specs.Told.{Grows}
-use Rattle.kit_io.proofs.Told.{Grows-append}
+use Rattle.kit_io.specs.Growth.{Grows}
+use Rattle.kit_io.proofs.Growth.{Grows-append}
 use Rattle.child_io.specs.declared.memory.Made.{Made}
 use Rattle.child_io.specs.declared.memory.Made.TheVariants as made
 use Rattle.child_io.specs.Calls.{Call, Started, StartFailed, Ended, EndFailed, Stopped}
@@ -21,17 +21,17 @@ gathered_words gathered (word ∷ words) =
 Grows-calls : (added : List (Noted Made)) (calls : List Call) {old new : Option (List (Noted Made))} → ((gathered : Gathered) → (gathered_from gathered added).calls ≡ gathered.calls ++ calls)
     → Grows old added new → Grows (calls_of old) calls (calls_of new)
 Grows-calls added calls {old = old} {new = Some all} adds grows =
-    let was = grows.told all refl in
+    let was = grows.recorded all refl in
     let empty : Gathered = record { calls = []; words = [] } in
     record {
-      told = λ told is.
-          let same : calls_in all ≡ told = cc in (
+      recorded = λ recorded is.
+          let same : calls_in all ≡ recorded = cc in (
             calls_in was.0,
             ap calls_of was.1,
             sym same ∙ ap calls_in was.2 ∙ ap (λ (g : Gathered). g.calls) (fold-append with_note empty was.0 added) ∙ adds (gathered_from empty was.0),
           );
     }
-Grows-calls added calls {new = None} adds grows = record { told = λ told is. cc }
+Grows-calls added calls {new = None} adds grows = record { recorded = λ recorded is. cc }
 
 -- one word more
 pub word_notes-more : {X : Type 0} (f : X → List ℕ) (xs : List X) (i : ℕ) (x : X) → i < length xs → x ≡ get_or xs i x

@@ -8,8 +8,8 @@ use Rattle.std.proofs.lemmas.List.Folds.{list_all-append}
 use Rattle.std.specs.List.{AllByRecursion, list_any, list_all}
 use Rattle.std.specs.Result.{result_and, is_ok}
 use Rattle.kit_io.specs.Causes.{HasCause}
-use Rattle.kit_io.specs.Told.{Grows}
-use Rattle.kit_io.proofs.Told.{Grows-none, Grows-append}
+use Rattle.kit_io.specs.Growth.{Grows}
+use Rattle.kit_io.proofs.Growth.{Grows-none, Grows-append}
 use Rattle.kit_bytes.proofs.Lists.{all_weaker, all_passing}
 use Rattle.kit_bytes.proofs.Members.{Contains-cons, Contains-cons_cases, Contains-nil}
 use Rattle.child_io.specs.Calls.{Call, Stopped}

@@ -1,7 +1,7 @@
 -- What becomes of the children that are kept.
 use Rattle.std.specs.Prelude.{◌≡◌, ℕ, Bool, true, false, not, ◌==◌, List, [], ◌++◌, map, filter, All, Contains, Option, Result, is_ok}
 use Rattle.std.specs.List.{list_all}
-use Rattle.kit_io.specs.Told.{Grows}
+use Rattle.kit_io.specs.Growth.{Grows}
 use Rattle.child_io.specs.Calls.{Call, Stopped}
 use Rattle.child_io.specs.Alive.{alive, StandsFor}
 

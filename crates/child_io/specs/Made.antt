@@ -33,7 +33,7 @@ abbrev pub calls_in : List (Noted Made) → List Call
 calls_in notes = (gathered_from (record { calls = []; words = [] }) notes).calls
 
 abbrev pub calls_of : Option (List (Noted Made)) → Option (List Call)
-calls_of told = option_map calls_in told
+calls_of recorded = option_map calls_in recorded
 
 -- the notes of a start's words
 abbrev pub word_note : List ℕ → Noted Made

@@ -1,6 +1,6 @@
 ghost use Rattle.std.specs.Prelude.{◌≡◌, ◌<◌, ◌≤◌, [], ◌∷◌, ◌++◌, List, length, map, string_bytes, Contains, IfOk, OnOk, OnErr};
 ghost use Rattle.kit_io.specs.Causes.{HasCause};
-ghost use Rattle.kit_io.specs.Told.{Grows};
+ghost use Rattle.kit_io.specs.Growth.{Grows};
 ghost use Rattle.child_io.specs.Calls.{Call, start_call, end_call};
 ghost use Rattle.child_io.specs.Alive.{StandsFor};
 ghost use Rattle.child_io.specs.Kids.{without, StopsEach};

@@ -1,5 +1,5 @@
 ghost use Rattle.std.specs.Prelude.{◌≡◌, ◌≤◌, [], ◌∷◌, Some, map, reverse, string_bytes, IfOk};
-ghost use Rattle.kit_io.specs.Told.{Grows};
+ghost use Rattle.kit_io.specs.Growth.{Grows};
 ghost use Rattle.child_io.specs.Made.{calls_of, words_notes};
 
 use crate::Spawner;
@@ -52,7 +52,7 @@ impl MemSpawner {
         room: usize,
         bytes_room: usize,
     ) -> Result<Self, AllocError>
-        ensures told { IfOk result (λ spawner. spawner.log.told ≡ Some []) }
+        ensures recorded { IfOk result (λ spawner. spawner.log.recorded ≡ Some []) }
         ensures room { IfOk result (λ spawner. room ≤ spawner.log.room) }
         ensures bytes_room { IfOk result (λ spawner. bytes_room ≤ spawner.log.bytes_room) }
         ensures script { IfOk result (λ spawner. spawner.script.items ≡ reverse script.items) }
@@ -77,9 +77,9 @@ impl MemSpawner {
 }
 
 // Notes that a start begins, with these words.
-#[tactic(auto, using(kit_io::proofs::Told::growing))]
+#[tactic(auto, using(kit_io::proofs::Growth::growing))]
 fn note_words(log: &mut Log<Made>, words: &[String])
-    ensures { Grows log.old.told (words_notes (map string_bytes words.now)) log.new.told }
+    ensures { Grows log.old.recorded (words_notes (map string_bytes words.now)) log.new.recorded }
 {
     log.note(Made::Starts, &[]);
     for word in words {
@@ -88,7 +88,7 @@ fn note_words(log: &mut Log<Made>, words: &[String])
 }
 
 impl Spawner for MemSpawner {
-    ghost calls = { λ s. calls_of s.log.told };
+    ghost calls = { λ s. calls_of s.log.recorded };
 
     ghost faults = { λ s. s.faults };
 

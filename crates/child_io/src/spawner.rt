@@ -1,6 +1,6 @@
 ghost use Rattle.std.specs.Prelude.{◌≡◌, ℕ, List, [], ◌∷◌, Option, map, string_bytes, is_ok};
 ghost use Rattle.kit_io.specs.Causes.{HasCause};
-ghost use Rattle.kit_io.specs.Told.{Grows};
+ghost use Rattle.kit_io.specs.Growth.{Grows};
 
 use kit_io::Failed;
 
@@ -8,7 +8,7 @@ use kit_io::Failed;
 pub trait Spawner {
     ghost use Rattle.child_io.specs.Calls.{Call, Stopped, start_call, end_call};
 
-    /// The calls so far, where told.
+    /// The calls so far, where recorded.
     ghost calls: { Self → Option (List Call) };
 
     /// How many calls have failed.

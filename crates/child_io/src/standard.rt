@@ -1,6 +1,6 @@
 ghost use Rattle.std.specs.Prelude.{◌≡◌, ◌+◌, ◌<◌, ◌≤◌, [], ◌∷◌, None, is_ok, length, map, string_bytes, vec_len, IfOk, OnErr, OnOk};
 ghost use Rattle.kit_io.specs.Causes.{HasCause};
-ghost use Rattle.kit_io.specs.Told.{Grows};
+ghost use Rattle.kit_io.specs.Growth.{Grows};
 ghost use Rattle.child_io.specs.Calls.{Stopped, end_call, start_call};
 
 use crate::{KIDS_LIMIT, Spawner};

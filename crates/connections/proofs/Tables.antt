@@ -5,7 +5,7 @@ use Rattle.std.proofs.lemmas.Bool.Decides.{nat_tests}
 use Rattle.std.proofs.lemmas.List.{get_or_default, get_or-set_same}
 use Rattle.framing.specs.declared.framing.Size.{Size}
 use Rattle.outbox.specs.Queue.{Queue, has_room}
-use Rattle.connections.specs.Table.{Connection, Dropped, Table, connection_in, without, joined, joins, joins_if, leaves, gets, puts, puts_if, tells, tells_to, tells_if, finds_room, took, collects, left_for, waiting_or, queue_of}
+use Rattle.connections.specs.Table.{Connection, Dropped, Table, connection_in, without, joined, joins, joins_if, leaves, gets, puts, puts_if, tells, tells_to, tells_if, finds_room, took, client_takes, left_for, waiting_or, queue_of}
 use Rattle.connections.specs.Table.{with_client}
 use Rattle.connections.specs.Table as words
 use Rattle.connections.specs.Places.{drops_at}
@@ -68,9 +68,9 @@ module _ {T : Type 0} where
       pub left_some : true ≡ is_some (connection_in name old.present)
       left_some = sym (sym (ap (λ (o : Table T). is_some (connection_in name o.present)) was) ∙ ap is_some found)
 
-      pub took_is : (count : ℕ) (now : Connection T) → now ≡ took count k → with_present t (set t.present place now) ≡ collects name count old
+      pub took_is : (count : ℕ) (now : Connection T) → now ≡ took count k → with_present t (set t.present place now) ≡ client_takes name count old
       took_is count now now_is =
-          ap (λ (m : Connection T). with_present t (set t.present place m)) now_is ∙ sym (ap (with_present t) (changed_at name t.present place is k at (took count))) ∙ ap (collects name count) was
+          ap (λ (m : Connection T). with_present t (set t.present place m)) now_is ∙ sym (ap (with_present t) (changed_at name t.present place is k at (took count))) ∙ ap (client_takes name count) was
 
       pub queue_is : queue_of name old ≡ k.outbox.bytes
       queue_is = sym (ap (queue_of name) was) ∙ ap (waiting_or (left_for name t.dropped)) found
@@ -147,7 +147,7 @@ module _ {T : Type 0} where
     pub left_none : (t ≡ leaves name t) × (false ≡ is_some (connection_in name t.present))
     left_none = (sym (ap (with_present t) (without_none name t.present nobody)), sym (ap is_some nobody))
 
-    pub took_none : (count : ℕ) → t ≡ collects name count t
+    pub took_none : (count : ℕ) → t ≡ client_takes name count t
     took_none count = sym (ap (with_present t) (changed_none name (took count) t.present nobody))
 
     pub queue_none : left_for name t.dropped ≡ queue_of name t

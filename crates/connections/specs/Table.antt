@@ -136,8 +136,8 @@ finds_room bytes (Some k) = has_room bytes k.outbox
 abbrev pub took : {T : Type 0} → ℕ → Connection T → Connection T
 took count k = record k { outbox = takes count k.outbox }
 
-abbrev pub collects : {T : Type 0} → ℕ → ℕ → Table T → Table T
-collects name count table = record table { present = changed name (took count) table.present }
+abbrev pub client_takes : {T : Type 0} → ℕ → ℕ → Table T → Table T
+client_takes name count table = record table { present = changed name (took count) table.present }
 
 -- ---- the bytes that wait ----
 

@@ -10,14 +10,14 @@ use crate::hears::Hears;
 use crate::place::Place;
 use crate::renews::Renews;
 use framing::{Cutter, Framing, LONGEST_PIECE};
-use kit_bytes::Cut;
+use kit_bytes::{ConnId, Cut};
 use outbox::Outbox;
 use std::marker::Model;
 
 /// A connection that is there.
 #[derive(Drop)]
 pub struct Connection<F: Framing, T> {
-    name: u64,
+    name: ConnId,
     place: Place<F, T>,
 }
 
@@ -36,7 +36,7 @@ impl<F: Framing, T> Connection<F, T> {
     ghost use Rattle.std.specs.Borrow.{sem};
     ghost use Rattle.connections.specs.Lends.{lends_client};
 
-    pub fn name(&self) -> u64
+    pub fn name(&self) -> ConnId
         ensures { result ≡ self.now.name }
     {
         self.name
@@ -130,7 +130,7 @@ impl<F: Framing, T> Connection<F, T> {
 
 impl<F: Framing, T: Renews + Drop> Connection<F, T> {
     /// A connection that has said nothing, of a client that has just joined, in this place.
-    pub fn begin(mut place: Place<F, T>, name: u64) -> Self
+    pub fn begin(mut place: Place<F, T>, name: ConnId) -> Self
         ensures { result ≡ joined name T.fresh place.outbox.capacity }
     {
         place.renew();
@@ -141,7 +141,7 @@ impl<F: Framing, T: Renews + Drop> Connection<F, T> {
 // Has the client's whole messages heard, and says whether the connection goes on.
 fn hear_all<F: Framing, T, S: Hears<F, T>>(
     stream: &mut Cutter<F>,
-    name: u64,
+    name: ConnId,
     client: &mut T,
     outbox: &mut Outbox,
     beside: &mut S,

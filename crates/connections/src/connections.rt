@@ -1,6 +1,6 @@
 ghost use Rattle.std.specs.Prelude.{◌≡◌, ◌<◌, ◌≤◌, ◌==◌, ◌++◌, [], is_some, nat_lt, length, position, get_or, vec_len, vec_capacity, Some, IfOk, IfSome, IsNone};
 ghost use Rattle.std.specs.List.{AllByRecursion};
-ghost use Rattle.connections.specs.Table.{Connection as TableConnection, IsRegular, AreRising, opened, connection_in, joins, leaves, tells, finds_room, collects, asked, first_dropped, queue_of, has_waiting, first_waiting};
+ghost use Rattle.connections.specs.Table.{Connection as TableConnection, IsRegular, AreRising, opened, connection_in, joins, leaves, tells, finds_room, client_takes, asked, first_dropped, queue_of, has_waiting, first_waiting};
 ghost use Rattle.connections.specs.Places.{drops_at};
 ghost use Rattle.connections.specs.Hearing.{brings};
 ghost use Rattle.outbox.specs.Fronts.{IsFrontOf};
@@ -11,6 +11,7 @@ use crate::hears::Hears;
 use crate::place::Place;
 use crate::renews::Renews;
 use framing::{Framing, LONGEST_PIECE};
+use kit_bytes::ConnId;
 use std::alloc::{AllocError, Global};
 use std::marker::Model;
 
@@ -74,7 +75,7 @@ impl<F: Framing, T: Renews + Drop> Connections<F, T> {
 
     /// A client connected: it is let in behind the others, or dropped where as many as may be are
     /// there. Says whether it was let in.
-    pub fn join(&mut self, name: u64) -> bool
+    pub fn join(&mut self, name: ConnId) -> bool
         requires newer { self.old.greatest < name }
         requires hung_up { self.old.dropped ≡ [] }
         ensures joined { self.new ≡ joins name T.fresh self.old }
@@ -93,7 +94,7 @@ impl<F: Framing, T: Renews + Drop> Connections<F, T> {
 
 impl<F: Framing, T: Drop> Connections<F, T> {
     /// The connection of this name is gone, and says whether it was there.
-    pub fn leave(&mut self, name: u64) -> bool
+    pub fn leave(&mut self, name: ConnId) -> bool
         ensures left { self.new ≡ leaves name self.old }
         ensures there { result ≡ is_some (connection_in name self.old.present) }
         ensures regular { IsRegular self.old }
@@ -108,7 +109,7 @@ impl<F: Framing, T: Drop> Connections<F, T> {
 
     /// Puts both runs of bytes into the outbox of the connection of this name, or drops it where they
     /// find no room. Says whether it wasn't dropped.
-    pub fn tell(&mut self, name: u64, head: &[u8], rest: &[u8]) -> bool
+    pub fn tell(&mut self, name: ConnId, head: &[u8], rest: &[u8]) -> bool
         ensures told { self.new ≡ tells name (head.now ++ rest.now) self.old }
         ensures stays { result ≡ finds_room (head.now ++ rest.now) (connection_in name self.old.present) }
         ensures regular { IsRegular self.old }
@@ -120,7 +121,7 @@ impl<F: Framing, T: Drop> Connections<F, T> {
     }
 
     /// The same for the connection of this name where it is known to stand at this place.
-    pub fn tell_at(&mut self, place: usize, name: u64, head: &[u8], rest: &[u8]) -> bool
+    pub fn tell_at(&mut self, place: usize, name: ConnId, head: &[u8], rest: &[u8]) -> bool
         requires { Some place ≡ position (λ k. name == k.name) self.old.present }
         ensures told { self.new ≡ tells name (head.now ++ rest.now) self.old }
         ensures stays { result ≡ finds_room (head.now ++ rest.now) (connection_in name self.old.present) }
@@ -136,7 +137,7 @@ impl<F: Framing, T: Drop> Connections<F, T> {
     /// The protocol hears the next piece of the stream of the connection of this name, which is
     /// dropped where what is due to its client finds no room or the stream goes bad. Says whether it
     /// wasn't dropped.
-    pub fn bring<S: Hears<F, T>>(&mut self, name: u64, piece: &[u8], beside: &mut S) -> bool
+    pub fn bring<S: Hears<F, T>>(&mut self, name: ConnId, piece: &[u8], beside: &mut S) -> bool
         requires { length piece.now ≤ LONGEST_PIECE }
         ensures table { self.new ≡ (brings F.size S.hears name piece.now self.old beside.old).table }
         ensures beside { beside.new ≡ (brings F.size S.hears name piece.now self.old beside.old).beside }
@@ -167,9 +168,9 @@ impl<F: Framing, T: Drop> Connections<F, T> {
 
     /// The socket of the connection of this name took the first so many of the bytes that waited for
     /// it.
-    pub fn take(&mut self, name: u64, count: usize)
+    pub fn take(&mut self, name: ConnId, count: usize)
         requires { count ≤ length (queue_of name self.old) }
-        ensures { self.new ≡ collects name count self.old }
+        ensures { self.new ≡ client_takes name count self.old }
     {
         if let Some(place) = self.find(name) {
             let connection = &mut self.present[place];
@@ -178,7 +179,7 @@ impl<F: Framing, T: Drop> Connections<F, T> {
     }
 
     /// The next connection that was dropped, each once.
-    pub fn next_dropped(&mut self) -> Option<u64>
+    pub fn next_dropped(&mut self) -> Option<ConnId>
         ensures next { result ≡ first_dropped self.old.dropped }
         ensures asked { self.new ≡ asked self.old }
         ensures hung_up { IsNone result → self.new.dropped ≡ [] }
@@ -200,7 +201,7 @@ impl<F: Framing, T> Connections<F, T> {
     ghost use Rattle.connections.specs.Lends.{lends_client_at};
 
     /// Where the connection of this name stands in the order of joining.
-    pub fn find(&self, name: u64) -> Option<usize>
+    pub fn find(&self, name: ConnId) -> Option<usize>
         ensures place { result ≡ position (λ k. name == k.name) self.now.present }
         ensures regular { IsRegular self.now }
     {
@@ -209,7 +210,7 @@ impl<F: Framing, T> Connections<F, T> {
 
     /// The first of the bytes that wait for a connection that is there, or that was dropped and wasn't
     /// asked for yet; none only where none wait, and for any other name.
-    pub fn queued(&self, name: u64) -> &[u8]
+    pub fn queued(&self, name: ConnId) -> &[u8]
         ensures { IsFrontOf result.now (queue_of name self.now) }
     {
         match index_of(&self.present, name) {
@@ -223,7 +224,7 @@ impl<F: Framing, T> Connections<F, T> {
 
     /// All the bytes that wait for a connection that is there, or that was dropped and wasn't asked for
     /// yet, in two parts; none for any other name.
-    pub fn parts(&self, name: u64) -> (&[u8], &[u8])
+    pub fn parts(&self, name: ConnId) -> (&[u8], &[u8])
         ensures { result.0.now ++ result.1.now ≡ queue_of name self.now }
     {
         match index_of(&self.present, name) {
@@ -244,7 +245,7 @@ impl<F: Framing, T> Connections<F, T> {
     }
 
     /// The name of the connection of this place in the order of joining.
-    pub fn name_at(&self, place: usize) -> u64
+    pub fn name_at(&self, place: usize) -> ConnId
         requires { place < length self.now.present }
         ensures name { (k : TableConnection T) → k ≡ get_or self.now.present place k → result ≡ k.name }
         ensures regular { IsRegular self.now }
@@ -311,7 +312,7 @@ fn open_places<F: Framing, T: Renews + Drop>(
 }
 
 // Where the connection of this name stands.
-fn index_of<F: Framing, T>(connections: &[Connection<F, T>], name: u64) -> Option<usize>
+fn index_of<F: Framing, T>(connections: &[Connection<F, T>], name: ConnId) -> Option<usize>
     requires { AreRising connections.now }
     ensures { result ≡ position (λ k. name == k.name) connections.now }
 {

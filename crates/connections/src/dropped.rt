@@ -5,12 +5,13 @@ ghost use Rattle.outbox.specs.Fronts.{IsFrontOf};
 
 use crate::place::Place;
 use framing::Framing;
+use kit_bytes::ConnId;
 use std::marker::Model;
 
 /// A connection that was dropped and is to be hung up, with the bytes that still waited for it.
 #[derive(Drop)]
 pub struct Dropped<F: Framing, T> {
-    name: u64,
+    name: ConnId,
     // none where it was never let in
     place: Option<Place<F, T>>,
 }
@@ -26,13 +27,13 @@ impl<F: Framing, T> Model for Dropped<F, T> {
 
 impl<F: Framing, T> Dropped<F, T> {
     /// One that wasn't let in.
-    pub fn refused(name: u64) -> Self
+    pub fn refused(name: ConnId) -> Self
         ensures { result ≡ record { name = name; outbox = None } }
     {
         Dropped { name, place: None }
     }
 
-    pub fn new(name: u64, place: Place<F, T>) -> Self
+    pub fn new(name: ConnId, place: Place<F, T>) -> Self
         ensures { result ≡ record { name = name; outbox = Some place.outbox } }
     {
         Dropped {
@@ -41,7 +42,7 @@ impl<F: Framing, T> Dropped<F, T> {
         }
     }
 
-    pub fn name(&self) -> u64
+    pub fn name(&self) -> ConnId
         ensures { result ≡ self.now.name }
     {
         self.name
@@ -77,7 +78,7 @@ impl<F: Framing, T> Dropped<F, T> {
 
 /// The first of the bytes that waited for the connection of this name, where the list has it; none
 /// only where none did.
-pub fn queued<F: Framing, T>(list: &[Dropped<F, T>], name: u64) -> &[u8]
+pub fn queued<F: Framing, T>(list: &[Dropped<F, T>], name: ConnId) -> &[u8]
     ensures { IsFrontOf result.now (left_for name list.now) }
 {
     for dropped in list {
@@ -89,7 +90,7 @@ pub fn queued<F: Framing, T>(list: &[Dropped<F, T>], name: u64) -> &[u8]
 }
 
 /// All the bytes that waited for the connection of this name, where the list has it, in two parts.
-pub fn parts<F: Framing, T>(list: &[Dropped<F, T>], name: u64) -> (&[u8], &[u8])
+pub fn parts<F: Framing, T>(list: &[Dropped<F, T>], name: ConnId) -> (&[u8], &[u8])
     ensures { result.0.now ++ result.1.now ≡ left_for name list.now }
 {
     for dropped in list {

@@ -4,6 +4,7 @@ ghost use Rattle.outbox.specs.Queue.{Queue};
 ghost use Rattle.connections.specs.Hearing.{Hearing, Hearer};
 
 use framing::Framing;
+use kit_bytes::ConnId;
 use outbox::Outbox;
 
 /// How a protocol hears its clients. What it keeps beside their connections implements this.
@@ -12,7 +13,7 @@ pub trait Hears<F: Framing, T> {
 
     /// Hears a whole message of the connection of this name, and says whether all that was due to
     /// its client found room.
-    fn hear(&mut self, name: u64, message: &[u8], client: &mut T, outbox: &mut Outbox) -> bool
+    fn hear(&mut self, name: ConnId, message: &[u8], client: &mut T, outbox: &mut Outbox) -> bool
         requires { IsMessage F.size message.now }
         ensures room { result ≡ (hears name message.now client.old outbox.old self.old).has_room }
         ensures client { client.new ≡ (hears name message.now client.old outbox.old self.old).client }

@@ -35,4 +35,4 @@ with_note runs note = runs_after runs (run_as note.kind note.bytes) (event_as no
 
 -- the runs that a log's notes stand for
 abbrev pub runs_of : Option (List (Noted BenchNote)) → Option (List Run)
-runs_of told = option_map (fold with_note []) told
+runs_of recorded = option_map (fold with_note []) recorded

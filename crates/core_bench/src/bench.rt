@@ -10,7 +10,7 @@ ghost use Rattle.outbox.specs.Fronts.{IsFrontOf};
 ghost use Rattle.core_bench.specs.Runs.{Run, proxy_for, AddsRun, AddsEvent};
 
 use hub_io::{Event, Limits};
-use kit_bytes::Kind;
+use kit_bytes::{ConnId, Kind};
 use std::alloc::{AllocError, Global};
 
 /// A bench for the cores of proxies. It holds at most one, and whoever runs it does with it what the
@@ -26,7 +26,7 @@ pub trait Bench: Drop {
     /// newest first.
     ghost keeps: { Proxy → List history.Event → Self → Type 0 };
 
-    /// What was run on it, where told, the newest run first.
+    /// What was run on it, where recorded, the newest run first.
     ghost runs: { Self → Option (List Run) };
 
     /// Opens a core of this kind for the device of this path. It takes the place of the one that is
@@ -56,7 +56,7 @@ pub trait Bench: Drop {
         ensures runs { AddsEvent (runs self.old) (event_of event.entry) (runs self.new) };
 
     /// The first of the bytes that wait for a connection that is there; none only where none wait.
-    fn queued(&self, conn: u64) -> &[u8]
+    fn queued(&self, conn: ConnId) -> &[u8]
         requires held { is_held self.now ≡ true }
         ensures { IsFrontOf result.now ((face self.now).queue conn) };
 
@@ -66,7 +66,7 @@ pub trait Bench: Drop {
         ensures { IsFrontOf result.now (face self.now).modem_queue };
 
     /// All the bytes that wait for a connection that is there, in two parts.
-    fn parts(&self, conn: u64) -> (&[u8], &[u8])
+    fn parts(&self, conn: ConnId) -> (&[u8], &[u8])
         requires held { is_held self.now ≡ true }
         ensures { result.0.now ++ result.1.now ≡ (face self.now).queue conn };
 
@@ -76,7 +76,7 @@ pub trait Bench: Drop {
         ensures { result.0.now ++ result.1.now ≡ (face self.now).modem_queue };
 
     /// The next connection to hang up, each once.
-    fn next_dropped(&mut self) -> Option<u64>
+    fn next_dropped(&mut self) -> Option<ConnId>
         requires held { is_held self.old ≡ true }
         ensures held { is_held self.new ≡ true }
         ensures next { NextDropped face self.old self.new result }

@@ -4,7 +4,7 @@ ghost use Rattle.core_bench.specs.Held.{face_of, is_held, Keeps, shows_of, nobod
 use crate::Bench;
 use crate::held::{Held, step};
 use hub_io::{Event, Limits};
-use kit_bytes::Kind;
+use kit_bytes::{ConnId, Kind};
 use proxy_serving::ProxyCore;
 use std::alloc::{AllocError, Global};
 use std::mem::replace;
@@ -53,7 +53,7 @@ impl Bench for Cores {
         }
     }
 
-    fn queued(&self, conn: u64) -> &[u8] {
+    fn queued(&self, conn: ConnId) -> &[u8] {
         match &self.held {
             Held::None => &[],
             Held::Qmi(core) => core.queued(conn),
@@ -69,7 +69,7 @@ impl Bench for Cores {
         }
     }
 
-    fn parts(&self, conn: u64) -> (&[u8], &[u8]) {
+    fn parts(&self, conn: ConnId) -> (&[u8], &[u8]) {
         match &self.held {
             Held::None => (&[], &[]),
             Held::Qmi(core) => core.parts(conn),
@@ -85,7 +85,7 @@ impl Bench for Cores {
         }
     }
 
-    fn next_dropped(&mut self) -> Option<u64> {
+    fn next_dropped(&mut self) -> Option<ConnId> {
         match &mut self.held {
             Held::None => None,
             Held::Qmi(core) => ProxyCore::next_dropped(core),

@@ -7,7 +7,7 @@ ghost use Rattle.core_bench.specs.Notes.{runs_of, event_as};
 
 use crate::{Bench, Cores};
 use hub_io::{Event, Limits};
-use kit_bytes::Kind;
+use kit_bytes::{ConnId, Kind};
 use kit_io::Log;
 use std::alloc::{AllocError, Global};
 use std::mem::replace;
@@ -18,14 +18,14 @@ pub enum BenchNote {
     /// A core was opened.
     Opened { kind: Kind, limits: Limits },
     // ---- the core met this event ----
-    Joined(u64),
+    Joined(ConnId),
     Piece(u64),
-    Left(u64),
+    Left(ConnId),
     ModemPiece,
     ModemGone,
     ModemBack,
     Now(u64),
-    Took(u64, usize),
+    Took(ConnId, usize),
     ModemTook(usize),
 }
 
@@ -41,7 +41,7 @@ impl MemBench {
     /// bytes of theirs in all.
     pub fn new(alloc: Global, room: usize, bytes_room: usize) -> Result<Self, AllocError>
         ensures held { IfOk result (λ bench. is_held bench.cores.held ≡ false) }
-        ensures told { IfOk result (λ bench. bench.log.told ≡ Some []) }
+        ensures recorded { IfOk result (λ bench. bench.log.recorded ≡ Some []) }
         ensures room { IfOk result (λ bench. room ≤ bench.log.room) }
         ensures bytes_room { IfOk result (λ bench. bytes_room ≤ bench.log.bytes_room) }
     {
@@ -62,7 +62,7 @@ impl MemBench {
 
 // Notes an opening.
 fn note_opening(log: &mut Log<BenchNote>, kind: Kind, limits: &Limits, device: &str)
-    ensures { AddsRun (runs_of log.old.told) (record { kind = kind; limits = limits.now; device = device.now; events = [] }) (runs_of log.new.told) }
+    ensures { AddsRun (runs_of log.old.recorded) (record { kind = kind; limits = limits.now; device = device.now; events = [] }) (runs_of log.new.recorded) }
 {
     log.note(
         BenchNote::Opened {
@@ -76,13 +76,13 @@ fn note_opening(log: &mut Log<BenchNote>, kind: Kind, limits: &Limits, device: &
 // Notes an event.
 fn note(log: &mut Log<BenchNote>, note: BenchNote, bytes: &[u8])
     ensures notes { Notes log.old (record { kind = note; bytes = bytes.now }) log.new }
-    ensures event { IfSome (event_as note bytes.now) (λ event. AddsEvent (runs_of log.old.told) event (runs_of log.new.told)) }
+    ensures event { IfSome (event_as note bytes.now) (λ event. AddsEvent (runs_of log.old.recorded) event (runs_of log.new.recorded)) }
 {
     log.note(note, bytes);
 }
 
 fn note_event(log: &mut Log<BenchNote>, event: Event<'_>)
-    ensures { AddsEvent (runs_of log.old.told) (event_of event.entry) (runs_of log.new.told) }
+    ensures { AddsEvent (runs_of log.old.recorded) (event_of event.entry) (runs_of log.new.recorded) }
 {
     match event {
         Event::Joined(conn) => note(log, BenchNote::Joined(conn), &[]),
@@ -104,7 +104,7 @@ impl Bench for MemBench {
 
     ghost keeps = { λ p past s. Keeps p past s.cores.held };
 
-    ghost runs = { λ s. runs_of s.log.told };
+    ghost runs = { λ s. runs_of s.log.recorded };
 
     fn open(
         &mut self,
@@ -123,7 +123,7 @@ impl Bench for MemBench {
         self.cores.step(event);
     }
 
-    fn queued(&self, conn: u64) -> &[u8] {
+    fn queued(&self, conn: ConnId) -> &[u8] {
         self.cores.queued(conn)
     }
 
@@ -131,7 +131,7 @@ impl Bench for MemBench {
         self.cores.queued_modem()
     }
 
-    fn parts(&self, conn: u64) -> (&[u8], &[u8]) {
+    fn parts(&self, conn: ConnId) -> (&[u8], &[u8]) {
         self.cores.parts(conn)
     }
 
@@ -139,7 +139,7 @@ impl Bench for MemBench {
         self.cores.modem_parts()
     }
 
-    fn next_dropped(&mut self) -> Option<u64> {
+    fn next_dropped(&mut self) -> Option<ConnId> {
         self.cores.next_dropped()
     }
 

@@ -2,7 +2,7 @@ use crate::counts::{Cause, Counts, is_open, messages_in};
 use crate::proxy::{Proxy, mbim_proxy, qmi_proxy};
 use core_bench::BenchNote;
 use hub_io::Event;
-use kit_bytes::Kind;
+use kit_bytes::{ConnId, Kind};
 use kit_io::Log;
 use proxy_serving::ProxyCore;
 use row_text::{Place, RowFault, is};
@@ -11,7 +11,7 @@ use std::alloc::Global;
 /// A client, and all bytes that it took.
 #[derive(Drop, PartialEq, Eq)]
 struct Client {
-    name: u64,
+    name: ConnId,
     taken: Vec<u8>,
 }
 
@@ -246,13 +246,13 @@ impl Run {
         }
     }
 
-    fn join(&mut self, alloc: Global, name: u64) -> Result<(), RowFault> {
+    fn join(&mut self, alloc: Global, name: ConnId) -> Result<(), RowFault> {
         let taken = Vec::new(alloc);
         self.clients.push(Client { name, taken })?;
         Ok(())
     }
 
-    fn take_as(&mut self, alloc: Global, name: u64, bytes: &[u8]) -> Result<(), RowFault> {
+    fn take_as(&mut self, alloc: Global, name: ConnId, bytes: &[u8]) -> Result<(), RowFault> {
         for message in messages_in(alloc, self.kind, bytes)? {
             self.counts.take(self.kind, self.cause, message);
         }

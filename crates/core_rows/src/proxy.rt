@@ -5,7 +5,7 @@ ghost use Rattle.proxy_serving.specs.Face.{MayCome};
 
 use framing::LONGEST_PIECE;
 use hub_io::{Event, Limits};
-use kit_bytes::Octets;
+use kit_bytes::{ConnId, Octets};
 use mbim_core::MbimCore;
 use proxy_serving::ProxyCore;
 use qmi_core::QmiCore;
@@ -92,7 +92,7 @@ impl<C: ProxyCore> Proxy<C> {
     }
 
     /// How many bytes wait for a client.
-    pub fn count_waiting(&self, name: u64) -> usize
+    pub fn count_waiting(&self, name: ConnId) -> usize
         ensures { result ≡ length ((C.face self.now.core).queue name) }
     {
         let (first, second) = self.core.parts(name);
@@ -108,7 +108,7 @@ impl<C: ProxyCore> Proxy<C> {
     }
 
     /// The bytes that wait for a client.
-    pub fn waiting(&self, alloc: Global, name: u64) -> Result<Octets, AllocError> {
+    pub fn waiting(&self, alloc: Global, name: ConnId) -> Result<Octets, AllocError> {
         let (first, second) = self.core.parts(name);
         joined(alloc, first, second)
     }
@@ -134,7 +134,7 @@ impl<C: ProxyCore> Proxy<C> {
     }
 
     /// The next client to hang up.
-    pub fn next_dropped(&mut self) -> Option<u64> {
+    pub fn next_dropped(&mut self) -> Option<ConnId> {
         self.core.next_dropped()
     }
 }

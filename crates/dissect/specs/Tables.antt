@@ -2,7 +2,7 @@
 use Rattle.std.specs.Prelude.{◌≡◌, ℕ, List, [], Option, Some, None, Result, Ok, Err}
 use Rattle.std.specs.Str.{encode_utf8_all}
 use Rattle.kit_bytes.specs.declared.kind.Kind.{Kind}
-use Rattle.kit_io.specs.Told.{Grows}
+use Rattle.kit_io.specs.Growth.{Grows}
 use Rattle.file_io.specs.Calls.{Call}
 use Rattle.file_io.specs.Reading.{GrowsByFile}
 use Rattle.file_io.specs.declared.reading.FileFault.{FileFault}

@@ -1,7 +1,7 @@
 -- What the reading of a whole file comes to.
 use Rattle.std.specs.Prelude.{◌≡◌, ℕ, ◌<◌, ◌≤◌, true, false, List, [], ◌∷◌, ◌++◌, length, map, All, Option, Result, Ok, Err}
 use Rattle.std.specs.List.{concat}
-use Rattle.kit_io.specs.Told.{Grows}
+use Rattle.kit_io.specs.Growth.{Grows}
 use Rattle.file_io.specs.declared.files.Side.TheVariants.{Read}
 use Rattle.file_io.specs.declared.reading.FileFault.{FileFault}
 use Rattle.file_io.specs.declared.reading.FileFault.TheVariants.{ReadFault, Long, OutOfMemory}

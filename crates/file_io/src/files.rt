@@ -1,6 +1,6 @@
 ghost use Rattle.std.specs.Prelude.{◌≡◌, ◌<◌, ◌≤◌, ℕ, List, [], ◌∷◌, Option, length, is_ok, IfOk};
 ghost use Rattle.kit_io.specs.Causes.{HasCause};
-ghost use Rattle.kit_io.specs.Told.{Grows};
+ghost use Rattle.kit_io.specs.Growth.{Grows};
 
 use kit_io::Failed;
 
@@ -18,7 +18,7 @@ pub enum Side {
 pub trait Files {
     ghost use Rattle.file_io.specs.Calls.{Call, Opened, Closed, read_call, write_call};
 
-    /// The calls so far, where told.
+    /// The calls so far, where recorded.
     ghost calls: { Self → Option (List Call) };
 
     /// How many calls of `open` and `read` have failed.

@@ -50,7 +50,7 @@ impl MemFiles {
         room: usize,
         bytes_room: usize,
     ) -> Result<Self, AllocError>
-        ensures told { IfOk result (λ files. files.log.told ≡ Some []) }
+        ensures recorded { IfOk result (λ files. files.log.recorded ≡ Some []) }
         ensures room { IfOk result (λ files. room ≤ files.log.room) }
         ensures bytes_room { IfOk result (λ files. bytes_room ≤ files.log.bytes_room) }
     {
@@ -72,13 +72,13 @@ impl MemFiles {
 }
 
 impl Files for MemFiles {
-    ghost calls = { λ s. calls_of s.log.told };
+    ghost calls = { λ s. calls_of s.log.recorded };
 
     ghost read_faults = { λ s. s.read_faults };
 
     ghost write_faults = { λ s. s.write_faults };
 
-    #[tactic(auto, using(kit_io::proofs::Told::growing))]
+    #[tactic(auto, using(kit_io::proofs::Growth::growing))]
     fn open(&mut self, path: &str, side: Side) -> Result<(), Failed> {
         if let Some(FileAnswer::Fails) = self.script.pop() {
             self.log
@@ -90,7 +90,7 @@ impl Files for MemFiles {
         Ok(())
     }
 
-    #[tactic(auto, using(kit_io::proofs::Told::growing))]
+    #[tactic(auto, using(kit_io::proofs::Growth::growing))]
     fn read(&mut self, buffer: &mut [u8]) -> Result<usize, Failed> {
         match self.script.pop() {
             Some(FileAnswer::Gives(bytes)) => {
@@ -110,7 +110,7 @@ impl Files for MemFiles {
         }
     }
 
-    #[tactic(auto, using(kit_io::proofs::Told::growing))]
+    #[tactic(auto, using(kit_io::proofs::Growth::growing))]
     fn write(&mut self, bytes: &[u8]) -> Result<usize, Failed> {
         let most = match self.script.pop() {
             Some(FileAnswer::Fails) => {
@@ -125,7 +125,7 @@ impl Files for MemFiles {
         Ok(count)
     }
 
-    #[tactic(auto, using(kit_io::proofs::Told::growing))]
+    #[tactic(auto, using(kit_io::proofs::Growth::growing))]
     fn close(&mut self) {
         self.log.note(Made::Closed, &[]);
     }

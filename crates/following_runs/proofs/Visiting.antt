@@ -1,7 +1,7 @@
 -- A session that was had over a link, which was closed then.
 use Rattle.std.proofs.Common.{◌≡◌, ℕ, List, [], ◌∷◌, ◌++◌, Option, Result, refl}
-use Rattle.kit_io.specs.Told.{Grows}
-use Rattle.kit_io.proofs.Told.{Grows-append}
+use Rattle.kit_io.specs.Growth.{Grows}
+use Rattle.kit_io.proofs.Growth.{Grows-append}
 use Rattle.link_io.specs.Calls.{Call, Closed}
 use Rattle.link_session.specs.declared.fault.SessionFault.{SessionFault}
 use Rattle.table_following.specs.declared.end.FollowedEnd.{FollowedEnd}

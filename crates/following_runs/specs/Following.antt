@@ -1,12 +1,12 @@
 -- What a command that follows indications does to its link and its children, and what is taken of its text.
 use Rattle.std.specs.Prelude.{◌≡◌, ℕ, Bool, false, List, [], ◌∷◌, ◌++◌, Option, Result, Ok, Err}
-use Rattle.kit_io.specs.Told.{Grows}
+use Rattle.kit_io.specs.Growth.{Grows}
 use Rattle.link_io.specs.Calls.{Call, Closed}
 use Rattle.child_io.specs.Calls as child
 use Rattle.child_io.specs.Alive.{StandsFor}
-use Rattle.modem_ways.specs.Ways.{Path}
-use Rattle.modem_ways.specs.Reaching.{Reaches, StartsAndStops}
-use Rattle.modem_ways.specs.declared.reaching.ReachFault.{ReachFault}
+use Rattle.modem_routes.specs.Routes.{Path}
+use Rattle.modem_routes.specs.Reaching.{Reaches, StartsAndStops}
+use Rattle.modem_routes.specs.declared.reaching.ReachFault.{ReachFault}
 use Rattle.link_session.specs.declared.fault.SessionFault.{SessionFault}
 use Rattle.link_following.specs.declared.end.FollowEnd.TheVariants.{LinkEnd, TurnsSpent, WriteFault}
 use Rattle.table_following.specs.declared.end.FollowedEnd.{FollowedEnd}

@@ -1,48 +1,48 @@
 ghost use Rattle.std.specs.Prelude.{◌≡◌, ◌≤◌, []};
 ghost use Rattle.kit_io.specs.Causes.{Rose};
 ghost use Rattle.kit_io.specs.Counts.{together};
-ghost use Rattle.modem_ways.specs.Reaching.{LinkFails};
-ghost use Rattle.modem_ways.specs.Ways.{path_in};
+ghost use Rattle.modem_routes.specs.Reaching.{LinkFails};
+ghost use Rattle.modem_routes.specs.Routes.{path_in};
 ghost use Rattle.following_runs.specs.Following.{ComesBy, FollowsModem, VisitsBy};
 
 use crate::end::{end_of, with_stops};
 use child_io::{Kids, Spawner};
 use kit_io::Sink;
 use link_io::Link;
-use modem_ways::{Way, reach};
+use modem_routes::{Route, reach};
 use std::alloc::Global;
 use table_following::{FollowPlan, table_following};
 use tool_runs::RunEnd;
 
-/// Goes the way to a modem, has the session of a plan with it, which shows the indications that come,
+/// Goes the route to a modem, has the session of a plan with it, which shows the indications that come,
 /// and stops whatever was started.
 pub fn follow_modem<O: Sink, L: Link, P: Spawner>(
     alloc: Global,
-    way: &Way,
+    route: &Route,
     plan: &FollowPlan,
     out: &mut O,
     link: &mut L,
     spawner: &mut P,
 ) -> RunEnd
-    ensures follows { FollowsModem (path_in way.now) plan.now
+    ensures follows { FollowsModem (path_in route.now) plan.now
         (record { link = L.calls link.old; spawner = P.calls spawner.old; out = O.taken out.old; made = together (L.made link.old) (O.made out.old) })
         (record { link = L.calls link.new; spawner = P.calls spawner.new; out = O.taken out.new; made = together (L.made link.new) (O.made out.new) })
         result }
-    ensures link_fault { result ≡ RunEnd.LinkFault → LinkFails (path_in way.now) L.faults L.open_faults link.old link.new }
+    ensures link_fault { result ≡ RunEnd.LinkFault → LinkFails (path_in route.now) L.faults L.open_faults link.old link.new }
     ensures start_fault { result ≡ RunEnd.StartFault → Rose (P.faults spawner.old) (P.faults spawner.new) }
     ensures write_fault { result ≡ RunEnd.WriteFault → Rose (O.faults out.old) (O.faults out.new) }
 {
     let mut kids = Kids::none();
-    let end = follow_on_the_way(alloc, way, plan, out, link, spawner, &mut kids);
+    let end = follow_on_route(alloc, route, plan, out, link, spawner, &mut kids);
     let made = link.made().saturating_add(out.made());
     let stopped = kids.stop_all(spawner, made).is_ok();
     with_stops(end, stopped)
 }
 
 // The same, but that the children are kept.
-fn follow_on_the_way<O: Sink, L: Link, P: Spawner>(
+fn follow_on_route<O: Sink, L: Link, P: Spawner>(
     alloc: Global,
-    way: &Way,
+    route: &Route,
     plan: &FollowPlan,
     out: &mut O,
     link: &mut L,
@@ -50,13 +50,13 @@ fn follow_on_the_way<O: Sink, L: Link, P: Spawner>(
     kids: &mut Kids,
 ) -> RunEnd
     requires { kids.old ≡ [] }
-    ensures comes { ComesBy (path_in way.now) plan.now result (L.calls link.old) (O.taken out.old) (P.calls spawner.old) kids.new (L.calls link.new) (O.taken out.new) (P.calls spawner.new) }
-    ensures link_fault { result ≡ RunEnd.LinkFault → LinkFails (path_in way.now) L.faults L.open_faults link.old link.new }
+    ensures comes { ComesBy (path_in route.now) plan.now result (L.calls link.old) (O.taken out.old) (P.calls spawner.old) kids.new (L.calls link.new) (O.taken out.new) (P.calls spawner.new) }
+    ensures link_fault { result ≡ RunEnd.LinkFault → LinkFails (path_in route.now) L.faults L.open_faults link.old link.new }
     ensures start_fault { result ≡ RunEnd.StartFault → Rose (P.faults spawner.old) (P.faults spawner.new) }
     ensures write_fault { result ≡ RunEnd.WriteFault → Rose (O.faults out.old) (O.faults out.new) }
     ensures later_starts { P.faults spawner.old ≤ P.faults spawner.new }
 {
-    match reach(way, link, spawner, kids) {
+    match reach(route, link, spawner, kids) {
         Ok(()) => visit(alloc, plan, out, link),
         Err(fault) => RunEnd::from(fault),
     }

@@ -5,6 +5,7 @@ ghost use Rattle.holders.specs.Kept.{FirstDue, held_by, held_unless, freed_by, k
 ghost use Rattle.holders.specs.Calls.{Call, Grants, Releases, Leaves, Clears, held_after, StandsFor};
 
 use crate::by_id::ById;
+use kit_bytes::ConnId;
 use std::alloc::{AllocError, Global};
 use std::marker::Model;
 
@@ -48,7 +49,7 @@ impl Holders {
     }
 
     /// The connection that holds the id.
-    pub fn holder(&self, service: u8, cid: u8) -> Option<u64>
+    pub fn holder(&self, service: u8, cid: u8) -> Option<ConnId>
         ensures holder { result ≡ holder_in service cid self.now.held }
         ensures ordered { AreInOrder self.now.held }
         ensures stands { (calls : List Call) → StandsFor calls self.now → result ≡ holder_in service cid (held_after calls) }
@@ -78,7 +79,7 @@ impl Holders {
 
     /// Grants the id to the connection, unless another connection holds it: then nothing changes. An id
     /// that is held is kept no more.
-    pub fn grant(&mut self, conn: u64, service: u8, cid: u8) -> bool
+    pub fn grant(&mut self, conn: ConnId, service: u8, cid: u8) -> bool
         ensures granted { result ≡ not (is_taken conn service cid self.old.held) }
         ensures ids { self.new ≡ held_by conn service cid self.old }
         ensures stands { (calls : List Call) → StandsFor calls self.old → StandsFor (Grants conn service cid ∷ calls) self.new }
@@ -95,7 +96,7 @@ impl Holders {
     }
 
     /// The connection holds the id, whoever held it. An id that is held is kept no more.
-    pub fn hold(&mut self, conn: u64, service: u8, cid: u8)
+    pub fn hold(&mut self, conn: ConnId, service: u8, cid: u8)
         ensures { self.new ≡ held_unless false conn service cid self.old }
     {
         self.held.set(conn, service, cid);
@@ -115,7 +116,7 @@ impl Holders {
     }
 
     /// The connection gives the id up, where it holds it. The id isn't kept.
-    pub fn released(&mut self, conn: u64, service: u8, cid: u8)
+    pub fn released(&mut self, conn: ConnId, service: u8, cid: u8)
         ensures ids { self.new ≡ freed_by conn service cid self.old }
         ensures stands { (calls : List Call) → StandsFor calls self.old → StandsFor (Releases conn service cid ∷ calls) self.new }
     {
@@ -123,7 +124,7 @@ impl Holders {
     }
 
     /// The connection went at this time: nobody holds its ids, and they are kept since then.
-    pub fn left(&mut self, conn: u64, time: u64)
+    pub fn left(&mut self, conn: ConnId, time: u64)
         ensures ids { self.new ≡ left_at conn time self.old }
         ensures stands { (calls : List Call) → StandsFor calls self.old → StandsFor (Leaves conn time ∷ calls) self.new }
     {
@@ -143,7 +144,7 @@ impl Holders {
     }
 
     /// Whether the connection holds some id of the service.
-    pub fn holds_any(&self, conn: u64, service: u8) -> bool
+    pub fn holds_any(&self, conn: ConnId, service: u8) -> bool
         ensures holds { result ≡ holds_some conn service self.now.held }
         ensures stands { (calls : List Call) → StandsFor calls self.now → result ≡ holds_some conn service (held_after calls) }
     {

@@ -3,6 +3,7 @@ ghost use Rattle.proxy_history.specs.ClientIds.{is_of};
 ghost use Rattle.holders.specs.Grants.{is_before, is_of_service};
 ghost use Rattle.holders.specs.Rows.{is_old};
 
+use kit_bytes::ConnId;
 use std::marker::Model;
 
 /// A client id with a number: the connection that holds it, or the time since when it is kept.
@@ -63,7 +64,7 @@ impl Row {
         (self.service < service) | ((self.service == service) & (self.client < client))
     }
 
-    pub fn is_of_service(&self, conn: u64, service: u8) -> bool
+    pub fn is_of_service(&self, conn: ConnId, service: u8) -> bool
         ensures { result ≡ is_of_service conn service self.now }
     {
         (self.number == conn) & (self.service == service)

@@ -5,6 +5,7 @@ ghost use Rattle.hub_io.specs.Clients.{place_in_table, fault_of, is_there, no_fa
 ghost use Rattle.hub_io.specs.Hub.{GoesAlone, NoneFell};
 ghost use Rattle.hub_io.specs.declared.hub.HubEvent.TheVariants.{Joined};
 
+use kit_bytes::ConnId;
 use kit_io::Failed;
 use std::alloc::{AllocError, Global};
 use std::marker::Model;
@@ -13,7 +14,7 @@ use std::marker::Model;
 pub const PLACES: usize = 128;
 
 /// The place that a name has for ever. The names of a place are 128 apart.
-pub fn place_of(name: u64) -> usize
+pub fn place_of(name: ConnId) -> usize
     ensures value { result ≡ place_in_table name }
     ensures within { result < PLACES }
 {
@@ -64,7 +65,7 @@ impl Names {
     }
 
     /// Whether the client of this name is there.
-    pub fn has(&self, name: u64) -> bool
+    pub fn has(&self, name: ConnId) -> bool
         ensures { result ≡ is_there self.now name }
     {
         match self.by_place[place_of(name)] {
@@ -74,7 +75,7 @@ impl Names {
     }
 
     /// Whether no name so great was told.
-    pub fn is_new(&self, name: u64) -> bool
+    pub fn is_new(&self, name: ConnId) -> bool
         ensures { IsTrue result ↔ (self.now.greatest < name) }
     {
         self.greatest < name
@@ -89,7 +90,7 @@ impl Names {
     }
 
     /// A client of a new name comes.
-    pub fn join(&mut self, name: u64)
+    pub fn join(&mut self, name: ConnId)
         requires { self.old.greatest < name }
         ensures { TellsOf (Some (Joined name)) self.old self.new }
     {
@@ -98,7 +99,7 @@ impl Names {
     }
 
     /// A client goes, where it is there.
-    pub fn leave(&mut self, name: u64)
+    pub fn leave(&mut self, name: ConnId)
         ensures clients { GoesAlone name (is_there self.old) (is_there self.new) }
         ensures greatest { self.new.greatest ≡ self.old.greatest }
     {
@@ -136,7 +137,7 @@ impl ConnFaults {
     }
 
     /// Counts one more failure.
-    pub fn fail(&mut self, conn: u64) -> Failed
+    pub fn fail(&mut self, conn: ConnId) -> Failed
         ensures conns { NoneFell (fault_of self.old) (fault_of self.new) }
         ensures rose { Rose (fault_of self.old conn) (fault_of self.new conn) }
     {

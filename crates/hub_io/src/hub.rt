@@ -4,6 +4,7 @@ ghost use Rattle.std.specs.Result.{result_ok};
 ghost use Rattle.kit_io.specs.Causes.{HasCause};
 ghost use Rattle.kit_io.specs.Counts.{one_more};
 
+use kit_bytes::ConnId;
 use kit_io::Failed;
 use link_io::Target;
 
@@ -14,18 +15,18 @@ pub const NEXT_ROOM: usize = 16_384;
 #[derive(Clone, Copy, Debug, PartialEq, Eq)]
 pub enum HubEvent {
     /// A client came.
-    Joined(u64),
+    Joined(ConnId),
     /// So many bytes of a client stand at the front of the buffer.
-    Piece(u64, usize),
+    Piece(ConnId, usize),
     /// A client is gone.
-    Left(u64),
+    Left(ConnId),
     /// So many bytes of the modem stand at the front of the buffer.
     ModemPiece(usize),
     ModemGone,
     /// The milliseconds since the opening.
     Now(u64),
     /// A client that took nothing takes bytes again.
-    Room(u64),
+    Room(ConnId),
     /// The modem, which took nothing, takes bytes again.
     ModemRoom,
     /// The serving is to end.
@@ -37,7 +38,7 @@ pub trait Hub {
     ghost use Rattle.hub_io.specs.Record.{Call, HungUp, Paired, Records};
     ghost use Rattle.hub_io.specs.Hub.{FitsBuffer, NamesRise, SameClients, GoesAlone, ToldOfThose, NoneFell, opened_call, next_call, send_call, send_modem_call, reopen_call};
 
-    /// The calls so far, where told, the newest first.
+    /// The calls so far, where recorded, the newest first.
     ghost calls: { Self → Option (List Call) };
 
     /// How many of the hub's own calls have failed.
@@ -95,7 +96,7 @@ pub trait Hub {
 
     /// Hands bytes to a client's socket, which takes a front of them: no byte where it takes none
     /// now.
-    fn send(&mut self, conn: u64, bytes: &[u8]) -> Result<usize, Failed>
+    fn send(&mut self, conn: ConnId, bytes: &[u8]) -> Result<usize, Failed>
         requires { 0 < length bytes.now }
         ensures within { IfOk result (λ count. count ≤ length bytes.now) }
         ensures calls { Records (calls self.old) (send_call result conn bytes.now) (calls self.new) }
@@ -130,7 +131,7 @@ pub trait Hub {
         ensures made { made self.new ≡ one_more (made self.old) };
 
     /// Ends a client's connection. The client isn't there any more, so no event of it follows.
-    fn hang_up(&mut self, conn: u64)
+    fn hang_up(&mut self, conn: ConnId)
         ensures calls { Records (calls self.old) (HungUp conn) (calls self.new) }
         ensures own { faults self.old ≤ faults self.new }
         ensures conns { NoneFell (conn_faults self.old) (conn_faults self.new) }

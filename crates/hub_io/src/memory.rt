@@ -9,6 +9,7 @@ ghost use Rattle.hub_io.specs.Notes.{size_of, call_as, calls_of};
 
 use crate::clients::{ConnFaults, Names};
 use crate::{Hub, HubEvent};
+use kit_bytes::ConnId;
 use kit_io::{CallCount, Failed, Faults, Log};
 use link_io::Target;
 use std::alloc::{AllocError, Global};
@@ -19,7 +20,7 @@ pub enum HubTurn {
     /// It tells an event that brings no bytes.
     Tells(HubEvent),
     /// It gives bytes of a client, as many as fit.
-    Gives(u64, Vec<u8>),
+    Gives(ConnId, Vec<u8>),
     /// It gives bytes of the modem, as many as fit.
     ModemGives(Vec<u8>),
     /// The call fails.
@@ -47,13 +48,13 @@ pub enum HubCall {
     Paired { ok: bool },
     Told(HubEvent),
     NextFailed,
-    Sent { conn: u64, taken: usize },
-    SendFailed { conn: u64 },
+    Sent { conn: ConnId, taken: usize },
+    SendFailed { conn: ConnId },
     SentModem { taken: usize },
     SendModemFailed,
     Reopened,
     ReopenFailed,
-    HungUp { conn: u64 },
+    HungUp { conn: ConnId },
 }
 
 /// A hub in memory. It follows two scripts, one of what `next` answers and one of what the openings,
@@ -86,7 +87,7 @@ impl MemHub {
         room: usize,
         bytes_room: usize,
     ) -> Result<Self, AllocError>
-        ensures told { IfOk result (λ hub. hub.log.told ≡ Some []) }
+        ensures recorded { IfOk result (λ hub. hub.log.recorded ≡ Some []) }
         ensures room { IfOk result (λ hub. room ≤ hub.log.room) }
         ensures bytes_room { IfOk result (λ hub. bytes_room ≤ hub.log.bytes_room) }
         ensures turns { IfOk result (λ hub. hub.turns.items ≡ reverse turns.items) }
@@ -185,7 +186,7 @@ fn size(event: HubEvent) -> usize
 // Notes a call.
 fn note(log: &mut Log<HubCall>, call: HubCall, bytes: &[u8])
     ensures notes { Notes log.old (record { kind = call; bytes = bytes.now }) log.new }
-    ensures calls { IfSome (call_as call bytes.now) (λ made. Records (calls_of log.old.told) made (calls_of log.new.told)) }
+    ensures calls { IfSome (call_as call bytes.now) (λ made. Records (calls_of log.old.recorded) made (calls_of log.new.recorded)) }
 {
     log.note(call, bytes);
 }
@@ -193,14 +194,14 @@ fn note(log: &mut Log<HubCall>, call: HubCall, bytes: &[u8])
 // Notes an event, whose bytes stand at the buffer's front.
 fn note_event(log: &mut Log<HubCall>, event: HubEvent, buf: &[u8])
     requires { FitsBuffer event (length buf.now) }
-    ensures { Records (calls_of log.old.told) (event_call event buf.now) (calls_of log.new.told) }
+    ensures { Records (calls_of log.old.recorded) (event_call event buf.now) (calls_of log.new.recorded) }
 {
     note(log, HubCall::Told(event), &buf[..size(event)]);
 }
 
 // Notes an opening, and the device that it named.
 fn note_opening(log: &mut Log<HubCall>, socket: &str, device: Option<&Target>, ok: bool)
-    ensures { Records (calls_of log.old.told) (Opened socket.now (option_map address_of (option_copied device.entry)) ok) (calls_of log.new.told) }
+    ensures { Records (calls_of log.old.recorded) (Opened socket.now (option_map address_of (option_copied device.entry)) ok) (calls_of log.new.recorded) }
 {
     note(log, HubCall::Opened { ok }, socket.as_bytes());
     match device {
@@ -211,7 +212,7 @@ fn note_opening(log: &mut Log<HubCall>, socket: &str, device: Option<&Target>, o
 }
 
 impl Hub for MemHub {
-    ghost calls = { λ s. calls_of s.log.told };
+    ghost calls = { λ s. calls_of s.log.recorded };
 
     ghost faults = { λ s. s.faults };
 
@@ -272,7 +273,7 @@ impl Hub for MemHub {
         }
     }
 
-    fn send(&mut self, conn: u64, bytes: &[u8]) -> Result<usize, Failed> {
+    fn send(&mut self, conn: ConnId, bytes: &[u8]) -> Result<usize, Failed> {
         self.made.add();
         match next_answer(&mut self.answers) {
             HubAnswer::Takes(most) => {
@@ -316,7 +317,7 @@ impl Hub for MemHub {
         }
     }
 
-    fn hang_up(&mut self, conn: u64) {
+    fn hang_up(&mut self, conn: ConnId) {
         self.made.add();
         self.names.leave(conn);
         note(&mut self.log, HubCall::HungUp { conn }, &[]);

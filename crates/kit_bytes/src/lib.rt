@@ -2,6 +2,7 @@
 #![tactic(auto)]
 
 mod buffer;
+mod conn;
 mod kind;
 mod laws;
 mod numbers;
@@ -14,6 +15,7 @@ mod utf16;
 mod uuids;
 
 pub use buffer::append;
+pub use conn::ConnId;
 pub use kind::Kind;
 pub use laws::{all_takes_singles_in, bytes_are_given_back, characters_are_given_back};
 pub use numbers::{u16_at, u16_bytes, u32_at, u32_bytes, u64_at};

@@ -40,23 +40,23 @@ module _ {K : Type 0} where
   -- a note that fits is told where the others are
   pub Notes-pushed : (tells : Bool) (bytes more : List ℕ) (notes : List (Note K)) (kind : K) (start end room bytes_room room' bytes_room' : ℕ)
       → All (StandsWithin (length bytes)) notes → start ≡ length bytes → end ≡ length (bytes ++ more) → room ≤ room' + 1 → bytes_room ≤ bytes_room' + length more
-      → Notes (record { told = (if tells then Some (map (noted bytes) notes) else None); room = room; bytes_room = bytes_room })
+      → Notes (record { recorded = (if tells then Some (map (noted bytes) notes) else None); room = room; bytes_room = bytes_room })
       (record { kind = kind; bytes = more })
       (record {
-        told = (if tells then Some (map (noted (bytes ++ more)) (notes ++ record { kind = kind; bytes = record { start = start; end = end } } ∷ [])) else None);
+        recorded = (if tells then Some (map (noted (bytes ++ more)) (notes ++ record { kind = kind; bytes = record { start = start; end = end } } ∷ [])) else None);
         room = room';
         bytes_room = bytes_room';
       })
   Notes-pushed true bytes more notes kind start end room bytes_room room' bytes_room' all starts ends fewer fewer_bytes =
       let now_is = map-noted-push bytes more notes kind start end all starts ends in
       record {
-        grows = record { told = λ told is. (map (noted bytes) notes, refl, (cc)) };
+        grows = record { recorded = λ recorded is. (map (noted bytes) notes, refl, (cc)) };
         fits = λ before is some enough. (cc);
         room = fewer;
         bytes_room = fewer_bytes;
       }
   Notes-pushed false bytes more notes kind start end room bytes_room room' bytes_room' all starts ends fewer fewer_bytes = record {
-    grows = record { told = λ told is. absurd (cc) };
+    grows = record { recorded = λ recorded is. absurd (cc) };
     fits = λ before is some enough. absurd (cc);
     room = fewer;
     bytes_room = fewer_bytes;

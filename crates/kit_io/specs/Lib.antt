@@ -1,6 +1,6 @@
 pub mod Causes
 pub mod Counts
-pub mod Told
+pub mod Growth
 pub mod Sink
 pub mod Record
 pub mod Log

@@ -28,7 +28,7 @@ impl<K> Model for Log<K> {
     ghost Value = { Logged K };
 
     ghost view = { λ l. record {
-      told = (if l.tells then Some (map (noted l.bytes.items) l.notes.items) else None);
+      recorded = (if l.tells then Some (map (noted l.bytes.items) l.notes.items) else None);
       room = vec_capacity l.notes - vec_len l.notes;
       bytes_room = vec_capacity l.bytes - vec_len l.bytes;
     } };
@@ -43,7 +43,7 @@ impl<K: Copy> Log<K> {
 
     /// An empty log, with room for so many notes and for so many bytes in all.
     pub fn new(alloc: Global, room: usize, bytes_room: usize) -> Result<Self, AllocError>
-        ensures told { IfOk result (λ log. log.told ≡ Some []) }
+        ensures recorded { IfOk result (λ log. log.recorded ≡ Some []) }
         ensures room { IfOk result (λ log. room ≤ log.room) }
         ensures bytes_room { IfOk result (λ log. bytes_room ≤ log.bytes_room) }
     {
@@ -79,16 +79,16 @@ impl<K: Copy> Log<K> {
         });
     }
 
-    /// How many notes there are, where told.
+    /// How many notes there are, where recorded.
     pub fn len(&self) -> Option<usize>
-        ensures { result ≡ option_map length self.now.told }
+        ensures { result ≡ option_map length self.now.recorded }
     {
         self.tells.then_some(self.notes.len())
     }
 
-    /// What the note at a place says happened, and its bytes, where told.
+    /// What the note at a place says happened, and its bytes, where recorded.
     pub fn at(&self, index: usize) -> Option<(K, &[u8])>
-        ensures { option_map (λ note. record { kind = note.0; bytes = note.1.now }) result ≡ note_at self.now.told index }
+        ensures { option_map (λ note. record { kind = note.0; bytes = note.1.now }) result ≡ note_at self.now.recorded index }
     {
         if !self.tells {
             return None;

@@ -26,7 +26,7 @@ pub struct MemSink {
 impl MemSink {
     /// A sink that follows this script, with room to tell of so many bytes.
     pub fn new(alloc: Global, mut script: Vec<SinkAnswer>, room: usize) -> Result<Self, AllocError>
-        ensures told { IfOk result (λ sink. sink.taken.told ≡ Some []) }
+        ensures recorded { IfOk result (λ sink. sink.taken.recorded ≡ Some []) }
         ensures room { IfOk result (λ sink. room ≤ sink.taken.room) }
     {
         script.reverse();
@@ -38,16 +38,16 @@ impl MemSink {
         })
     }
 
-    /// The bytes taken so far, where told.
+    /// The bytes taken so far, where recorded.
     pub fn taken(&self) -> Option<&[u8]>
-        ensures { self.now.taken.told ≡ option_copied result }
+        ensures { self.now.taken.recorded ≡ option_copied result }
     {
-        self.taken.told()
+        self.taken.recorded()
     }
 }
 
 impl Sink for MemSink {
-    ghost taken = { λ s. s.taken.told };
+    ghost taken = { λ s. s.taken.recorded };
 
     ghost faults = { λ s. s.faults };
 

@@ -18,13 +18,13 @@ impl<T> Model for Record<T> {
 
     ghost Value = { Recorded T };
 
-    ghost view = { λ r. record { told = (if r.tells then Some r.entries.items else None); room = vec_capacity r.entries - vec_len r.entries } };
+    ghost view = { λ r. record { recorded = (if r.tells then Some r.entries.items else None); room = vec_capacity r.entries - vec_len r.entries } };
 }
 
 impl<T> Record<T> {
     /// An empty list, with room for so many entries.
     pub fn new(alloc: Global, room: usize) -> Result<Self, AllocError>
-        ensures told { IfOk result (λ r. r.told ≡ Some []) }
+        ensures recorded { IfOk result (λ r. r.recorded ≡ Some []) }
         ensures room { IfOk result (λ r. room ≤ r.room) }
     {
         Ok(Record {
@@ -33,9 +33,9 @@ impl<T> Record<T> {
         })
     }
 
-    /// The entries, where told.
-    pub fn told(&self) -> Option<&[T]>
-        ensures { self.now.told ≡ option_copied result }
+    /// The entries, where recorded.
+    pub fn recorded(&self) -> Option<&[T]>
+        ensures { self.now.recorded ≡ option_copied result }
     {
         if self.tells {
             Some(&self.entries)

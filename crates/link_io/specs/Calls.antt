@@ -1,6 +1,6 @@
 -- The calls on a link, with their answers.
 use Rattle.std.specs.Prelude.{◌≡◌, ℕ, Bool, true, false, List, [], ◌∷◌, ◌++◌, take, Option, Result, Ok, Err}
-use Rattle.kit_io.specs.Told.{Grows}
+use Rattle.kit_io.specs.Growth.{Grows}
 use Rattle.link_io.specs.Target.{Address}
 use Rattle.link_io.specs.declared.link.Taken.{Taken}
 use Rattle.link_io.specs.declared.link.Taken.TheVariants.{Bytes, Quiet, End}

@@ -22,4 +22,4 @@ abbrev pub call_of : Noted Made → Call
 call_of note = call_as note.kind note.bytes
 
 abbrev pub calls_of : Option (List (Noted Made)) → Option (List Call)
-calls_of told = option_map (map call_of) told
+calls_of recorded = option_map (map call_of) recorded

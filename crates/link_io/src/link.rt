@@ -1,7 +1,7 @@
 ghost use Rattle.std.specs.Prelude.{◌≡◌, ◌≤◌, ℕ, Bool, true, List, [], ◌∷◌, Option, length, is_ok, IfOk};
 ghost use Rattle.kit_io.specs.Causes.{HasCause};
 ghost use Rattle.kit_io.specs.Counts.{one_more};
-ghost use Rattle.kit_io.specs.Told.{Grows};
+ghost use Rattle.kit_io.specs.Growth.{Grows};
 
 use kit_bytes::Text;
 use kit_io::Failed;
@@ -35,7 +35,7 @@ pub trait Link {
     ghost use Rattle.link_io.specs.Calls.{Call, Opened, Paired, Closed, take_call, Sends, EndsForGood};
     ghost use Rattle.link_io.specs.Target.{address_of, IsWithin};
 
-    /// The calls so far, where told.
+    /// The calls so far, where recorded.
     ghost calls: { Self → Option (List Call) };
 
     /// Whether a take has found the end.

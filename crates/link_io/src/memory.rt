@@ -1,5 +1,5 @@
 ghost use Rattle.std.specs.Prelude.{◌≡◌, ◌≤◌, false, [], ◌∷◌, Some, reverse, IfOk};
-ghost use Rattle.kit_io.specs.Told.{Grows};
+ghost use Rattle.kit_io.specs.Growth.{Grows};
 ghost use Rattle.link_io.specs.Calls.{Opened};
 ghost use Rattle.link_io.specs.Target.{address_of};
 ghost use Rattle.link_io.specs.Made.{calls_of};
@@ -58,7 +58,7 @@ impl MemLink {
         room: usize,
         bytes_room: usize,
     ) -> Result<Self, AllocError>
-        ensures told { IfOk result (λ link. link.log.told ≡ Some []) }
+        ensures recorded { IfOk result (λ link. link.log.recorded ≡ Some []) }
         ensures room { IfOk result (λ link. room ≤ link.log.room) }
         ensures bytes_room { IfOk result (λ link. bytes_room ≤ link.log.bytes_room) }
         ensures script { IfOk result (λ link. link.script.items ≡ reverse script.items) }
@@ -87,9 +87,9 @@ impl MemLink {
 }
 
 // Notes an opening of this target.
-#[tactic(auto, using(kit_io::proofs::Told::growing))]
+#[tactic(auto, using(kit_io::proofs::Growth::growing))]
 fn note_opening(log: &mut Log<Made>, target: &Target, ok: bool)
-    ensures { Grows (calls_of log.old.told) (Opened (address_of target.now) ok ∷ []) (calls_of log.new.told) }
+    ensures { Grows (calls_of log.old.recorded) (Opened (address_of target.now) ok ∷ []) (calls_of log.new.recorded) }
 {
     match target {
         Target::Socket(path) => log.note(Made::Opened { ok }, path.as_str().as_bytes()),
@@ -98,7 +98,7 @@ fn note_opening(log: &mut Log<Made>, target: &Target, ok: bool)
 }
 
 impl Link for MemLink {
-    ghost calls = { λ s. calls_of s.log.told };
+    ghost calls = { λ s. calls_of s.log.recorded };
 
     ghost ended = { λ s. s.ended };
 
@@ -112,7 +112,7 @@ impl Link for MemLink {
         self.made.value()
     }
 
-    #[tactic(auto, using(kit_io::proofs::Told::growing))]
+    #[tactic(auto, using(kit_io::proofs::Growth::growing))]
     fn open(&mut self, target: &Target) -> Result<(), Failed> {
         self.made.add();
         if let Some(LinkAnswer::Fails) = self.script.pop() {
@@ -123,7 +123,7 @@ impl Link for MemLink {
         Ok(())
     }
 
-    #[tactic(auto, using(kit_io::proofs::Told::growing))]
+    #[tactic(auto, using(kit_io::proofs::Growth::growing))]
     fn pair(&mut self) -> Result<(), Failed> {
         self.made.add();
         if let Some(LinkAnswer::Fails) = self.script.pop() {
@@ -134,7 +134,7 @@ impl Link for MemLink {
         Ok(())
     }
 
-    #[tactic(auto, using(kit_io::proofs::Told::growing))]
+    #[tactic(auto, using(kit_io::proofs::Growth::growing))]
     fn send(&mut self, bytes: &[u8]) -> Result<(), Failed> {
         self.made.add();
         if let Some(LinkAnswer::Fails) = self.script.pop() {
@@ -146,7 +146,7 @@ impl Link for MemLink {
         Ok(())
     }
 
-    #[tactic(auto, using(kit_io::proofs::Told::growing))]
+    #[tactic(auto, using(kit_io::proofs::Growth::growing))]
     fn take(&mut self, buffer: &mut [u8]) -> Result<Taken, Failed> {
         self.made.add();
         if self.ended {
@@ -176,7 +176,7 @@ impl Link for MemLink {
         }
     }
 
-    #[tactic(auto, using(kit_io::proofs::Told::growing))]
+    #[tactic(auto, using(kit_io::proofs::Growth::growing))]
     fn close(&mut self) {
         self.made.add();
         self.log.note(Made::Closed, &[]);

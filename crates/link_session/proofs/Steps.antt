@@ -1,8 +1,8 @@
 -- A session's steps, put together.
 use Rattle.std.proofs.Common.{◌≡◌, inl, inr, ℕ, true, false, List, [], ◌∷◌, ◌++◌, Option, Result, Ok, Err, refl, sym, subst}
 use Rattle.std.proofs.lemmas.List.{append-nil}
-use Rattle.kit_io.specs.Told.{Grows}
-use Rattle.kit_io.proofs.Told.{Grows-none, Grows-append}
+use Rattle.kit_io.specs.Growth.{Grows}
+use Rattle.kit_io.proofs.Growth.{Grows-none, Grows-append}
 use Rattle.framing.specs.Reading.{Reading}
 use Rattle.link_io.specs.Calls.{Call, Sent, SendsFront}
 use Rattle.link_session.specs.declared.fault.SessionFault.{SessionFault}

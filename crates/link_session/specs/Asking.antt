@@ -1,6 +1,6 @@
 -- One request of a session: what is sent, which answer is waited for, and what follows it.
 use Rattle.std.specs.Prelude.{◌≡◌, ℕ, true, false, List, [], ◌∷◌, ◌++◌, Option, Result, Ok, Err}
-use Rattle.kit_io.specs.Told.{Grows}
+use Rattle.kit_io.specs.Growth.{Grows}
 use Rattle.framing.specs.declared.framing.Size.{Size}
 use Rattle.link_io.specs.Calls.{Call, Sent}
 use Rattle.link_session.specs.declared.fault.SessionFault.{SessionFault}

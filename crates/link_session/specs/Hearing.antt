@@ -1,7 +1,7 @@
 -- What the code's calls do, as what the session has heard. `size` is the framing of the stream.
 use Rattle.std.specs.Prelude.{◌≡◌, ◌⊎◌, ℕ, ◌<◌, ◌≤◌, List, [], ◌∷◌, ◌++◌, length, slice_range, Option, Result, Ok, Err}
 use Rattle.std.specs.List.{concat}
-use Rattle.kit_io.specs.Told.{Grows}
+use Rattle.kit_io.specs.Growth.{Grows}
 use Rattle.framing.specs.declared.framing.Size.{Size}
 use Rattle.framing.specs.Framing.{IsMessage, IsPartial}
 use Rattle.framing.specs.Reading.{Reading, StandsFor}

@@ -8,8 +8,8 @@ use Rattle.proxy_history.specs.Events.{Event, Piece, ModemPiece, Took, ModemTook
 use Rattle.proxy_history.specs.Coming.{piece_limit}
 use Rattle.proxy_history.specs.Coming as coming
 use Rattle.proxy_history.specs.Streams.{stream, modem_stream, is_bad}
-use Rattle.proxy_history.specs.Items.{Item, Says, Garbles, ModemSays, ModemFails, item_if, modem_items}
-use Rattle.proxy_history.specs.Facts.{Fact, EventBegan, Drained}
+use Rattle.proxy_history.specs.Items.{Item, Says, GoesBad, ModemSays, ModemIsLost, item_if, modem_items}
+use Rattle.proxy_history.specs.Facts.{Fact, EventBegan, Taken}
 use Rattle.proxy_history.specs.Connections.{is_present, contains}
 use Rattle.proxy_history.specs.History as proxy
 use Rattle.proxy_history.proofs.Streams.{goes_on_from_rest}
@@ -21,7 +21,7 @@ use Rattle.mbim_proxy.specs.OwnList.{finish}
 use Rattle.mbim_solo.proofs.Spoken.{IsQuiet, SaysOne, goes_on_unheard, ends_heard}
 use Rattle.lone_client.specs.Relay.{Answering, Cast, Stage, sent_for, asked_then, taking, said, hear_each, heard, waiting, reply, ask}
 use Rattle.lone_client.specs.MbimLaw as law
-use Rattle.lone_client.proofs.MbimCalm.{Scene, s, Calm, queue_is, began, drained, modem_drained_all}
+use Rattle.lone_client.proofs.MbimCalm.{Scene, s, Calm, queue_is, began, was_taken, modem_taken_all}
 use Rattle.lone_client.proofs.Saying.{wants_list, finish_rests, add_says}
 use Rattle.lone_client.proofs.Hearing.{Hears}
 
@@ -69,7 +69,7 @@ module _ (device : List ℕ) (time_limit : ℕ) where
     modem_taken : Stands front (record x { queue = [] }) (ModemTook (length x.queue) ∷ events)
     unfolding proxy.history proxy.add_all stream modem_stream
     modem_taken =
-        let after = modem_drained_all device time_limit before (length x.queue) refl in
+        let after = modem_taken_all device time_limit before (length x.queue) refl in
         record {
           sound = (le_of_eq (sym (ap length (queue_is device time_limit stands.calm))), stands.sound);
           whole = stands.whole;
@@ -87,7 +87,7 @@ module _ (device : List ℕ) (time_limit : ℕ) where
     client_taken : Stands front (record x { waiting = [] }) (Took 1 (length x.waiting) ∷ events)
     unfolding proxy.history proxy.add_all stream modem_stream
     client_taken =
-        let after = drained device time_limit before in
+        let after = was_taken device time_limit before in
         record {
           sound = (le_of_eq (sym (ap (λ (b : Bool). if b then length (text_for t 1 events).waiting else 0) (ap (contains 1) stands.calm.there) ∙ ap length stands.calm.written.are)), stands.sound);
           whole = stands.whole;
@@ -96,7 +96,7 @@ module _ (device : List ℕ) (time_limit : ℕ) where
           quiet = stands.quiet;
           unheard = stands.unheard;
           rests = stands.rests;
-          calm = subst (At (record x { waiting = [] })) (sym (ap (λ (b : Bool). finish t (if b then Drained 1 (length x.waiting) ∷ past else past)) there ∙ finish_rests device time_limit after stands.rests)) after;
+          calm = subst (At (record x { waiting = [] })) (sym (ap (λ (b : Bool). finish t (if b then Taken 1 (length x.waiting) ∷ past else past)) there ∙ finish_rests device time_limit after stands.rests)) after;
         }
 
     -- ---- the client says something ----
@@ -109,7 +109,7 @@ module _ (device : List ℕ) (time_limit : ℕ) where
       unfolding proxy.history
       said_history =
           let goes = goes_on_from_rest size_of (stream 1 events) text in
-          ap₂ (λ (l : List (List ℕ)) (b : Bool). finish t (proxy.add_all (mbim_protocol t) (map (λ m. Says 1 m) l ++ item_if b (Garbles 1)) past))
+          ap₂ (λ (l : List (List ℕ)) (b : Bool). finish t (proxy.add_all (mbim_protocol t) (map (λ m. Says 1 m) l ++ item_if b (GoesBad 1)) past))
           (goes.messages ∙ ap (λ (c : Cutting). c.messages) behind_is)
           (goes.bad ∙ ap (λ (c : Cutting). is_invalid (size_of c.rest)) behind_is)
           ∙ ap (λ (items : List Item). finish t (proxy.add_all (mbim_protocol t) items past)) (append-nil (map (λ m. Says 1 m) messages))
@@ -149,7 +149,7 @@ module _ (device : List ℕ) (time_limit : ℕ) where
       unfolding stream proxy.add_all
       goes_on still =
           let on = goes_on_unheard t stands.heard stands.quiet front piece stands.unheard still in
-          let nothing : modem_items (mbim_protocol t) piece (Some (stands.heard ++ front)) ≡ [] = ap₂ (λ (l : List (List ℕ)) (b : Bool). map (λ m. ModemSays m) l ++ item_if b ModemFails) on.unheard on.good in
+          let nothing : modem_items (mbim_protocol t) piece (Some (stands.heard ++ front)) ≡ [] = ap₂ (λ (l : List (List ℕ)) (b : Bool). map (λ m. ModemSays m) l ++ item_if b ModemIsLost) on.unheard on.good in
           record {
             sound = (short, stands.sound);
             whole = stands.whole;
@@ -166,7 +166,7 @@ module _ (device : List ℕ) (time_limit : ℕ) where
       unfolding stream proxy.add_all
       ends whole after rest are hears rests =
           let one = ends_heard t stands.heard stands.quiet front piece whole stands.unheard rest are in
-          let items_are : modem_items (mbim_protocol t) piece (Some (stands.heard ++ front)) ≡ ModemSays whole ∷ [] = ap₂ (λ (l : List (List ℕ)) (b : Bool). map (λ m. ModemSays m) l ++ item_if b ModemFails) one.heard one.good in
+          let items_are : modem_items (mbim_protocol t) piece (Some (stands.heard ++ front)) ≡ ModemSays whole ∷ [] = ap₂ (λ (l : List (List ℕ)) (b : Bool). map (λ m. ModemSays m) l ++ item_if b ModemIsLost) one.heard one.good in
           record {
             sound = (short, stands.sound);
             whole = stands.whole;

@@ -12,7 +12,7 @@ use Rattle.proxy_history.specs.Facts.{Fact, Request, Forward, Waits, Own, Share,
 use Rattle.proxy_history.specs.Decision.{Decision, Replies, forwards_under}
 use Rattle.proxy_history.specs.Connections.{message_count}
 use Rattle.proxy_history.specs.Requests.{in_use, last_number, of_space, of_client, has_share, numbers_of, number_after, free_from}
-use Rattle.proxy_history.specs.View.{Sent}
+use Rattle.proxy_history.specs.View.{Said}
 use Rattle.mbim_proxy.specs.Setup.{Setup}
 use Rattle.mbim_proxy.specs.ModemStates.{ModemState, IsShut, IsOpening, state}
 use Rattle.mbim_proxy.specs.OwnReplies.{view_decides, is_open_request, is_for_modem, may_open}
@@ -94,7 +94,7 @@ module _ (device : List ℕ) (time_limit : ℕ) where
             ∙ ap (λ (b : Bool). forward_for b t x.known 1 m given past) is.no_opening
             ∙ ap (λ (l : List ℕ). forward t 1 l given asks) asked_is
 
-        pub command_calm : At (record x { known = step t x.known (Sent m Forward); requests = request ∷ []; last = given; queue = wire t request; waiting = [] }) (Forwarded request ∷ asks)
+        pub command_calm : At (record x { known = step t x.known (Said m Forward); requests = request ∷ []; last = given; queue = wire t request; waiting = [] }) (Forwarded request ∷ asks)
         command_calm = forwarded device time_limit (judged device time_limit calm (message_count 1 past + 1) m Forward (omega arith)) request refl
 
     -- ---- the request to open, where the modem isn't open yet: the proxy asks it by itself ----
@@ -118,5 +118,5 @@ module _ (device : List ℕ) (time_limit : ℕ) where
           ∙ ap (λ (o : Option ℕ). judge t x.known 1 m (forwards_under o) past) (number_is (idle x) refl refl calm (own_open t) (lit≤ tt))
           ∙ ap (λ (b : Bool). forward_for b t x.known 1 m given past) kind_is
 
-      pub open_calm : At (record x { known = step t x.known (Sent m Waits); modem = IsOpening; requests = opening ∷ []; last = given; queue = wire t opening; waiting = [] }) (Forwarded opening ∷ waits)
+      pub open_calm : At (record x { known = step t x.known (Said m Waits); modem = IsOpening; requests = opening ∷ []; last = given; queue = wire t opening; waiting = [] }) (Forwarded opening ∷ waits)
       open_calm = forwarded device time_limit (judged device time_limit calm (message_count 1 past + 1) m Waits (omega arith)) opening refl

@@ -6,11 +6,11 @@ use Rattle.std.proofs.Math.Seq.{drop-append_seam}
 use Rattle.kit_bytes.specs.Subscriptions.{Pair}
 use Rattle.kit_bytes.specs.Services.{starting_list}
 use Rattle.mbim_frame.specs.declared.status.TheConstants.{SUCCESS}
-use Rattle.proxy_history.specs.Facts.{Fact, Request, Verdict, Own, Share, Foreign, Away, Full, Forward, Ready, Waits, EventBegan, Judged, Drained, Forwarded, Answered, Indicated, OpeningEnded, ListSent, ModemDrained, Ended, NoRoom}
+use Rattle.proxy_history.specs.Facts.{Fact, Request, Verdict, Own, Share, Foreign, Away, Full, Forward, Ready, Waits, EventBegan, Judged, Taken, Forwarded, Answered, Indicated, OpeningEnded, ListSent, ModemTaken, Ended, NoRoom}
 use Rattle.proxy_history.specs.Connections.{present, is_present, contains, message_count}
 use Rattle.proxy_history.specs.Requests.{in_use, pending, without_request, last_number}
-use Rattle.proxy_history.specs.Modem.{to_modem, modem_drained, modem_queue}
-use Rattle.proxy_history.specs.View.{Entry, Sent, Response, Indication, OpenedWith, view}
+use Rattle.proxy_history.specs.Modem.{to_modem, modem_taken_count, modem_queue}
+use Rattle.proxy_history.specs.View.{Entry, Said, Response, Indication, OpenedWith, view}
 use Rattle.proxy_history.specs.Rendering.{Rendering, render, put}
 use Rattle.proxy_history.specs.Noting.{end_overfull, receivers_of, rendering}
 use Rattle.proxy_history.specs.Wording.{told_by}
@@ -64,7 +64,7 @@ replied_sent (Refuses command status) known = refl
 replied_sent (Configures command) known = refl
 replied_sent (Subscribes command list) known = refl
 
-judged_sent : (s : Setup) (known : Known) (m : List ℕ) (verdict : Verdict) → (step s known (Sent m verdict)).sent ≡ known.sent + 1
+judged_sent : (s : Setup) (known : Known) (m : List ℕ) (verdict : Verdict) → (step s known (Said m verdict)).sent ≡ known.sent + 1
 judged_sent s known m Own = replied_sent (own_reply s known m) (with_message s m known)
 judged_sent s known m Share = refl
 judged_sent s known m Foreign = refl
@@ -94,24 +94,24 @@ module _ (device : List ℕ) (time_limit : ℕ) where
     -- what the modem took
     pub taken : List ℕ
     pub to_it : to_modem (wire s) past ≡ taken ++ x.queue
-    pub count : modem_drained past ≡ length taken
+    pub count : modem_taken_count past ≡ length taken
     pub written : Waiting (bytes_now past) x.waiting
 
   module _ {x : Scene} {past : List Fact} (calm : Calm x past) where
     pub queue_is : modem_queue (wire s) past ≡ x.queue
-    queue_is = ap (drop (modem_drained past)) calm.to_it ∙ ap (λ (n : ℕ). drop n (calm.taken ++ x.queue)) calm.count ∙ drop-append_seam calm.taken x.queue
+    queue_is = ap (drop (modem_taken_count past)) calm.to_it ∙ ap (λ (n : ℕ). drop n (calm.taken ++ x.queue)) calm.count ∙ drop-append_seam calm.taken x.queue
 
     pub began : Calm x (EventBegan ∷ past)
-    unfolding present in_use pending view to_modem modem_drained last_number askers last_list state message_count
+    unfolding present in_use pending view to_modem modem_taken_count last_number askers last_list state message_count
     began = record { there = calm.there; knows = calm.knows; counts = calm.counts; modem_is = calm.modem_is; listed_is = calm.listed_is; uses = calm.uses; pends = calm.pends; last_is = calm.last_is; taken = calm.taken; to_it = calm.to_it; count = calm.count; written = calm.written }
 
     pub listed_now : (list : List Pair) → Calm (record x { listed = list }) (ListSent list ∷ past)
-    unfolding present in_use pending view to_modem modem_drained last_number askers last_list state message_count
+    unfolding present in_use pending view to_modem modem_taken_count last_number askers last_list state message_count
     listed_now list = record { there = calm.there; knows = calm.knows; counts = calm.counts; modem_is = calm.modem_is; listed_is = refl; uses = calm.uses; pends = calm.pends; last_is = calm.last_is; taken = calm.taken; to_it = calm.to_it; count = calm.count; written = calm.written }
 
-    pub modem_drained_all : (count : ℕ) → count ≡ length x.queue → Calm (record x { queue = [] }) (ModemDrained count ∷ past)
-    unfolding present in_use pending view to_modem modem_drained last_number askers last_list state message_count
-    modem_drained_all count is = record {
+    pub modem_taken_all : (count : ℕ) → count ≡ length x.queue → Calm (record x { queue = [] }) (ModemTaken count ∷ past)
+    unfolding present in_use pending view to_modem modem_taken_count last_number askers last_list state message_count
+    modem_taken_all count is = record {
       there = calm.there;
       knows = calm.knows;
       counts = calm.counts;
@@ -126,9 +126,9 @@ module _ (device : List ℕ) (time_limit : ℕ) where
       written = calm.written;
     }
 
-    pub drained : Calm (record x { waiting = [] }) (Drained 1 (length x.waiting) ∷ past)
-    unfolding present in_use pending view to_modem modem_drained last_number askers last_list state message_count render told_by
-    drained = record {
+    pub was_taken : Calm (record x { waiting = [] }) (Taken 1 (length x.waiting) ∷ past)
+    unfolding present in_use pending view to_modem modem_taken_count last_number askers last_list state message_count render told_by
+    was_taken = record {
       there = calm.there;
       knows = calm.knows;
       counts = calm.counts;
@@ -152,11 +152,11 @@ module _ (device : List ℕ) (time_limit : ℕ) where
     with_entry entry = record x { known = step s x.known entry; waiting = x.waiting ++ text_as s x.known entry }
 
     -- a message of the client, whatever comes of it
-    pub judged : (place : ℕ) (m : List ℕ) (verdict : Verdict) → length x.waiting + length (text_as s x.known (Sent m verdict)) ≤ 262144 → Calm (with_entry (Sent m verdict)) (Judged 1 place m verdict ∷ past)
-    unfolding present in_use pending view to_modem modem_drained last_number askers last_list state message_count render told_by
+    pub judged : (place : ℕ) (m : List ℕ) (verdict : Verdict) → length x.waiting + length (text_as s x.known (Said m verdict)) ≤ 262144 → Calm (with_entry (Said m verdict)) (Judged 1 place m verdict ∷ past)
+    unfolding present in_use pending view to_modem modem_taken_count last_number askers last_list state message_count render told_by
     judged place m verdict room = record {
       there = calm.there;
-      knows = ap (λ (k : Known). step s k (Sent m verdict)) calm.knows;
+      knows = ap (λ (k : Known). step s k (Said m verdict)) calm.knows;
       counts = ap (λ (n : ℕ). n + 1) calm.counts ∙ sym (judged_sent s x.known m verdict);
       modem_is = calm.modem_is;
       listed_is = calm.listed_is;
@@ -166,11 +166,11 @@ module _ (device : List ℕ) (time_limit : ℕ) where
       taken = calm.taken;
       to_it = calm.to_it;
       count = calm.count;
-      written = written_now (Sent m verdict) room;
+      written = written_now (Said m verdict) room;
     }
 
     pub forwarded : (r : Request) → r.space ≡ 0 → Calm (record x { modem = if is_own_open r then IsOpening else x.modem; requests = x.requests ++ r ∷ []; last = r.number; queue = x.queue ++ wire s r }) (Forwarded r ∷ past)
-    unfolding present in_use pending view to_modem modem_drained last_number askers last_list state message_count
+    unfolding present in_use pending view to_modem modem_taken_count last_number askers last_list state message_count
     forwarded r one = record {
       there = calm.there;
       knows = calm.knows;
@@ -189,7 +189,7 @@ module _ (device : List ℕ) (time_limit : ℕ) where
     -- an answer to the client's request, and one to the proxy's own
     pub answered : (r : Request) (m : List ℕ) → r.conn ≡ 1 → length x.waiting + length (text_as s x.known (Response r.place (blank m))) ≤ 262144
         → Calm (record (with_entry (Response r.place (blank m))) { requests = without_request r x.requests }) (Answered r m ∷ past)
-    unfolding present in_use pending view to_modem modem_drained last_number askers last_list state message_count render told_by
+    unfolding present in_use pending view to_modem modem_taken_count last_number askers last_list state message_count render told_by
     answered r m one room =
         let test : (r.conn == 1) ≡ true = eq-eqb r.conn 1 one in
         record {
@@ -208,7 +208,7 @@ module _ (device : List ℕ) (time_limit : ℕ) where
         }
 
     pub answered_own : (r : Request) (m : List ℕ) → r.conn ≡ 0 → Calm (record x { requests = without_request r x.requests }) (Answered r m ∷ past)
-    unfolding present in_use pending view to_modem modem_drained last_number askers last_list state message_count
+    unfolding present in_use pending view to_modem modem_taken_count last_number askers last_list state message_count
     answered_own r m none =
         let test : (r.conn == 1) ≡ false = ap (λ (n : ℕ). n == 1) none in
         record {
@@ -229,7 +229,7 @@ module _ (device : List ℕ) (time_limit : ℕ) where
     -- the opening ends well, and the client waited for it
     pub opened : length x.waiting + length (text_as s x.known (OpenedWith SUCCESS)) ≤ 262144
         → Calm (record (with_entry (OpenedWith SUCCESS)) { modem = IsReady; listed = starting_list }) (OpeningEnded SUCCESS (1 ∷ []) ∷ past)
-    unfolding present in_use pending view to_modem modem_drained last_number askers last_list state message_count render told_by
+    unfolding present in_use pending view to_modem modem_taken_count last_number askers last_list state message_count render told_by
     opened room = record {
       there = calm.there;
       knows = ap (λ (k : Known). step s k (OpenedWith SUCCESS)) calm.knows;
@@ -247,7 +247,7 @@ module _ (device : List ℕ) (time_limit : ℕ) where
 
     -- the client is told
     pub indicated : (m : List ℕ) → length x.waiting + length (text_as s x.known (Indication m)) ≤ 262144 → Calm (with_entry (Indication m)) (Indicated m (1 ∷ []) ∷ past)
-    unfolding present in_use pending view to_modem modem_drained last_number askers last_list state message_count render told_by
+    unfolding present in_use pending view to_modem modem_taken_count last_number askers last_list state message_count render told_by
     indicated m room = record {
       there = calm.there;
       knows = ap (λ (k : Known). step s k (Indication m)) calm.knows;

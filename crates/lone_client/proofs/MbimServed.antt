@@ -3,7 +3,7 @@ use Rattle.std.proofs.Common.{◌≡◌, ℕ, List, [], ◌∷◌, refl, arith, 
 use Rattle.framing.specs.Cutting.{cut_from}
 use Rattle.proxy_history.specs.Connections.{present, message_count}
 use Rattle.proxy_history.specs.Requests.{in_use, pending, last_number}
-use Rattle.proxy_history.specs.Modem.{to_modem, modem_drained}
+use Rattle.proxy_history.specs.Modem.{to_modem, modem_taken_count}
 use Rattle.proxy_history.specs.View.{view}
 use Rattle.proxy_history.specs.Rendering.{render}
 use Rattle.proxy_history.specs.Wording.{told_by}
@@ -32,7 +32,7 @@ module _ (device : List ℕ) (time_limit : ℕ) (modem : Answering) where
 
   -- before any turn
   begun : Standing []
-  unfolding relayed proxy.history proxy.add_all present in_use pending view to_modem modem_drained last_number askers last_list state message_count render told_by stream modem_stream cut_from
+  unfolding relayed proxy.history proxy.add_all present in_use pending view to_modem modem_taken_count last_number askers last_list state message_count render told_by stream modem_stream cut_from
   begun = (
     _,
     _,

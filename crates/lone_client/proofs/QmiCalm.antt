@@ -5,12 +5,12 @@ use Rattle.std.proofs.lemmas.Bool.{eq-eqb}
 use Rattle.std.proofs.lemmas.Bool.Decides.{nat_tests}
 use Rattle.std.proofs.Math.Seq.{drop-append_seam}
 use Rattle.kit_bytes.proofs.Lists.{all_filter, all_push}
-use Rattle.proxy_history.specs.Facts.{Fact, Request, EventBegan, Own, Forward, Judged, Drained, Forwarded, Answered, Granted, Freed, ModemDrained, Ended, NoRoom, ModemLost, ModemReturned, Reset}
+use Rattle.proxy_history.specs.Facts.{Fact, Request, EventBegan, Own, Forward, Judged, Taken, Forwarded, Answered, Granted, Freed, ModemTaken, Ended, NoRoom, ModemLost, ModemReturned, Reset}
 use Rattle.proxy_history.specs.Connections.{present, is_present}
 use Rattle.proxy_history.specs.Requests.{in_use, pending, without_request, last_number}
 use Rattle.proxy_history.specs.ClientIds.{Grant, is_of, held, holder_in, holder, is_other}
-use Rattle.proxy_history.specs.Modem.{to_modem, modem_drained, modem_queue, is_away}
-use Rattle.proxy_history.specs.View.{view, sent_at}
+use Rattle.proxy_history.specs.Modem.{to_modem, modem_taken_count, modem_queue, is_away}
+use Rattle.proxy_history.specs.View.{view, said_at}
 use Rattle.proxy_history.specs.Rendering.{Rendering, render, put}
 use Rattle.proxy_history.specs.Noting.{end_overfull, receivers_of}
 use Rattle.proxy_history.specs.Wording.{told_by}
@@ -91,28 +91,28 @@ module _ (s : Setup) where
     -- what the modem took, and what waits for it
     pub taken : List ℕ
     pub to_it : to_modem wire past ≡ taken ++ queue
-    pub count : modem_drained past ≡ length taken
+    pub count : modem_taken_count past ≡ length taken
     pub written : Waits (rendering s.device 1 past) waiting
 
   pub queue_is : {opened : Bool} {requests : List Request} {last : ℕ → ℕ} {queue waiting : List ℕ} {past : List Fact} → Calm opened requests last queue waiting past → modem_queue wire past ≡ queue
-  queue_is {queue = queue} {past = past} calm = ap (drop (modem_drained past)) calm.to_it ∙ ap (λ (n : ℕ). drop n (calm.taken ++ queue)) calm.count ∙ drop-append_seam calm.taken queue
+  queue_is {queue = queue} {past = past} calm = ap (drop (modem_taken_count past)) calm.to_it ∙ ap (λ (n : ℕ). drop n (calm.taken ++ queue)) calm.count ∙ drop-append_seam calm.taken queue
 
   module _ {opened : Bool} {requests : List Request} {last : ℕ → ℕ} {queue waiting : List ℕ} {past : List Fact} (calm : Calm opened requests last queue waiting past) where
     pub began : Calm opened requests last queue waiting (EventBegan ∷ past)
-    unfolding present in_use pending view to_modem modem_drained last_number
+    unfolding present in_use pending view to_modem modem_taken_count last_number
     began = record { there = calm.there; own = (tt, calm.own); open_is = calm.open_is; uses = calm.uses; waits = calm.waits; last_is = calm.last_is; taken = calm.taken; to_it = calm.to_it; count = calm.count; written = calm.written }
 
     pub granted : (service client : ℕ) → Calm opened requests last queue waiting (Granted 1 service client ∷ past)
-    unfolding present in_use pending view to_modem modem_drained last_number
+    unfolding present in_use pending view to_modem modem_taken_count last_number
     granted service client = record { there = calm.there; own = (refl, calm.own); open_is = calm.open_is; uses = calm.uses; waits = calm.waits; last_is = calm.last_is; taken = calm.taken; to_it = calm.to_it; count = calm.count; written = calm.written }
 
     pub freed : (service client : ℕ) → Calm opened requests last queue waiting (Freed 1 service client ∷ past)
-    unfolding present in_use pending view to_modem modem_drained last_number
+    unfolding present in_use pending view to_modem modem_taken_count last_number
     freed service client = record { there = calm.there; own = (tt, calm.own); open_is = calm.open_is; uses = calm.uses; waits = calm.waits; last_is = calm.last_is; taken = calm.taken; to_it = calm.to_it; count = calm.count; written = calm.written }
 
-    pub modem_drained_all : (count : ℕ) → count ≡ length queue → Calm opened requests last [] waiting (ModemDrained count ∷ past)
-    unfolding present in_use pending view to_modem modem_drained last_number
-    modem_drained_all count is = record {
+    pub modem_taken_all : (count : ℕ) → count ≡ length queue → Calm opened requests last [] waiting (ModemTaken count ∷ past)
+    unfolding present in_use pending view to_modem modem_taken_count last_number
+    modem_taken_all count is = record {
       there = calm.there;
       own = (tt, calm.own);
       open_is = calm.open_is;
@@ -125,17 +125,17 @@ module _ (s : Setup) where
       written = calm.written;
     }
 
-    pub drained : Calm opened requests last queue [] (Drained 1 (length waiting) ∷ past)
-    unfolding present in_use pending view to_modem modem_drained last_number render told_by
-    drained = record { there = calm.there; own = (tt, calm.own); open_is = calm.open_is; uses = calm.uses; waits = calm.waits; last_is = calm.last_is; taken = calm.taken; to_it = calm.to_it; count = calm.count; written = record { are = ap (drop (length waiting)) calm.written.are ∙ ap (drop (length waiting)) (sym (append-nil waiting)) ∙ drop-append_seam waiting []; fits = calm.written.fits } }
+    pub was_taken : Calm opened requests last queue [] (Taken 1 (length waiting) ∷ past)
+    unfolding present in_use pending view to_modem modem_taken_count last_number render told_by
+    was_taken = record { there = calm.there; own = (tt, calm.own); open_is = calm.open_is; uses = calm.uses; waits = calm.waits; last_is = calm.last_is; taken = calm.taken; to_it = calm.to_it; count = calm.count; written = record { are = ap (drop (length waiting)) calm.written.are ∙ ap (drop (length waiting)) (sym (append-nil waiting)) ∙ drop-append_seam waiting []; fits = calm.written.fits } }
 
     pub judged : (place : ℕ) (m : List ℕ) → length waiting ≤ outbox_limit → Calm opened requests last queue waiting (Judged 1 place m Forward ∷ past)
-    unfolding present in_use pending view to_modem modem_drained last_number render told_by
+    unfolding present in_use pending view to_modem modem_taken_count last_number render told_by
     judged place m room = record { there = calm.there; own = (tt, calm.own); open_is = calm.open_is; uses = calm.uses; waits = calm.waits; last_is = calm.last_is; taken = calm.taken; to_it = calm.to_it; count = calm.count; written = subst (Waits (put outbox_limit [] (rendering s.device 1 past))) (append-nil waiting) (put_waits [] waiting (rendering s.device 1 past) calm.written (omega (arith, room))) }
 
     pub judged_own : (place : ℕ) (m : List ℕ) → length waiting + length (result_reply m (own_error s.device opened m)) ≤ outbox_limit
         → Calm (is_opening s.device m Own || opened) requests last queue (waiting ++ result_reply m (own_error s.device opened m)) (Judged 1 place m Own ∷ past)
-    unfolding present in_use pending view to_modem modem_drained last_number render told_by
+    unfolding present in_use pending view to_modem modem_taken_count last_number render told_by
     judged_own place m room = record {
       there = calm.there;
       own = (tt, calm.own);
@@ -151,7 +151,7 @@ module _ (s : Setup) where
     }
 
     pub forwarded : (r : Request) → Calm opened (requests ++ r ∷ []) (λ space. if r.space == space then r.number else last space) (queue ++ wire r) waiting (Forwarded r ∷ past)
-    unfolding present in_use pending view to_modem modem_drained last_number
+    unfolding present in_use pending view to_modem modem_taken_count last_number
     forwarded r = record {
       there = calm.there;
       own = (tt, calm.own);
@@ -166,11 +166,11 @@ module _ (s : Setup) where
     }
 
     abbrev pub answer_text : Request → List ℕ → List ℕ
-    answer_text r m = with_number (number_of (sent_at r.place (view_of 1 past))) (blank m)
+    answer_text r m = with_number (number_of (said_at r.place (view_of 1 past))) (blank m)
 
     pub answered : (r : Request) (m : List ℕ) → r.conn ≡ 1 → length waiting + length (answer_text r m) ≤ outbox_limit
         → Calm opened (without_request r requests) last queue (waiting ++ answer_text r m) (Answered r m ∷ past)
-    unfolding present in_use pending view to_modem modem_drained last_number render told_by
+    unfolding present in_use pending view to_modem modem_taken_count last_number render told_by
     answered r m one room =
         let test : (r.conn == 1) ≡ true = eq-eqb r.conn 1 one in
         record {

@@ -16,14 +16,14 @@ use Rattle.proxy_history.specs.Events.{Event, Joined, Piece, ModemPiece, Took, M
 use Rattle.proxy_history.specs.Coming.{piece_limit, greatest_name}
 use Rattle.proxy_history.specs.Coming as coming
 use Rattle.proxy_history.specs.Streams.{stream, modem_stream, with_piece, is_bad}
-use Rattle.proxy_history.specs.Items.{Says, Garbles, ModemSays, ModemFails, item_if, modem_items}
-use Rattle.proxy_history.specs.Facts.{Fact, Request, EventBegan, Own, Share, Foreign, Away, Full, Forward, Judged, Forwarded, Answered, Granted, Freed, Drained}
+use Rattle.proxy_history.specs.Items.{Says, GoesBad, ModemSays, ModemIsLost, item_if, modem_items}
+use Rattle.proxy_history.specs.Facts.{Fact, Request, EventBegan, Own, Share, Foreign, Away, Full, Forward, Judged, Forwarded, Answered, Granted, Freed, Taken}
 use Rattle.proxy_history.specs.Decision.{Decision, Replies, Forwards, forwards_under}
 use Rattle.proxy_history.specs.Connections.{present, is_present, contains, message_count}
 use Rattle.proxy_history.specs.Requests.{in_use, pending, without_request, has_request, has_share, of_client, is_pending, last_number, of_space, numbers_of, number_after, following, free_from}
 use Rattle.proxy_history.specs.ClientIds.{holder, is_other}
-use Rattle.proxy_history.specs.Modem.{is_away, modem_queue, to_modem, modem_drained}
-use Rattle.proxy_history.specs.View.{view, sent_at}
+use Rattle.proxy_history.specs.Modem.{is_away, modem_queue, to_modem, modem_taken_count}
+use Rattle.proxy_history.specs.View.{view, said_at}
 use Rattle.proxy_history.specs.Rendering.{render}
 use Rattle.proxy_history.specs.Wording.{told_by}
 use Rattle.proxy_history.specs.History as proxy
@@ -42,7 +42,7 @@ use Rattle.std.specs.List.{AllByRecursion}
 use Rattle.lone_client.specs.Relay.{Answering, Cast, Stage, sent_for, asked_then, taking, said, hear_each, heard, waiting, reply, ask}
 use Rattle.lone_client.specs.QmiLaw.{cast_of}
 use Rattle.proxy_history.proofs.Pieces.{ends_message}
-use Rattle.lone_client.proofs.QmiCalm.{Calm, queue_is, id_is_free, is_there, began, granted, freed, modem_drained_all, drained, judged, judged_own, forwarded, answered, noted}
+use Rattle.lone_client.proofs.QmiCalm.{Calm, queue_is, id_is_free, is_there, began, granted, freed, modem_taken_all, was_taken, judged, judged_own, forwarded, answered, noted}
 
 -- nothing refuses a message that no other client and no full queue is in the way of
 decided : (own share foreign away room : Bool) (number : Option ℕ) → own ≡ false → share ≡ false → foreign ≡ false → away ≡ false → room ≡ true
@@ -101,8 +101,8 @@ module _ (s : Setup) (near : s.starts_away ≡ false) where
     unfolding proxy.history proxy.add_all present
     piece_history =
         let ends = ends_message size_of size_of-kept size_of-positive refl (stream 1 events) m [] m stands.whole refl is in
-        ap (λ (l : List (List ℕ)). add_all s (map (λ m. Says 1 m) l ++ item_if (is_bad size_of (stream 1 events ++ m)) (Garbles 1)) past) ends.messages
-        ∙ ap (λ (b : Bool). add_all s (map (λ m. Says 1 m) (m ∷ []) ++ item_if b (Garbles 1)) past) ends.good
+        ap (λ (l : List (List ℕ)). add_all s (map (λ m. Says 1 m) l ++ item_if (is_bad size_of (stream 1 events ++ m)) (GoesBad 1)) past) ends.messages
+        ∙ ap (λ (b : Bool). add_all s (map (λ m. Says 1 m) (m ∷ []) ++ item_if b (GoesBad 1)) past) ends.good
         ∙ ap (λ (b : Bool). if b then hear_client s 1 m past else past) there
 
     piece_whole : (cut size_of (stream 1 (Piece 1 m ∷ events))).rest ≡ []
@@ -136,7 +136,7 @@ module _ (s : Setup) (near : s.starts_away ≡ false) where
 
       own_done_calm : Calm s (is_opening s.device m Own || opened) [] last [] [] (history s (Took 1 (length own_reply) ∷ own_events))
       unfolding proxy.history proxy.add_all
-      own_done_calm = subst (λ (b : Bool). Calm s (is_opening s.device m Own || opened) [] last [] [] (if b then Drained 1 (length own_reply) ∷ EventBegan ∷ history s own_events else EventBegan ∷ history s own_events)) (sym there_own) (drained s (began s own_calm))
+      own_done_calm = subst (λ (b : Bool). Calm s (is_opening s.device m Own || opened) [] last [] [] (if b then Taken 1 (length own_reply) ∷ EventBegan ∷ history s own_events else EventBegan ∷ history s own_events)) (sym there_own) (was_taken s (began s own_calm))
 
       own_done : Stands (is_opening s.device m Own || opened) last (Took 1 (length own_reply) ∷ own_events)
       unfolding stream modem_stream
@@ -219,18 +219,18 @@ module _ (s : Setup) (near : s.starts_away ≡ false) where
 
       taken_calm : Calm s true (request ∷ []) last_then [] [] (history s taken_events)
       unfolding proxy.history proxy.add_all
-      taken_calm = modem_drained_all s (began s said_calm) (length sent) refl
+      taken_calm = modem_taken_all s (began s said_calm) (length sent) refl
 
       taken_sound : coming.AreSound (qmi_protocol s) taken_events
       taken_sound = (le_of_eq (sym (ap length (queue_is s said_calm))), (short, stands.sound))
 
-      sent_is : sent_at request.place (view_of 1 (history s taken_events)) ≡ m
+      sent_is : said_at request.place (view_of 1 (history s taken_events)) ≡ m
       sent_is =
           let regular : Regular (history s taken_events) = histories_are_regular s taken_events taken_sound in
           let each : AllByRecursion (IsAsked (history s taken_events)) (request ∷ []) = subst (λ (l : List Request). AllByRecursion (IsAsked (history s taken_events)) l) taken_calm.waits regular.asked in
           sent_by each.0
         where
-          sent_by : IsAsked (history s taken_events) request → sent_at request.place (view_of 1 (history s taken_events)) ≡ m
+          sent_by : IsAsked (history s taken_events) request → said_at request.place (view_of 1 (history s taken_events)) ≡ m
           sent_by (inl sent) = sent.2
           sent_by (inr none) = absurd (cc)
 
@@ -255,8 +255,8 @@ module _ (s : Setup) (near : s.starts_away ≡ false) where
         modem_history =
             let ends = ends_message size_of size_of-kept size_of-positive refl stands.said x [] x stands.said_whole refl x_is in
             ap (λ (o : Option (List ℕ)). add_all s (modem_items (qmi_protocol s) x o) then_past) said_stream
-            ∙ ap (λ (l : List (List ℕ)). add_all s (map (λ m. ModemSays m) l ++ item_if (is_bad size_of (stands.said ++ x)) ModemFails) then_past) ends.messages
-            ∙ ap (λ (b : Bool). add_all s (map (λ m. ModemSays m) (x ∷ []) ++ item_if b ModemFails) then_past) ends.good
+            ∙ ap (λ (l : List (List ℕ)). add_all s (map (λ m. ModemSays m) l ++ item_if (is_bad size_of (stands.said ++ x)) ModemIsLost) then_past) ends.messages
+            ∙ ap (λ (b : Bool). add_all s (map (λ m. ModemSays m) (x ∷ []) ++ item_if b ModemIsLost) then_past) ends.good
 
         found : first_answered_by x (in_use then_past) ≡ Some request
         found = ap (first_answered_by x) then_calm.uses ∙ ap (λ (b : Bool). if b then Some request else None) answers
@@ -277,17 +277,17 @@ module _ (s : Setup) (near : s.starts_away ≡ false) where
         Answered_so after = Calm s true [] last_then [] answer_bytes after
 
         -- where the ids have changed so
-        by_change : (facts : List Fact) → Calm s true (request ∷ []) last_then [] [] facts → sent_at request.place (view_of 1 facts) ≡ m → note s.device (Answered request x) facts ≡ Answered request x ∷ facts × Answered_so (Answered request x ∷ facts)
+        by_change : (facts : List Fact) → Calm s true (request ∷ []) last_then [] [] facts → said_at request.place (view_of 1 facts) ≡ m → note s.device (Answered request x) facts ≡ Answered request x ∷ facts × Answered_so (Answered request x ∷ facts)
         by_change facts calm sent_here =
-            let written : with_number (number_of (sent_at request.place (view_of 1 facts))) (blank x) ≡ answer_bytes = ap (λ (l : List ℕ). with_number (number_of l) (blank x)) sent_here ∙ number_last (number_of m) x long in
-            let after : Calm s true (without_request request (request ∷ [])) last_then [] ([] ++ with_number (number_of (sent_at request.place (view_of 1 facts))) (blank x)) (Answered request x ∷ facts) =
-            answered s calm request x refl (omega (arith, text_length (number_of (sent_at request.place (view_of 1 facts))), x_short)) in
+            let written : with_number (number_of (said_at request.place (view_of 1 facts))) (blank x) ≡ answer_bytes = ap (λ (l : List ℕ). with_number (number_of l) (blank x)) sent_here ∙ number_last (number_of m) x long in
+            let after : Calm s true (without_request request (request ∷ [])) last_then [] ([] ++ with_number (number_of (said_at request.place (view_of 1 facts))) (blank x)) (Answered request x ∷ facts) =
+            answered s calm request x refl (omega (arith, text_length (number_of (said_at request.place (view_of 1 facts))), x_short)) in
             let none : without_request request (request ∷ []) ≡ [] = ap (λ (b : Bool). if not b then request ∷ [] else []) (eq-eqb request.serial request.serial refl) in (
               noted s (Answered request x) facts refl after.written.fits,
-              subst (λ (w : List ℕ). Calm s true [] last_then [] w (Answered request x ∷ facts)) written (subst (λ (l : List Request). Calm s true l last_then [] (with_number (number_of (sent_at request.place (view_of 1 facts))) (blank x)) (Answered request x ∷ facts)) none after),
+              subst (λ (w : List ℕ). Calm s true [] last_then [] w (Answered request x ∷ facts)) written (subst (λ (l : List Request). Calm s true l last_then [] (with_number (number_of (said_at request.place (view_of 1 facts))) (blank x)) (Answered request x ∷ facts)) none after),
             )
 
-        sent_here : sent_at request.place (view_of 1 then_past) ≡ m
+        sent_here : said_at request.place (view_of 1 then_past) ≡ m
         unfolding view
         sent_here = sent_is
 
@@ -334,7 +334,7 @@ module _ (s : Setup) (near : s.starts_away ≡ false) where
 
         done_calm : Calm s true [] last_then [] [] (history s done_events)
         unfolding proxy.history proxy.add_all
-        done_calm = subst (λ (b : Bool). Calm s true [] last_then [] [] (if b then Drained 1 (length answer_bytes) ∷ EventBegan ∷ history s heard_events else EventBegan ∷ history s heard_events)) (sym there_then) (drained s (began s heard_calm))
+        done_calm = subst (λ (b : Bool). Calm s true [] last_then [] [] (if b then Taken 1 (length answer_bytes) ∷ EventBegan ∷ history s heard_events else EventBegan ∷ history s heard_events)) (sym there_then) (was_taken s (began s heard_calm))
 
         forward_done : Stands true last_then done_events
         unfolding stream modem_stream
@@ -353,7 +353,7 @@ module _ (s : Setup) (near : s.starts_away ≡ false) where
   -- ---- before any text ----
 
   pub begins : Stands false (λ space. 0) (Joined 1 ∷ [])
-  unfolding proxy.history proxy.add_all present in_use pending view to_modem modem_drained last_number render told_by stream modem_stream cut_from
+  unfolding proxy.history proxy.add_all present in_use pending view to_modem modem_taken_count last_number render told_by stream modem_stream cut_from
   begins = record {
     sound = (omega arith, tt);
     names = refl;

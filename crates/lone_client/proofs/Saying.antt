@@ -14,7 +14,7 @@ use Rattle.proxy_history.specs.Facts.{Fact, Request, Own, Share, Judged}
 use Rattle.proxy_history.specs.Decision.{Replies}
 use Rattle.proxy_history.specs.Connections.{contains, message_count}
 use Rattle.proxy_history.specs.Requests.{pending, has_share}
-use Rattle.proxy_history.specs.View.{Sent}
+use Rattle.proxy_history.specs.View.{Said}
 use Rattle.proxy_history.specs.History as proxy
 use Rattle.mbim_proxy.specs.Setup.{Setup, fragment_for}
 use Rattle.mbim_proxy.specs.Known.{Known}
@@ -101,10 +101,10 @@ module _ (device : List ℕ) (time_limit : ℕ) where
     abbrev pub said_own : List Fact
     said_own = Judged 1 (message_count 1 past + 1) m Own ∷ past
 
-    pub own_calm : length x.waiting + length (text_as t x.known (Sent m Own)) ≤ 262144 → At (with_entry device time_limit calm (Sent m Own)) said_own
+    pub own_calm : length x.waiting + length (text_as t x.known (Said m Own)) ≤ 262144 → At (with_entry device time_limit calm (Said m Own)) said_own
     own_calm room = judged device time_limit calm (message_count 1 past + 1) m Own room
 
-    pub own_is_said : view_decides t x.known m ≡ true → length x.waiting + length (text_as t x.known (Sent m Own)) ≤ 262144 → add (Says 1 m) past ≡ said_own
+    pub own_is_said : view_decides t x.known m ≡ true → length x.waiting + length (text_as t x.known (Said m Own)) ≤ 262144 → add (Says 1 m) past ≡ said_own
     own_is_said decides room =
         added
         ∙ ap (λ (b : Bool). judge t x.known 1 m (if not b && not (is_kind Open m) && has_share t.limits.share 1 0 past then Replies Share else if b then Replies Own else shared_decision t x.known m past) past) decides
@@ -135,7 +135,7 @@ module _ (device : List ℕ) (time_limit : ℕ) where
     pub calm : At (record x { known = more_sent x.known (length fs) (assembled_of (run ++ fs)) }) then_past
     pub whole : joining_behind 65536 (assembled_of (run ++ fs)) last_one ≡ Whole body
 
-  silent_step : (known : Known) (f : List ℕ) (run : List (List ℕ)) → known.begun ≡ assembled_of run → IsFragment f → joining 65536 run f ≡ More → step t known (Sent f Own) ≡ more_sent known 1 (assembled_of (run ++ f ∷ []))
+  silent_step : (known : Known) (f : List ℕ) (run : List (List ℕ)) → known.begun ≡ assembled_of run → IsFragment f → joining 65536 run f ≡ More → step t known (Said f Own) ≡ more_sent known 1 (assembled_of (run ++ f ∷ []))
   silent_step known f run begun is more =
       let stands = assemblies_stand_for_runs 65536 run f in
       let same : joining_behind 65536 known.begun f ≡ More = ap (λ (a : Assembled). joining_behind 65536 a f) begun ∙ stands.joining_is ∙ more in
@@ -170,13 +170,13 @@ module _ (device : List ℕ) (time_limit : ℕ) where
       let then_are : joinings_from 65536 (run ++ f ∷ []) (fs ++ last_one ∷ []) ≡ replicate (length fs) More ++ Whole body ∷ [] = ap (λ (r : List (List ℕ)). joinings_from 65536 r (fs ++ last_one ∷ [])) (sym after) ∙ left in
       let stands = assemblies_stand_for_runs 65536 run f in
       let same : joining_behind 65536 known.begun f ≡ More = ap (λ (a : Assembled). joining_behind 65536 a f) begun ∙ stands.joining_is ∙ more in
-      let text_is : text_as t known (Sent f Own) ≡ [] = ap (reply_text known (number_of f)) (silent_reply known f all.0 same) in
-      let fits : length x.waiting + length (text_as t known (Sent f Own)) ≤ 262144 = (let none : length (text_as t known (Sent f Own)) ≡ 0 = ap length text_is in omega (arith, none, room)) in
+      let text_is : text_as t known (Said f Own) ≡ [] = ap (reply_text known (number_of f)) (silent_reply known f all.0 same) in
+      let fits : length x.waiting + length (text_as t known (Said f Own)) ≤ 262144 = (let none : length (text_as t known (Said f Own)) ≡ 0 = ap length text_is in omega (arith, none, room)) in
       let said : add (Says 1 f) past ≡ Judged 1 (message_count 1 past + 1) f Own ∷ past = own_is_said calm f (silent_decides known f all.0 same) fits in
       let next_known : Known = more_sent known 1 (assembled_of (run ++ f ∷ [])) in
       let next : At (with_known x next_known) (Judged 1 (message_count 1 past + 1) f Own ∷ past) =
       subst (λ (k : Known). At (with_known x k) (Judged 1 (message_count 1 past + 1) f Own ∷ past)) (silent_step known f run begun all.0 more)
-      (subst (λ (w : List ℕ). At (record x { known = step t known (Sent f Own); waiting = w }) (Judged 1 (message_count 1 past + 1) f Own ∷ past)) (ap (λ (l : List ℕ). x.waiting ++ l) text_is ∙ append-nil x.waiting) (own_calm calm f fits)) in
+      (subst (λ (w : List ℕ). At (record x { known = step t known (Said f Own); waiting = w }) (Judged 1 (message_count 1 past + 1) f Own ∷ past)) (ap (λ (l : List ℕ). x.waiting ++ l) text_is ∙ append-nil x.waiting) (own_calm calm f fits)) in
       let later = begins fs (run ++ f ∷ []) last_one body rest next refl all.1 room then_are in
       let joined : (run ++ f ∷ []) ++ fs ≡ run ++ f ∷ fs = append_assoc run (f ∷ []) fs in
       record {

@@ -28,7 +28,7 @@ use Rattle.mbim_fragments.proofs.Sizes.{length-split, one_part}
 use Rattle.proxy_history.specs.Events.{Event, Piece}
 use Rattle.proxy_history.specs.Facts.{Fact, Request, EventBegan, Own, Forward, Waits, Judged, Forwarded, ListSent}
 use Rattle.proxy_history.specs.Connections.{message_count}
-use Rattle.proxy_history.specs.View.{Sent, Response}
+use Rattle.proxy_history.specs.View.{Said, Response}
 use Rattle.mbim_proxy.specs.Setup.{Setup, fragment_for}
 use Rattle.mbim_proxy.specs.Known.{Known, Ask, ask_at, without_ask}
 use Rattle.mbim_proxy.specs.ModemStates.{ModemState, IsShut, IsOpening, IsReady}
@@ -155,7 +155,7 @@ module _ (device : List ℕ) (time_limit : ℕ) (modem : Answering) where
     abbrev answer : List ℕ
     answer = law.got device time_limit modem (Names number command) before met
 
-    text_is : text_as t known (Sent parts.last Own) ≡ answer
+    text_is : text_as t known (Said parts.last Own) ≡ answer
     text_is = ap (reply_text known (number_of parts.last)) reply_is ∙ ap (λ (n : ℕ). reply_text known n (Configures command)) parts.number_is
 
     answer_short : length answer ≤ 262144
@@ -166,10 +166,10 @@ module _ (device : List ℕ) (time_limit : ℕ) (modem : Answering) where
         let body_short : length body ≤ 28 = omega (arith, body_length, length-take 16 command) in
         omega (arith, length-split (kind_number kind.CommandDone) number 4096 body (omega arith), one_part 4076 (length body) (omega arith) (omega (arith, body_short)), body_short)
 
-    fits : 0 + length (text_as t known (Sent parts.last Own)) ≤ 262144
+    fits : 0 + length (text_as t known (Said parts.last Own)) ≤ 262144
     fits = omega (arith, ap length text_is, answer_short)
 
-    known_then : step t known (Sent parts.last Own) ≡ known_at Named (sent + length parts.front + 1) asks
+    known_then : step t known (Said parts.last Own) ≡ known_at Named (sent + length parts.front + 1) asks
     known_then = ap₂ (λ (r : OwnReply) (k : Known). with_reply r k) reply_is (with_fragment known parts.last parts.front command parts.last_is refl open_command.whole)
 
     abbrev named_scene : Scene
@@ -181,7 +181,7 @@ module _ (device : List ℕ) (time_limit : ℕ) (modem : Answering) where
     named_calm : At named_scene named_facts
     named_calm =
         subst (λ (w : List ℕ). At (record named_scene { waiting = w }) named_facts) text_is
-        (subst (λ (k : Known). At (record named_scene { known = k; waiting = text_as t known (Sent parts.last Own) }) named_facts) known_then (own_calm device time_limit open_command.calm parts.last fits))
+        (subst (λ (k : Known). At (record named_scene { known = k; waiting = text_as t known (Said parts.last Own) }) named_facts) known_then (own_calm device time_limit open_command.calm parts.last fits))
 
     named_stands : StandsSo named_scene (Piece 1 (command_text number command) ∷ stage.events)
     named_stands =
@@ -220,7 +220,7 @@ module _ (device : List ℕ) (time_limit : ℕ) (modem : Answering) where
     r = opening device time_limit named open_past_calm m refl refl refl refl
 
     abbrev opening_scene : Scene
-    opening_scene = record named { known = step t named.known (Sent m Waits); modem = IsOpening; requests = r ∷ []; last = given; queue = open_request given 4096 }
+    opening_scene = record named { known = step t named.known (Said m Waits); modem = IsOpening; requests = r ∷ []; last = given; queue = open_request given 4096 }
 
     abbrev opening_facts : List Fact
     opening_facts = Forwarded r ∷ Judged 1 (message_count 1 at_open + 1) m Waits ∷ at_open
@@ -340,7 +340,7 @@ module _ (device : List ℕ) (time_limit : ℕ) (modem : Answering) where
     abbrev asked_known : Known
     asked_known = known_at Opened (begun_known.sent + 1) (ask_made ∷ asks)
 
-    known_asked : step t begun_known (Sent command_parts.last Forward) ≡ asked_known
+    known_asked : step t begun_known (Said command_parts.last Forward) ≡ asked_known
     known_asked = ap (λ (k : Known). let made : Known = record k { asks = ask_made ∷ k.asks } in made) (with_fragment begun_known command_parts.last command_parts.front command command_parts.last_is refl begun.whole)
 
     abbrev asked_scene : Scene

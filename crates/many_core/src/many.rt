@@ -20,6 +20,7 @@ ghost use Rattle.many_core.specs.Core.{Stands, StandsAfter, MayMeet, IsBounded, 
 
 use framing::LONGEST_PIECE;
 use hub_io::{Event, Limits};
+use kit_bytes::ConnId;
 use many_cores::{Cores, has};
 use many_io::ManyEvent;
 use many_seats::{Paths, Seats};
@@ -119,7 +120,7 @@ impl ManyCore {
     }
 
     // A client connected.
-    fn join(&mut self, conn: u64) -> bool
+    fn join(&mut self, conn: ConnId) -> bool
         requires newer { self.old.core.greatest < conn }
         requires hung_up { self.old.core.dropped ≡ [] }
         ensures met { self.new ≡ met (history.Joined conn) self.old }
@@ -131,7 +132,7 @@ impl ManyCore {
     }
 
     // A piece of a client's stream.
-    fn bring(&mut self, conn: u64, piece: &[u8]) -> bool
+    fn bring(&mut self, conn: ConnId, piece: &[u8]) -> bool
         requires short { length piece.now ≤ LONGEST_PIECE }
         requires hung_up { self.old.core.dropped ≡ [] }
         ensures met { self.new ≡ met (history.Piece conn piece.now) self.old }
@@ -147,7 +148,7 @@ impl ManyCore {
     }
 
     // A piece of one that hasn't chosen yet, at this place.
-    fn hear(&mut self, place: usize, conn: u64, piece: &[u8]) -> bool
+    fn hear(&mut self, place: usize, conn: ConnId, piece: &[u8]) -> bool
         requires at { Some place ≡ position (λ seat. seat.conn == conn) self.old.core.seats }
         requires within { place < length self.old.core.seats }
         requires undecided { (seat : ManySeat) → IsSeat seat self.old.core.seats place → chosen_in seat.place ≡ None }
@@ -169,7 +170,7 @@ impl ManyCore {
     }
 
     // A client is gone.
-    fn leave(&mut self, conn: u64) -> bool
+    fn leave(&mut self, conn: ConnId) -> bool
         requires { self.old.core.dropped ≡ [] }
         ensures met { self.new ≡ met (history.Left conn) self.old }
         ensures moved { result ≡ false → MovesNobody (history.Left conn) self.old }
@@ -189,7 +190,7 @@ impl ManyCore {
     }
 
     // A client's socket took the first so many of the bytes that waited for it.
-    fn take(&mut self, conn: u64, count: usize) -> bool
+    fn take(&mut self, conn: ConnId, count: usize) -> bool
         requires may_come { MayMeet (history.Took conn count) self.old }
         requires hung_up { self.old.core.dropped ≡ [] }
         ensures met { self.new ≡ met (history.Took conn count) self.old }
@@ -262,7 +263,7 @@ impl ManyCore {
 
     // The core of the device at which a connection is that is there, or was dropped and wasn't asked for
     // yet, and its name there.
-    fn core_of(&self, conn: u64) -> Option<(&QmiCore, u64)>
+    fn core_of(&self, conn: ConnId) -> Option<(&QmiCore, u64)>
         ensures found { IfSome result (λ found. waiting_for conn self.now ≡ state.waiting_for found.1 found.0.now) }
         ensures none { IsNone result → waiting_for conn self.now ≡ [] }
         ensures some { 0 < length self.now.paths }
@@ -276,7 +277,7 @@ impl ManyCore {
 
     /// The first of the bytes that wait for a connection that is there, or that was dropped and wasn't
     /// asked for yet; none only where none wait, and for any other name.
-    pub fn queued(&self, conn: u64) -> &[u8]
+    pub fn queued(&self, conn: ConnId) -> &[u8]
         ensures queue { IsFrontOf result.now (waiting_for conn self.now) }
         ensures text { (events : List HistoryEvent) → Stands events self.now → IsTrue (is_owed conn self.now) → IsFrontOf result.now (text_for self.now conn events).waiting }
     {
@@ -288,7 +289,7 @@ impl ManyCore {
 
     /// The first of the bytes that wait for a connection that is there, those of whoever was dropped left
     /// aside; none only where none wait, and for any other name.
-    pub fn queued_there(&self, conn: u64) -> &[u8]
+    pub fn queued_there(&self, conn: ConnId) -> &[u8]
         ensures { IsFrontOf result.now (queue_at qmi_handlers self.now.core.cores (place_of conn self.now.core.seats)) }
     {
         let Some(place) = self.seats.find(conn) else {
@@ -302,7 +303,7 @@ impl ManyCore {
 
     /// All the bytes that wait for a connection that is there, or that was dropped and wasn't asked for
     /// yet, in two parts; none for any other name.
-    pub fn parts(&self, conn: u64) -> (&[u8], &[u8])
+    pub fn parts(&self, conn: ConnId) -> (&[u8], &[u8])
         ensures queue { result.0.now ++ result.1.now ≡ waiting_for conn self.now }
         ensures text { (events : List HistoryEvent) → Stands events self.now → IsTrue (is_owed conn self.now) → result.0.now ++ result.1.now ≡ (text_for self.now conn events).waiting }
     {
@@ -348,7 +349,7 @@ impl ManyCore {
     }
 
     /// The next connection to hang up, each once.
-    pub fn next_dropped(&mut self) -> Option<u64>
+    pub fn next_dropped(&mut self) -> Option<ConnId>
         ensures first { result ≡ first_conn self.old.core.dropped }
         ensures asked { self.new ≡ record self.old { core = record self.old.core { dropped = drop 1 self.old.core.dropped } } }
         ensures stands { (events : List HistoryEvent) → Stands events self.old → Stands events self.new }
@@ -371,7 +372,7 @@ impl ManyCore {
     }
 
     /// The connection of this place in the order of joining.
-    pub fn conn_at(&self, place: usize) -> u64
+    pub fn conn_at(&self, place: usize) -> ConnId
         requires { place < length self.now.core.seats }
         ensures { (seat : ManySeat) → IsSeat seat self.now.core.seats place → result ≡ seat.conn }
     {
@@ -456,7 +457,7 @@ fn only_waiting(core: &QmiCore, first: usize) -> Option<u64>
 
 // Whether bytes wait for one that is there for its device, likely at this place. Where a name is given,
 // they wait for nobody else there.
-fn waits(core: &QmiCore, name: u64, place: usize, only: Option<u64>) -> bool
+fn waits(core: &QmiCore, name: ConnId, place: usize, only: Option<u64>) -> bool
     requires { NobodyElseWaits only core.now }
     ensures { result ≡ nat_lt 0 (length (queue_under qmi_handlers name (Some core.now))) }
 {
@@ -467,7 +468,7 @@ fn waits(core: &QmiCore, name: u64, place: usize, only: Option<u64>) -> bool
 }
 
 // Whether somebody of this name is there for a device, likely at this place.
-fn has_at(core: &QmiCore, name: u64, place: usize) -> bool
+fn has_at(core: &QmiCore, name: ConnId, place: usize) -> bool
     ensures { result ≡ has_in name (Some core.now) }
 {
     if place < core.present() {
@@ -479,7 +480,7 @@ fn has_at(core: &QmiCore, name: u64, place: usize) -> bool
 }
 
 // The first of the bytes that wait for one that is there for its device, likely at this place.
-fn queued_in(core: &QmiCore, name: u64, place: usize) -> &[u8]
+fn queued_in(core: &QmiCore, name: ConnId, place: usize) -> &[u8]
     ensures { IsFrontOf result.now (queue_under qmi_handlers name (Some core.now)) }
 {
     let queue = core.queued(name);

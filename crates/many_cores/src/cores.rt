@@ -12,6 +12,7 @@ ghost use Rattle.many_cores.specs.Cores.{IsCore, after, met, said, HasNoFewer};
 
 use framing::LONGEST_PIECE;
 use hub_io::{Event, Limits};
+use kit_bytes::ConnId;
 use qmi_core::QmiCore;
 use std::alloc::{AllocError, Global};
 use std::marker::Model;
@@ -87,7 +88,7 @@ impl Cores {
     }
 
     /// A client arrives at a device under this name: it says what it said before, and then this.
-    pub fn arrive(&mut self, device: usize, name: u64, before: &[u8], piece: &[u8])
+    pub fn arrive(&mut self, device: usize, name: ConnId, before: &[u8], piece: &[u8])
         requires within { device < length self.old }
         requires newer { (core : CoreValue) → IsCore core self.old device → core.state.table.greatest < name }
         requires short { length piece.now ≤ LONGEST_PIECE }
@@ -127,7 +128,7 @@ fn meet(core: &mut QmiCore, event: Event<'_>) -> bool
 }
 
 // A client arrives, and says both one after the other.
-fn arrive(core: &mut QmiCore, name: u64, before: &[u8], piece: &[u8])
+fn arrive(core: &mut QmiCore, name: ConnId, before: &[u8], piece: &[u8])
     requires newer { core.old.state.table.greatest < name }
     requires short { length piece.now ≤ LONGEST_PIECE }
     ensures { core.new ≡ after (arrival name before.now piece.now) core.old }
@@ -138,7 +139,7 @@ fn arrive(core: &mut QmiCore, name: u64, before: &[u8], piece: &[u8])
 }
 
 // A client says these bytes, in pieces.
-fn say(core: &mut QmiCore, name: u64, bytes: &[u8])
+fn say(core: &mut QmiCore, name: ConnId, bytes: &[u8])
     ensures { core.new ≡ said name (in_pieces bytes.now) core.old }
 {
     let mut rest = bytes;
@@ -150,7 +151,7 @@ fn say(core: &mut QmiCore, name: u64, bytes: &[u8])
 }
 
 /// Whether somebody of this name is there.
-pub fn has(core: &QmiCore, name: u64) -> bool
+pub fn has(core: &QmiCore, name: ConnId) -> bool
     ensures { result ≡ has name (Some core.now) }
 {
     let mut place = 0;

@@ -6,8 +6,8 @@ use Rattle.std.proofs.lemmas.Bool.Decides.{nat_tests}
 use Rattle.framing.specs.Framing.{IsKept}
 use Rattle.proxy_history.specs.Events.{Event, Joined, Piece, Left, Took, is_anothers}
 use Rattle.proxy_history.specs.Streams.{stream}
-use Rattle.proxy_history.specs.Items.{Item, Joins, Says, Garbles, Leaves, Takes, items_of}
-use Rattle.proxy_history.specs.Facts.{Fact, Request, EventBegan, Closed, NotAdmitted, BadStream, NoRoom, Admitted, Ended}
+use Rattle.proxy_history.specs.Items.{Item, Joins, Says, GoesBad, Leaves, Takes, items_of}
+use Rattle.proxy_history.specs.Facts.{Fact, Request, EventBegan, Leaving, NotAdmitted, BadStream, NoRoom, Admitted, Ended}
 use Rattle.proxy_history.specs.Connections.{present, dropped, is_present, contains, without}
 use Rattle.proxy_history.specs.Noting.{end}
 use Rattle.proxy_history.specs.Protocol.{Protocol}
@@ -49,7 +49,7 @@ ends name _ = false
 
 -- it ends because it went by itself, or an event begins
 abbrev closes : ℕ → Fact → Bool
-closes name (Ended c Closed) = c == name
+closes name (Ended c Leaving) = c == name
 closes name EventBegan = true
 closes name _ = false
 
@@ -100,7 +100,7 @@ stays_owed : (name : ℕ) (fact : Fact) (past : List Fact) → closes name fact 
 unfolding present dropped
 stays_owed name EventBegan past other is = absurd (cc)
 stays_owed name (Admitted c) past other is = more_there name c (present past) (dropped past) is
-stays_owed name (Ended c Closed) past other is = less_there name c (present past) (dropped past) other is
+stays_owed name (Ended c Leaving) past other is = less_there name c (present past) (dropped past) other is
 stays_owed name (Ended c NotAdmitted) past other is = moved_there name c (present past) (dropped past) is
 stays_owed name (Ended c BadStream) past other is = moved_there name c (present past) (dropped past) is
 stays_owed name (Ended c NoRoom) past other is = moved_there name c (present past) (dropped past) is
@@ -123,10 +123,10 @@ item_ends name (Joined c) (Joins d) (Ended e why) past other of may = absurd may
 item_ends name (Joined c) _ (Ended e why) past other of may = absurd of
 item_ends name (Piece c bytes) (Says d m) (Ended e NoRoom) past other of may = ap (λ (n : ℕ). n == name) (may ∙ of) ∙ not_true (c == name) other
 item_ends name (Piece c bytes) (Says d m) (Ended e why) past other of may = absurd may
-item_ends name (Piece c bytes) (Garbles d) (Ended e BadStream) past other of may = ap (λ (n : ℕ). n == name) (may ∙ of) ∙ not_true (c == name) other
-item_ends name (Piece c bytes) (Garbles d) (Ended e why) past other of may = absurd may
+item_ends name (Piece c bytes) (GoesBad d) (Ended e BadStream) past other of may = ap (λ (n : ℕ). n == name) (may ∙ of) ∙ not_true (c == name) other
+item_ends name (Piece c bytes) (GoesBad d) (Ended e why) past other of may = absurd may
 item_ends name (Piece c bytes) _ (Ended e why) past other of may = absurd of
-item_ends name (Left c) (Leaves d) (Ended e Closed) past other of may = ap (λ (n : ℕ). n == name) (may ∙ of) ∙ not_true (c == name) other
+item_ends name (Left c) (Leaves d) (Ended e Leaving) past other of may = ap (λ (n : ℕ). n == name) (may ∙ of) ∙ not_true (c == name) other
 item_ends name (Left c) (Leaves d) (Ended e why) past other of may = absurd may
 item_ends name (Left c) _ (Ended e why) past other of may = absurd of
 item_ends name (Took c count) (Takes d taken) (Ended e why) past other of may = absurd may
@@ -135,9 +135,9 @@ item_ends name _ item (Ended e why) past other of may = absurd (cc)
 item_ends name event item _ past other of may = refl
 
 item_closes : (name : ℕ) (event : Event) (item : Item) (fact : Fact) (past : List Fact) → leaves name event ≡ false → IsOf event item → MayAdd item fact past → closes name fact ≡ false
-item_closes name (Left c) (Leaves d) (Ended e Closed) past other of may = ap (λ (n : ℕ). n == name) (may ∙ of) ∙ other
-item_closes name _ (Leaves d) (Ended e Closed) past other of may = absurd of
-item_closes name event _ (Ended e Closed) past other of may = absurd may
+item_closes name (Left c) (Leaves d) (Ended e Leaving) past other of may = ap (λ (n : ℕ). n == name) (may ∙ of) ∙ other
+item_closes name _ (Leaves d) (Ended e Leaving) past other of may = absurd of
+item_closes name event _ (Ended e Leaving) past other of may = absurd may
 item_closes name event _ EventBegan past other of may = absurd may
 item_closes name event item _ past other of may = refl
 

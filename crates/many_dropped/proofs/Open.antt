@@ -6,7 +6,7 @@ use Rattle.framing.specs.Framing.{IsKept, is_invalid}
 use Rattle.framing.specs.Cutting.{Cutting, cut, behind}
 use Rattle.framing.proofs.Cuts.{cut-append, cut-bad}
 use Rattle.proxy_history.specs.Streams.{Framing, is_bad}
-use Rattle.proxy_history.specs.Items.{Says, Garbles, item_if, client_items}
+use Rattle.proxy_history.specs.Items.{Says, GoesBad, item_if, client_items}
 
 module _ (size : Framing) where
   -- it holds none, and may still become one
@@ -54,5 +54,5 @@ module _ (size : Framing) where
     -- a piece with which it holds none brings nothing
     pub no_items : (c : ℕ) (before piece : List ℕ) → IsOpen (before ++ piece) → client_items size c before piece ≡ []
     no_items c before piece whole =
-        ap (λ (l : List (List ℕ)). map (λ m. Says c m) l ++ item_if (is_bad size (before ++ piece)) (Garbles c)) (none_dropped (length (cut size before).messages) (cut size (before ++ piece)).messages whole.none)
-        ∙ ap (λ (b : Bool). item_if b (Garbles c)) whole.good
+        ap (λ (l : List (List ℕ)). map (λ m. Says c m) l ++ item_if (is_bad size (before ++ piece)) (GoesBad c)) (none_dropped (length (cut size before).messages) (cut size (before ++ piece)).messages whole.none)
+        ∙ ap (λ (b : Bool). item_if b (GoesBad c)) whole.good

@@ -6,7 +6,7 @@ use Rattle.std.proofs.lemmas.Bool.Decides.{nat_tests}
 use Rattle.proxy_history.specs.Events.{Event}
 use Rattle.proxy_history.specs.Events as one
 use Rattle.proxy_history.specs.Items.{Item, Joins, items_of}
-use Rattle.proxy_history.specs.Facts.{Fact, Request, EventBegan, Closed, Admitted, Ended}
+use Rattle.proxy_history.specs.Facts.{Fact, Request, EventBegan, Leaving, Admitted, Ended}
 use Rattle.proxy_history.specs.Connections.{present, is_present, contains}
 use Rattle.proxy_history.specs.Coming.{greatest_name}
 use Rattle.proxy_history.specs.Protocol.{Protocol}
@@ -93,7 +93,7 @@ module _ {Known : Type 0} (p : Protocol Known) (Asks : Request → List Fact →
       (add_all p (items_of p events (one.Left name)) begun) (sound_items p Asks O (items_of p events (one.Left name)) begun (begun_is_sound p Asks O events))
       (by (contains name (present begun)) refl)
     where
-      by : (b : Bool) → contains name (present (history p events)) ≡ b → contains name (present (if b then Ended name Closed ∷ EventBegan ∷ history p events else EventBegan ∷ history p events)) ≡ false
+      by : (b : Bool) → contains name (present (history p events)) ≡ b → contains name (present (if b then Ended name Leaving ∷ EventBegan ∷ history p events else EventBegan ∷ history p events)) ≡ false
       by true e = contains_kept name (λ d. not (name == d)) (present (history p events)) ∙ ap (λ (b : Bool). contains name (present (history p events)) && not b) (eq-eqb name name refl) ∙ and_none (contains name (present (history p events)))
       by false e = e
 

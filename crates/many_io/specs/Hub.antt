@@ -12,16 +12,16 @@ use Rattle.many_io.specs.declared.hub.ManyHubEvent.TheVariants.{Joined, Piece, L
 -- ---- what is answered ----
 
 -- an event whose device isn't named
-abbrev pub unnamed_told : ManyHubEvent → HubEvent
-unnamed_told (Joined conn) = one.Joined conn
-unnamed_told (Piece conn size) = one.Piece conn size
-unnamed_told (Left conn) = one.Left conn
-unnamed_told (ModemPiece device size) = one.ModemPiece size
-unnamed_told (ModemGone device) = one.ModemGone
-unnamed_told (Now time) = one.Now time
-unnamed_told (Room conn) = one.Room conn
-unnamed_told (ModemRoom device) = one.ModemRoom
-unnamed_told Stop = one.Stop
+abbrev pub told_without_device : ManyHubEvent → HubEvent
+told_without_device (Joined conn) = one.Joined conn
+told_without_device (Piece conn size) = one.Piece conn size
+told_without_device (Left conn) = one.Left conn
+told_without_device (ModemPiece device size) = one.ModemPiece size
+told_without_device (ModemGone device) = one.ModemGone
+told_without_device (Now time) = one.Now time
+told_without_device (Room conn) = one.Room conn
+told_without_device (ModemRoom device) = one.ModemRoom
+told_without_device Stop = one.Stop
 
 -- where it is of a modem, that is the modem of one of so many devices
 abbrev pub IsOfDevice : ManyHubEvent → ℕ → Type 0

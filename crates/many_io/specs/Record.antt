@@ -44,36 +44,36 @@ events (_ ∷ calls) = events calls
 
 -- ---- calls whose devices aren't named ----
 
-abbrev pub unnamed : ManyEvent → Event
-unnamed (Joined c) = one.Joined c
-unnamed (Piece c bytes) = one.Piece c bytes
-unnamed (Left c) = one.Left c
-unnamed (Took c count) = one.Took c count
-unnamed (ModemPiece d bytes) = one.ModemPiece bytes
-unnamed (ModemGone d) = one.ModemGone
-unnamed (ModemBack d) = one.ModemBack
-unnamed (ModemTook d count) = one.ModemTook count
-unnamed (Now time) = one.Now time
+abbrev pub without_device : ManyEvent → Event
+without_device (Joined c) = one.Joined c
+without_device (Piece c bytes) = one.Piece c bytes
+without_device (Left c) = one.Left c
+without_device (Took c count) = one.Took c count
+without_device (ModemPiece d bytes) = one.ModemPiece bytes
+without_device (ModemGone d) = one.ModemGone
+without_device (ModemBack d) = one.ModemBack
+without_device (ModemTook d count) = one.ModemTook count
+without_device (Now time) = one.Now time
 
 abbrev pub first_of : List Address → Option Address
 first_of [] = None
 first_of (device ∷ devices) = Some device
 
-abbrev pub unnamed_call : ManyCall → Call
-unnamed_call (Told event) = one_call.Told (unnamed event)
-unnamed_call (ToldRoom c) = one_call.ToldRoom c
-unnamed_call (ToldModemRoom d) = one_call.ToldModemRoom
-unnamed_call ToldStop = one_call.ToldStop
-unnamed_call NextFailed = one_call.NextFailed
-unnamed_call (Sent c bytes taken) = one_call.Sent c bytes taken
-unnamed_call (SendFailed c bytes) = one_call.SendFailed c bytes
-unnamed_call (SentModem d bytes taken) = one_call.SentModem bytes taken
-unnamed_call (SendModemFailed d bytes) = one_call.SendModemFailed bytes
-unnamed_call (Opened socket devices ok) = one_call.Opened socket (first_of devices) ok
-unnamed_call (Paired ok) = one_call.Paired ok
-unnamed_call (Reopened d) = one_call.Reopened
-unnamed_call (ReopenFailed d) = one_call.ReopenFailed
-unnamed_call (HungUp c) = one_call.HungUp c
+abbrev pub call_without_device : ManyCall → Call
+call_without_device (Told event) = one_call.Told (without_device event)
+call_without_device (ToldRoom c) = one_call.ToldRoom c
+call_without_device (ToldModemRoom d) = one_call.ToldModemRoom
+call_without_device ToldStop = one_call.ToldStop
+call_without_device NextFailed = one_call.NextFailed
+call_without_device (Sent c bytes taken) = one_call.Sent c bytes taken
+call_without_device (SendFailed c bytes) = one_call.SendFailed c bytes
+call_without_device (SentModem d bytes taken) = one_call.SentModem bytes taken
+call_without_device (SendModemFailed d bytes) = one_call.SendModemFailed bytes
+call_without_device (Opened socket devices ok) = one_call.Opened socket (first_of devices) ok
+call_without_device (Paired ok) = one_call.Paired ok
+call_without_device (Reopened d) = one_call.Reopened
+call_without_device (ReopenFailed d) = one_call.ReopenFailed
+call_without_device (HungUp c) = one_call.HungUp c
 
-abbrev pub unnamed_calls : List ManyCall → List Call
-unnamed_calls calls = map unnamed_call calls
+abbrev pub calls_without_device : List ManyCall → List Call
+calls_without_device calls = map call_without_device calls

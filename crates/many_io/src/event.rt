@@ -1,15 +1,17 @@
+use kit_bytes::ConnId;
+
 /// What happens to a proxy of several devices. Connections have names, and no two have the same;
 /// devices are counted from 0.
 #[derive(Clone, Copy, Debug)]
 pub enum ManyEvent<'a> {
     /// A client connected.
-    Joined(u64),
+    Joined(ConnId),
     /// Bytes of a client.
-    Piece(u64, &'a [u8]),
+    Piece(ConnId, &'a [u8]),
     /// A client is gone.
-    Left(u64),
+    Left(ConnId),
     /// A client's socket took so many of the bytes that were queued for it.
-    Took(u64, usize),
+    Took(ConnId, usize),
     /// Bytes of a device's modem.
     ModemPiece(usize, &'a [u8]),
     ModemGone(usize),

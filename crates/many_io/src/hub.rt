@@ -5,6 +5,7 @@ ghost use Rattle.kit_io.specs.Causes.{HasCause};
 ghost use Rattle.kit_io.specs.Counts.{one_more};
 
 use hub_io::NEXT_ROOM;
+use kit_bytes::ConnId;
 use kit_io::Failed;
 use link_io::Target;
 
@@ -13,18 +14,18 @@ use link_io::Target;
 #[derive(Clone, Copy, Debug, PartialEq, Eq)]
 pub enum ManyHubEvent {
     /// A client came.
-    Joined(u64),
+    Joined(ConnId),
     /// So many bytes of a client stand at the front of the buffer.
-    Piece(u64, usize),
+    Piece(ConnId, usize),
     /// A client is gone.
-    Left(u64),
+    Left(ConnId),
     /// So many bytes of a device's modem stand at the front of the buffer.
     ModemPiece(usize, usize),
     ModemGone(usize),
     /// The milliseconds since the opening.
     Now(u64),
     /// A client that took nothing takes bytes again.
-    Room(u64),
+    Room(ConnId),
     /// A device's modem, which took nothing, takes bytes again.
     ModemRoom(usize),
     /// The serving is to end.
@@ -37,9 +38,9 @@ pub trait ManyHub {
     ghost use Rattle.hub_io.specs.Record.{Records};
     ghost use Rattle.hub_io.specs.Hub.{FitsBuffer, NamesRise, SameClients, GoesAlone, ToldOfThose, NoneFell};
     ghost use Rattle.many_io.specs.Record.{ManyCall, HungUp, Paired};
-    ghost use Rattle.many_io.specs.Hub.{unnamed_told, IsOfDevice, opened_call, next_call, send_call, send_modem_call, reopen_call};
+    ghost use Rattle.many_io.specs.Hub.{told_without_device, IsOfDevice, opened_call, next_call, send_call, send_modem_call, reopen_call};
 
-    /// The calls so far, where told, the newest first.
+    /// The calls so far, where recorded, the newest first.
     ghost calls: { Self → Option (List ManyCall) };
 
     /// How many of the hub's own calls have failed.
@@ -92,20 +93,20 @@ pub trait ManyHub {
     /// Waits for the next event.
     fn next(&mut self, buf: &mut [u8]) -> Result<ManyHubEvent, Failed>
         requires { length buf.old ≡ NEXT_ROOM }
-        ensures fits { IfOk result (λ event. FitsBuffer (unnamed_told event) NEXT_ROOM) }
+        ensures fits { IfOk result (λ event. FitsBuffer (told_without_device event) NEXT_ROOM) }
         ensures device { IfOk result (λ event. IsOfDevice event (devices self.old)) }
         ensures calls { Records (calls self.old) (next_call result buf.new) (calls self.new) }
         ensures cause { HasCause (faults self.old) (faults self.new) result }
         ensures conns { NoneFell (conn_faults self.old) (conn_faults self.new) }
         ensures modems { NoneFell (modem_faults self.old) (modem_faults self.new) }
-        ensures names { NamesRise (option_map unnamed_told (result_ok result)) (greatest self.old) (greatest self.new) }
-        ensures clients { ToldOfThose (option_map unnamed_told (result_ok result)) (is_connected self.old) (is_connected self.new) }
+        ensures names { NamesRise (option_map told_without_device (result_ok result)) (greatest self.old) (greatest self.new) }
+        ensures clients { ToldOfThose (option_map told_without_device (result_ok result)) (is_connected self.old) (is_connected self.new) }
         ensures devices { devices self.new ≡ devices self.old }
         ensures made { made self.new ≡ one_more (made self.old) };
 
     /// Hands bytes to a client's socket, which takes a front of them: no byte where it takes none
     /// now.
-    fn send(&mut self, conn: u64, bytes: &[u8]) -> Result<usize, Failed>
+    fn send(&mut self, conn: ConnId, bytes: &[u8]) -> Result<usize, Failed>
         requires { 0 < length bytes.now }
         ensures within { IfOk result (λ count. count ≤ length bytes.now) }
         ensures calls { Records (calls self.old) (send_call result conn bytes.now) (calls self.new) }
@@ -147,7 +148,7 @@ pub trait ManyHub {
         ensures made { made self.new ≡ one_more (made self.old) };
 
     /// Ends a client's connection. The client isn't there any more, so no event of it follows.
-    fn hang_up(&mut self, conn: u64)
+    fn hang_up(&mut self, conn: ConnId)
         ensures calls { Records (calls self.old) (HungUp conn) (calls self.new) }
         ensures own { faults self.old ≤ faults self.new }
         ensures conns { NoneFell (conn_faults self.old) (conn_faults self.new) }

@@ -1,17 +1,18 @@
 ghost use Rattle.std.specs.Prelude.{◌≡◌, ℕ, List, map};
 ghost use Rattle.std.specs.Option.{option_map};
 ghost use Rattle.hub_io.specs.Hub.{event_call as one_event_call};
-ghost use Rattle.many_io.specs.Hub.{unnamed_told, IsOfDevice, event_call};
+ghost use Rattle.many_io.specs.Hub.{told_without_device, IsOfDevice, event_call};
 ghost use Rattle.many_io.specs.One.{call_of};
 
 use crate::hub::{ManyHub, ManyHubEvent};
 use hub_io::{Hub, HubEvent};
+use kit_bytes::ConnId;
 use kit_io::Failed;
 use link_io::Target;
 
 // What a hub of one device tells, as one of several tells it.
 fn of_the_only(told: HubEvent) -> ManyHubEvent
-    ensures unnamed { unnamed_told result ≡ told }
+    ensures without_device { told_without_device result ≡ told }
     ensures device { IsOfDevice result 1 }
     ensures call { (buffer : List ℕ) → event_call result buffer ≡ call_of (one_event_call told buffer) }
 {
@@ -65,7 +66,7 @@ impl<H: Hub> ManyHub for H {
         }
     }
 
-    fn send(&mut self, conn: u64, bytes: &[u8]) -> Result<usize, Failed> {
+    fn send(&mut self, conn: ConnId, bytes: &[u8]) -> Result<usize, Failed> {
         Hub::send(self, conn, bytes)
     }
 
@@ -77,7 +78,7 @@ impl<H: Hub> ManyHub for H {
         Hub::reopen_modem(self)
     }
 
-    fn hang_up(&mut self, conn: u64) {
+    fn hang_up(&mut self, conn: ConnId) {
         Hub::hang_up(self, conn)
     }
 }

@@ -24,7 +24,7 @@ use Rattle.many_history.proofs.Once as conns
 use Rattle.many_dropped.proofs.Dropping.{differ}
 use Rattle.many_dropped.proofs.One.{leaves}
 use Rattle.many_dropped.proofs.Sitting.{one_if, times, times_less, all_without}
-use Rattle.many_io.specs.Record.{unnamed}
+use Rattle.many_io.specs.Record.{without_device}
 use Rattle.many_lawful.proofs.Seats.{either, either_none, place_of_append, place_of_both, other_nowhere, placed_here, moved, all_there, none_ended, stands_where}
 use Rattle.many_lawful.proofs.Alone.{everybody, apart_names, next_name, seats_alone}
 use Rattle.many_lawful.proofs.Texts.{Grows, grows_not, grows_all, LeaveBytesOf, grows_by_all, wait_arriving, stays_by}
@@ -185,7 +185,7 @@ module _ {Known : Type 0} (s : Devices Known) where
               (apart_names s k c events d other name differs too at, tt)
           by false away = tt
 
-      leaves_bytes : (event : ManyEvent) → LeavesBytesOf c (unnamed event) → (let m = many s events in LeaveBytesOf name (parts s event m.seats (names_in m.own) d))
+      leaves_bytes : (event : ManyEvent) → LeavesBytesOf c (without_device event) → (let m = many s events in LeaveBytesOf name (parts s event m.seats (names_in m.own) d))
       leaves_bytes (Joined k) leaves = tt
       leaves_bytes (Piece k bytes) leaves = piece_leaves (place_of k (many s events).seats) bytes
       leaves_bytes (Left k) leaves = leaving_leaves (place_of k (many s events).seats)
@@ -197,7 +197,7 @@ module _ {Known : Type 0} (s : Devices Known) where
       leaves_bytes (Now time) leaves = (tt, tt)
 
     -- it stands where it stood
-    module _ (event : ManyEvent) (leaves : LeavesBytesOf c (unnamed event)) where
+    module _ (event : ManyEvent) (leaves : LeavesBytesOf c (without_device event)) where
       grows_at : (place : Option Place) → IsAt place → (let m = many s events in Grows (text_at s m.own place) (text_at s (own_after s event m) place))
       grows_at None at = grows_not empty
       grows_at (Some (Undecided bytes)) at = grows_not empty
@@ -257,7 +257,7 @@ module _ {Known : Type 0} (s : Devices Known) where
     same_gone : place_of c ((many s events).gone ++ []) ≡ place_of c (many s events).gone
     same_gone = ap (place_of c) (append-nil (many s events).gone)
 
-    pub text_grows : (event : ManyEvent) → NamesRise (event ∷ events) → LeavesBytesOf c (unnamed event) → Grows (text_for s c events) (text_for s c (event ∷ events))
+    pub text_grows : (event : ManyEvent) → NamesRise (event ∷ events) → LeavesBytesOf c (without_device event) → Grows (text_for s c events) (text_for s c (event ∷ events))
     text_grows (Joined k) rise leaves = let m = many s events in grows_there (Joined k) leaves (stands_same c (Joined k) events rise (joined_other c k (nat_lt (length m.seats) s.limit) m.seats leaves) same_gone)
     text_grows (Piece k bytes) rise leaves = by (k == c) refl
       where

@@ -7,8 +7,8 @@ use Rattle.hub_io.proofs.Record.{since-starts, since-grows}
 use Rattle.link_io.specs.Target.{address_of}
 use Rattle.link_io.specs.declared.link.Target.{Target}
 use Rattle.many_io.specs.Record.{ManyCall, Opened}
-use Rattle.modem_ways.specs.Ways.{words_in}
-use Rattle.modem_ways.specs.declared.way.Pumps.{Pumps}
+use Rattle.modem_routes.specs.Routes.{words_in}
+use Rattle.modem_routes.specs.declared.route.Pumps.{Pumps}
 
 -- one call more was recorded
 pub one_more : (old before now : Option (List ManyCall)) (call : ManyCall) (earlier : List ManyCall) → Since old before (λ calls. calls ≡ earlier) → Records before call now → Since old now (λ calls. calls ≡ call ∷ earlier)

@@ -2,7 +2,7 @@
 use Rattle.std.proofs.Common.{◌≡◌, ℕ, ◌+◌, ◌≤◌, List, [], ◌∷◌, ◌++◌, length, map, take, refl, ap, sym, ◌∙◌, arith, append_assoc, append-nil}
 use Rattle.std.proofs.lemmas.List.{map-append, length-append, length-map}
 use Rattle.link_io.specs.Target.{Address, address_of}
-use Rattle.modem_ways.specs.Ways.{Place, AtOnce, BehindPumps, PumpWords, place_of, words_in}
+use Rattle.modem_routes.specs.Routes.{Place, AtOnce, BehindPumps, PumpWords, place_of, words_in}
 use Rattle.many_runs.specs.Places.{bridge_at, places_from, places_of, address_in, pumps_if, pumps_in, StandFor, HaveAlso}
 use Rattle.many_runs.specs.declared.devices.Devices.{Devices}
 

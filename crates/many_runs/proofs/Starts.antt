@@ -1,13 +1,13 @@
 -- Pumps are started one node behind the other.
 use Rattle.std.proofs.Common.{◌≡◌, ℕ, ◌+◌, ◌<◌, Bool, true, false, List, [], ◌∷◌, ◌++◌, length, map, take, drop, get_or, refl, ap, sym, ◌∙◌, subst, append_assoc, append-nil, Option}
 use Rattle.std.proofs.lemmas.List.{map-append, map_push, take_more, take-append-drop}
-use Rattle.kit_io.specs.Told.{Grows}
-use Rattle.kit_io.proofs.Told.{Grows-none, Grows-append}
+use Rattle.kit_io.specs.Growth.{Grows}
+use Rattle.kit_io.proofs.Growth.{Grows-none, Grows-append}
 use Rattle.child_io.specs.Calls.{Call}
 use Rattle.child_io.specs.Alive.{StandsFor}
-use Rattle.modem_ways.specs.Ways.{PumpWords, words_in}
-use Rattle.modem_ways.specs.declared.way.Pumps.{Pumps}
-use Rattle.modem_ways.specs.Reaching.{StartsBy, StartsMore, StartsPumps}
+use Rattle.modem_routes.specs.Routes.{PumpWords, words_in}
+use Rattle.modem_routes.specs.declared.route.Pumps.{Pumps}
+use Rattle.modem_routes.specs.Reaching.{StartsBy, StartsMore, StartsPumps}
 use Rattle.many_runs.specs.Running.{StartsEach, StartsFirst, went, failed}
 
 -- ---- the calls ----

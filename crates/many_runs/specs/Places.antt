@@ -1,7 +1,7 @@
 -- Where several devices are, and what starts the pumps of those that are nodes. Paths are in bytes.
 use Rattle.std.specs.Prelude.{◌≡◌, ℕ, ◌+◌, List, [], ◌∷◌, ◌++◌, map}
 use Rattle.link_io.specs.Target.{Address, address_of}
-use Rattle.modem_ways.specs.Ways.{Place, AtOnce, BehindPumps, PumpWords, place_of, words_in}
+use Rattle.modem_routes.specs.Routes.{Place, AtOnce, BehindPumps, PumpWords, place_of, words_in}
 use Rattle.many_runs.specs.declared.devices.Devices.{Devices}
 
 -- `.` and the device's number, a digit

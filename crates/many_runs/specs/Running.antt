@@ -7,8 +7,8 @@ use Rattle.hub_io.specs.declared.settings.ServeEnd.{ServeEnd}
 use Rattle.hub_io.specs.declared.settings.ServeEnd.TheVariants as end
 use Rattle.hub_io.specs.declared.settings.Until.{Until}
 use Rattle.child_io.specs.Calls as child
-use Rattle.modem_ways.specs.Ways.{PumpWords}
-use Rattle.modem_ways.specs.Reaching.{StartsPumps, StartsAndStops}
+use Rattle.modem_routes.specs.Routes.{PumpWords}
+use Rattle.modem_routes.specs.Reaching.{StartsPumps, StartsAndStops}
 use Rattle.many_io.specs.Record.{ManyCall, Opened, Paired}
 use Rattle.many_served.specs.Ends.{EndsSo}
 use Rattle.many_served.specs.Face.{many_proxy}

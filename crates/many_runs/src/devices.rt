@@ -1,11 +1,11 @@
 ghost use Rattle.std.specs.Prelude.{◌≡◌, ◌<◌, ◌≤◌, ◌++◌, ◌∷◌, [], length, map, string_bytes, IfOk};
 ghost use Rattle.std.specs.Str.{encode_utf8_all};
-ghost use Rattle.modem_ways.specs.Ways.{place_in};
+ghost use Rattle.modem_routes.specs.Routes.{place_in};
 ghost use Rattle.many_runs.specs.Places.{bridge_at, bridge_end, places_of, StandFor, HaveAlso};
 
 use kit_bytes::PathText;
 use link_io::Target;
-use modem_ways::{Device, Pumps};
+use modem_routes::{Device, Pumps};
 use std::alloc::{AllocError, Global};
 
 /// Where several devices are, and what starts the pumps of those that are nodes.

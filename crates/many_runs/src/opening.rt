@@ -1,8 +1,8 @@
 //! The opening of a hub for several devices, wherever they are.
 ghost use Rattle.std.specs.Prelude.{◌≡◌, ◌≤◌, [], length, map, is_ok, Err};
 ghost use Rattle.kit_io.specs.Causes.{Rose, HasCause};
-ghost use Rattle.modem_ways.specs.Reaching.{StartsBy};
-ghost use Rattle.modem_ways.specs.Ways.{words_in};
+ghost use Rattle.modem_routes.specs.Reaching.{StartsBy};
+ghost use Rattle.modem_routes.specs.Routes.{words_in};
 ghost use Rattle.many_runs.specs.Places.{addresses_in, pumps_among};
 ghost use Rattle.many_runs.specs.Running.{OpensHub, StartsEach};
 
@@ -10,7 +10,7 @@ use crate::devices::Devices;
 use child_io::{Kids, Spawner};
 use kit_io::Failed;
 use many_io::ManyHub;
-use modem_ways::{Pumps, start_more_pumps};
+use modem_routes::{Pumps, start_more_pumps};
 
 /// Why the devices weren't opened.
 #[derive(Clone, Copy, Debug, PartialEq, Eq)]

@@ -1,7 +1,7 @@
 ghost use Rattle.std.specs.Prelude.{◌≡◌, ◌≤◌, ◌<◌, ◌⊎◌, [], length, map, false};
 ghost use Rattle.std.specs.Str.{encode_utf8_all};
 ghost use Rattle.kit_io.specs.Causes.{Rose};
-ghost use Rattle.modem_ways.specs.Reaching.{StartsBy};
+ghost use Rattle.modem_routes.specs.Reaching.{StartsBy};
 ghost use Rattle.many_runs.specs.Places.{addresses_in, places_of, pumps_among, StandFor};
 ghost use Rattle.many_runs.specs.Running.{IsHubsFault, asked_by, Serves, ServesMany, ServesPlaces};
 

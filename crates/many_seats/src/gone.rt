@@ -2,12 +2,13 @@ ghost use Rattle.std.specs.Prelude.{◌≡◌, []};
 ghost use Rattle.many_seats.specs.Seats.{chosen_in, place_as};
 
 use crate::chosen::Chosen;
+use kit_bytes::ConnId;
 use std::marker::Model;
 
 /// A connection that was dropped and is to be hung up.
 #[derive(Debug, Drop)]
 pub struct Gone {
-    conn: u64,
+    conn: ConnId,
     // none where it was never let in
     chosen: Option<Chosen>,
 }
@@ -23,7 +24,7 @@ impl Model for Gone {
 }
 
 impl Gone {
-    pub fn new(conn: u64, chosen: Option<Chosen>) -> Self
+    pub fn new(conn: ConnId, chosen: Option<Chosen>) -> Self
         ensures { result ≡ record { conn = conn; place = place_as chosen [] } }
     {
         Gone { conn, chosen }

@@ -4,12 +4,13 @@ ghost use Rattle.many_seats.specs.Seats.{chosen_in, said_in};
 
 use crate::chosen::Chosen;
 use crate::said::Said;
+use kit_bytes::ConnId;
 use std::marker::Model;
 
 /// A connection that is there.
 #[derive(Drop)]
 pub struct Seat {
-    conn: u64,
+    conn: ConnId,
     // none while it hasn't chosen
     chosen: Option<Chosen>,
     said: Said,
@@ -26,7 +27,7 @@ impl Model for Seat {
 
 impl Seat {
     /// One that has just joined, with the room for what it says.
-    pub fn begin(conn: u64, mut said: Said) -> Self
+    pub fn begin(conn: ConnId, mut said: Said) -> Self
         ensures { result ≡ record { conn = conn; place = Undecided [] } }
     {
         said.clear();
@@ -66,7 +67,7 @@ impl Seat {
         self.said.add(piece);
     }
 
-    pub fn choose(&mut self, device: usize, name: u64)
+    pub fn choose(&mut self, device: usize, name: ConnId)
         ensures { self.new ≡ record { conn = self.old.conn; place = At device name } }
     {
         self.chosen = Some(Chosen { device, name });

@@ -8,6 +8,7 @@ use crate::chosen::Chosen;
 use crate::gone::Gone;
 use crate::said::Said;
 use crate::seat::Seat;
+use kit_bytes::ConnId;
 use std::alloc::{AllocError, Global};
 use std::marker::Model;
 
@@ -25,7 +26,7 @@ pub struct Seats {
     // for what those say that join
     free: Vec<Said>,
     // the greatest name at each device so far
-    names: Vec<u64>,
+    names: Vec<ConnId>,
     // the greatest name of a connection so far
     greatest: u64,
 }
@@ -74,7 +75,7 @@ impl Seats {
 
     /// A client connected: it is let in behind the others, or dropped where as many as may be are
     /// there.
-    pub fn join(&mut self, conn: u64)
+    pub fn join(&mut self, conn: ConnId)
         requires newer { self.old.greatest < conn }
         requires hung_up { self.old.dropped ≡ [] }
         ensures { self.new ≡ joins conn self.old }
@@ -87,7 +88,7 @@ impl Seats {
     }
 
     /// Where the connection of this name stands in the order of joining.
-    pub fn find(&self, conn: u64) -> Option<usize>
+    pub fn find(&self, conn: ConnId) -> Option<usize>
         ensures place { result ≡ position (λ seat. seat.conn == conn) self.now.seats }
         ensures within { IfSome result (λ place. place < length self.now.seats) }
     {
@@ -102,7 +103,7 @@ impl Seats {
     }
 
     /// The name of the connection of this place in the order of joining.
-    pub fn conn_at(&self, place: usize) -> u64
+    pub fn conn_at(&self, place: usize) -> ConnId
         requires { place < length self.now.seats }
         ensures { (seat : ManySeat) → IsSeat seat self.now.seats place → result ≡ seat.conn }
     {
@@ -129,7 +130,7 @@ impl Seats {
     }
 
     /// What the connection of this name chose that is there, or was dropped and wasn't asked for yet.
-    pub fn chosen(&self, conn: u64) -> Option<Chosen>
+    pub fn chosen(&self, conn: ConnId) -> Option<Chosen>
         ensures { result ≡ chosen_by (place_of conn (self.now.seats ++ self.now.dropped)) }
     {
         match self.find(conn) {
@@ -161,7 +162,7 @@ impl Seats {
     }
 
     /// The connection of this place chooses this device, and has the next name there.
-    pub fn choose(&mut self, place: usize, device: usize, name: u64)
+    pub fn choose(&mut self, place: usize, device: usize, name: ConnId)
         requires within { place < length self.old.seats }
         requires undecided { (seat : ManySeat) → IsSeat seat self.old.seats place → chosen_in seat.place ≡ None }
         requires device { device < length self.old.names }
@@ -196,7 +197,7 @@ impl Seats {
     }
 
     /// The next connection that was dropped, each once.
-    pub fn next_dropped(&mut self) -> Option<u64>
+    pub fn next_dropped(&mut self) -> Option<ConnId>
         ensures first { result ≡ first_conn self.old.dropped }
         ensures asked { self.new ≡ record self.old { dropped = drop 1 self.old.dropped } }
     {
@@ -233,7 +234,7 @@ fn zeros(alloc: Global, count: usize) -> Result<Vec<u64>, AllocError>
 }
 
 // What the connection of this name chose, where the list has it.
-fn chosen_of(dropped: &[Gone], conn: u64) -> Option<Chosen>
+fn chosen_of(dropped: &[Gone], conn: ConnId) -> Option<Chosen>
     ensures { result ≡ chosen_by (place_of conn dropped.now) }
 {
     match find_in(dropped, conn) {
@@ -246,7 +247,7 @@ fn chosen_of(dropped: &[Gone], conn: u64) -> Option<Chosen>
 }
 
 // Where the connection of this name stands in the list.
-fn find_in(dropped: &[Gone], conn: u64) -> Option<usize>
+fn find_in(dropped: &[Gone], conn: ConnId) -> Option<usize>
     ensures place { result ≡ position (λ seat. seat.conn == conn) dropped.now }
     ensures within { IfSome result (λ place. place < length dropped.now) }
 {

@@ -3,6 +3,7 @@ ghost use Rattle.many_served.specs.Face.{face_of, many_proxy, Keeps};
 ghost use Rattle.many_served.specs.Shows.{shows_of};
 
 use hub_io::Limits;
+use kit_bytes::ConnId;
 use many_core::ManyCore;
 use many_io::ManyEvent;
 use serving_loop::ManyProxyCore;
@@ -42,7 +43,7 @@ impl ManyProxyCore for ServedCore {
         self.core.devices()
     }
 
-    fn queued(&self, conn: u64) -> &[u8] {
+    fn queued(&self, conn: ConnId) -> &[u8] {
         self.core.queued_there(conn)
     }
 
@@ -50,7 +51,7 @@ impl ManyProxyCore for ServedCore {
         self.core.queued_modem(device)
     }
 
-    fn next_dropped(&mut self) -> Option<u64> {
+    fn next_dropped(&mut self) -> Option<ConnId> {
         self.core.next_dropped()
     }
 
@@ -58,7 +59,7 @@ impl ManyProxyCore for ServedCore {
         self.core.waiting_from(from)
     }
 
-    fn conn_at(&self, index: usize) -> u64 {
+    fn conn_at(&self, index: usize) -> ConnId {
         self.core.conn_at(index)
     }
 

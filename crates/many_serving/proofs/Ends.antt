@@ -14,7 +14,7 @@ use Rattle.proxy_serving.specs.Serving as one_serving
 use Rattle.proxy_serving.specs.Ends as one_end
 use Rattle.many_history.specs.Events.{ManyEvent}
 use Rattle.many_history.specs.Events as many_event
-use Rattle.many_io.specs.Record.{unnamed, unnamed_call, unnamed_calls, ManyCall, events}
+use Rattle.many_io.specs.Record.{without_device, call_without_device, calls_without_device, ManyCall, events}
 use Rattle.many_io.specs.Record as many_call
 use Rattle.many_serving.specs.Serving.{AllIsDone}
 use Rattle.many_serving.specs.Ends as several
@@ -24,7 +24,7 @@ use Rattle.many_serving.proofs.One.{all, calls_are, met_is, q, all_offered, done
 -- ---- calls of which each is of the only device ----
 
 abbrev IsOfOne : List ManyCall → Type 0
-IsOfOne calls = all (unnamed_calls calls) ≡ calls
+IsOfOne calls = all (calls_without_device calls) ≡ calls
 
 tail_is : (front calls : List ManyCall) → IsOfOne (front ++ calls) → IsOfOne calls
 tail_is [] calls is = is
@@ -39,25 +39,25 @@ behind_is calls front earlier whole = tail_is front earlier (subst IsOfOne whole
 module _ (p : Proxy) where
   -- ---- over by itself ----
 
-  emptied_is : (past : List ManyEvent) → several.emptied_at (q p) past ≡ one_serving.emptied_at p (map unnamed past)
+  emptied_is : (past : List ManyEvent) → several.emptied_at (q p) past ≡ one_serving.emptied_at p (map without_device past)
   unfolding several.emptied_at one_serving.emptied_at
   emptied_is [] = refl
-  emptied_is (event ∷ past) = ap (λ (n : ℕ). if one_serving.is_nobody (p.present (map unnamed past)) then n else p.time (unnamed event ∷ map unnamed past)) (emptied_is past)
+  emptied_is (event ∷ past) = ap (λ (n : ℕ). if one_serving.is_nobody (p.present (map without_device past)) then n else p.time (without_device event ∷ map without_device past)) (emptied_is past)
 
-  idle_is : (empty : Option ℕ) (past : List ManyEvent) → several.is_idle (q p) empty past ≡ one_serving.is_idle p empty (map unnamed past)
+  idle_is : (empty : Option ℕ) (past : List ManyEvent) → several.is_idle (q p) empty past ≡ one_serving.is_idle p empty (map without_device past)
   idle_is None past = refl
-  idle_is (Some limit) past = ap (λ (n : ℕ). one_serving.is_nobody (p.present (map unnamed past)) && nat_le (n + limit) (p.time (map unnamed past))) (emptied_is past)
+  idle_is (Some limit) past = ap (λ (n : ℕ). one_serving.is_nobody (p.present (map without_device past)) && nat_le (n + limit) (p.time (map without_device past))) (emptied_is past)
 
   and_true : (b : Bool) → (b && true) ≡ b
   and_true true = refl
   and_true false = refl
 
-  lost_is : (lost : Bool) (past : List ManyEvent) → several.is_lost (q p) lost past ≡ one_serving.is_lost p lost (map unnamed past)
+  lost_is : (lost : Bool) (past : List ManyEvent) → several.is_lost (q p) lost past ≡ one_serving.is_lost p lost (map without_device past)
   lost_is false past = refl
-  lost_is true past = and_true (p.is_away (map unnamed past))
+  lost_is true past = and_true (p.is_away (map without_device past))
 
   module _ (until : Until) where
-    at_clock : (time : ℕ) (calls : List Call) → map unnamed (many_event.Now time ∷ events (all calls)) ≡ one.Now time ∷ one_call.events calls
+    at_clock : (time : ℕ) (calls : List Call) → map without_device (many_event.Now time ∷ events (all calls)) ≡ one.Now time ∷ one_call.events calls
     at_clock time calls = ap (λ (l : List Event). one.Now time ∷ l) (met_is calls)
 
     emptied : (time : ℕ) (calls : List Call) → several.IsEmptied (q p) until (many_event.Now time ∷ events (all calls)) → one_serving.IsEmptied p until (one.Now time ∷ one_call.events calls)
@@ -101,7 +101,7 @@ module _ (p : Proxy) where
     -- ---- why it ended ----
 
     module _ (turns : ℕ) where
-      counted : (calls : List Call) → one_serving.turns_in (unnamed_calls (all calls)) ≤ turns → one_serving.turns_in calls ≤ turns
+      counted : (calls : List Call) → one_serving.turns_in (calls_without_device (all calls)) ≤ turns → one_serving.turns_in calls ≤ turns
       counted calls is = subst (λ (l : List Call). one_serving.turns_in l ≤ turns) (calls_are calls) is
 
       goes_on : (calls : List Call) → several.GoesOn (q p) until turns (all calls) → one_end.GoesOn p until turns calls
@@ -113,19 +113,19 @@ module _ (p : Proxy) where
       }
 
       -- of calls that stand behind others
-      went_on : (earlier : List ManyCall) → IsOfOne earlier → several.GoesOn (q p) until turns earlier → one_end.GoesOn p until turns (unnamed_calls earlier)
-      went_on earlier of is = goes_on (unnamed_calls earlier) (subst (several.GoesOn (q p) until turns) (sym of) is)
+      went_on : (earlier : List ManyCall) → IsOfOne earlier → several.GoesOn (q p) until turns earlier → one_end.GoesOn p until turns (calls_without_device earlier)
+      went_on earlier of is = goes_on (calls_without_device earlier) (subst (several.GoesOn (q p) until turns) (sym of) is)
 
-      ends_with : (last : ManyCall) (calls : List Call) → several.EndsWith (q p) until turns last (all calls) → one_end.EndsWith p until turns (unnamed_call last) calls
+      ends_with : (last : ManyCall) (calls : List Call) → several.EndsWith (q p) until turns last (all calls) → one_end.EndsWith p until turns (call_without_device last) calls
       ends_with last calls is = record {
-        earlier = unnamed_calls is.earlier;
-        whole = sym (calls_are calls) ∙ ap unnamed_calls is.whole;
+        earlier = calls_without_device is.earlier;
+        whole = sym (calls_are calls) ∙ ap calls_without_device is.whole;
         goes_on = went_on is.earlier (behind_is calls (last ∷ []) is.earlier is.whole) is.goes_on;
         serves = served p calls is.serves;
         counted = counted calls is.counted;
       }
 
-      hung_up_is : (names : List ℕ) → unnamed_calls (several.hanging_up names) ≡ one_serving.hanging_up names
+      hung_up_is : (names : List ℕ) → calls_without_device (several.hanging_up names) ≡ one_serving.hanging_up names
       hung_up_is [] = refl
       hung_up_is (c ∷ names) = ap (λ (l : List Call). HungUp c ∷ l) (hung_up_is names)
 
@@ -137,34 +137,34 @@ module _ (p : Proxy) where
           let earlier : IsOfOne is.earlier = ap (drop 1) of in
           record {
             time = is.time;
-            earlier = unnamed_calls is.earlier;
+            earlier = calls_without_device is.earlier;
             hung_up = is.hung_up;
-            whole = sym (calls_are calls) ∙ ap unnamed_calls is.whole ∙ map-append unnamed_call (several.hanging_up is.hung_up) (told ∷ is.earlier)
-                ∙ ap (λ (l : List Call). l ++ Told (one.Now is.time) ∷ unnamed_calls is.earlier) (hung_up_is is.hung_up);
-            over = over is.time (unnamed_calls is.earlier) (subst (λ (l : List ManyCall). Over (many_event.Now is.time ∷ events l)) (sym earlier) is.over);
+            whole = sym (calls_are calls) ∙ ap calls_without_device is.whole ∙ map-append call_without_device (several.hanging_up is.hung_up) (told ∷ is.earlier)
+                ∙ ap (λ (l : List Call). l ++ Told (one.Now is.time) ∷ calls_without_device is.earlier) (hung_up_is is.hung_up);
+            over = over is.time (calls_without_device is.earlier) (subst (λ (l : List ManyCall). Over (many_event.Now is.time ∷ events l)) (sym earlier) is.over);
             goes_on = went_on is.earlier earlier is.goes_on;
             serves = served p calls is.serves;
             counted = counted calls is.counted;
           }
 
       module _ (lacks : Event → Type 0) where
-        ends_early : (calls : List Call) → several.EndsEarly (λ event. lacks (unnamed event)) (q p) until turns (all calls) → one_end.EndsEarly lacks p until turns calls
+        ends_early : (calls : List Call) → several.EndsEarly (λ event. lacks (without_device event)) (q p) until turns (all calls) → one_end.EndsEarly lacks p until turns calls
         ends_early calls is =
             let of : IsOfOne is.earlier = behind_is calls (many_call.Told is.event ∷ []) is.earlier is.whole in
             record {
-              event = unnamed is.event;
+              event = without_device is.event;
               lacking = is.lacking;
-              earlier = unnamed_calls is.earlier;
-              whole = sym (calls_are calls) ∙ ap unnamed_calls is.whole;
+              earlier = calls_without_device is.earlier;
+              whole = sym (calls_are calls) ∙ ap calls_without_device is.whole;
               goes_on = went_on is.earlier of is.goes_on;
-              done = done p (unnamed_calls is.earlier) (subst (AllIsDone (q p)) (sym of) is.done);
+              done = done p (calls_without_device is.earlier) (subst (AllIsDone (q p)) (sym of) is.done);
               counted = counted calls is.counted;
             }
 
         no_calls : (calls : List Call) → all calls ≡ [] → calls ≡ []
-        no_calls calls is = sym (calls_are calls) ∙ ap unnamed_calls is
+        no_calls calls is = sym (calls_are calls) ∙ ap calls_without_device is
 
-        pub ends_for : (why : ServeEnd) (calls : List Call) → several.EndsFor (λ event. lacks (unnamed event)) (q p) until turns why (all calls) → one_end.EndsFor lacks p until turns why calls
+        pub ends_for : (why : ServeEnd) (calls : List Call) → several.EndsFor (λ event. lacks (without_device event)) (q p) until turns why (all calls) → one_end.EndsFor lacks p until turns why calls
         ends_for end.Stopped calls is = ends_with many_call.ToldStop calls is
         ends_for end.HubFault calls is = ends_with many_call.NextFailed calls is
         ends_for end.TurnsSpent calls is = record {

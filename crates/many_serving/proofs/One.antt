@@ -10,22 +10,22 @@ use Rattle.hub_io.specs.Record.{Call, Told, ToldRoom, ToldModemRoom, ToldStop, N
 use Rattle.hub_io.specs.Record as one_call
 use Rattle.proxy_serving.specs.Serving as one_serving
 use Rattle.proxy_serving.specs.Ends as one_end
-use Rattle.many_io.specs.Record.{unnamed, unnamed_call, unnamed_calls, first_of, ManyCall, events}
+use Rattle.many_io.specs.Record.{without_device, call_without_device, calls_without_device, first_of, ManyCall, events}
 use Rattle.many_serving.specs.Proxy.{ManyProxy}
 use Rattle.many_serving.specs.Serving as several
 use Rattle.many_io.specs.One.{devices_of, of_device_0, call_of}
 use Rattle.many_serving.specs.One.{only_of}
 
-unnamed_is : (event : Event) → unnamed (of_device_0 event) ≡ event
-unnamed_is (one.Joined c) = refl
-unnamed_is (one.Piece c bytes) = refl
-unnamed_is (one.Left c) = refl
-unnamed_is (one.Took c count) = refl
-unnamed_is (one.ModemPiece bytes) = refl
-unnamed_is one.ModemGone = refl
-unnamed_is one.ModemBack = refl
-unnamed_is (one.ModemTook count) = refl
-unnamed_is (one.Now time) = refl
+without_device_is : (event : Event) → without_device (of_device_0 event) ≡ event
+without_device_is (one.Joined c) = refl
+without_device_is (one.Piece c bytes) = refl
+without_device_is (one.Left c) = refl
+without_device_is (one.Took c count) = refl
+without_device_is (one.ModemPiece bytes) = refl
+without_device_is one.ModemGone = refl
+without_device_is one.ModemBack = refl
+without_device_is (one.ModemTook count) = refl
+without_device_is (one.Now time) = refl
 
 abbrev pub all : List Call → List ManyCall
 all calls = map call_of calls
@@ -34,8 +34,8 @@ device_is : (device : Option Address) → first_of (devices_of device) ≡ devic
 device_is None = refl
 device_is (Some device) = refl
 
-call_is : (call : Call) → unnamed_call (call_of call) ≡ call
-call_is (Told event) = ap (λ (e : Event). Told e) (unnamed_is event)
+call_is : (call : Call) → call_without_device (call_of call) ≡ call
+call_is (Told event) = ap (λ (e : Event). Told e) (without_device_is event)
 call_is (ToldRoom c) = refl
 call_is ToldModemRoom = refl
 call_is ToldStop = refl
@@ -50,17 +50,17 @@ call_is Reopened = refl
 call_is ReopenFailed = refl
 call_is (HungUp c) = refl
 
-pub calls_are : (calls : List Call) → unnamed_calls (all calls) ≡ calls
+pub calls_are : (calls : List Call) → calls_without_device (all calls) ≡ calls
 calls_are [] = refl
-calls_are (call ∷ calls) = ap (λ (k : Call). k ∷ unnamed_calls (all calls)) (call_is call) ∙ ap (λ (l : List Call). call ∷ l) (calls_are calls)
+calls_are (call ∷ calls) = ap (λ (k : Call). k ∷ calls_without_device (all calls)) (call_is call) ∙ ap (λ (l : List Call). call ∷ l) (calls_are calls)
 
 abbrev pub met : List Call → List Event
-met calls = map unnamed (events (all calls))
+met calls = map without_device (events (all calls))
 
 pub met_is : (calls : List Call) → met calls ≡ one_call.events calls
 unfolding events one_call.events
 met_is [] = refl
-met_is (Told event ∷ calls) = ap (λ (e : Event). e ∷ met calls) (unnamed_is event) ∙ ap (λ (l : List Event). event ∷ l) (met_is calls)
+met_is (Told event ∷ calls) = ap (λ (e : Event). e ∷ met calls) (without_device_is event) ∙ ap (λ (l : List Event). event ∷ l) (met_is calls)
 met_is (Sent c bytes zero ∷ calls) = met_is calls
 met_is (Sent c bytes (suc taken) ∷ calls) = ap (λ (l : List Event). one.Took c (suc taken) ∷ l) (met_is calls)
 met_is (SendFailed c bytes ∷ calls) = ap (λ (l : List Event). one.Left c ∷ l) (met_is calls)
@@ -144,10 +144,10 @@ module _ (p : Proxy) where
 
   -- ---- hanging up, and opening again ----
 
-  dropped_same : (event : Event) (calls : List Call) → reverse (p.dropped (unnamed (of_device_0 event) ∷ met calls)) ≡ reverse (p.dropped (event ∷ one_call.events calls))
-  dropped_same event calls = ap (λ (e : Event). reverse (p.dropped (e ∷ met calls))) (unnamed_is event) ∙ ap (λ (l : List Event). reverse (p.dropped (event ∷ l))) (met_is calls)
+  dropped_same : (event : Event) (calls : List Call) → reverse (p.dropped (without_device (of_device_0 event) ∷ met calls)) ≡ reverse (p.dropped (event ∷ one_call.events calls))
+  dropped_same event calls = ap (λ (e : Event). reverse (p.dropped (e ∷ met calls))) (without_device_is event) ∙ ap (λ (l : List Event). reverse (p.dropped (event ∷ l))) (met_is calls)
 
-  with_dropped : (event : Event) (calls : List Call) (due due_one : List ℕ) → due ≡ due_one → reverse (p.dropped (unnamed (of_device_0 event) ∷ met calls)) ++ due ≡ reverse (p.dropped (event ∷ one_call.events calls)) ++ due_one
+  with_dropped : (event : Event) (calls : List Call) (due due_one : List ℕ) → due ≡ due_one → reverse (p.dropped (without_device (of_device_0 event) ∷ met calls)) ++ due ≡ reverse (p.dropped (event ∷ one_call.events calls)) ++ due_one
   with_dropped event calls due due_one same = ap (λ (l : List ℕ). l ++ due) (dropped_same event calls) ∙ ap (λ (l : List ℕ). reverse (p.dropped (event ∷ one_call.events calls)) ++ l) same
 
   due_same : (calls : List Call) → several.due_hang_ups q (all calls) ≡ one_serving.due_hang_ups p calls

@@ -6,7 +6,7 @@ use Rattle.hub_io.specs.declared.settings.ServeEnd.TheVariants as end
 use Rattle.hub_io.specs.declared.settings.Until.{Until}
 use Rattle.proxy_serving.specs.Serving.{turns_in, IsNoEnd, is_nobody}
 use Rattle.many_history.specs.Events.{ManyEvent, Now}
-use Rattle.many_io.specs.Record.{ManyCall, Told, ToldStop, NextFailed, HungUp, events, unnamed_calls}
+use Rattle.many_io.specs.Record.{ManyCall, Told, ToldStop, NextFailed, HungUp, events, calls_without_device}
 use Rattle.many_serving.specs.Proxy.{ManyProxy}
 use Rattle.many_serving.specs.Serving.{AllIsDone, AllIsOffered, Serves}
 
@@ -57,9 +57,9 @@ NeverOver p until (_ ∷ calls) = NeverOver p until calls
 -- nothing has ended it: the hub didn't, nothing that ends it by itself was found at the clock, and the hub was asked at most so often
 pub record GoesOn (p : ManyProxy) (until : Until) (turns : ℕ) (calls : List ManyCall) : Type 0 where
   pub serves : Serves p calls
-  pub no_end : AllByRecursion IsNoEnd (unnamed_calls calls)
+  pub no_end : AllByRecursion IsNoEnd (calls_without_device calls)
   pub awake : NeverOver p until calls
-  pub counted : turns_in (unnamed_calls calls) ≤ turns
+  pub counted : turns_in (calls_without_device calls) ≤ turns
 
 -- it went on until its last call, which was this one
 pub record EndsWith (p : ManyProxy) (until : Until) (turns : ℕ) (last : ManyCall) (calls : List ManyCall) : Type 0 where
@@ -67,7 +67,7 @@ pub record EndsWith (p : ManyProxy) (until : Until) (turns : ℕ) (last : ManyCa
   pub whole : calls ≡ last ∷ earlier
   pub goes_on : GoesOn p until turns earlier
   pub serves : Serves p calls
-  pub counted : turns_in (unnamed_calls calls) ≤ turns
+  pub counted : turns_in (calls_without_device calls) ≤ turns
 
 abbrev pub hanging_up : List ℕ → List ManyCall
 hanging_up names = map (λ c. HungUp c) names
@@ -81,7 +81,7 @@ pub record EndsAtClock (Over : List ManyEvent → Type 0) (p : ManyProxy) (until
   pub over : Over (Now time ∷ events earlier)
   pub goes_on : GoesOn p until turns earlier
   pub serves : Serves p calls
-  pub counted : turns_in (unnamed_calls calls) ≤ turns
+  pub counted : turns_in (calls_without_device calls) ≤ turns
 
 -- it went on until its last call, which told an event for which there was no memory; `lacks` says at which that may be
 pub record EndsEarly (lacks : ManyEvent → Type 0) (p : ManyProxy) (until : Until) (turns : ℕ) (calls : List ManyCall) : Type 0 where
@@ -91,7 +91,7 @@ pub record EndsEarly (lacks : ManyEvent → Type 0) (p : ManyProxy) (until : Unt
   pub whole : calls ≡ Told event ∷ earlier
   pub goes_on : GoesOn p until turns earlier
   pub done : AllIsDone p earlier
-  pub counted : turns_in (unnamed_calls calls) ≤ turns
+  pub counted : turns_in (calls_without_device calls) ≤ turns
 
 -- memory ran out before any call, or at that one
 abbrev pub RanOut : (ManyEvent → Type 0) → ManyProxy → Until → ℕ → List ManyCall → Type 0
@@ -100,7 +100,7 @@ RanOut lacks p until turns calls = (calls ≡ []) ⊎ EndsEarly lacks p until tu
 -- all turns were taken, and all that waits was offered
 pub record EndsSpent (p : ManyProxy) (until : Until) (turns : ℕ) (calls : List ManyCall) : Type 0 where
   pub goes_on : GoesOn p until turns calls
-  pub spent : turns_in (unnamed_calls calls) ≡ turns
+  pub spent : turns_in (calls_without_device calls) ≡ turns
   pub offered : AllIsOffered p calls
 
 -- why the serving ended; `lacks` says at which events memory may be lacking

@@ -4,7 +4,7 @@ use Rattle.proxy_history.specs.Connections.{contains, without}
 use Rattle.proxy_history.specs.Proxy.{LeavesBytesOf}
 use Rattle.many_history.specs.Events.{ManyEvent, Joined, Left, Took, ModemGone, ModemBack, ModemTook}
 use Rattle.many_history.specs.Coming.{NamesRise}
-use Rattle.many_io.specs.Record.{unnamed}
+use Rattle.many_io.specs.Record.{without_device}
 use Rattle.many_serving.specs.Proxy.{ManyProxy}
 
 -- the bytes for a client stay, more may come behind them, and what came waits
@@ -39,7 +39,7 @@ pub record IsLawful (p : ManyProxy) : Type 0 where
   -- all of them wait when it joins
   pub joined : (c : ℕ) (past : List ManyEvent) → NamesRise (Joined c ∷ past) → p.text c (Joined c ∷ past) ≡ p.waiting c (Joined c ∷ past)
   -- they only grow
-  pub grown : (c : ℕ) (event : ManyEvent) (past : List ManyEvent) → NamesRise (event ∷ past) → LeavesBytesOf c (unnamed event) → HasGrown p c past (event ∷ past)
+  pub grown : (c : ℕ) (event : ManyEvent) (past : List ManyEvent) → NamesRise (event ∷ past) → LeavesBytesOf c (without_device event) → HasGrown p c past (event ∷ past)
   -- a taking leaves them
   pub taken_text : (c count : ℕ) (past : List ManyEvent) → contains c (p.present past) ≡ true → p.text c (Took c count ∷ past) ≡ p.text c past
   -- and takes the first of those that wait

@@ -7,7 +7,7 @@ use Rattle.hub_io.specs.Record.{Call}
 use Rattle.hub_io.specs.declared.settings.ServeEnd.{ServeEnd}
 use Rattle.hub_io.specs.declared.settings.Until.{Until}
 use Rattle.proxy_serving.specs.Ends as one_end
-use Rattle.many_io.specs.Record.{unnamed}
+use Rattle.many_io.specs.Record.{without_device}
 use Rattle.many_io.specs.One.{call_of}
 use Rattle.many_serving.specs.Proxy.{ManyProxy}
 use Rattle.many_serving.specs.Lawful.{IsLawful}
@@ -18,14 +18,14 @@ use Rattle.many_serving.specs.Ends.{EndsFor}
 abbrev pub only_of : Proxy → ManyProxy
 only_of p = record {
   devices = 1;
-  text = λ c events. p.text c (map unnamed events);
-  waiting = λ c events. p.waiting c (map unnamed events);
-  waiting_for_modem = λ d events. p.waiting_for_modem (map unnamed events);
-  modem_backlog = λ d events. p.modem_backlog (map unnamed events);
-  is_away = λ d events. p.is_away (map unnamed events);
-  present = λ events. p.present (map unnamed events);
-  dropped = λ events. p.dropped (map unnamed events);
-  time = λ events. p.time (map unnamed events);
+  text = λ c events. p.text c (map without_device events);
+  waiting = λ c events. p.waiting c (map without_device events);
+  waiting_for_modem = λ d events. p.waiting_for_modem (map without_device events);
+  modem_backlog = λ d events. p.modem_backlog (map without_device events);
+  is_away = λ d events. p.is_away (map without_device events);
+  present = λ events. p.present (map without_device events);
+  dropped = λ events. p.dropped (map without_device events);
+  time = λ events. p.time (map without_device events);
 }
 
 -- where it keeps the rules, it keeps those of several
@@ -39,4 +39,4 @@ ServedAsOneOfSeveral = (p : Proxy) (calls : List Call) → Serves (only_of p) (m
 -- and it ends for the reasons for which that ends; `lacks` says at which events memory may be lacking
 abbrev pub EndsAsOneOfSeveral : Type 0
 EndsAsOneOfSeveral = (p : Proxy) (until : Until) (turns : ℕ) (lacks : Event → Bool) (why : ServeEnd) (calls : List Call)
-    → EndsFor (λ event. lacks (unnamed event) ≡ true) (only_of p) until turns why (map call_of calls) → one_end.EndsFor (λ event. lacks event ≡ true) p until turns why calls
+    → EndsFor (λ event. lacks (without_device event) ≡ true) (only_of p) until turns why (map call_of calls) → one_end.EndsFor (λ event. lacks event ≡ true) p until turns why calls

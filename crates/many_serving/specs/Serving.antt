@@ -3,7 +3,7 @@ use Rattle.std.specs.Prelude.{◌≡◌, ◌⊎◌, ℕ, zero, suc, ◌+◌, ◌
 use Rattle.std.specs.List.{AllByRecursion}
 use Rattle.proxy_serving.specs.Serving.{IsFront, taken_by, is_blocked, hang_ups, IsNoOpening}
 use Rattle.many_history.specs.Events.{ModemGone, ModemBack, Now}
-use Rattle.many_io.specs.Record.{ManyCall, Told, ToldRoom, ToldModemRoom, ToldStop, NextFailed, Sent, SendFailed, SentModem, SendModemFailed, Reopened, ReopenFailed, events, unnamed_calls}
+use Rattle.many_io.specs.Record.{ManyCall, Told, ToldRoom, ToldModemRoom, ToldStop, NextFailed, Sent, SendFailed, SentModem, SendModemFailed, Reopened, ReopenFailed, events, calls_without_device}
 use Rattle.many_serving.specs.Proxy.{ManyProxy}
 
 -- each sending was handed a front, not empty, of what waited
@@ -17,7 +17,7 @@ SendsWhatWaits p (_ ∷ calls) = SendsWhatWaits p calls
 
 -- what a client's socket took are the first of all bytes for it, and the others wait
 abbrev pub TakesTheFirst : ManyProxy → List ManyCall → Type 0
-TakesTheFirst p calls = (c : ℕ) → p.text c (events calls) ≡ taken_by c (unnamed_calls calls) ++ p.waiting c (events calls)
+TakesTheFirst p calls = (c : ℕ) → p.text c (events calls) ≡ taken_by c (calls_without_device calls) ++ p.waiting c (events calls)
 
 -- ---- offering ----
 
@@ -32,7 +32,7 @@ is_modem_blocked d (_ ∷ calls) = is_modem_blocked d calls
 
 -- whatever waits for a client was offered to its socket, which takes nothing now
 abbrev pub IsOffered : ManyProxy → List ManyCall → ℕ → Type 0
-IsOffered p calls c = (p.waiting c (events calls) ≡ []) ⊎ (is_blocked c (unnamed_calls calls) ≡ true)
+IsOffered p calls c = (p.waiting c (events calls) ≡ []) ⊎ (is_blocked c (calls_without_device calls) ≡ true)
 
 -- the same of the modem of a device, while it isn't away
 abbrev pub IsModemOffered : ManyProxy → List ManyCall → ℕ → Type 0
@@ -79,7 +79,7 @@ due_reopenings p d (_ ∷ calls) = due_reopenings p d calls
 -- all that waits was offered, just those were hung up that are to be, and each modem was opened again as often as it is to be
 pub record AllIsDone (p : ManyProxy) (calls : List ManyCall) : Type 0 where
   pub offered : AllIsOffered p calls
-  pub hung_up : hang_ups (unnamed_calls calls) ≡ due_hang_ups p calls
+  pub hung_up : hang_ups (calls_without_device calls) ≡ due_hang_ups p calls
   pub reopened : (d : ℕ) → d < p.devices → reopenings d calls ≡ due_reopenings p d calls
 
 -- each time that the hub was asked for what comes next, all was done
@@ -97,6 +97,6 @@ pub record Serves (p : ManyProxy) (calls : List ManyCall) : Type 0 where
   pub sends : SendsWhatWaits p calls
   pub takes : TakesTheFirst p calls
   pub does_all : DoesAllBeforeEachNext p calls
-  pub hangs_up : hang_ups (unnamed_calls calls) ≡ due_hang_ups p calls
+  pub hangs_up : hang_ups (calls_without_device calls) ≡ due_hang_ups p calls
   pub reopens : (d : ℕ) → d < p.devices → reopenings d calls ≤ due_reopenings p d calls
-  pub no_opening : AllByRecursion IsNoOpening (unnamed_calls calls)
+  pub no_opening : AllByRecursion IsNoOpening (calls_without_device calls)

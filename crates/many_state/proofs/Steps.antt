@@ -9,7 +9,7 @@ use Rattle.proxy_history.specs.Protocol.{Protocol}
 use Rattle.proxy_history.specs.History.{history}
 use Rattle.proxy_state.specs.State.{Core, Handlers}
 use Rattle.proxy_state.specs.Step as device
-use Rattle.proxy_state.specs.Stands.{Kept, CanStep, connection_of, parting_of, streams_of, rests_of, is_owed}
+use Rattle.proxy_state.specs.Stands.{Kept, CanStep, connection_of, dropped_client_of, streams_of, rests_of, is_owed}
 use Rattle.proxy_state.specs.Stands as proxy
 use Rattle.proxy_state.proofs.Keeping.{found}
 use Rattle.proxy_state.proofs.Waiting.{waiting_is}

@@ -6,6 +6,7 @@ ghost use Rattle.mbim_state.specs.Transitions.{asked_last, is_waiting, waiting_o
 use crate::client::Client;
 use arrayvec::ArrayVec;
 use connections::Connections;
+use kit_bytes::ConnId;
 use mbim_frame::Mbim;
 use std::marker::Model;
 
@@ -16,7 +17,7 @@ const MOST_CLIENTS: usize = 64;
 /// takes no memory.
 #[derive(Drop)]
 pub struct Askers {
-    names: ArrayVec<u64, MOST_CLIENTS>,
+    names: ArrayVec<ConnId, MOST_CLIENTS>,
 }
 
 impl Model for Askers {
@@ -38,7 +39,7 @@ impl Askers {
     }
 
     /// The client of this name asks, and comes last.
-    pub(crate) fn ask(&mut self, name: u64)
+    pub(crate) fn ask(&mut self, name: ConnId)
         ensures { self.new ≡ asked_last 64 name self.old }
     {
         self.remove(name);
@@ -46,7 +47,7 @@ impl Askers {
     }
 
     /// The client of this name asks for nothing any more.
-    pub(crate) fn remove(&mut self, name: u64)
+    pub(crate) fn remove(&mut self, name: ConnId)
         ensures { self.new ≡ without name self.old }
     {
         self.names.retain(|other| name != *other);
@@ -79,7 +80,7 @@ fn copied(names: &ArrayVec<u64, MOST_CLIENTS>) -> ArrayVec<u64, MOST_CLIENTS>
 }
 
 // Whether the client of this name is there and its request to open the modem waits.
-fn waits(connections: &Connections<Mbim, Client>, name: u64) -> bool
+fn waits(connections: &Connections<Mbim, Client>, name: ConnId) -> bool
     ensures { result ≡ is_waiting (connection_in name connections.now.present) }
 {
     match connections.find(name) {

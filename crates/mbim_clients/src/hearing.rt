@@ -16,7 +16,7 @@ use crate::request::Request;
 use crate::sending::{send_command, send_open};
 use crate::side::ModemSide;
 use connections::Hears;
-use kit_bytes::{u32_at, uuid_at};
+use kit_bytes::{ConnId, u32_at, uuid_at};
 use mbim_fragments::{Body, Took};
 use mbim_frame::error::{OUT_OF_SEQUENCE, TOO_LONG};
 use mbim_frame::status::{BUSY, FAILURE, NOT_INITIALIZED, SUCCESS};
@@ -38,7 +38,7 @@ impl Hears<Mbim, Client> for ModemSide {
 
     fn hear(
         &mut self,
-        name: u64,
+        name: ConnId,
         message: &[u8],
         client: &mut Client,
         outbox: &mut Outbox,
@@ -53,7 +53,7 @@ impl Hears<Mbim, Client> for ModemSide {
 
 impl ModemSide {
     // Decides on a message of the connection of this name. None where a request goes to the modem for it.
-    fn decide(&mut self, name: u64, message: &[u8], client: &mut Client) -> Option<Reply>
+    fn decide(&mut self, name: ConnId, message: &[u8], client: &mut Client) -> Option<Reply>
         requires { 12 ≤ length message.now }
         ensures { IsHeard name message.now client.old self.old result client.new self.new }
     {
@@ -69,7 +69,7 @@ impl ModemSide {
     // Decides on a request to open the modem, with fragments of the length that is asked for.
     fn decide_opening(
         &mut self,
-        name: u64,
+        name: ConnId,
         message: &[u8],
         asked: u32,
         client: &mut Client,
@@ -120,7 +120,7 @@ impl ModemSide {
     }
 
     // Decides on a fragment of a command.
-    fn decide_command(&mut self, name: u64, message: &[u8], client: &mut Client) -> Option<Reply>
+    fn decide_command(&mut self, name: ConnId, message: &[u8], client: &mut Client) -> Option<Reply>
         requires heads { 20 ≤ length message.now }
         requires carries { request_of message.now ≡ request.Command }
         ensures { IsHeard name message.now client.old self.old result client.new self.new }

@@ -11,6 +11,7 @@ use crate::client::LONGEST_FRAGMENT;
 use crate::command::SUBSCRIBE_LIST;
 use crate::traffic::{OUTBOX_LIMIT, Traffic};
 use crate::writer::Writer;
+use kit_bytes::ConnId;
 use mbim_fragments::{Body, LONGEST_BODY, split_length, unsplit_head};
 use mbim_frame::{CommandHead, MessageKind, open_request};
 use mbim_services::Service;
@@ -31,7 +32,7 @@ pub fn send_open(traffic: &mut Traffic, deadline: u64) -> Option<u32>
 pub fn send_command(
     traffic: &mut Traffic,
     writer: &mut Writer,
-    name: u64,
+    name: ConnId,
     kept: CommandName,
     body: &Body,
     deadline: u64,

@@ -19,7 +19,7 @@ use crate::sending::send_list;
 use crate::traffic::Traffic;
 use crate::writer::Writer;
 use connections::Connections;
-use kit_bytes::Text;
+use kit_bytes::{ConnId, Text};
 use mbim_fragments::{Assembly, Body, Took};
 use mbim_frame::Mbim;
 use mbim_frame::status::SUCCESS;
@@ -163,7 +163,7 @@ impl ModemSide {
     }
 
     /// The connection of this name is gone: it waits for nothing.
-    pub fn give_up(&mut self, name: u64)
+    pub fn give_up(&mut self, name: ConnId)
         ensures { self.new ≡ transitions.give_up name self.old }
     {
         self.traffic.give_up(name);

@@ -9,6 +9,7 @@ ghost use Rattle.mbim_state.specs.declared.asked.Asked.{Asked as NotedAsked};
 ghost use Rattle.mbim_clients.specs.Traffic.{has_share, number_for, queues};
 ghost use Rattle.outbox.specs.Fronts.{IsFrontOf};
 
+use kit_bytes::ConnId;
 use mbim_state::Asked;
 use number_space::Space;
 use outbox::Outbox;
@@ -58,7 +59,7 @@ impl Traffic {
     }
 
     /// Gives a request of so many bytes the next number, where one is free and they find room.
-    pub fn give(&mut self, count: usize, name: u64, asked: Asked, deadline: u64) -> Option<u32>
+    pub fn give(&mut self, count: usize, name: ConnId, asked: Asked, deadline: u64) -> Option<u32>
         ensures number { result ≡ number_for count self.old }
         ensures given { self.new ≡ record self.old { numbers = gives_number result name asked deadline self.old.numbers } }
         ensures room { IfSome result (λ _. length self.old.outbox.bytes + count ≤ OUTBOX_LIMIT) }
@@ -135,21 +136,21 @@ impl Traffic {
     }
 
     /// The connection of this name waits for nothing any more.
-    pub fn give_up(&mut self, name: u64)
+    pub fn give_up(&mut self, name: ConnId)
         ensures { self.new ≡ record self.old { numbers = orphans name self.old.numbers } }
     {
         self.numbers.orphan(name);
     }
 
     /// Whether the connection of this name waits for a number.
-    pub fn is_awaited(&self, name: u64) -> bool
+    pub fn is_awaited(&self, name: ConnId) -> bool
         ensures { result ≡ list_any (λ (row : Row NotedAsked). row.pending && (row.conn == name)) self.now.numbers.rows }
     {
         self.numbers.is_awaited(name)
     }
 
     /// Whether as many requests of the connection of this name wait as may.
-    pub fn has_share(&self, name: u64) -> bool
+    pub fn has_share(&self, name: ConnId) -> bool
         ensures { result ≡ has_share name self.now.numbers }
     {
         self.numbers.pending(name) >= SHARE_LIMIT

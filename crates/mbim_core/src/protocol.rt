@@ -4,7 +4,7 @@ ghost use Rattle.mbim_core.specs.Meaning.{mbim_meaning};
 use crate::teller::Teller;
 use connections::Connections;
 use hub_io::Limits;
-use kit_bytes::Text;
+use kit_bytes::{ConnId, Text};
 use mbim_clients::{Client, ModemSide};
 use mbim_fragments::Body;
 use mbim_frame::Mbim;
@@ -65,11 +65,11 @@ impl Protocol for MbimHand {
         side.parts()
     }
 
-    fn join(&mut self, _side: &ModemSide, name: u64) {
+    fn join(&mut self, _side: &ModemSide, name: ConnId) {
         self.teller.join(name);
     }
 
-    fn give_up(&mut self, side: &mut ModemSide, name: u64) {
+    fn give_up(&mut self, side: &mut ModemSide, name: ConnId) {
         self.teller.leave(name);
         side.give_up(name);
     }
@@ -86,7 +86,7 @@ impl Protocol for MbimHand {
         &mut self,
         connections: &mut Connections<Mbim, Client>,
         side: &mut ModemSide,
-        name: u64,
+        name: ConnId,
         piece: &[u8],
     ) {
         self.teller.bring(connections, side, name, piece);

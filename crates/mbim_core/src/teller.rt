@@ -21,7 +21,7 @@ ghost use Rattle.mbim_core.specs.State.{state_of, tells_opened, indicated_from, 
 use crate::answer::Answer;
 use connections::Connections;
 use framing::LONGEST_PIECE;
-use kit_bytes::u32_at;
+use kit_bytes::{ConnId, u32_at};
 use mbim_clients::{Client, ModemSide, Writer};
 use mbim_fragments::{Body, LONGEST_BODY, unsplit_head};
 use mbim_frame::{
@@ -55,7 +55,7 @@ impl Teller {
     }
 
     /// A client joined.
-    pub fn join(&mut self, name: u64)
+    pub fn join(&mut self, name: ConnId)
         requires { length self.old.subscriptions < CLIENT_LIMIT }
         ensures { hand_of self.new ≡ joined name (hand_of self.old) }
     {
@@ -63,7 +63,7 @@ impl Teller {
     }
 
     /// A client is gone.
-    pub fn leave(&mut self, name: u64)
+    pub fn leave(&mut self, name: ConnId)
         ensures { hand_of self.new ≡ left name (hand_of self.old) }
     {
         self.subscriptions.leave(name);
@@ -85,7 +85,7 @@ impl Teller {
     }
 
     // A client that was dropped is gone.
-    fn leave_unless(&mut self, stays: bool, name: u64)
+    fn leave_unless(&mut self, stays: bool, name: ConnId)
         ensures { hand_of self.new ≡ left_unless stays name (hand_of self.old) }
     {
         if !stays {
@@ -98,7 +98,7 @@ impl Teller {
         &mut self,
         connections: &mut Connections<Mbim, Client>,
         side: &mut ModemSide,
-        name: u64,
+        name: ConnId,
         piece: &[u8],
     )
         requires agrees { IsOf connections.old side.old (hand_of self.old) }
@@ -153,7 +153,7 @@ impl Teller {
         &mut self,
         connections: &mut Connections<Mbim, Client>,
         side: &mut ModemSide,
-        name: u64,
+        name: ConnId,
         asked: &Asked,
     )
         requires { IsOf connections.old side.old (hand_of self.old) }
@@ -315,7 +315,7 @@ impl Teller {
         &mut self,
         connections: &mut Connections<Mbim, Client>,
         side: &mut ModemSide,
-        name: u64,
+        name: ConnId,
         command: &CommandName,
         body: &[u8],
     )
@@ -346,7 +346,7 @@ impl Teller {
         &mut self,
         connections: &mut Connections<Mbim, Client>,
         side: &mut ModemSide,
-        name: u64,
+        name: ConnId,
         command: &CommandName,
         message: &[u8],
     )
@@ -368,7 +368,7 @@ impl Teller {
         &mut self,
         connections: &mut Connections<Mbim, Client>,
         side: &mut ModemSide,
-        name: u64,
+        name: ConnId,
         command: &CommandName,
     )
         requires { IsOf connections.old side.old (hand_of self.old) }
@@ -415,7 +415,7 @@ impl Teller {
         &mut self,
         connections: &mut Connections<Mbim, Client>,
         side: &mut ModemSide,
-        name: u64,
+        name: ConnId,
         status: u32,
     )
         requires { IsOf connections.old side.old (hand_of self.old) }
@@ -562,7 +562,7 @@ fn settle(side: &mut ModemSide, answer: Answer, number: u32) -> Option<(u64, Ask
 fn put(
     connections: &mut Connections<Mbim, Client>,
     side: &mut ModemSide,
-    name: u64,
+    name: ConnId,
     bytes: &[u8],
 ) -> bool
     ensures told { state_of connections.new side.new ≡ tell give_up (λ _. bytes.now) (λ client. client) name (state_of connections.old side.old) }
@@ -584,7 +584,7 @@ fn put_at(
     connections: &mut Connections<Mbim, Client>,
     side: &mut ModemSide,
     place: usize,
-    name: u64,
+    name: ConnId,
     head: &[u8],
     rest: &[u8],
 ) -> bool
@@ -609,7 +609,7 @@ fn put_done(
     side: &mut ModemSide,
     writer: &mut Writer,
     place: usize,
-    name: u64,
+    name: ConnId,
     number: u32,
     max: u32,
     body: &[u8],

@@ -11,7 +11,7 @@ use Rattle.proxy_history.specs.Facts.{Fact, Request, Forward, Judged, Forwarded}
 use Rattle.proxy_history.specs.Decision.{Decision, Forwards}
 use Rattle.proxy_history.specs.Connections.{contains, is_present, message_count}
 use Rattle.proxy_history.specs.Requests.{in_use, pending, forward_count}
-use Rattle.proxy_history.specs.Modem.{to_modem, modem_drained}
+use Rattle.proxy_history.specs.Modem.{to_modem, modem_taken_count}
 use Rattle.proxy_history.specs.Rendering.{put}
 use Rattle.proxy_history.specs.Coming.{AreSound}
 use Rattle.proxy_history.specs.Standing.{IsServed}
@@ -77,9 +77,9 @@ module _ (s : Setup) (c : ℕ) (m : List ℕ) (n : ℕ) (past after : List Fact)
   unfolding to_modem
   bytes_then = refl
 
-  drained_then : modem_drained sent ≡ modem_drained past
-  unfolding modem_drained
-  drained_then = refl
+  taken_then : modem_taken_count sent ≡ modem_taken_count past
+  unfolding modem_taken_count
+  taken_then = refl
 
   serial_then : request.serial ≡ forward_count sent
   unfolding forward_count
@@ -92,7 +92,7 @@ module _ (s : Setup) (c : ℕ) (m : List ℕ) (n : ℕ) (past after : List Fact)
     place = counts;
     message = refl;
     number = sym (ap (λ (b : Bool). number_for s (if b then own_open s else command_message s known m) past) command) ∙ forwarded_have_the_next_number s known c m n past decided;
-    waits = waits_behind (wire s) request past sent after in_use_then bytes_then drained_then serial_then behind (taken_within s past regular.new);
+    waits = waits_behind (wire s) request past sent after in_use_then bytes_then taken_then serial_then behind (taken_within s past regular.new);
   }
 
 pub forwarded_commands_are_queued : (s : Setup) (events : List Event) (c : ℕ) (piece : List ℕ) (earlier later : List (List ℕ)) (m : List ℕ) (n : ℕ)

@@ -5,7 +5,7 @@ use Rattle.std.proofs.lemmas.Bool.{eqb-true, false_from_ne_true}
 use Rattle.std.proofs.lemmas.List.Elements.{recursion_from_All}
 use Rattle.kit_bytes.proofs.Lists.{all_filter}
 use Rattle.mbim_frame.specs.declared.status.TheConstants.{FAILURE}
-use Rattle.proxy_history.specs.Items.{ModemFails, ClockShows}
+use Rattle.proxy_history.specs.Items.{ModemIsLost, ClockShows}
 use Rattle.proxy_history.specs.Facts.{Fact, Request, Expired, Aborted, OpeningEnded, TimeIs}
 use Rattle.proxy_history.specs.Connections.{contains, present, is_present}
 use Rattle.proxy_history.specs.Requests.{in_use, pending}
@@ -83,7 +83,7 @@ module _ (s : Setup) (c : ℕ) (past : List Fact) (idle : IsIdle s c past) where
   shut_same true entries = refl
   shut_same false entries = refl
 
-  pub lost_same : bytes_for s c (proxy.add (mbim_protocol s) ModemFails past) ≡ bytes_for s c past
+  pub lost_same : bytes_for s c (proxy.add (mbim_protocol s) ModemIsLost past) ≡ bytes_for s c past
   unfolding view
   lost_same =
       shut_same (contains c (present (abort_all (refuse s) in_order past))) (view_of c (abort_all (refuse s) in_order past))

@@ -13,13 +13,13 @@ use Rattle.mbim_frame.specs.Bodies.{uuid_of, cid_of}
 use Rattle.proxy_history.specs.Events.{Event, Joined, ModemTook}
 use Rattle.proxy_history.specs.Noting.{join}
 use Rattle.proxy_history.specs.Coming.{AreSound}
-use Rattle.proxy_history.specs.Facts.{Verdict, Own, Share, Forward, Waits, Fact, Request, EventBegan, NotAdmitted, BadStream, NoRoom, Closed, Admitted, Ended, Judged, Drained, Forwarded, Answered, Late, Aborted, Indicated, Stray, Freed, OpeningEnded, SessionsClosed, ListSent, Reset, ModemLost, ModemReturned, ModemDrained}
+use Rattle.proxy_history.specs.Facts.{Verdict, Own, Share, Forward, Waits, Fact, Request, EventBegan, NotAdmitted, BadStream, NoRoom, Leaving, Admitted, Ended, Judged, Taken, Forwarded, Answered, Late, Aborted, Indicated, Stray, Freed, OpeningEnded, SessionsClosed, ListSent, Reset, ModemLost, ModemReturned, ModemTaken}
 use Rattle.proxy_history.specs.Decision.{Decision, Replies, Forwards}
 use Rattle.proxy_history.specs.Connections.{contains, present, is_present, message_count}
 use Rattle.proxy_history.specs.Requests.{in_use, pending, is_pending, of_client, has_share}
-use Rattle.proxy_history.specs.Items.{Item, Joins, Says, Garbles, Leaves, ModemSays, ModemFails, ModemReturns, ClockShows, Takes, ModemTakes, items_of}
+use Rattle.proxy_history.specs.Items.{Item, Joins, Says, GoesBad, Leaves, ModemSays, ModemIsLost, ModemReturns, ClockShows, Takes, ModemTakes, items_of}
 use Rattle.proxy_history.specs.Unanswered.{abort_all}
-use Rattle.proxy_history.specs.View.{Sent, view, entry_if}
+use Rattle.proxy_history.specs.View.{Said, view, entry_if}
 use Rattle.proxy_history.specs.Wording.{told_by}
 use Rattle.proxy_history.specs.Sound.{MayFollow, IsSound}
 use Rattle.proxy_history.specs.Adding.{MayAdd, MayRefuse, MayFinish, Adds, Soundly}
@@ -125,7 +125,7 @@ module _ (s : Setup) (c : ℕ) (client : c ≢ 0) where
           (Contains-append_cases (pending past) (request ∷ []) r at_r))
           (Contains-append_cases (pending past) (request ∷ []) q at_q);
       fits = λ still.
-          ap (λ (b : Bool). asked_places (known_from s (entry_if b (Sent m Forward) (view_of c past))).asks) itself
+          ap (λ (b : Bool). asked_places (known_from s (entry_if b (Said m Forward) (view_of c past))).asks) itself
           ∙ ap (λ (l : List ℕ). l ++ (known.sent + 1) ∷ []) (F.fits there)
           ∙ ap (λ (k : ℕ). places_of c (pending past) ++ k ∷ []) place_is
           ∙ sym (places_more c (pending past) request (ap (λ (b : Bool). b && (the_space == the_space)) itself));
@@ -216,7 +216,7 @@ module _ (s : Setup) (c : ℕ) (client : c ≢ 0) where
       ((orderly s).refusal (Aborted r) r before (at, refl, tt) held))
       past sound
 
-  lost : (past : List Fact) → Sound past → Fits past → Fits (add_item ModemFails past)
+  lost : (past : List Fact) → Sound past → Fits past → Fits (add_item ModemIsLost past)
   unfolding pending
   lost past sound F =
       let aborted : List Fact = abort_all (refuse s) in_order past in
@@ -267,11 +267,11 @@ module _ (s : Setup) (c : ℕ) (client : c ≢ 0) where
       by : (b : Bool) → (d == c) ≡ b → Fits (add_item (Says d m) past)
       by true own = subst (λ (e : ℕ). Fits (add_item (Says e m) past)) (sym (eqb-true d c own)) (said m past sound F)
       by false another = by_calm (Says d m) (said_calm d m another) past sound F
-  by_item (Garbles d) past other sound F = ended_if (is_present d past) (Ended d BadStream) past (λ there. more (Ended d BadStream) past sound F there tt) F
-  by_item (Leaves d) past other sound F = ended_if (is_present d past) (Ended d Closed) past (λ there. more (Ended d Closed) past sound F there tt) F
-  by_item (Takes d count) past other sound F = ended_if (is_present d past) (Drained d count) past (λ there. more (Drained d count) past sound F there tt) F
+  by_item (GoesBad d) past other sound F = ended_if (is_present d past) (Ended d BadStream) past (λ there. more (Ended d BadStream) past sound F there tt) F
+  by_item (Leaves d) past other sound F = ended_if (is_present d past) (Ended d Leaving) past (λ there. more (Ended d Leaving) past sound F there tt) F
+  by_item (Takes d count) past other sound F = ended_if (is_present d past) (Taken d count) past (λ there. more (Taken d count) past sound F there tt) F
   by_item (ModemSays m) past other sound F = heard m past sound F (heard_as m)
-  by_item ModemFails past other sound F = lost past sound F
+  by_item ModemIsLost past other sound F = lost past sound F
   by_item ModemReturns past other sound F = more ModemReturned past sound F tt tt
   by_item (ClockShows time) past other sound F = by_calm (ClockShows time) (clock_calm time) past sound F
 
@@ -316,7 +316,7 @@ module _ (s : Setup) (c : ℕ) (client : c ≢ 0) where
       finished (join s.limits d (begun events)) after.0 after.1
   histories_fit (ModemTook count ∷ events) coming =
       let sound : Sound (begun events) = walk.begun_is_sound (mbim_protocol s) (Asks s) (orderly s) events in
-      finished (ModemDrained count ∷ begun events) (tt, sound) (more (ModemDrained count) (begun events) sound (begins events (histories_fit events coming.1)) tt tt)
+      finished (ModemTaken count ∷ begun events) (tt, sound) (more (ModemTaken count) (begun events) sound (begins events (histories_fit events coming.1)) tt tt)
   histories_fit (event ∷ events) coming = by_event event events refl (histories_fit events coming.1)
 
 -- ---- the laws ----

@@ -2,11 +2,11 @@
 use Rattle.std.proofs.Common.{◌≡◌, ◌≢◌, ◌⊎◌, ℕ, ◌+◌, ◌≤◌, Bool, true, false, not, ◌&&◌, ◌||◌, ◌==◌, if◌then◌else◌, List, [], ◌∷◌, ◌++◌, filter, ⊎_elim, refl, ap, sym, ◌∙◌, subst, arith, All, Contains}
 use Rattle.std.proofs.lemmas.Bool.{eqb-true, eq-eqb, false_from_ne_true}
 use Rattle.std.proofs.lemmas.List.Elements.{All-contains, All-tail}
-use Rattle.proxy_history.specs.Facts.{Verdict, Own, Forward, Fact, Request, NotAdmitted, BadStream, NoRoom, Closed, Admitted, Ended, Judged, Drained, Forwarded, Answered, IdHeld, Late, Expired, Aborted, Indicated, OpeningEnded, SessionsClosed, Reset, ModemLost}
+use Rattle.proxy_history.specs.Facts.{Verdict, Own, Forward, Fact, Request, NotAdmitted, BadStream, NoRoom, Leaving, Admitted, Ended, Judged, Taken, Forwarded, Answered, IdHeld, Late, Expired, Aborted, Indicated, OpeningEnded, SessionsClosed, Reset, ModemLost}
 use Rattle.proxy_history.specs.Connections.{contains, present, is_present, message_count}
 use Rattle.proxy_history.specs.Requests.{pending, has_request, is_pending, without_request}
 use Rattle.proxy_history.specs.Laws.{ends_waiting}
-use Rattle.proxy_history.specs.View.{Entry, Sent, Response, Refused, Indication, OpenedWith, Shut, Collected, End, HeldId, NoAnswer, view, entry_if, sent_count}
+use Rattle.proxy_history.specs.View.{Entry, Said, Response, Refused, Indication, OpenedWith, Shut, Taking, End, HeldId, NoAnswer, view, entry_if, said_count}
 use Rattle.proxy_history.specs.Wording.{told_by}
 use Rattle.proxy_history.specs.Sound.{IsParty, MayFollow, IsSound}
 use Rattle.proxy_history.proofs.Lists.{Contains-filter_from}
@@ -39,17 +39,17 @@ module _ (s : Setup) where
   behind_reply (Subscribes command list) known = (refl, refl)
   behind_reply _ known = (refl, refl)
 
-  counted_more : (known : Known) (m : List ℕ) (verdict : Verdict) → (step s known (Sent m verdict)).sent ≡ known.sent + 1
+  counted_more : (known : Known) (m : List ℕ) (verdict : Verdict) → (step s known (Said m verdict)).sent ≡ known.sent + 1
   counted_more known m Own = (behind_reply (own_reply s known m) (with_message s m known)).0
   counted_more known m _ = refl
 
-  pub all_counted : (entries : List Entry) → (known_from s entries).sent ≡ sent_count entries
+  pub all_counted : (entries : List Entry) → (known_from s entries).sent ≡ said_count entries
   unfolding told_by
   all_counted [] = refl
-  all_counted (Sent m verdict ∷ entries) = counted_more (known_from s entries) m verdict ∙ ap (λ (n : ℕ). n + 1) (all_counted entries)
+  all_counted (Said m verdict ∷ entries) = counted_more (known_from s entries) m verdict ∙ ap (λ (n : ℕ). n + 1) (all_counted entries)
   all_counted (_ ∷ entries) = all_counted entries
 
-  not_forwarded : (known : Known) (m : List ℕ) (verdict : Verdict) → verdict ≢ Forward → (step s known (Sent m verdict)).asks ≡ known.asks
+  not_forwarded : (known : Known) (m : List ℕ) (verdict : Verdict) → verdict ≢ Forward → (step s known (Said m verdict)).asks ≡ known.asks
   not_forwarded known m Own other = (behind_reply (own_reply s known m) (with_message s m known)).1
   not_forwarded known m Forward other = absurd (other refl)
   not_forwarded known m _ other = refl
@@ -202,15 +202,15 @@ module _ (s : Setup) where
           ap (λ (b : Bool). asked_in (if b then End NotAdmitted ∷ [] else view_of c past)) other ∙ F.fits (stayed_was_there c d past there) ∙ none_ended past d other
       fits_then client (Ended d BadStream) follows calm there =
           silent (d == c) (End BadStream) (view_of c past) refl ∙ F.fits (stayed_was_there c d past there) ∙ none_ended past d (stayed past d there)
-      fits_then client (Ended d Closed) follows calm there =
-          silent (d == c) (End Closed) (view_of c past) refl ∙ F.fits (stayed_was_there c d past there) ∙ none_ended past d (stayed past d there)
+      fits_then client (Ended d Leaving) follows calm there =
+          silent (d == c) (End Leaving) (view_of c past) refl ∙ F.fits (stayed_was_there c d past there) ∙ none_ended past d (stayed past d there)
       fits_then client (Ended d NoRoom) follows calm there = F.fits (stayed_was_there c d past there) ∙ none_ended past d (stayed past d there)
       fits_then client (Judged d place m verdict) follows calm there =
           ⊎_elim
-          (λ (other : (d == c) ≡ false). ap (λ (b : Bool). asked_in (entry_if b (Sent m verdict) (view_of c past))) other)
-          (λ (unsent : verdict ≢ Forward). silent (d == c) (Sent m verdict) (view_of c past) (not_forwarded (known_now s c past) m verdict unsent)) calm
+          (λ (other : (d == c) ≡ false). ap (λ (b : Bool). asked_in (entry_if b (Said m verdict) (view_of c past))) other)
+          (λ (unsent : verdict ≢ Forward). silent (d == c) (Said m verdict) (view_of c past) (not_forwarded (known_now s c past) m verdict unsent)) calm
           ∙ F.fits there
-      fits_then client (Drained d count) follows calm there = silent (d == c) (Collected count) (view_of c past) refl ∙ F.fits there
+      fits_then client (Taken d count) follows calm there = silent (d == c) (Taking count) (view_of c past) refl ∙ F.fits there
       fits_then client (Forwarded r) follows calm there = (forwarded_too r past calm F).fits there
       fits_then client (Answered r m) follows calm there = done r (Response r.place (blank m)) follows there refl
       fits_then client (IdHeld r) follows calm there = done r (Refused r.place HeldId) follows there refl

@@ -10,7 +10,7 @@ use Rattle.mbim_frame.specs.Fragment.{body_of}
 use Rattle.mbim_frame.specs.Bodies.{uuid_of, cid_of}
 use Rattle.mbim_frame.specs.Writing.{open_done}
 use Rattle.proxy_history.specs.Events.{Event}
-use Rattle.proxy_history.specs.Items.{ModemSays, ModemFails, ClockShows}
+use Rattle.proxy_history.specs.Items.{ModemSays, ModemIsLost, ClockShows}
 use Rattle.proxy_history.specs.Facts.{Fact, Request, EventBegan, Forwarded}
 use Rattle.proxy_history.specs.Connections.{contains, is_present}
 use Rattle.proxy_history.specs.Requests.{in_use, pending, has_request, numbers_in_use}
@@ -110,7 +110,7 @@ pub record IsIdle (s : Setup) (c : ℕ) (past : List Fact) : Type 0 where
 abbrev pub TheIdleAreNotRefused : Type 0
 TheIdleAreNotRefused = (s : Setup) (past : List Fact) (c : ℕ) → IsIdle s c past
     → ((time : ℕ) → bytes_for s c (proxy.add (mbim_protocol s) (ClockShows time) past) ≡ bytes_for s c past)
-    × (bytes_for s c (proxy.add (mbim_protocol s) ModemFails past) ≡ bytes_for s c past)
+    × (bytes_for s c (proxy.add (mbim_protocol s) ModemIsLost past) ≡ bytes_for s c past)
 
 -- ---- the numbers that the modem sees ----
 

@@ -3,9 +3,9 @@ use Rattle.std.proofs.Common.{◌≡◌, ℕ, ◌≤◌, Bool, true, false, not,
 use Rattle.std.proofs.lemmas.Bool.{and_parts}
 use Rattle.std.proofs.lemmas.List.{length-drop}
 use Rattle.kit_bytes.specs.Subscriptions.{Pair}
-use Rattle.proxy_history.specs.Facts.{Fact, Request, EventBegan, Forwarded, ListSent, ModemDrained}
+use Rattle.proxy_history.specs.Facts.{Fact, Request, EventBegan, Forwarded, ListSent, ModemTaken}
 use Rattle.proxy_history.specs.Connections.{present}
-use Rattle.proxy_history.specs.Modem.{to_modem, modem_drained}
+use Rattle.proxy_history.specs.Modem.{to_modem, modem_taken_count}
 use Rattle.proxy_history.specs.View.{view}
 use Rattle.proxy_history.specs.Proxy.{IsLawful}
 use Rattle.proxy_history.specs.Lawful.{backlog}
@@ -38,7 +38,7 @@ module _ (s : Setup) where
   unfolding view present last_list
   begun past = refl
 
-  taken : (count : ℕ) (past : List Fact) → own (ModemDrained count ∷ past) ≡ own past
+  taken : (count : ℕ) (past : List Fact) → own (ModemTaken count ∷ past) ≡ own past
   unfolding view present last_list
   taken count past = refl
 
@@ -48,13 +48,13 @@ module _ (s : Setup) where
 
   forwarded : (past : List Fact) (n : ℕ) → is_same_list (merged s past) (last_list past) ≡ false
       → total (ListSent (merged s past) ∷ forward s 0 (own_subscribe (merged s past)) n past) ≤ total past
-  unfolding to_modem modem_drained
+  unfolding to_modem modem_taken_count
   forwarded past n differs =
       let r : Request = request_of s 0 (own_subscribe (merged s past)) n past in
       let before : own past ≡ length (wire_of s 0 (own_subscribe (merged s past))) = ap (λ (b : Bool). own_if b (merged s past)) differs in
       let all : List ℕ = to_modem (wire s) past in
       let bytes : List ℕ = wire_of s n (own_subscribe (merged s past)) in
-      omega (arith, none_left past r, before, wire_length s n 0 (own_subscribe (merged s past)), length-drop (modem_drained past) (all ++ bytes), length-drop (modem_drained past) all, length-append all bytes)
+      omega (arith, none_left past r, before, wire_length s n 0 (own_subscribe (merged s past)), length-drop (modem_taken_count past) (all ++ bytes), length-drop (modem_taken_count past) all, length-append all bytes)
 
   sends : (number : Option ℕ) (past : List Fact) → number_of_list s (merged s past) past ≡ number → total (send_under s (merged s past) number past) ≤ total past
   sends None past is = omega arith

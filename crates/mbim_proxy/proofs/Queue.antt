@@ -2,8 +2,8 @@
 use Rattle.std.proofs.Common.{◌≡◌, ℕ, ◌+◌, ◌≤◌, true, false, List, [], ◌∷◌, ◌++◌, length, drop, refl, ap, sym, ◌∙◌, drop-drop}
 use Rattle.std.proofs.lemmas.List.{drop-append-le}
 use Rattle.proxy_history.specs.Events.{Event, ModemTook, modem_takes}
-use Rattle.proxy_history.specs.Facts.{Fact, EventBegan, ModemDrained, ModemLost}
-use Rattle.proxy_history.specs.Modem.{modem_drained}
+use Rattle.proxy_history.specs.Facts.{Fact, EventBegan, ModemTaken, ModemLost}
+use Rattle.proxy_history.specs.Modem.{modem_taken_count}
 use Rattle.proxy_history.specs.Modem as modem
 use Rattle.proxy_history.specs.History as proxy
 use Rattle.proxy_history.proofs.Touching.{takes_from_queue, QueueGrows, queue_same, queue_grows}
@@ -43,21 +43,21 @@ module _ (s : Setup) (event : Event) (events : List Event) where
 -- ---- a taking ----
 
 module _ (s : Setup) (count : ℕ) (events : List Event) where
-  abbrev drained : List Fact
-  drained = ModemDrained count ∷ EventBegan ∷ history s events
+  abbrev was_taken : List Fact
+  was_taken = ModemTaken count ∷ EventBegan ∷ history s events
 
-  ended : QueueGrows (wire s) drained (history s (ModemTook count ∷ events))
+  ended : QueueGrows (wire s) was_taken (history s (ModemTook count ∷ events))
   unfolding proxy.history proxy.add_all
   ended =
-      kept_at_end (mbim_protocol s) (Asks s) (orderly s) (QueueGrows (wire s) drained)
-      (λ fact past follows may asked. queue_grows (wire s) drained fact past (at_end (λ f. takes_from_queue f ≡ false) (λ r. refl) (λ list. refl) fact past may))
-      drained (tt, begun_is_sound (mbim_protocol s) (Asks s) (orderly s) events) (queue_same (wire s) drained)
+      kept_at_end (mbim_protocol s) (Asks s) (orderly s) (QueueGrows (wire s) was_taken)
+      (λ fact past follows may asked. queue_grows (wire s) was_taken fact past (at_end (λ f. takes_from_queue f ≡ false) (λ r. refl) (λ list. refl) fact past may))
+      was_taken (tt, begun_is_sound (mbim_protocol s) (Asks s) (orderly s) events) (queue_same (wire s) was_taken)
 
-  pub modem_takes_the_first : modem_drained (history s events) + count ≤ length (to_modem s events) → TakesTheFirst (modem_queue s events) count (modem_queue s (ModemTook count ∷ events))
-  unfolding modem.to_modem modem.modem_drained
+  pub modem_takes_the_first : modem_taken_count (history s events) + count ≤ length (to_modem s events) → TakesTheFirst (modem_queue s events) count (modem_queue s (ModemTook count ∷ events))
+  unfolding modem.to_modem modem.modem_taken_count
   modem_takes_the_first within =
       let g = ended in
-      let taken : ℕ = modem_drained (history s events) in
+      let taken : ℕ = modem_taken_count (history s events) in
       record {
         more = g.more;
         waiting =

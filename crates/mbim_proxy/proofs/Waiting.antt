@@ -5,9 +5,9 @@ use Rattle.std.proofs.lemmas.Bool.{and_parts}
 use Rattle.std.proofs.lemmas.Bool.Decides.{nat_tests}
 use Rattle.std.proofs.lemmas.List.Elements.{All-from_recursion}
 use Rattle.kit_bytes.proofs.Lists.{all_passing}
-use Rattle.proxy_history.specs.Facts.{Fact, NotAdmitted, BadStream, NoRoom, Closed, Own, Share, Foreign, Away, Full, Forward, Ready, Waits, Admitted, Ended, Judged, Drained, Answered, IdHeld, Expired, Aborted, Indicated, OpeningEnded, SessionsClosed}
+use Rattle.proxy_history.specs.Facts.{Fact, NotAdmitted, BadStream, NoRoom, Leaving, Own, Share, Foreign, Away, Full, Forward, Ready, Waits, Admitted, Ended, Judged, Taken, Answered, IdHeld, Expired, Aborted, Indicated, OpeningEnded, SessionsClosed}
 use Rattle.proxy_history.specs.Connections.{contains, without, present, is_present}
-use Rattle.proxy_history.specs.View.{Entry, HeldId, NoAnswer, Sent, Refused, Indication, OpenedWith, Shut, Collected, End, entry_if, view}
+use Rattle.proxy_history.specs.View.{Entry, HeldId, NoAnswer, Said, Refused, Indication, OpenedWith, Shut, Taking, End, entry_if, view}
 use Rattle.proxy_history.specs.Wording.{told_by}
 use Rattle.proxy_history.proofs.Lists.{contains_kept}
 use Rattle.proxy_history.proofs.SoundLaws.{contains-append}
@@ -54,7 +54,7 @@ module _ (s : Setup) (c : ℕ) where
   reply_keeps (Configures command) known = refl
   reply_keeps (Subscribes command list) known = refl
 
-  own_makes_none : (m : List ℕ) → MakesNone (Sent m Own)
+  own_makes_none : (m : List ℕ) → MakesNone (Said m Own)
   own_makes_none m known waits = ap (λ o. is_some o) (sym (reply_keeps (own_reply s known m) (with_message s m known))) ∙ waits
 
   -- ---- names ----
@@ -96,17 +96,17 @@ module _ (s : Setup) (c : ℕ) where
   waits_asked (Ended d NoRoom ∷ past) there waits = let was = stays d (present past) there in still_in d (askers past) was.0 (waits_asked past was.1 waits)
   waits_asked (Ended d BadStream ∷ past) there waits =
       let was = stays d (present past) there in still_in d (askers past) was.0 (waits_asked past was.1 (before (d == c) (End BadStream) (view_of c past) (λ known e. e) waits))
-  waits_asked (Ended d Closed ∷ past) there waits =
-      let was = stays d (present past) there in still_in d (askers past) was.0 (waits_asked past was.1 (before (d == c) (End Closed) (view_of c past) (λ known e. e) waits))
+  waits_asked (Ended d Leaving ∷ past) there waits =
+      let was = stays d (present past) there in still_in d (askers past) was.0 (waits_asked past was.1 (before (d == c) (End Leaving) (view_of c past) (λ known e. e) waits))
   waits_asked (Judged d place m Waits ∷ past) there waits =
-      asks_now d past (d == c) refl (λ other. waits_asked past there (subst (λ (b : Bool). Waiting (entry_if b (Sent m Waits) (view_of c past))) other waits))
-  waits_asked (Judged d place m Own ∷ past) there waits = waits_asked past there (before (d == c) (Sent m Own) (view_of c past) (own_makes_none m) waits)
-  waits_asked (Judged d place m Share ∷ past) there waits = waits_asked past there (before (d == c) (Sent m Share) (view_of c past) (λ known e. e) waits)
-  waits_asked (Judged d place m Foreign ∷ past) there waits = waits_asked past there (before (d == c) (Sent m Foreign) (view_of c past) (λ known e. e) waits)
-  waits_asked (Judged d place m Away ∷ past) there waits = waits_asked past there (before (d == c) (Sent m Away) (view_of c past) (λ known e. e) waits)
-  waits_asked (Judged d place m Full ∷ past) there waits = waits_asked past there (before (d == c) (Sent m Full) (view_of c past) (λ known e. e) waits)
-  waits_asked (Judged d place m Forward ∷ past) there waits = waits_asked past there (before (d == c) (Sent m Forward) (view_of c past) (λ known e. e) waits)
-  waits_asked (Judged d place m Ready ∷ past) there waits = waits_asked past there (before (d == c) (Sent m Ready) (view_of c past) (λ known e. e) waits)
+      asks_now d past (d == c) refl (λ other. waits_asked past there (subst (λ (b : Bool). Waiting (entry_if b (Said m Waits) (view_of c past))) other waits))
+  waits_asked (Judged d place m Own ∷ past) there waits = waits_asked past there (before (d == c) (Said m Own) (view_of c past) (own_makes_none m) waits)
+  waits_asked (Judged d place m Share ∷ past) there waits = waits_asked past there (before (d == c) (Said m Share) (view_of c past) (λ known e. e) waits)
+  waits_asked (Judged d place m Foreign ∷ past) there waits = waits_asked past there (before (d == c) (Said m Foreign) (view_of c past) (λ known e. e) waits)
+  waits_asked (Judged d place m Away ∷ past) there waits = waits_asked past there (before (d == c) (Said m Away) (view_of c past) (λ known e. e) waits)
+  waits_asked (Judged d place m Full ∷ past) there waits = waits_asked past there (before (d == c) (Said m Full) (view_of c past) (λ known e. e) waits)
+  waits_asked (Judged d place m Forward ∷ past) there waits = waits_asked past there (before (d == c) (Said m Forward) (view_of c past) (λ known e. e) waits)
+  waits_asked (Judged d place m Ready ∷ past) there waits = waits_asked past there (before (d == c) (Said m Ready) (view_of c past) (λ known e. e) waits)
   waits_asked (Answered r m ∷ past) there waits = waits_asked past there (before (r.conn == c) _ (view_of c past) (λ known e. e) waits)
   waits_asked (IdHeld r ∷ past) there waits = waits_asked past there (before (r.conn == c) (Refused r.place HeldId) (view_of c past) (λ known e. e) waits)
   waits_asked (Expired r ∷ past) there waits = waits_asked past there (before (r.conn == c) (Refused r.place NoAnswer) (view_of c past) (λ known e. e) waits)
@@ -114,7 +114,7 @@ module _ (s : Setup) (c : ℕ) where
   waits_asked (Indicated m receivers ∷ past) there waits = waits_asked past there (before (contains c receivers) (Indication m) (view_of c past) (λ known e. e) waits)
   waits_asked (OpeningEnded status receivers ∷ past) there waits = waits_asked past there (before (contains c receivers) (OpenedWith status) (view_of c past) (λ known e. absurd (let clash : false ≡ true = e in cc)) waits)
   waits_asked (SessionsClosed receivers ∷ past) there waits = waits_asked past there (before (contains c receivers) Shut (view_of c past) (λ known e. e) waits)
-  waits_asked (Drained d count ∷ past) there waits = waits_asked past there (before (d == c) (Collected count) (view_of c past) (λ known e. e) waits)
+  waits_asked (Taken d count ∷ past) there waits = waits_asked past there (before (d == c) (Taking count) (view_of c past) (λ known e. e) waits)
   waits_asked (_ ∷ past) there waits = waits_asked past there waits
 
   pub waits_is : (past : List Fact) → contains c (waiting s past) ≡ (is_present c past && is_some (known_now s c past).waits)

@@ -9,12 +9,12 @@ use Rattle.mbim_frame.specs.declared.kind.MessageKind.TheVariants.{Open}
 use Rattle.mbim_frame.specs.Head.{is_kind}
 use Rattle.mbim_frame.specs.Fragment.{body_of}
 use Rattle.mbim_frame.specs.Bodies.{uuid_of, cid_of}
-use Rattle.proxy_history.specs.Items.{Says, ModemSays, ModemFails}
+use Rattle.proxy_history.specs.Items.{Says, ModemSays, ModemIsLost}
 use Rattle.proxy_history.specs.Facts.{Fact, Request, Verdict, Forward, Waits, NoRoom, Ended, Judged, Forwarded, Answered, Late, Indicated, Stray, OpeningEnded, SessionsClosed, ListSent}
 use Rattle.proxy_history.specs.Decision.{Decision, Replies, Forwards}
 use Rattle.proxy_history.specs.Connections.{present, message_count}
 use Rattle.proxy_history.specs.Requests.{in_use, is_pending, last_number}
-use Rattle.proxy_history.specs.Modem.{to_modem, modem_drained}
+use Rattle.proxy_history.specs.Modem.{to_modem, modem_taken_count}
 use Rattle.proxy_history.specs.Wording.{Wording}
 use Rattle.proxy_history.specs.Noting.{receivers_of}
 use Rattle.proxy_history.specs.Sound.{IsPresent, IsParty, IsSound}
@@ -111,7 +111,7 @@ module _ (s : Setup) (Asks : Request → List Fact → Type 0) (asked : (r : Req
 
     -- what is judged takes no number and no room
     still : (sent : List ℕ) (n : ℕ) (verdict : Verdict) (past : List Fact) → CanGo s sent n past → CanGo s sent n (judged_as verdict past)
-    unfolding in_use last_number to_modem modem_drained
+    unfolding in_use last_number to_modem modem_taken_count
     still sent n verdict past can = record { room = can.room; number = can.number }
 
     sent_on : (n : ℕ) (past : List Fact) → IsPresent c past → CanGo s (command_message s (known_now s c past) m) n past
@@ -206,7 +206,7 @@ module _ (s : Setup) (Asks : Request → List Fact → Type 0) (asked : (r : Req
     modem = λ m past sound. hears m (heard_as m) past sound;
     refusal = λ why r past may sound. noted_then_ends (MayRefuse why) (λ c before there. (there, tt, tt)) (λ status receivers before. tt) why r FAILURE past sound may;
     order = λ requests r at. at;
-    loss = λ past sound. added s.limits wording (May (MayAdd ModemFails)) (SessionsClosed (present past)) past refl (each_contained (present past), tt, tt);
+    loss = λ past sound. added s.limits wording (May (MayAdd ModemIsLost)) (SessionsClosed (present past)) past refl (each_contained (present past), tt, tt);
     clock = λ past sound. none s.limits wording (May MayTick) past;
     finish = λ past sound. sends _ past refl;
   }

@@ -5,7 +5,7 @@ use Rattle.proxy_history.specs.Facts.{Fact, Request, Judged, Forward}
 use Rattle.proxy_history.specs.Connections.{is_present}
 use Rattle.proxy_history.specs.Requests.{deadline_of}
 use Rattle.proxy_history.specs.Modem.{now}
-use Rattle.proxy_history.specs.View.{sent_count}
+use Rattle.proxy_history.specs.View.{said_count}
 use Rattle.proxy_history.specs.Adding.{AreAsked}
 use Rattle.mbim_proxy.specs.Setup.{Setup, the_space}
 use Rattle.mbim_proxy.specs.Step.{view_of, known_now}
@@ -22,7 +22,7 @@ pub record CarriesItsCommand (s : Setup) (r : Request) (past : List Fact) : Type
   pub message : List ℕ
   pub before : List Fact
   pub judged : past ≡ Judged r.conn r.place message Forward ∷ before
-  pub place : r.place ≡ sent_count (view_of r.conn past)
+  pub place : r.place ≡ said_count (view_of r.conn past)
   pub command : r.message ≡ command_message s (known_now s r.conn before) message
 
 -- the proxy itself opens a modem that is shut

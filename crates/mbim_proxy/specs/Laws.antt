@@ -6,8 +6,8 @@ use Rattle.proxy_history.specs.Streams.{modem_stream}
 use Rattle.proxy_history.specs.Facts.{Fact, Why, EventBegan, Ended}
 use Rattle.proxy_history.specs.Connections.{present, is_present, dropped}
 use Rattle.proxy_history.specs.Requests.{in_use, pending, numbers_in_use}
-use Rattle.proxy_history.specs.Modem.{now, is_away, modem_drained}
-use Rattle.proxy_history.specs.Rendering.{empty, collect, Grows}
+use Rattle.proxy_history.specs.Modem.{now, is_away, modem_taken_count}
+use Rattle.proxy_history.specs.Rendering.{empty, take_waiting, Grows}
 use Rattle.proxy_history.specs.HungUp.{hung_up_by, is_beginning}
 use Rattle.proxy_history.specs.Sound.{IsSound, IsPresent, IsParty, Differ, begins_anew, EndsWithItsEnd}
 use Rattle.proxy_history.specs.Adding.{IsOrderly}
@@ -93,7 +93,7 @@ JoiningStartsWithNone = (s : Setup) (c : ℕ) (events : List Event) → text_for
 -- a taking takes the first of those that wait, and of a connection that isn't there none
 abbrev pub TakingTakesTheFirst : Type 0
 TakingTakesTheFirst = (s : Setup) (c count : ℕ) (events : List Event)
-    → text_for s c (Took c count ∷ events) ≡ (if is_present c (history s events) then collect count (text_for s c events) else text_for s c events)
+    → text_for s c (Took c count ∷ events) ≡ (if is_present c (history s events) then take_waiting count (text_for s c events) else text_for s c events)
 
 -- a connection that is there got all that was due to it: there was room for each entry's bytes
 abbrev pub NobodyThereIsOver : Type 0
@@ -136,7 +136,7 @@ pub record TakesTheFirst (before : List ℕ) (count : ℕ) (after : List ℕ) : 
   pub waiting : after ≡ drop count before ++ more
 
 abbrev pub ModemTakesTheFirst : Type 0
-ModemTakesTheFirst = (s : Setup) (count : ℕ) (events : List Event) → modem_drained (history s events) + count ≤ length (to_modem s events)
+ModemTakesTheFirst = (s : Setup) (count : ℕ) (events : List Event) → modem_taken_count (history s events) + count ≤ length (to_modem s events)
     → TakesTheFirst (modem_queue s events) count (modem_queue s (ModemTook count ∷ events))
 
 -- while the proxy may ask nothing itself, a taking brings nothing, and the proxy may ask nothing still; and where it may ask behind a taking, the taking brought nothing

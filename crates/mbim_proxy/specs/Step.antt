@@ -7,7 +7,7 @@ use Rattle.mbim_frame.specs.Bodies.{uuid_of, cid_of}
 use Rattle.mbim_fragments.specs.Runs.{Joining, Whole}
 use Rattle.mbim_fragments.specs.Assembling.{joining_behind, assembled_after}
 use Rattle.proxy_history.specs.Facts.{Fact, Verdict, Own, Forward, Ready, Waits}
-use Rattle.proxy_history.specs.View.{Entry, Sent, Response, Refused, OpenedWith, Shut, view}
+use Rattle.proxy_history.specs.View.{Entry, Said, Response, Refused, OpenedWith, Shut, view}
 use Rattle.proxy_history.specs.Wording.{told_by}
 use Rattle.mbim_proxy.specs.Setup.{Setup, fragment_for}
 use Rattle.mbim_proxy.specs.Known.{Ask, Known, fresh, without_ask}
@@ -53,7 +53,7 @@ with_verdict s before m Forward known = record known { asks = ask_of s before m 
 with_verdict s before m _ known = known
 
 abbrev pub step : Setup → Known → Entry → Known
-step s known (Sent m verdict) = with_verdict s known m verdict (with_message s m known)
+step s known (Said m verdict) = with_verdict s known m verdict (with_message s m known)
 step s known (Response place m) = record known { asks = without_ask place known.asks }
 step s known (Refused place cause) = record known { asks = without_ask place known.asks }
 step s known (OpenedWith status) = record known { waits = None; opened = status == SUCCESS }

@@ -10,7 +10,7 @@ use Rattle.mbim_frame.specs.Bodies.{uuid_of, cid_of, done_text}
 use Rattle.mbim_frame.specs.Writing.{open_done, close_done, function_error}
 use Rattle.mbim_fragments.specs.Splitting.{split}
 use Rattle.proxy_history.specs.Facts.{Fact, Own, Share, Foreign, Away, Full, Forward, Ready, Waits}
-use Rattle.proxy_history.specs.View.{Entry, Sent, Response, Refused, Indication, OpenedWith, Shut, Collected, End}
+use Rattle.proxy_history.specs.View.{Entry, Said, Response, Refused, Indication, OpenedWith, Shut, Taking, End}
 use Rattle.proxy_history.specs.Wording.{Wording}
 use Rattle.proxy_history.specs.Noting as noting
 use Rattle.mbim_services.specs.SubscribeLists.{list_buffer}
@@ -63,20 +63,20 @@ refusal_text known ask = done known ask.number ask.uuid ask.cid FAILURE []
 
 -- the bytes of an entry, from what the entries before it tell; no message uses a client id
 abbrev pub text_as : Setup → Known → Entry → List ℕ
-text_as s known (Sent m Own) = reply_text known (number_of m) (own_reply s known m)
-text_as s known (Sent m Share) = share_text s known m
-text_as s known (Sent m Foreign) = []
-text_as s known (Sent m Away) = open_done (number_of m) FAILURE
-text_as s known (Sent m Full) = full_text s known m
-text_as s known (Sent m Forward) = []
-text_as s known (Sent m Ready) = open_done (number_of m) SUCCESS
-text_as s known (Sent m Waits) = []
+text_as s known (Said m Own) = reply_text known (number_of m) (own_reply s known m)
+text_as s known (Said m Share) = share_text s known m
+text_as s known (Said m Foreign) = []
+text_as s known (Said m Away) = open_done (number_of m) FAILURE
+text_as s known (Said m Full) = full_text s known m
+text_as s known (Said m Forward) = []
+text_as s known (Said m Ready) = open_done (number_of m) SUCCESS
+text_as s known (Said m Waits) = []
 text_as s known (Response place m) = response_text known (ask_at place known.asks) m
 text_as s known (Refused place cause) = refusal_text known (ask_at place known.asks)
 text_as s known (Indication m) = in_fragments known (kind_number kind.IndicateStatus) 0 (body_of m)
 text_as s known (OpenedWith status) = open_done (waiting_number known.waits) status
 text_as s known Shut = []
-text_as s known (Collected count) = []
+text_as s known (Taking count) = []
 text_as s known (End why) = []
 
 abbrev pub mbim_wording : Setup → Wording Known

@@ -8,13 +8,13 @@ use Rattle.mbim_frame.specs.declared.status.TheConstants.{SUCCESS}
 use Rattle.mbim_frame.specs.Head.{is_kind}
 use Rattle.mbim_frame.specs.Fragment.{body_of}
 use Rattle.mbim_frame.specs.Bodies.{uuid_of, cid_of}
-use Rattle.proxy_history.specs.Items.{Item, Says, ModemSays, ModemFails, ModemReturns, ClockShows, ModemTakes}
-use Rattle.proxy_history.specs.Facts.{Fact, Request, NotAdmitted, BadStream, NoRoom, Closed, Admitted, Ended, Judged, Drained, Forwarded, Answered, IdHeld, Late, Expired, Aborted, Indicated, OpeningEnded, SessionsClosed, Reset, ModemLost, ModemReturned, ModemDrained}
+use Rattle.proxy_history.specs.Items.{Item, Says, ModemSays, ModemIsLost, ModemReturns, ClockShows, ModemTakes}
+use Rattle.proxy_history.specs.Facts.{Fact, Request, NotAdmitted, BadStream, NoRoom, Leaving, Admitted, Ended, Judged, Taken, Forwarded, Answered, IdHeld, Late, Expired, Aborted, Indicated, OpeningEnded, SessionsClosed, Reset, ModemLost, ModemReturned, ModemTaken}
 use Rattle.proxy_history.specs.Connections.{contains, present, is_present}
 use Rattle.proxy_history.specs.Requests.{in_use, pending, is_pending}
-use Rattle.proxy_history.specs.Modem.{to_modem, modem_drained, modem_queue}
+use Rattle.proxy_history.specs.Modem.{to_modem, modem_taken_count, modem_queue}
 use Rattle.proxy_history.specs.Adding.{MayAdd, MayAsk}
-use Rattle.proxy_history.specs.View.{Entry, Sent, Response, Refused, Indication, OpenedWith, Shut, Collected, End, HeldId, NoAnswer, entry_if, view}
+use Rattle.proxy_history.specs.View.{Entry, Said, Response, Refused, Indication, OpenedWith, Shut, Taking, End, HeldId, NoAnswer, entry_if, view}
 use Rattle.proxy_history.specs.Wording.{told_by}
 use Rattle.proxy_history.specs.Sound.{IsSound}
 use Rattle.proxy_history.specs.History.{add_all}
@@ -91,7 +91,7 @@ asking_alone _ _ past none may = refl
 -- only that, and the modem's takings, move what is queued for it
 abbrev pub queues : Fact → Bool
 queues (Forwarded r) = true
-queues (ModemDrained count) = true
+queues (ModemTaken count) = true
 queues _ = false
 
 abbrev pub takes : Item → Bool
@@ -102,7 +102,7 @@ queueing_alone : (item : Item) (fact : Fact) (past : List Fact) → speaks item 
 queueing_alone (Says d m) _ past silent none may = absurd (cc)
 queueing_alone (ModemTakes count) _ past silent none may = absurd (cc)
 queueing_alone _ (Forwarded r) past silent none may = absurd may
-queueing_alone _ (ModemDrained count) past silent none may = absurd may
+queueing_alone _ (ModemTaken count) past silent none may = absurd may
 queueing_alone _ _ past silent none may = refl
 
 -- ---- the end of a client ----
@@ -228,7 +228,7 @@ module _ (s : Setup) where
 
   elsewhere_still : (c : ℕ) (item : Item) → IsElsewhere c item → (fact : Fact) (past : List Fact) → MayAdd item fact past → moves fact ≡ false
   elsewhere_still c (ModemSays m) other _ past may = absurd other
-  elsewhere_still c ModemFails other _ past may = absurd other
+  elsewhere_still c ModemIsLost other _ past may = absurd other
   elsewhere_still c ModemReturns other _ past may = absurd other
   elsewhere_still c (ClockShows time) other _ past may = absurd other
   elsewhere_still c _ other (OpeningEnded status receivers) past may = absurd may
@@ -278,9 +278,9 @@ module _ (s : Setup) where
 
   -- nothing waits for the modem where nothing did, and none comes
   fact_queues_not : (fact : Fact) (past : List Fact) → queues fact ≡ false → modem_queue (wire s) past ≡ [] → modem_queue (wire s) (fact ∷ past) ≡ []
-  unfolding to_modem modem_drained
+  unfolding to_modem modem_taken_count
   fact_queues_not (Forwarded r) past none empty = absurd (cc)
-  fact_queues_not (ModemDrained count) past none empty = absurd (cc)
+  fact_queues_not (ModemTaken count) past none empty = absurd (cc)
   fact_queues_not ModemLost past none empty = refl
   fact_queues_not _ past none empty = empty
 
@@ -360,14 +360,14 @@ module _ (s : Setup) where
     fact_waits_not (Ended d BadStream) past other none =
         ap (λ (t : Bool). t && is_some (known_from s (entry_if (d == c) (End BadStream) (view_of c past))).waits) (contains-without c d (present past))
         ∙ elim (d == c) as (λ b. ((if b then false else is_present c past) && is_some (known_from s (entry_if b (End BadStream) (view_of c past))).waits) ≡ false) [ true ↦ refl | false ↦ none ]
-    fact_waits_not (Ended d Closed) past other none =
-        ap (λ (t : Bool). t && is_some (known_from s (entry_if (d == c) (End Closed) (view_of c past))).waits) (contains-without c d (present past))
-        ∙ elim (d == c) as (λ b. ((if b then false else is_present c past) && is_some (known_from s (entry_if b (End Closed) (view_of c past))).waits) ≡ false) [ true ↦ refl | false ↦ none ]
+    fact_waits_not (Ended d Leaving) past other none =
+        ap (λ (t : Bool). t && is_some (known_from s (entry_if (d == c) (End Leaving) (view_of c past))).waits) (contains-without c d (present past))
+        ∙ elim (d == c) as (λ b. ((if b then false else is_present c past) && is_some (known_from s (entry_if b (End Leaving) (view_of c past))).waits) ≡ false) [ true ↦ refl | false ↦ none ]
     fact_waits_not (Ended d NoRoom) past other none =
         ap (λ (t : Bool). t && is_some (known_now s c past).waits) (contains-without c d (present past))
         ∙ elim (d == c) as (λ b. ((if b then false else is_present c past) && is_some (known_now s c past).waits) ≡ false) [ true ↦ refl | false ↦ none ]
-    fact_waits_not (Judged d place m verdict) past other none = ap (λ (b : Bool). is_present c past && is_some (known_from s (entry_if b (Sent m verdict) (view_of c past))).waits) other ∙ none
-    fact_waits_not (Drained d count) past other none = none_with (d == c) (Collected count) (view_of c past) (is_present c past) (λ known e. e) none
+    fact_waits_not (Judged d place m verdict) past other none = ap (λ (b : Bool). is_present c past && is_some (known_from s (entry_if b (Said m verdict) (view_of c past))).waits) other ∙ none
+    fact_waits_not (Taken d count) past other none = none_with (d == c) (Taking count) (view_of c past) (is_present c past) (λ known e. e) none
     fact_waits_not (Answered r m) past other none = none_with (r.conn == c) (Response r.place (blank m)) (view_of c past) (is_present c past) (λ known e. e) none
     fact_waits_not (IdHeld r) past other none = none_with (r.conn == c) (Refused r.place HeldId) (view_of c past) (is_present c past) (λ known e. e) none
     fact_waits_not (Expired r) past other none = none_with (r.conn == c) (Refused r.place NoAnswer) (view_of c past) (is_present c past) (λ known e. e) none

@@ -3,7 +3,7 @@ use Rattle.std.proofs.Common.{◌≡◌, ◌≢◌, ℕ, max, Bool, true, false,
 use Rattle.std.specs.List.{AllByRecursion, list_any}
 use Rattle.std.proofs.lemmas.List.Elements.{All-filter, All-from_recursion, recursion_from_All}
 use Rattle.mbim_frame.specs.declared.status.TheConstants.{FAILURE}
-use Rattle.proxy_history.specs.Items.{ClockShows, ModemFails}
+use Rattle.proxy_history.specs.Items.{ClockShows, ModemIsLost}
 use Rattle.proxy_history.specs.Facts.{Fact, Request, Forwarded, Answered, OpeningEnded, SessionsClosed, ModemLost, TimeIs}
 use Rattle.proxy_history.specs.Connections.{contains, present, is_present}
 use Rattle.proxy_history.specs.Requests.{pending, has_request, is_pending}
@@ -203,7 +203,7 @@ module _ (s : Setup) (c : ℕ) (client : c ≢ 0) where
       elim (contains c (present past)) as (λ b. ModemLost ∷ facts_if b (SessionsClosed (c ∷ []) ∷ []) (part c past) ≡ ModemLost ∷ (if b then SessionsClosed (c ∷ []) ∷ part c past else part c past)) [ true ↦ refl | false ↦ refl ]
       ∙ ap (λ (b : Bool). ModemLost ∷ (if b then SessionsClosed (c ∷ []) ∷ part c past else part c past)) (sym (present-part s.limits blank restated reads c past))
 
-  pub loses-part : (past : List Fact) → Fit s c past → IsInOrder s past → part c (add (mbim_protocol s) ModemFails past) ≡ known_loss (list_any is_own_open (pending past)) (part c past)
+  pub loses-part : (past : List Fact) → Fit s c past → IsInOrder s past → part c (add (mbim_protocol s) ModemIsLost past) ≡ known_loss (list_any is_own_open (pending past)) (part c past)
   loses-part past F I =
       let aborted : List Fact = each_pending (λ r before. refuse s (refused false r) r before) (pending past) past in
       closed-part aborted

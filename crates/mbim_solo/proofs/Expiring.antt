@@ -6,11 +6,11 @@ use Rattle.mbim_frame.specs.declared.status.TheConstants.{SUCCESS, FAILURE}
 use Rattle.mbim_frame.specs.Writing.{open_done}
 use Rattle.proxy_history.specs.Events.{Event, ModemGone, Now}
 use Rattle.proxy_history.specs.Streams.{stream, modem_stream}
-use Rattle.proxy_history.specs.Items.{Item, ModemFails, ClockShows, fails_once}
+use Rattle.proxy_history.specs.Items.{Item, ModemIsLost, ClockShows, is_lost_once}
 use Rattle.proxy_history.specs.Facts.{Fact, Request, EventBegan, OpeningEnded, SessionsClosed, ModemLost, TimeIs}
 use Rattle.proxy_history.specs.Connections.{contains, present, is_present}
 use Rattle.proxy_history.specs.Requests.{in_use, pending}
-use Rattle.proxy_history.specs.Modem.{now, is_away, to_modem, modem_drained, modem_queue}
+use Rattle.proxy_history.specs.Modem.{now, is_away, to_modem, modem_taken_count, modem_queue}
 use Rattle.proxy_history.specs.Noting.{each_pending}
 use Rattle.proxy_history.specs.Unanswered.{due}
 use Rattle.proxy_history.specs.View.{view}
@@ -185,13 +185,13 @@ module _ (s : Setup) (c : ℕ) (client : c ≢ 0) where
   aborts_plainly past P none false is = refl
   aborts_plainly past P none true is = unwaited FAILURE (part c past) none ∙ sym (nothing_waits (part c past) (opening_sends_none past P (opens_then (now_in past) (pending past) P.order.requests is)))
 
-  pub loses_plainly : (past : List Fact) → IsOrderly s c past → is_waiting s c (part c past) ≡ false → part c (add (mbim_protocol s) ModemFails past) ≡ plain_loss (part c past)
+  pub loses_plainly : (past : List Fact) → IsOrderly s c past → is_waiting s c (part c past) ≡ false → part c (add (mbim_protocol s) ModemIsLost past) ≡ plain_loss (part c past)
   loses_plainly past P none =
       loses-part s c client past P.fit P.order
       ∙ ap (λ (l : List Fact). ModemLost ∷ (if is_present c l then SessionsClosed (c ∷ []) ∷ l else l)) (aborts_plainly past P none (list_any is_own_open (pending past)) refl)
 
   -- the opening that the client waits for ends with it
-  pub loses_opening : (past : List Fact) → IsOrderly s c past → now_in past ≡ IsOpening → (facts : List Fact) → facts ≡ opens_with s c client FAILURE (part c past) → pending facts ≡ [] → part c (add (mbim_protocol s) ModemFails past) ≡ plain_loss facts
+  pub loses_opening : (past : List Fact) → IsOrderly s c past → now_in past ≡ IsOpening → (facts : List Fact) → facts ≡ opens_with s c client FAILURE (part c past) → pending facts ≡ [] → part c (add (mbim_protocol s) ModemIsLost past) ≡ plain_loss facts
   loses_opening past P opening facts is none =
       let one = opening_waits (now_in past) (pending past) P.order.requests opening in
       let any : list_any is_own_open (pending past) ≡ true = ap (list_any is_own_open) one.only ∙ ap (λ (b : Bool). b || false) one.opens in
@@ -258,7 +258,7 @@ module _ (s : Setup) (R : IsRoomy s) (c : ℕ) (client : c ≢ 0) where
       at_orderly = begun_orderly s c client (history s solo_then) (histories_are_orderly s c client solo_then may)
 
       shows : part c (ticks past) ≡ part c (ticks at) → now (ticks past) ≡ now (ticks at) → (list_any (is_end_of c) (ticks past) ≡ false → Stands s c (ticks past) (ticks at)) → Alike s c (ticks past) (meet s c (Now time) solo_then) bytes
-      unfolding add_all modem_stream stream to_modem modem_drained
+      unfolding add_all modem_stream stream to_modem modem_taken_count
       shows same times stands =
           let M = settles s R c client (Now time) solo_then (tt, may) rests quiet (inl (still_empty s (ClockShows time ∷ []) at ((refl, refl), tt) at_orderly.sound rests.queue)) in
           alike_settled s c (ticks past) (ticks at) (meet s c (Now time) solo_then) bytes (ticked_orderly past A.orderly) M.settled M.may M.quiet (M.sent ∙ sent) same times stands
@@ -346,13 +346,13 @@ module _ (s : Setup) (R : IsRoomy s) (c : ℕ) (client : c ≢ 0) where
 
   module _ (past : List Fact) (solo : List Event) (bytes : List ℕ) (A : Alike s c past solo bytes) (there : is_away s.starts_away past ≡ false) where
     abbrev loses : List Fact → List Fact
-    loses facts = add (mbim_protocol s) ModemFails facts
+    loses facts = add (mbim_protocol s) ModemIsLost facts
 
     after_loss : IsOrderly s c (loses past)
-    after_loss = item_orderly s c client ModemFails past tt A.orderly
+    after_loss = item_orderly s c client ModemIsLost past tt A.orderly
 
     time_kept : (facts : List Fact) → IsOrderly s c facts → now (loses facts) ≡ now facts
-    time_kept facts O = item_keeps_time (mbim_protocol s) (Asks s) (orderly s) ModemFails facts O.sound refl
+    time_kept facts O = item_keeps_time (mbim_protocol s) (Asks s) (orderly s) ModemIsLost facts O.sound refl
 
     lost_stands : (facts : List Fact) → Stands s c (loses past) (loses facts)
     unfolding state in_use
@@ -363,12 +363,12 @@ module _ (s : Setup) (R : IsRoomy s) (c : ℕ) (client : c ≢ 0) where
 
     module _ (solo_then : List Event) (may : AreSound (mbim_protocol s) solo_then) (rests : Rests s c (history s solo_then)) (sent : stream c solo_then ≡ bytes) (there_then : is_away s.starts_away (history s solo_then) ≡ false) where
       goes : part c (loses past) ≡ part c (loses (EventBegan ∷ history s solo_then)) → now past ≡ now (history s solo_then) → Alike s c (loses past) (meet s c ModemGone solo_then) bytes
-      unfolding add_all modem_stream stream to_modem modem_drained now
+      unfolding add_all modem_stream stream to_modem modem_taken_count now
       goes same times =
           let begun : List Fact = EventBegan ∷ history s solo_then in
           let start = there_alone s R c client solo_then there_then in
           let O : IsOrderly s c begun = begun_orderly s c client (history s solo_then) (histories_are_orderly s c client solo_then may) in
-          let is : added_alone s c ModemGone solo_then ≡ loses begun = ap (λ (o : Option (List ℕ)). add_all (mbim_protocol s) (fails_once o) begun) start.1 in
+          let is : added_alone s c ModemGone solo_then ≡ loses begun = ap (λ (o : Option (List ℕ)). add_all (mbim_protocol s) (is_lost_once o) begun) start.1 in
           let M = settles s R c client ModemGone solo_then (tt, may) rests tt (inl (ap (modem_queue (wire s)) is)) in
           alike_settled s c (loses past) (loses begun) (meet s c ModemGone solo_then) bytes after_loss (subst (λ (l : List Fact). IsSettled s c l (history s (meet s c ModemGone solo_then))) is M.settled) M.may M.quiet (M.sent ∙ sent)
           same (time_kept past A.orderly ∙ times ∙ sym (time_kept begun O)) (λ stays. lost_stands begun)
@@ -396,7 +396,7 @@ module _ (s : Setup) (R : IsRoomy s) (c : ℕ) (client : c ≢ 0) where
         goes solo_then T.may T.settled.rests (T.sent ∙ A.sent) (own_then.order.away ∙ ap is_absent shut)
         (loses_opening s c client past A.orderly W.all (part c begun) same_then (shut_sends_none s c client begun O shut) ∙ sym (loses_plainly s c client begun O none)) (sym T.time ∙ sym T.settled.time)
 
-    pub fails_alike : Alike s c (loses past) (meet s c ModemGone (says (hears s c ModemFails past (history s solo)) solo)) bytes
+    pub fails_alike : Alike s c (loses past) (meet s c ModemGone (says (hears s c ModemIsLost past (history s solo)) solo)) bytes
     fails_alike = by (is_waiting s c (part c past)) refl
       where
         any_when : is_waiting s c (part c past) ≡ true → list_any is_own_open (pending past) ≡ true
@@ -405,9 +405,9 @@ module _ (s : Setup) (R : IsRoomy s) (c : ℕ) (client : c ≢ 0) where
             let one = opening_waits s c client (state_of past) (pending past) A.orderly.order.requests W.all in
             ap (list_any is_own_open) one.only ∙ ap (λ (b : Bool). b || false) one.opens
 
-        by : (b : Bool) → is_waiting s c (part c past) ≡ b → Alike s c (loses past) (meet s c ModemGone (says (hears s c ModemFails past (history s solo)) solo)) bytes
+        by : (b : Bool) → is_waiting s c (part c past) ≡ b → Alike s c (loses past) (meet s c ModemGone (says (hears s c ModemIsLost past (history s solo)) solo)) bytes
         by false waiting =
-            subst (λ (l : Option (List ℕ)). Alike s c (loses past) (meet s c ModemGone (says l solo)) bytes) (sym (heard_of ModemFails past (history s solo) A.orderly.fit.once false (list_any is_own_open (pending past)) waiting refl refl refl)) (goes_plainly waiting)
+            subst (λ (l : Option (List ℕ)). Alike s c (loses past) (meet s c ModemGone (says l solo)) bytes) (sym (heard_of ModemIsLost past (history s solo) A.orderly.fit.once false (list_any is_own_open (pending past)) waiting refl refl refl)) (goes_plainly waiting)
         by true waiting =
             subst (λ (l : Option (List ℕ)). Alike s c (loses past) (meet s c ModemGone (says l solo)) bytes)
-            (sym (heard_of ModemFails past (history s solo) A.orderly.fit.once true true waiting (ap (λ (t : Bool). message_if t failed) (any_when waiting)) refl refl)) (goes_failed waiting)
+            (sym (heard_of ModemIsLost past (history s solo) A.orderly.fit.once true true waiting (ap (λ (t : Bool). message_if t failed) (any_when waiting)) refl refl)) (goes_failed waiting)

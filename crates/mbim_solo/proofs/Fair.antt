@@ -4,9 +4,9 @@ use Rattle.std.specs.List.{AllByRecursion}
 use Rattle.std.proofs.lemmas.Bool.{eqb-true}
 use Rattle.proxy_history.specs.Events.{Event, Joined}
 use Rattle.proxy_history.specs.Items.{Item, Joins, items_of}
-use Rattle.proxy_history.specs.Facts.{Fact, Ready, NotAdmitted, BadStream, Closed, EventBegan, Admitted, Ended, Judged, Drained, Answered, IdHeld, Expired, Aborted, Indicated, OpeningEnded, SessionsClosed}
+use Rattle.proxy_history.specs.Facts.{Fact, Ready, NotAdmitted, BadStream, Leaving, EventBegan, Admitted, Ended, Judged, Taken, Answered, IdHeld, Expired, Aborted, Indicated, OpeningEnded, SessionsClosed}
 use Rattle.proxy_history.specs.Connections.{contains}
-use Rattle.proxy_history.specs.View.{Entry, Sent, Response, Refused, Indication, OpenedWith, Shut, Collected, End, HeldId, NoAnswer, view, entry_if}
+use Rattle.proxy_history.specs.View.{Entry, Said, Response, Refused, Indication, OpenedWith, Shut, Taking, End, HeldId, NoAnswer, view, entry_if}
 use Rattle.proxy_history.specs.Coming.{greatest_name, AreSound}
 use Rattle.proxy_history.specs.History as proxy
 use Rattle.proxy_history.specs.History.{add_all}
@@ -60,9 +60,9 @@ module _ (c : ℕ) where
       let never = never_general (d == c) (Ended d NotAdmitted) (part c past) refl refl general in
       elim (d == c) as (λ b. (b ≡ true → ⊥) → (if b then End NotAdmitted ∷ [] else view_of c past) ≡ []) [ true ↦ λ no. absurd (no refl) | false ↦ λ no. unheard_view past (rest_general (Ended d NotAdmitted) past general) ] never
   unheard_view (Ended d BadStream ∷ past) general = no_entry (d == c) (End BadStream) (view_of c past) (never_general (d == c) (Ended d BadStream) (part c past) refl refl general) (unheard_view past (rest_general (Ended d BadStream) past general))
-  unheard_view (Ended d Closed ∷ past) general = no_entry (d == c) (End Closed) (view_of c past) (never_general (d == c) (Ended d Closed) (part c past) refl refl general) (unheard_view past (rest_general (Ended d Closed) past general))
-  unheard_view (Judged d place m verdict ∷ past) general = no_entry (d == c) (Sent m verdict) (view_of c past) (never_judged (d == c) d place m verdict (part c past) general) (unheard_view past (rest_general (Judged d place m verdict) past general))
-  unheard_view (Drained d count ∷ past) general = no_entry (d == c) (Collected count) (view_of c past) (never_general (d == c) (Drained d count) (part c past) refl refl general) (unheard_view past (rest_general (Drained d count) past general))
+  unheard_view (Ended d Leaving ∷ past) general = no_entry (d == c) (End Leaving) (view_of c past) (never_general (d == c) (Ended d Leaving) (part c past) refl refl general) (unheard_view past (rest_general (Ended d Leaving) past general))
+  unheard_view (Judged d place m verdict ∷ past) general = no_entry (d == c) (Said m verdict) (view_of c past) (never_judged (d == c) d place m verdict (part c past) general) (unheard_view past (rest_general (Judged d place m verdict) past general))
+  unheard_view (Taken d count ∷ past) general = no_entry (d == c) (Taking count) (view_of c past) (never_general (d == c) (Taken d count) (part c past) refl refl general) (unheard_view past (rest_general (Taken d count) past general))
   unheard_view (Answered r m ∷ past) general =
       no_entry (r.conn == c) (Response r.place (blank m)) (view_of c past) (never_general (r.conn == c) (Answered (as_sent r) (blank m)) (part c past) refl refl general) (unheard_view past (rest_general (Answered r m) past general))
   unheard_view (IdHeld r ∷ past) general = no_entry (r.conn == c) (Refused r.place HeldId) (view_of c past) (never_general (r.conn == c) (IdHeld (as_sent r)) (part c past) refl refl general) (unheard_view past (rest_general (IdHeld r) past general))

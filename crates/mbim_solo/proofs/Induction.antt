@@ -65,7 +65,7 @@ module _ (s : Setup) (c : ℕ) where
 
 module _ (s : Setup) (roomy : IsRoomy s) (c : ℕ) (client : c ≢ 0) where
   alike_at_first : Alike s c (history s []) (solo s c []) (stream c [])
-  unfolding proxy.history alone_part.part alone.solo stream modem_stream in_use pending now state present view modem.to_modem modem.modem_drained
+  unfolding proxy.history alone_part.part alone.solo stream modem_stream in_use pending now state present view modem.to_modem modem.modem_taken_count
   alike_at_first = record {
     orderly = histories_are_orderly s c client [] tt;
     may = tt;

@@ -4,10 +4,10 @@ use Rattle.std.specs.List.{AllByRecursion, list_any}
 use Rattle.mbim_frame.specs.Frame.{size_of}
 use Rattle.proxy_history.specs.Events.{Event, ModemPiece, ModemGone, ModemBack, Now}
 use Rattle.proxy_history.specs.Streams.{is_bad, stream, modem_stream, come_back}
-use Rattle.proxy_history.specs.Items.{Item, ModemSays, ModemFails, ModemReturns, item_if, delivered_by_piece, modem_items, fails_once, returns_once}
+use Rattle.proxy_history.specs.Items.{Item, ModemSays, ModemIsLost, ModemReturns, item_if, delivered_by_piece, modem_items, is_lost_once, returns_once}
 use Rattle.proxy_history.specs.Facts.{Fact, EventBegan, ModemReturned}
 use Rattle.proxy_history.specs.Requests.{in_use}
-use Rattle.proxy_history.specs.Modem.{now, is_away, to_modem, modem_drained, modem_queue}
+use Rattle.proxy_history.specs.Modem.{now, is_away, to_modem, modem_taken_count, modem_queue}
 use Rattle.proxy_history.specs.Coming.{AreSound}
 use Rattle.proxy_history.specs.History.{add_all}
 use Rattle.proxy_history.proofs.Folds.{item_keeps_away, away_agrees}
@@ -41,7 +41,7 @@ module _ (s : Setup) (R : IsRoomy s) (c : ℕ) (client : c ≢ 0) where
   -- ---- all that the modem says with a piece ----
 
   abbrev pub modem_brings : List (List ℕ) → Bool → List Item
-  modem_brings messages bad = map (λ m. ModemSays m) messages ++ item_if bad ModemFails
+  modem_brings messages bad = map (λ m. ModemSays m) messages ++ item_if bad ModemIsLost
 
   abbrev pub brought_alone : List Item → List Fact → List Event → List Event
   brought_alone items past solo = alone.meet_if (alone.fails items) (mbim_protocol s) (mbim_alone s) ModemGone (alone.hear_all (mbim_protocol s) (mbim_alone s) c items past solo)
@@ -99,7 +99,7 @@ module _ (s : Setup) (R : IsRoomy s) (c : ℕ) (client : c ≢ 0) where
 
     -- nothing more than that it began
     begins_alone : (event : Event) → added_alone s c event solo ≡ own → AreSound (mbim_protocol s) (event ∷ solo) → IsQuietThere s c (modem_bytes s c (event ∷ solo)) → stream c (event ∷ solo) ≡ stream c solo → Alike s c begun (meet s c event solo) (stream c events)
-    unfolding alone_part.part now to_modem modem_drained
+    unfolding alone_part.part now to_modem modem_taken_count
     begins_alone event is sound quiet sent =
         adds_alone event begun own begun_too.orderly is sound quiet sent A.rests.queue A.same A.time
         (λ still. stands_like s c begun (history s solo) own (begun_like s c (history s solo) (history s solo) (like_itself s c (history s solo))) (begun_too.stands still))
@@ -109,8 +109,8 @@ module _ (s : Setup) (R : IsRoomy s) (c : ℕ) (client : c ≢ 0) where
     modem_goes = by (modem_bytes s c events) (modem_bytes s c solo) refl refl streams_alike
       where
         by : (o own_o : Option (List ℕ)) → modem_bytes s c events ≡ o → modem_bytes s c solo ≡ own_o → is_none own_o ≡ is_none o
-            → Alike s c (add_all (mbim_protocol s) (fails_once o) begun) (meet s c ModemGone (alone.hear_all (mbim_protocol s) (mbim_alone s) c (fails_once o) begun solo)) (stream c events)
-        by None None is own_is both = begins_alone ModemGone (ap (λ (o : Option (List ℕ)). add_all (mbim_protocol s) (fails_once o) own) own_is) (tt, A.may) tt refl
+            → Alike s c (add_all (mbim_protocol s) (is_lost_once o) begun) (meet s c ModemGone (alone.hear_all (mbim_protocol s) (mbim_alone s) c (is_lost_once o) begun solo)) (stream c events)
+        by None None is own_is both = begins_alone ModemGone (ap (λ (o : Option (List ℕ)). add_all (mbim_protocol s) (is_lost_once o) own) own_is) (tt, A.may) tt refl
         by None (Some before) is own_is both = absurd (let clash : false ≡ true = both in cc)
         by (Some before) own_o is own_is both = fails_alike s R c client begun solo (stream c events) begun_too (there_if before is)
 
@@ -124,7 +124,7 @@ module _ (s : Setup) (R : IsRoomy s) (c : ℕ) (client : c ≢ 0) where
     returned_alike IsReady _ is alike = absurd (cc)
 
     returns : modem_bytes s c events ≡ None → modem_bytes s c solo ≡ None → Alike s c (ModemReturned ∷ begun) (meet s c ModemBack solo) (stream c events)
-    unfolding add_all alone_part.part now to_modem modem_drained stream modem_stream state in_use is_away
+    unfolding add_all alone_part.part now to_modem modem_taken_count stream modem_stream state in_use is_away
     returns is own_is =
         let away : state s.starts_away (history s events) ≡ IsAway = absent_is (state s.starts_away (history s events)) (sym A.orderly.order.away ∙ away_agrees (mbim_protocol s) (Asks s) (orderly s) events ∙ ap is_none is) in
         let P : IsOrderly s c (ModemReturned ∷ begun) = item_orderly s c client ModemReturns begun away begun_too.orderly in

@@ -4,7 +4,7 @@ use Rattle.std.proofs.lemmas.Bool.{eqb-true, and_parts}
 use Rattle.mbim_frame.specs.declared.kind.MessageKind.TheVariants.{Open, Command}
 use Rattle.mbim_frame.specs.Kinds.{kind_number}
 use Rattle.mbim_frame.specs.Head.{kind_of, is_kind}
-use Rattle.proxy_history.specs.Items.{Item, Joins, Says, Garbles, Leaves, ModemSays, ModemFails, ModemReturns, ClockShows, Takes, ModemTakes}
+use Rattle.proxy_history.specs.Items.{Item, Joins, Says, GoesBad, Leaves, ModemSays, ModemIsLost, ModemReturns, ClockShows, Takes, ModemTakes}
 use Rattle.proxy_history.specs.Facts.{Fact, Verdict, Own, Share, Foreign, Away, Full, Forward, Ready, Waits, Judged, Forwarded, ListSent}
 use Rattle.proxy_history.specs.Decision.{Decision, Replies, Forwards, forwards_under}
 use Rattle.proxy_history.specs.Connections.{is_present, message_count}
@@ -124,10 +124,10 @@ module _ (s : Setup) (c : ℕ) where
       λ b. elim b as (λ b. (d == c) ≡ b → Once (add (mbim_protocol s) (Says d m) past)) [ true ↦ λ e. speaks_once d m past (eqb-true d c e) once | false ↦ λ e. quiet_once (Says d m) past e sound once ]
       in step (d == c) refl
   item_once (Joins d) past sound once = quiet_once (Joins d) past refl sound once
-  item_once (Garbles d) past sound once = quiet_once (Garbles d) past refl sound once
+  item_once (GoesBad d) past sound once = quiet_once (GoesBad d) past refl sound once
   item_once (Leaves d) past sound once = quiet_once (Leaves d) past refl sound once
   item_once (ModemSays m) past sound once = quiet_once (ModemSays m) past refl sound once
-  item_once ModemFails past sound once = quiet_once ModemFails past refl sound once
+  item_once ModemIsLost past sound once = quiet_once ModemIsLost past refl sound once
   item_once ModemReturns past sound once = quiet_once ModemReturns past refl sound once
   item_once (ClockShows time) past sound once = quiet_once (ClockShows time) past refl sound once
   item_once (Takes d count) past sound once = quiet_once (Takes d count) past refl sound once

@@ -5,11 +5,11 @@ use Rattle.std.proofs.lemmas.Bool.{eqb-true}
 use Rattle.mbim_frame.specs.declared.status.TheConstants.{SUCCESS}
 use Rattle.mbim_frame.specs.Fragment.{body_of}
 use Rattle.mbim_frame.specs.Bodies.{uuid_of, cid_of}
-use Rattle.proxy_history.specs.Facts.{Fact, Request, Why, Verdict, Own, Share, Foreign, Away, Full, Forward, Ready, Waits, NotAdmitted, BadStream, NoRoom, Closed, Ended, Judged, Forwarded, Answered, Late, Indicated, Stray, OpeningEnded}
+use Rattle.proxy_history.specs.Facts.{Fact, Request, Why, Verdict, Own, Share, Foreign, Away, Full, Forward, Ready, Waits, NotAdmitted, BadStream, NoRoom, Leaving, Ended, Judged, Forwarded, Answered, Late, Indicated, Stray, OpeningEnded}
 use Rattle.proxy_history.specs.Connections.{contains, present, is_present}
 use Rattle.proxy_history.specs.Requests.{in_use, pending, has_request, is_pending, without_request}
 use Rattle.proxy_history.specs.Modem.{is_away}
-use Rattle.proxy_history.specs.View.{Entry, Sent, Response, Refused, Indication, OpenedWith, End, NoAnswer, entry_if, view}
+use Rattle.proxy_history.specs.View.{Entry, Said, Response, Refused, Indication, OpenedWith, End, NoAnswer, entry_if, view}
 use Rattle.proxy_history.specs.Wording.{told_by}
 use Rattle.proxy_history.specs.Noting.{rendering, receivers_of, end_overfull}
 use Rattle.proxy_history.specs.Sound.{IsSound}
@@ -140,7 +140,7 @@ module _ (s : Setup) where
       same c other NotAdmitted = ap (λ (b : Bool). known_from s (let l : List Entry = if b then End NotAdmitted ∷ [] else view_of c past in l)) other
       same c other BadStream = ap (λ (b : Bool). known_from s (entry_if b (End BadStream) (view_of c past))) other
       same c other NoRoom = refl
-      same c other Closed = ap (λ (b : Bool). known_from s (entry_if b (End Closed) (view_of c past))) other
+      same c other Leaving = ap (λ (b : Bool). known_from s (entry_if b (End Leaving) (view_of c past))) other
 
   -- whoever is there isn't the proxy itself
   pub not_the_proxy : (d : ℕ) (past : List Fact) → is_present 0 past ≡ false → is_present d past ≡ true → (d == 0) ≡ false
@@ -163,19 +163,19 @@ module _ (s : Setup) where
   entry_known true entry entries = refl
   entry_known false entry entries = refl
 
-  pub judged : (d place : ℕ) (m : List ℕ) (verdict : Verdict) (past : List Fact) → (is_present d past ≡ true → MayBeOpen (now_in past) (step.step s (known_now s d past) (Sent m verdict))) → IsInOrder s past → IsInOrder s (Judged d place m verdict ∷ past)
+  pub judged : (d place : ℕ) (m : List ℕ) (verdict : Verdict) (past : List Fact) → (is_present d past ≡ true → MayBeOpen (now_in past) (step.step s (known_now s d past) (Said m verdict))) → IsInOrder s past → IsInOrder s (Judged d place m verdict ∷ past)
   unfolding state pending present is_away view
   judged d place m verdict past may I = record {
     requests = I.requests;
     clients =
         λ c is.
-        let Goal : Bool → Type 0 = λ (b : Bool). MayBeOpen (now_in past) (if b then step.step s (known_now s c past) (Sent m verdict) else known_now s c past) in
+        let Goal : Bool → Type 0 = λ (b : Bool). MayBeOpen (now_in past) (if b then step.step s (known_now s c past) (Said m verdict) else known_now s c past) in
         let by : (b : Bool) → (d == c) ≡ b → Goal b =
         λ b. elim b as (λ b. (d == c) ≡ b → Goal b) [
-          | true ↦ λ e. let same : d ≡ c = eqb-true d c e in subst (λ (x : ℕ). MayBeOpen (now_in past) (step.step s (known_now s x past) (Sent m verdict))) same (may (subst (λ (x : ℕ). is_present x past ≡ true) (sym same) is))
+          | true ↦ λ e. let same : d ≡ c = eqb-true d c e in subst (λ (x : ℕ). MayBeOpen (now_in past) (step.step s (known_now s x past) (Said m verdict))) same (may (subst (λ (x : ℕ). is_present x past ≡ true) (sym same) is))
           | false ↦ λ e. I.clients c is
         ]
-        in subst (MayBeOpen (now_in past)) (sym (entry_known (d == c) (Sent m verdict) (view_of c past))) (by (d == c) refl);
+        in subst (MayBeOpen (now_in past)) (sym (entry_known (d == c) (Said m verdict) (view_of c past))) (by (d == c) refl);
     away = I.away;
     nobody = I.nobody;
   }
@@ -201,15 +201,15 @@ module _ (s : Setup) where
   Suits modem Waits = modem ≡ IsOpening
   Suits modem _ = Unit {0}
 
-  pub sent_may : (modem : ModemState) (known : Known) (m : List ℕ) (verdict : Verdict) → Suits modem verdict → MayBeOpen modem known → MayBeOpen modem (step.step s known (Sent m verdict))
+  pub sent_may : (modem : ModemState) (known : Known) (m : List ℕ) (verdict : Verdict) → Suits modem verdict → MayBeOpen modem known → MayBeOpen modem (step.step s known (Said m verdict))
   sent_may modem known m Own suits may = own_may modem known m (own_reply s known m) may
   sent_may modem known m Share suits may = as_open modem known (with_message s m known) (refl, refl) may
   sent_may modem known m Foreign suits may = as_open modem known (with_message s m known) (refl, refl) may
   sent_may modem known m Away suits may = as_open modem known (with_message s m known) (refl, refl) may
   sent_may modem known m Full suits may = as_open modem known (with_message s m known) (refl, refl) may
-  sent_may modem known m Forward suits may = as_open modem known (step.step s known (Sent m Forward)) (refl, refl) may
-  sent_may modem known m Ready suits may = subst (λ (x : ModemState). MayBeOpen x (step.step s known (Sent m Ready))) (sym suits) (subst (λ (x : ModemState). MayBeOpen x known) suits may)
-  sent_may modem known m Waits suits may = subst (λ (x : ModemState). MayBeOpen x (step.step s known (Sent m Waits))) (sym suits) (subst (λ (x : ModemState). MayBeOpen x known) suits may)
+  sent_may modem known m Forward suits may = as_open modem known (step.step s known (Said m Forward)) (refl, refl) may
+  sent_may modem known m Ready suits may = subst (λ (x : ModemState). MayBeOpen x (step.step s known (Said m Ready))) (sym suits) (subst (λ (x : ModemState). MayBeOpen x known) suits may)
+  sent_may modem known m Waits suits may = subst (λ (x : ModemState). MayBeOpen x (step.step s known (Said m Waits))) (sym suits) (subst (λ (x : ModemState). MayBeOpen x known) suits may)
 
   -- a command goes to an open modem alone
   pub forwarded_command : (r : Request) (past : List Fact) → is_own_open r ≡ false → now_in past ≡ IsReady → IsInOrder s past → IsInOrder s (Forwarded r ∷ past)
@@ -236,8 +236,8 @@ module _ (s : Setup) where
             λ c is.
             let may : MayBeOpen IsShut (known_now s c past) = subst (λ (x : ModemState). MayBeOpen x (known_now s c past)) shut (I.clients c is) in
             subst (λ (x : ModemState). MayBeOpen x (known_now s c (Forwarded r ∷ Judged d place m Waits ∷ past))) (sym modem)
-            (subst (λ (k : Known). k.opened ≡ false) (sym (entry_known (d == c) (Sent m Waits) (view_of c past)))
-            (elim (d == c) as (λ b. (let k : Known = if b then step.step s (known_now s c past) (Sent m Waits) else known_now s c past in k).opened ≡ false) [ true ↦ may.0 | false ↦ may.0 ]));
+            (subst (λ (k : Known). k.opened ≡ false) (sym (entry_known (d == c) (Said m Waits) (view_of c past)))
+            (elim (d == c) as (λ b. (let k : Known = if b then step.step s (known_now s c past) (Said m Waits) else known_now s c past in k).opened ≡ false) [ true ↦ may.0 | false ↦ may.0 ]));
         away = I.away ∙ ap is_absent shut ∙ ap is_absent (sym modem);
         nobody = I.nobody;
       }

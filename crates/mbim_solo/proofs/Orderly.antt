@@ -6,7 +6,7 @@ use Rattle.std.proofs.lemmas.Bool.Decides.{nat_tests}
 use Rattle.mbim_frame.specs.Frame.{size_of}
 use Rattle.proxy_history.specs.Events.{Event, Joined, Piece, Left, ModemPiece, ModemGone, ModemBack, Now, Took, ModemTook}
 use Rattle.proxy_history.specs.Streams.{messages_of_piece, is_bad, stream, modem_stream}
-use Rattle.proxy_history.specs.Items.{Item, Joins, Says, Garbles, Leaves, ModemSays, ModemFails, ModemReturns, ClockShows, Takes, ModemTakes, returns_once, items_of}
+use Rattle.proxy_history.specs.Items.{Item, Joins, Says, GoesBad, Leaves, ModemSays, ModemIsLost, ModemReturns, ClockShows, Takes, ModemTakes, returns_once, items_of}
 use Rattle.proxy_history.specs.Facts.{Fact, NotAdmitted, EventBegan, Admitted, Ended}
 use Rattle.proxy_history.specs.Connections.{present}
 use Rattle.proxy_history.specs.Modem.{is_away}
@@ -77,10 +77,10 @@ module _ (s : Setup) (c : ℕ) (client : c ≢ 0) where
   unfolding joins
   item_placed (Joins d) past may P = joined_placed d past may.1 P
   item_placed (Says d m) past may P = other_placed (Says d m) past refl P
-  item_placed (Garbles d) past may P = other_placed (Garbles d) past refl P
+  item_placed (GoesBad d) past may P = other_placed (GoesBad d) past refl P
   item_placed (Leaves d) past may P = other_placed (Leaves d) past refl P
   item_placed (ModemSays m) past may P = other_placed (ModemSays m) past refl P
-  item_placed ModemFails past may P = other_placed ModemFails past refl P
+  item_placed ModemIsLost past may P = other_placed ModemIsLost past refl P
   item_placed ModemReturns past may P = other_placed ModemReturns past refl P
   item_placed (ClockShows time) past may P = other_placed (ClockShows time) past refl P
   item_placed (Takes d count) past may P = other_placed (Takes d count) past refl P

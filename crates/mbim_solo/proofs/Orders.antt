@@ -12,13 +12,13 @@ use Rattle.mbim_fragments.specs.Runs.{Joining, Whole, More, OutOfSequence, TooLo
 use Rattle.mbim_fragments.specs.Assembling.{joining_behind}
 use Rattle.proxy_history.specs.Events.{Event, Joined, Piece, Left, ModemPiece, ModemGone, ModemBack, Now, Took, ModemTook}
 use Rattle.proxy_history.specs.Streams.{messages_of_piece, is_bad, stream, modem_stream}
-use Rattle.proxy_history.specs.Items.{Item, Joins, Says, Garbles, Leaves, ModemSays, ModemFails, ModemReturns, ClockShows, Takes, ModemTakes, item_if, delivered_by_piece, modem_items, fails_once, returns_once, items_of}
-use Rattle.proxy_history.specs.Facts.{Fact, Request, Verdict, Own, Share, Ready, Waits, Forward, Full, NotAdmitted, BadStream, Closed, EventBegan, Admitted, Ended, Judged, Drained, Forwarded, OpeningEnded, SessionsClosed, ListSent, ModemLost, ModemReturned, ModemDrained, TimeIs}
+use Rattle.proxy_history.specs.Items.{Item, Joins, Says, GoesBad, Leaves, ModemSays, ModemIsLost, ModemReturns, ClockShows, Takes, ModemTakes, item_if, delivered_by_piece, modem_items, is_lost_once, returns_once, items_of}
+use Rattle.proxy_history.specs.Facts.{Fact, Request, Verdict, Own, Share, Ready, Waits, Forward, Full, NotAdmitted, BadStream, Leaving, EventBegan, Admitted, Ended, Judged, Taken, Forwarded, OpeningEnded, SessionsClosed, ListSent, ModemLost, ModemReturned, ModemTaken, TimeIs}
 use Rattle.proxy_history.specs.Decision.{Decision, Replies, Forwards, forwards_under}
 use Rattle.proxy_history.specs.Connections.{contains, present, is_present, message_count}
 use Rattle.proxy_history.specs.Requests.{pending, has_share, has_request, is_pending}
 use Rattle.proxy_history.specs.Modem.{now, is_away}
-use Rattle.proxy_history.specs.View.{Entry, Shut, Collected, view}
+use Rattle.proxy_history.specs.View.{Entry, Shut, Taking, view}
 use Rattle.proxy_history.specs.Wording.{told_by}
 use Rattle.proxy_history.specs.Noting.{receivers_of, each_pending, join}
 use Rattle.proxy_history.specs.Sound.{IsSound}
@@ -277,7 +277,7 @@ module _ (s : Setup) where
     nobody = A.order.nobody;
   }
 
-  loses_in_order : (past : List Fact) → IsInOrder s past → IsInOrder s (add (mbim_protocol s) ModemFails past)
+  loses_in_order : (past : List Fact) → IsInOrder s past → IsInOrder s (add (mbim_protocol s) ModemIsLost past)
   loses_in_order past I = closed_in_order (refused_each false (pending past) past) (all_aborted past I (now_in past) refl I.requests)
 
   returns_in_order : (past : List Fact) → now_in past ≡ IsAway → IsInOrder s past → IsInOrder s (ModemReturned ∷ past)
@@ -338,15 +338,15 @@ module _ (s : Setup) where
   unfolding state pending present is_away view
   item_in_order (Joins d) past may sound I = joins_in_order d past may I
   item_in_order (Says d m) past may sound I = if_there d past (hear_client s (known_now s d past) d m past) (λ there. said_in_order d m past there I) I
-  item_in_order (Garbles d) past may sound I = if_there d past (Ended d BadStream ∷ past) (λ there. ended s d BadStream past (not_the_proxy s d past I.nobody there) I) I
-  item_in_order (Leaves d) past may sound I = if_there d past (Ended d Closed ∷ past) (λ there. ended s d Closed past (not_the_proxy s d past I.nobody there) I) I
+  item_in_order (GoesBad d) past may sound I = if_there d past (Ended d BadStream ∷ past) (λ there. ended s d BadStream past (not_the_proxy s d past I.nobody there) I) I
+  item_in_order (Leaves d) past may sound I = if_there d past (Ended d Leaving ∷ past) (λ there. ended s d Leaving past (not_the_proxy s d past I.nobody there) I) I
   item_in_order (ModemSays m) past may sound I = heard_in_order s (heard_as m) m past sound I
-  item_in_order ModemFails past may sound I = loses_in_order past I
+  item_in_order ModemIsLost past may sound I = loses_in_order past I
   item_in_order ModemReturns past may sound I = returns_in_order past may I
   item_in_order (ClockShows time) past may sound I = ticks_in_order time past I
   item_in_order (Takes d count) past may sound I =
-      if_there d past (Drained d count ∷ past) (λ there. still s (Drained d count) past refl refl refl refl (λ c. entry_as_open s (d == c) (Collected count) (view_of c past) (λ known. (refl, refl))) I) I
-  item_in_order (ModemTakes count) past may sound I = still s (ModemDrained count) past refl refl refl refl (λ c. (refl, refl)) I
+      if_there d past (Taken d count ∷ past) (λ there. still s (Taken d count) past refl refl refl refl (λ c. entry_as_open s (d == c) (Taking count) (view_of c past) (λ known. (refl, refl))) I) I
+  item_in_order (ModemTakes count) past may sound I = still s (ModemTaken count) past refl refl refl refl (λ c. (refl, refl)) I
 
   -- ---- the end of an event ----
 
@@ -393,17 +393,17 @@ module _ (s : Setup) where
   items_in_order [] past all sound I = I
   items_in_order (item ∷ items) past all sound I = items_in_order items (add (mbim_protocol s) item past) all.1 (soundly item past sound) (item_in_order item past (may_always item past all.0) sound I)
 
-  pub clients_always : (d : ℕ) (messages : List (List ℕ)) (bad : Bool) → AllByRecursion (λ item. always item ≡ true) (map (λ m. Says d m) messages ++ item_if bad (Garbles d))
+  pub clients_always : (d : ℕ) (messages : List (List ℕ)) (bad : Bool) → AllByRecursion (λ item. always item ≡ true) (map (λ m. Says d m) messages ++ item_if bad (GoesBad d))
   unfolding always
-  clients_always d messages bad = behind_messages (λ item. always item ≡ true) (λ m. Says d m) messages (item_if bad (Garbles d)) (λ m. refl) (one_if (λ item. always item ≡ true) bad (Garbles d) refl)
+  clients_always d messages bad = behind_messages (λ item. always item ≡ true) (λ m. Says d m) messages (item_if bad (GoesBad d)) (λ m. refl) (one_if (λ item. always item ≡ true) bad (GoesBad d) refl)
 
   pub modems_always : (piece : List ℕ) (before : Option (List ℕ)) → AllByRecursion (λ item. always item ≡ true) (modem_items (mbim_protocol s) piece before)
   unfolding always
   modems_always piece None = tt
   modems_always piece (Some bytes) =
-      behind_messages (λ item. always item ≡ true) (λ m. ModemSays m) (delivered_by_piece (mbim_protocol s) bytes piece) (item_if (is_bad size_of (bytes ++ piece)) ModemFails) (λ m. refl) (one_if (λ item. always item ≡ true) (is_bad size_of (bytes ++ piece)) ModemFails refl)
+      behind_messages (λ item. always item ≡ true) (λ m. ModemSays m) (delivered_by_piece (mbim_protocol s) bytes piece) (item_if (is_bad size_of (bytes ++ piece)) ModemIsLost) (λ m. refl) (one_if (λ item. always item ≡ true) (is_bad size_of (bytes ++ piece)) ModemIsLost refl)
 
-  pub gone_always : (before : Option (List ℕ)) → AllByRecursion (λ item. always item ≡ true) (fails_once before)
+  pub gone_always : (before : Option (List ℕ)) → AllByRecursion (λ item. always item ≡ true) (is_lost_once before)
   unfolding always
   gone_always None = tt
   gone_always (Some bytes) = (refl, tt)

@@ -5,7 +5,7 @@ use Rattle.kit_bytes.proofs.Lists.{all_weaker}
 use Rattle.mbim_frame.specs.Frame.{size_of}
 use Rattle.proxy_history.specs.Events.{Event, Joined, Piece, Left, Took, ModemTook}
 use Rattle.proxy_history.specs.Streams.{messages_of_piece, is_bad, stream}
-use Rattle.proxy_history.specs.Items.{Item, Says, Garbles, ClockShows, item_if, items_of}
+use Rattle.proxy_history.specs.Items.{Item, Says, GoesBad, ClockShows, item_if, items_of}
 use Rattle.proxy_history.specs.Facts.{Fact, Request, EventBegan}
 use Rattle.proxy_history.specs.Requests.{pending}
 use Rattle.proxy_history.specs.Modem.{now}
@@ -131,8 +131,8 @@ module _ (s : Setup) (c : ℕ) (client : c ≢ 0) where
     another_sent d bytes other sound =
         subst (λ (b : Bool). Alike s c (facts (Piece d bytes)) (if b then alone.meet_own (mbim_protocol s) (mbim_alone s) c events bytes solo else solo) (if b then stream c events ++ bytes else stream c events)) (sym other)
         (of_another (Piece d bytes) sound
-        (behind_messages (IsElsewhere c) (λ m. Says d m) (messages_of_piece size_of (stream d events) bytes) (item_if (is_bad size_of (stream d events ++ bytes)) (Garbles d)) (λ m. other)
-        (one_if (IsElsewhere c) (is_bad size_of (stream d events ++ bytes)) (Garbles d) other)))
+        (behind_messages (IsElsewhere c) (λ m. Says d m) (messages_of_piece size_of (stream d events) bytes) (item_if (is_bad size_of (stream d events ++ bytes)) (GoesBad d)) (λ m. other)
+        (one_if (IsElsewhere c) (is_bad size_of (stream d events ++ bytes)) (GoesBad d) other)))
 
     pub another_left : (d : ℕ) → (d == c) ≡ false → AreSound (mbim_protocol s) (Left d ∷ events) → IsAlike (Left d)
     unfolding stream

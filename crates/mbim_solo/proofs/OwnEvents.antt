@@ -4,13 +4,13 @@ use Rattle.std.specs.List.{list_any}
 use Rattle.std.proofs.lemmas.Bool.Decides.{nat_tests}
 use Rattle.proxy_history.specs.Events.{Event, Joined, Left, Took}
 use Rattle.proxy_history.specs.Streams.{stream, modem_stream}
-use Rattle.proxy_history.specs.Items.{Joins, Leaves, Takes, Garbles, items_of}
-use Rattle.proxy_history.specs.Facts.{Fact, Why, NotAdmitted, Closed, BadStream, EventBegan, Admitted, Ended, Drained}
+use Rattle.proxy_history.specs.Items.{Joins, Leaves, Takes, GoesBad, items_of}
+use Rattle.proxy_history.specs.Facts.{Fact, Why, NotAdmitted, Leaving, BadStream, EventBegan, Admitted, Ended, Taken}
 use Rattle.proxy_history.specs.Connections.{present, is_present}
 use Rattle.proxy_history.specs.Requests.{in_use, pending}
-use Rattle.proxy_history.specs.Modem.{now, to_modem, modem_drained, modem_queue}
+use Rattle.proxy_history.specs.Modem.{now, to_modem, modem_taken_count, modem_queue}
 use Rattle.proxy_history.specs.Wording.{told_by}
-use Rattle.proxy_history.specs.View.{Entry, End, Collected, view}
+use Rattle.proxy_history.specs.View.{Entry, End, Taking, view}
 use Rattle.proxy_history.specs.Coming.{greatest_name, AreSound, queued_for}
 use Rattle.proxy_history.specs.History.{add, add_all}
 use Rattle.proxy_solo.specs.Solo.{meet}
@@ -60,34 +60,34 @@ module _ (s : Setup) (c : ℕ) (client : c ≢ 0) where
     stands = λ still. absurd (let clash : true ≡ false = sym (ap (λ (b : Bool). b || list_any (is_end_of c) past) (self c)) ∙ still in cc);
   }
 
-  drained_waits : (count : ℕ) (past : List Fact) → OpenOnce s c past → is_waiting s c (part c (Drained c count ∷ past)) ≡ is_waiting s c (part c past)
+  taken_waits : (count : ℕ) (past : List Fact) → OpenOnce s c past → is_waiting s c (part c (Taken c count ∷ past)) ≡ is_waiting s c (part c past)
   unfolding view present
-  drained_waits count past once = waits_as_before s c client past (Drained c count ∷ past) once (tt, once) refl (entry_as_open s (c == c) (Collected count) (view_of c past) (λ known. (refl, refl))).1
+  taken_waits count past once = waits_as_before s c client past (Taken c count ∷ past) once (tt, once) refl (entry_as_open s (c == c) (Taking count) (view_of c past) (λ known. (refl, refl))).1
 
-  drained_keeps : (count : ℕ) (past : List Fact) → KeepsModem s c past (Drained c count ∷ past)
+  taken_keeps : (count : ℕ) (past : List Fact) → KeepsModem s c past (Taken c count ∷ past)
   unfolding state in_use pending
-  drained_keeps count past = record { modem = refl; used = refl; waiting = refl }
+  taken_keeps count past = record { modem = refl; used = refl; waiting = refl }
 
-  drained_done : (count : ℕ) (past own : List Fact) → Both s c client past own → Done s c client (Drained c count ∷ past) (Drained c count ∷ own)
+  taken_done : (count : ℕ) (past own : List Fact) → Both s c client past own → Done s c client (Taken c count ∷ past) (Taken c count ∷ own)
   unfolding now
-  drained_done count past own B = record {
-    same = fact_alike s c client (Drained c count) past own B.same;
+  taken_done count past own B = record {
+    same = fact_alike s c client (Taken c count) past own B.same;
     time = B.time;
-    stands = λ still. stands_as_before s c past own (Drained c count ∷ past) (Drained c count ∷ own) (drained_waits count past B.orderly.fit.once) (drained_keeps count past) (drained_keeps count own) (B.stands still);
+    stands = λ still. stands_as_before s c past own (Taken c count ∷ past) (Taken c count ∷ own) (taken_waits count past B.orderly.fit.once) (taken_keeps count past) (taken_keeps count own) (B.stands still);
   }
 
-  pub garbles_done : (past own : List Fact) → Both s c client past own → Done s c client (add (mbim_protocol s) (Garbles c) past) (add (mbim_protocol s) (Garbles c) own)
-  garbles_done past own B = both_if s c client (is_present c past) (is_present c own) past own (Ended c BadStream ∷ past) (Ended c BadStream ∷ own) (there_alike s c client past own B.same) (λ e own_e. ended_done BadStream past own B) (both_do_nothing s c client past own B)
+  pub goes_bad_done : (past own : List Fact) → Both s c client past own → Done s c client (add (mbim_protocol s) (GoesBad c) past) (add (mbim_protocol s) (GoesBad c) own)
+  goes_bad_done past own B = both_if s c client (is_present c past) (is_present c own) past own (Ended c BadStream ∷ past) (Ended c BadStream ∷ own) (there_alike s c client past own B.same) (λ e own_e. ended_done BadStream past own B) (both_do_nothing s c client past own B)
 
-  pub garbles_queue : (own : List Fact) → modem_queue (wire s) own ≡ [] → modem_queue (wire s) (add (mbim_protocol s) (Garbles c) own) ≡ []
-  unfolding to_modem modem_drained
-  garbles_queue own empty = queue_if (is_present c own) own (Ended c BadStream ∷ own) empty empty
+  pub goes_bad_queue : (own : List Fact) → modem_queue (wire s) own ≡ [] → modem_queue (wire s) (add (mbim_protocol s) (GoesBad c) own) ≡ []
+  unfolding to_modem modem_taken_count
+  goes_bad_queue own empty = queue_if (is_present c own) own (Ended c BadStream ∷ own) empty empty
 
   leaves_done : (past own : List Fact) → Both s c client past own → Done s c client (add (mbim_protocol s) (Leaves c) past) (add (mbim_protocol s) (Leaves c) own)
-  leaves_done past own B = both_if s c client (is_present c past) (is_present c own) past own (Ended c Closed ∷ past) (Ended c Closed ∷ own) (there_alike s c client past own B.same) (λ e own_e. ended_done Closed past own B) (both_do_nothing s c client past own B)
+  leaves_done past own B = both_if s c client (is_present c past) (is_present c own) past own (Ended c Leaving ∷ past) (Ended c Leaving ∷ own) (there_alike s c client past own B.same) (λ e own_e. ended_done Leaving past own B) (both_do_nothing s c client past own B)
 
   takes_done : (count : ℕ) (past own : List Fact) → Both s c client past own → Done s c client (add (mbim_protocol s) (Takes c count) past) (add (mbim_protocol s) (Takes c count) own)
-  takes_done count past own B = both_if s c client (is_present c past) (is_present c own) past own (Drained c count ∷ past) (Drained c count ∷ own) (there_alike s c client past own B.same) (λ e own_e. drained_done count past own B) (both_do_nothing s c client past own B)
+  takes_done count past own B = both_if s c client (is_present c past) (is_present c own) past own (Taken c count ∷ past) (Taken c count ∷ own) (there_alike s c client past own B.same) (λ e own_e. taken_done count past own B) (both_do_nothing s c client past own B)
 
   -- ---- it joins ----
 
@@ -141,9 +141,9 @@ module _ (s : Setup) (c : ℕ) (client : c ≢ 0) where
 
     pub left_alike : AreSound (mbim_protocol s) events
         → Alike s c (add_all (mbim_protocol s) (items_of (mbim_protocol s) events (Left c)) (EventBegan ∷ history s events)) (meets (Left c) solo) (stream c (Left c ∷ events))
-    unfolding add_all stream modem_stream to_modem modem_drained
+    unfolding add_all stream modem_stream to_modem modem_taken_count
     left_alike sound =
-        let queue : modem_queue (wire s) (add (mbim_protocol s) (Leaves c) (EventBegan ∷ history s solo)) ≡ [] = queue_if (is_present c (EventBegan ∷ history s solo)) (EventBegan ∷ history s solo) (Ended c Closed ∷ EventBegan ∷ history s solo) begun.empty begun.empty in
+        let queue : modem_queue (wire s) (add (mbim_protocol s) (Leaves c) (EventBegan ∷ history s solo)) ≡ [] = queue_if (is_present c (EventBegan ∷ history s solo)) (EventBegan ∷ history s solo) (Ended c Leaving ∷ EventBegan ∷ history s solo) begun.empty begun.empty in
         met_alike roomy (Left c) solo (add (mbim_protocol s) (Leaves c) (EventBegan ∷ history s events)) (stream c events)
         (settles s roomy c client (Left c) solo (tt, A.may) A.rests A.quiet (inl queue))
         (event_orderly s c client (Left c) events (tt, sound))
@@ -151,9 +151,9 @@ module _ (s : Setup) (c : ℕ) (client : c ≢ 0) where
 
     pub took_alike : (count : ℕ) → AreSound (mbim_protocol s) (Took c count ∷ events)
         → Alike s c (add_all (mbim_protocol s) (items_of (mbim_protocol s) events (Took c count)) (EventBegan ∷ history s events)) (meets (Took c count) solo) (stream c (Took c count ∷ events))
-    unfolding add_all stream modem_stream to_modem modem_drained
+    unfolding add_all stream modem_stream to_modem modem_taken_count
     took_alike count sound =
-        let queue : modem_queue (wire s) (add (mbim_protocol s) (Takes c count) (EventBegan ∷ history s solo)) ≡ [] = queue_if (is_present c (EventBegan ∷ history s solo)) (EventBegan ∷ history s solo) (Drained c count ∷ EventBegan ∷ history s solo) begun.empty begun.empty in
+        let queue : modem_queue (wire s) (add (mbim_protocol s) (Takes c count) (EventBegan ∷ history s solo)) ≡ [] = queue_if (is_present c (EventBegan ∷ history s solo)) (EventBegan ∷ history s solo) (Taken c count ∷ EventBegan ∷ history s solo) begun.empty begun.empty in
         let may : count ≤ queued_for (mbim_protocol s) c solo = subst (λ (n : ℕ). count ≤ n) (queued_alike s c client events solo (stream c events) A) sound.0 in
         met_alike roomy (Took c count) solo (add (mbim_protocol s) (Takes c count) (EventBegan ∷ history s events)) (stream c events)
         (settles s roomy c client (Took c count) solo (may, A.may) A.rests A.quiet (inl queue))
@@ -164,7 +164,7 @@ module _ (s : Setup) (c : ℕ) (client : c ≢ 0) where
     pub joined_alike : AreSound (mbim_protocol s) (Joined c ∷ events) → greatest_name solo ≤ greatest_name events → present (history s solo) ≡ []
         → AreUndisturbed (view_of c (add_all (mbim_protocol s) (items_of (mbim_protocol s) events (Joined c)) (EventBegan ∷ history s events)))
         → Alike s c (add_all (mbim_protocol s) (items_of (mbim_protocol s) events (Joined c)) (EventBegan ∷ history s events)) (meets (Joined c) solo) (stream c (Joined c ∷ events))
-    unfolding add_all stream modem_stream to_modem modem_drained present
+    unfolding add_all stream modem_stream to_modem modem_taken_count present
     joined_alike sound names nobody fair =
         let queue : modem_queue (wire s) (add (mbim_protocol s) (Joins c) (EventBegan ∷ history s solo)) ≡ [] = elim (nat_lt (length (present (EventBegan ∷ history s solo))) s.limits.connections) as (λ b. modem_queue (wire s) (if b then Admitted c ∷ EventBegan ∷ history s solo else Ended c NotAdmitted ∷ EventBegan ∷ history s solo) ≡ []) [
           | true ↦ begun.empty

@@ -16,8 +16,8 @@ use Rattle.proxy_solo.proofs.Queries.{pending-part}
 use Rattle.proxy_solo.proofs.Shares.{share_count}
 use Rattle.proxy_solo.specs.Part.{sent_by}
 use Rattle.mbim_solo.proofs.Reading.{reads}
-use Rattle.proxy_history.specs.Modem.{now, to_modem, modem_drained, modem_queue}
-use Rattle.proxy_history.specs.View.{Sent, view, entry_if}
+use Rattle.proxy_history.specs.Modem.{now, to_modem, modem_taken_count, modem_queue}
+use Rattle.proxy_history.specs.View.{Said, view, entry_if}
 use Rattle.proxy_history.specs.Noting.{rendering, end_overfull}
 use Rattle.proxy_history.specs.Adding.{AllFit}
 use Rattle.proxy_history.proofs.Sound.{kept_by_note}
@@ -76,7 +76,7 @@ module _ (s : Setup) (c : ℕ) (client : c ≢ 0) (m : List ℕ) where
   reply_waits (Configures command) known = refl
   reply_waits (Subscribes command list) known = refl
 
-  verdict_waits : (verdict : Verdict) (known : Known) → (verdict ≡ Waits → ⊥) → (step.step s known (Sent m verdict)).waits ≡ known.waits
+  verdict_waits : (verdict : Verdict) (known : Known) → (verdict ≡ Waits → ⊥) → (step.step s known (Said m verdict)).waits ≡ known.waits
   verdict_waits Own known other = reply_waits (own_reply s known m) (with_message s m known)
   verdict_waits Share known other = refl
   verdict_waits Foreign known other = refl
@@ -86,10 +86,10 @@ module _ (s : Setup) (c : ℕ) (client : c ≢ 0) (m : List ℕ) where
   verdict_waits Ready known other = refl
   verdict_waits Waits known other = absurd (other refl)
 
-  said_known : (verdict : Verdict) (past : List Fact) → known_now s c (says verdict past) ≡ step.step s (known_now s c past) (Sent m verdict)
+  said_known : (verdict : Verdict) (past : List Fact) → known_now s c (says verdict past) ≡ step.step s (known_now s c past) (Said m verdict)
   unfolding view
   said_known verdict past =
-      entry_known s (c == c) (Sent m verdict) (view_of c past) ∙ ap (λ (b : Bool). let k : Known = if b then step.step s (known_now s c past) (Sent m verdict) else known_now s c past in k) (self c)
+      entry_known s (c == c) (Said m verdict) (view_of c past) ∙ ap (λ (b : Bool). let k : Known = if b then step.step s (known_now s c past) (Said m verdict) else known_now s c past in k) (self c)
 
   said_waits : (verdict : Verdict) (past : List Fact) → (verdict ≡ Waits → ⊥) → OpenOnce s c (says verdict past) → OpenOnce s c past → is_waiting s c (part c (says verdict past)) ≡ is_waiting s c (part c past)
   unfolding present
@@ -197,7 +197,7 @@ module _ (s : Setup) (c : ℕ) (client : c ≢ 0) (m : List ℕ) where
         }
 
     replied_queue : (verdict : Verdict) → modem_queue (wire s) (judge s own_k c m (Replies verdict) own) ≡ []
-    unfolding to_modem modem_drained
+    unfolding to_modem modem_taken_count
     replied_queue verdict = kept_by_note s.limits (mbim_wording s) (λ facts. modem_queue (wire s) facts ≡ []) (λ d before there none. none) (Judged c (message_count c own + 1) m verdict) own B.empty
 
     -- ---- both are forwarded ----
@@ -421,8 +421,8 @@ module _ (s : Setup) (c : ℕ) (client : c ≢ 0) (m : List ℕ) where
       unfolding view
       not_full is fair =
           let noted : AreUndisturbed (view_of c (note s (Judged c (message_count c past + 1) m Full) past)) = subst (λ (d : Decision). AreUndisturbed (view_of c (judge s k c m d past))) (of_all is) fair in
-          let told : AreUndisturbed (entry_if (c == c) (Sent m Full) (view_of c past)) = subst AreUndisturbed (noted_view s.limits (mbim_wording s) c (Judged c (message_count c past + 1) m Full) past) noted in
-          let first : AreUndisturbed (Sent m Full ∷ view_of c past) = subst (λ (b : Bool). AreUndisturbed (entry_if b (Sent m Full) (view_of c past))) (self c) told in
+          let told : AreUndisturbed (entry_if (c == c) (Said m Full) (view_of c past)) = subst AreUndisturbed (noted_view s.limits (mbim_wording s) c (Judged c (message_count c past + 1) m Full) past) noted in
+          let first : AreUndisturbed (Said m Full ∷ view_of c past) = subst (λ (b : Bool). AreUndisturbed (entry_if b (Said m Full) (view_of c past))) (self c) told in
           let clash : true ≡ false = first.0 in cc
 
       module _ (roomy : IsRoomy s) (fair : AreUndisturbed (view_of c (hear_client s k c m past))) where

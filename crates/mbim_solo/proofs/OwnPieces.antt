@@ -8,7 +8,7 @@ use Rattle.mbim_frame.specs.Head.{with_number}
 use Rattle.mbim_frame.specs.Writing.{open_done}
 use Rattle.proxy_history.specs.Events.{Event, Piece}
 use Rattle.proxy_history.specs.Streams.{stream, modem_stream, messages_of_piece, is_bad}
-use Rattle.proxy_history.specs.Items.{Item, Says, Garbles, ModemSays, item_if, client_items, items_of}
+use Rattle.proxy_history.specs.Items.{Item, Says, GoesBad, ModemSays, item_if, client_items, items_of}
 use Rattle.proxy_history.specs.Facts.{Fact, Request, Waits, Ready, EventBegan, Judged, OpeningEnded}
 use Rattle.proxy_history.specs.Decision.{Decision, Replies}
 use Rattle.proxy_history.specs.Connections.{contains, is_present, message_count}
@@ -49,7 +49,7 @@ use Rattle.mbim_solo.proofs.Opened.{IsSaidAs, short_is_said, then_is, EndsAlone,
 use Rattle.mbim_solo.proofs.Short.{mbim_is_short}
 use Rattle.mbim_solo.proofs.Settling.{facts, MayQueue, MetAlone, settles}
 use Rattle.mbim_solo.proofs.Standing.{Both, Done, begun_alike, both_begin, both_do_nothing, there_alike}
-use Rattle.mbim_solo.proofs.OwnEvents.{meets, met_alike, garbles_done, garbles_queue}
+use Rattle.mbim_solo.proofs.OwnEvents.{meets, met_alike, goes_bad_done, goes_bad_queue}
 use Rattle.mbim_solo.proofs.OwnMessages.{says_keeps, opens, opening, opens_time, opens_waits, asked, opens_used, opens_pending, own_opens, opens_part, late_hears, SaidAlike, OpensLate, said}
 
 module _ (s : Setup) (roomy : IsRoomy s) (c : ℕ) (client : c ≢ 0) where
@@ -96,15 +96,15 @@ module _ (s : Setup) (roomy : IsRoomy s) (c : ℕ) (client : c ≢ 0) where
     hears_none item later none alike = subst (λ (o : Option (List ℕ)). Alike s c later (meet_bytes o met) (before ++ piece)) (sym none) alike
 
     -- that the stream went bad
-    garbles_unheard : (o : List Fact) → hears s c (Garbles c) past o ≡ None
-    garbles_unheard o = elim (contains c (waiting s past)) as (λ b. hears_if (if b then None else None) s c (Garbles c) past o ≡ None) [ true ↦ refl | false ↦ refl ]
+    goes_bad_unheard : (o : List Fact) → hears s c (GoesBad c) past o ≡ None
+    goes_bad_unheard o = elim (contains c (waiting s past)) as (λ b. hears_if (if b then None else None) s c (GoesBad c) past o ≡ None) [ true ↦ refl | false ↦ refl ]
 
-    garbles_alike : client_items size_of c before piece ≡ Garbles c ∷ [] → Alike s c (add (mbim_protocol s) (Garbles c) past) (hear_all (Garbles c ∷ []) past met) (before ++ piece)
+    goes_bad_alike : client_items size_of c before piece ≡ GoesBad c ∷ [] → Alike s c (add (mbim_protocol s) (GoesBad c) past) (hear_all (GoesBad c ∷ []) past met) (before ++ piece)
     unfolding add_all
-    garbles_alike is =
-        let after : List Fact = add (mbim_protocol s) (Garbles c) past in
-        hears_none (Garbles c) after (garbles_unheard (history s met))
-        (alike_so (Garbles c ∷ []) after is (met_so (Garbles c ∷ []) is (inl (garbles_queue s c client own B.empty))) (item_orderly s c client (Garbles c) past tt B.orderly) (garbles_done s c client past own B))
+    goes_bad_alike is =
+        let after : List Fact = add (mbim_protocol s) (GoesBad c) past in
+        hears_none (GoesBad c) after (goes_bad_unheard (history s met))
+        (alike_so (GoesBad c ∷ []) after is (met_so (GoesBad c ∷ []) is (inl (goes_bad_queue s c client own B.empty))) (item_orderly s c client (GoesBad c) past tt B.orderly) (goes_bad_done s c client past own B))
 
     -- ---- a message ----
 
@@ -262,9 +262,9 @@ module _ (s : Setup) (roomy : IsRoomy s) (c : ℕ) (client : c ≢ 0) where
         let said_by_it : client_items size_of c before piece ≡ Says c m ∷ [] = is ∙ ap (λ (x : ℕ). Says x m ∷ []) one in
         subst (λ (x : ℕ). Alike s c (add_all (mbim_protocol s) (Says x m ∷ []) past) (hear_all (Says x m ∷ []) past met) (before ++ piece)) (sym one)
         (says_alike m said_by_it (subst (λ (x : ℕ). AreUndisturbed (view_of c (add_all (mbim_protocol s) (Says x m ∷ []) past))) one fair))
-    by_items (Garbles d ∷ []) is one fair =
-        subst (λ (x : ℕ). Alike s c (add_all (mbim_protocol s) (Garbles x ∷ []) past) (hear_all (Garbles x ∷ []) past met) (before ++ piece)) (sym one)
-        (garbles_alike (is ∙ ap (λ (x : ℕ). Garbles x ∷ []) one))
+    by_items (GoesBad d ∷ []) is one fair =
+        subst (λ (x : ℕ). Alike s c (add_all (mbim_protocol s) (GoesBad x ∷ []) past) (hear_all (GoesBad x ∷ []) past met) (before ++ piece)) (sym one)
+        (goes_bad_alike (is ∙ ap (λ (x : ℕ). GoesBad x ∷ []) one))
     by_items _ is one fair = absurd one
 
   -- ---- all parts ----
@@ -277,7 +277,7 @@ module _ (s : Setup) (roomy : IsRoomy s) (c : ℕ) (client : c ≢ 0) where
       let items : List Item = client_items size_of c before piece in
       let later : List Item = brought size_of c (before ++ piece) pieces in
       let here : AllByRecursion P items =
-      behind_messages P (λ m. Says c m) (messages_of_piece size_of before piece) (item_if (is_bad size_of (before ++ piece)) (Garbles c)) (λ m. refl) (one_if P (is_bad size_of (before ++ piece)) (Garbles c) refl)
+      behind_messages P (λ m. Says c m) (messages_of_piece size_of before piece) (item_if (is_bad size_of (before ++ piece)) (GoesBad c)) (λ m. refl) (one_if P (is_bad size_of (before ++ piece)) (GoesBad c) refl)
       in
       recursion_from_All P (items ++ later) (All-append P items later (All-from_recursion P items here) (All-from_recursion P later (clients_only (before ++ piece) pieces)))
 

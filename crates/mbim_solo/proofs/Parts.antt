@@ -8,7 +8,7 @@ use Rattle.framing.proofs.Cuts.{cut-each, cut-whole}
 use Rattle.mbim_frame.specs.Frame.{size_of}
 use Rattle.mbim_frame.specs.Framing.{size_of-kept, size_of-positive}
 use Rattle.proxy_history.specs.Streams.{messages_of_piece, is_bad}
-use Rattle.proxy_history.specs.Items.{Item, Says, Garbles, item_if, client_items}
+use Rattle.proxy_history.specs.Items.{Item, Says, GoesBad, item_if, client_items}
 use Rattle.proxy_history.proofs.Streams.{goes_on_from_rest}
 use Rattle.proxy_solo.proofs.Fronts.{first_is, goes_on, rest_holds_none}
 use Rattle.proxy_history.proofs.Pieces.{EndsMessage, ends_message}
@@ -17,7 +17,7 @@ use Rattle.mbim_solo.specs.Law.{brought, AreThePiece, PartsAreThePiece}
 
 module _ (c : ℕ) where
   abbrev items : (messages : List (List ℕ)) → (rest : List ℕ) → List Item
-  items messages rest = map (λ m. Says c m) messages ++ item_if (is_invalid (size_of rest)) (Garbles c)
+  items messages rest = map (λ m. Says c m) messages ++ item_if (is_invalid (size_of rest)) (GoesBad c)
 
   ends : (before front m : List ℕ) → (cut size_of before).rest ++ front ≡ m → IsMessage size_of m → EndsMessage size_of size_of-kept size_of-positive refl before front m
   ends before front m whole is = ends_message size_of size_of-kept size_of-positive refl before front (cut size_of before).rest m refl whole is
@@ -26,30 +26,30 @@ module _ (c : ℕ) where
   abbrev pub IsOneAtMost : List Item → Type 0
   IsOneAtMost [] = Unit {0}
   IsOneAtMost (Says d m ∷ []) = d ≡ c
-  IsOneAtMost (Garbles d ∷ []) = d ≡ c
+  IsOneAtMost (GoesBad d ∷ []) = d ≡ c
   IsOneAtMost _ = ⊥
 
   abbrev pub EachBringsOne : (before : List ℕ) → (parts : List (List ℕ)) → Type 0
   EachBringsOne before [] = Unit {0}
   EachBringsOne before (part ∷ parts) = IsOneAtMost (client_items size_of c before part) × EachBringsOne (before ++ part) parts
 
-  garbles_one : (bad : Bool) → IsOneAtMost (item_if bad (Garbles c))
-  garbles_one true = refl
-  garbles_one false = tt
+  goes_bad_one : (bad : Bool) → IsOneAtMost (item_if bad (GoesBad c))
+  goes_bad_one true = refl
+  goes_bad_one false = tt
 
   -- a part that ends a message
   ended : (before front m : List ℕ) → (cut size_of before).rest ++ front ≡ m → IsMessage size_of m → client_items size_of c before front ≡ Says c m ∷ []
   ended before front m whole is =
       let E = ends before front m whole is in
-      ap (λ (l : List (List ℕ)). map (λ m. Says c m) l ++ item_if (is_bad size_of (before ++ front)) (Garbles c)) E.messages ∙ ap (λ (b : Bool). Says c m ∷ item_if b (Garbles c)) E.good
+      ap (λ (l : List (List ℕ)). map (λ m. Says c m) l ++ item_if (is_bad size_of (before ++ front)) (GoesBad c)) E.messages ∙ ap (λ (b : Bool). Says c m ∷ item_if b (GoesBad c)) E.good
 
   -- what is left behind the last of them
   left_items : (before rest : List ℕ) → (cut size_of before).rest ≡ [] → cut size_of rest ≡ record { messages = []; rest = rest } → client_items size_of c before rest ≡ items [] rest
   left_items before rest none is =
       let goes = goes_on_from_rest size_of before rest in
       let last : cut size_of ((cut size_of before).rest ++ rest) ≡ record { messages = []; rest = rest } = ap (λ (l : List ℕ). cut size_of (l ++ rest)) none ∙ is in
-      ap (λ (l : List (List ℕ)). map (λ m. Says c m) l ++ item_if (is_bad size_of (before ++ rest)) (Garbles c)) (goes.messages ∙ ap (λ (k : Cutting). k.messages) last)
-      ∙ ap (λ (b : Bool). item_if b (Garbles c)) (goes.bad ∙ ap (λ (k : Cutting). is_invalid (size_of k.rest)) last)
+      ap (λ (l : List (List ℕ)). map (λ m. Says c m) l ++ item_if (is_bad size_of (before ++ rest)) (GoesBad c)) (goes.messages ∙ ap (λ (k : Cutting). k.messages) last)
+      ∙ ap (λ (b : Bool). item_if b (GoesBad c)) (goes.bad ∙ ap (λ (k : Cutting). is_invalid (size_of k.rest)) last)
 
   left : (before rest : List ℕ) → (cut size_of before).rest ≡ [] → cut size_of rest ≡ record { messages = []; rest = rest } → brought size_of c before (part_if_some rest) ≡ items [] rest
   unfolding brought
@@ -58,7 +58,7 @@ module _ (c : ℕ) where
 
   left_one : (before rest : List ℕ) → (cut size_of before).rest ≡ [] → cut size_of rest ≡ record { messages = []; rest = rest } → EachBringsOne before (part_if_some rest)
   left_one before [] none is = tt
-  left_one before (byte ∷ bytes) none is = (subst IsOneAtMost (sym (left_items before (byte ∷ bytes) none is)) (garbles_one (is_invalid (size_of (byte ∷ bytes)))), tt)
+  left_one before (byte ∷ bytes) none is = (subst IsOneAtMost (sym (left_items before (byte ∷ bytes) none is)) (goes_bad_one (is_invalid (size_of (byte ∷ bytes)))), tt)
 
   later : (messages : List (List ℕ)) (before tail rest : List ℕ) → AllByRecursion (IsMessage size_of) messages → (cut size_of before).rest ≡ [] → cut size_of tail ≡ record { messages = messages; rest = rest }
       → brought size_of c before (messages ++ part_if_some rest) ≡ items messages rest
@@ -109,8 +109,8 @@ module _ (c : ℕ) where
 
     items_are : client_items size_of c before piece ≡ items cutting.messages cutting.rest
     items_are =
-        ap (λ (l : List (List ℕ)). map (λ m. Says c m) l ++ item_if (is_bad size_of (before ++ piece)) (Garbles c)) messages_are
-        ∙ ap (λ (b : Bool). map (λ m. Says c m) cutting.messages ++ item_if b (Garbles c)) ((goes_on_from_rest size_of before piece).bad ∙ ap (λ (k : Cutting). is_invalid (size_of k.rest)) cut_is)
+        ap (λ (l : List (List ℕ)). map (λ m. Says c m) l ++ item_if (is_bad size_of (before ++ piece)) (GoesBad c)) messages_are
+        ∙ ap (λ (b : Bool). map (λ m. Says c m) cutting.messages ++ item_if b (GoesBad c)) ((goes_on_from_rest size_of before piece).bad ∙ ap (λ (k : Cutting). is_invalid (size_of k.rest)) cut_is)
 
     parts_are : parts before piece ≡ cut_at_ends piece begun cutting.messages cutting.rest
     parts_are = ap (λ (l : List (List ℕ)). cut_at_ends piece begun l (cut size_of (before ++ piece)).rest) messages_are ∙ ap (cut_at_ends piece begun cutting.messages) rest_is
@@ -144,7 +144,7 @@ module _ (c : ℕ) where
         }
 
     one_by_messages : (found : List (List ℕ)) (rest : List ℕ) → cutting ≡ record { messages = found; rest = rest } → AllByRecursion (IsMessage size_of) found → EachBringsOne before (cut_at_ends piece begun found rest)
-    one_by_messages [] rest is all = (subst IsOneAtMost (sym (items_are ∙ ap (λ (k : Cutting). items k.messages k.rest) is)) (garbles_one (is_invalid (size_of rest))), tt)
+    one_by_messages [] rest is all = (subst IsOneAtMost (sym (items_are ∙ ap (λ (k : Cutting). items k.messages k.rest) is)) (goes_bad_one (is_invalid (size_of rest))), tt)
     one_by_messages (m ∷ found) rest is all =
         let F = first_is size_of begun piece m found rest is in
         let front_is : drop (length begun) m ≡ F.front = ap (drop (length begun)) F.message ∙ drop_at begun F.front (length begun) refl in

@@ -24,7 +24,7 @@ use Rattle.proxy_history.specs.Connections.{present}
 use Rattle.proxy_history.specs.Requests.{in_use, pending, first_where, has_request, is_pending, without_request, of_space, numbers_of}
 use Rattle.proxy_history.specs.Modem.{now, is_away}
 use Rattle.proxy_history.specs.Modem as modem
-use Rattle.proxy_history.specs.View.{Sent, Response, view}
+use Rattle.proxy_history.specs.View.{Said, Response, view}
 use Rattle.proxy_history.specs.Coming.{AreSound}
 use Rattle.proxy_history.specs.History as proxy
 use Rattle.proxy_history.specs.History.{add_all}
@@ -63,7 +63,7 @@ use Rattle.mbim_solo.proofs.Relation.{IsRoomy, is_own_list, IsOrderly, Rests, Is
 use Rattle.mbim_solo.proofs.Orderly.{begun_orderly, histories_are_orderly, event_orderly}
 use Rattle.mbim_solo.proofs.Unlisted.{IsUnlisted, event_unlisted}
 use Rattle.mbim_solo.proofs.Wanting.{entry_as_listed, merged_same, none_for, still_none, busy_none, asked_none, finish_none}
-use Rattle.mbim_solo.proofs.Taking.{drained, drained_queue, HasTaken, takes, taken_sound, taken_quiet}
+use Rattle.mbim_solo.proofs.Taking.{was_taken, taken_queue, HasTaken, takes, taken_sound, taken_quiet}
 use Rattle.mbim_solo.proofs.Short.{mbim_is_short}
 
 -- ---- requests ----
@@ -129,32 +129,32 @@ module _ (s : Setup) (c : ℕ) where
     state_by true before = refl
     state_by false before = refl
 
-    was_free : (count : ℕ) → is_free s (drained count asked) ≡ true → is_free s own ≡ true
+    was_free : (count : ℕ) → is_free s (was_taken count asked) ≡ true → is_free s own ≡ true
     unfolding state pending
     was_free count free =
         free_too (is_own_open r) (is_ready (state s.starts_away own)) (list_any is_own (pending own ++ r ∷ [])) (list_any is_own (pending own))
         (λ none. left_false (list_any is_own (pending own)) (list_any is_own (r ∷ [])) (sym (list_any-append is_own (pending own) (r ∷ [])) ∙ none))
         (ap (λ (b : Bool). b && not (list_any is_own (pending own ++ r ∷ []))) (sym (state_by (is_own_open r) (state s.starts_away own))) ∙ free)
 
-    same_lists : (count : ℕ) → merged s (drained count asked) ≡ merged s own
+    same_lists : (count : ℕ) → merged s (was_taken count asked) ≡ merged s own
     unfolding view present
-    same_lists count = merged_same s own (drained count asked) refl (λ d. entry_as_listed s (c == d) (Sent m Forward) (view_of d own) (λ known. (refl, refl)))
+    same_lists count = merged_same s own (was_taken count asked) refl (λ d. entry_as_listed s (c == d) (Said m Forward) (view_of d own) (λ known. (refl, refl)))
 
-    one_then_none : (count : ℕ) → length (modem.modem_queue (wire s) asked) ≡ suc count → number_of_list s (merged s (drained (suc count) asked)) (drained (suc count) asked) ≡ None
+    one_then_none : (count : ℕ) → length (modem.modem_queue (wire s) asked) ≡ suc count → number_of_list s (merged s (was_taken (suc count) asked)) (was_taken (suc count) asked) ≡ None
     unfolding last_list in_use
     one_then_none count waits =
-        still_none s own (drained (suc count) asked) (same_lists (suc count)) refl (was_free (suc count))
-        (λ m none. none_for s m own (drained (suc count) asked) rests.queue (drained_queue s asked (suc count) waits) (more_numbers the_space (in_use own) r) none) rests.settled
+        still_none s own (was_taken (suc count) asked) (same_lists (suc count)) refl (was_free (suc count))
+        (λ m none. none_for s m own (was_taken (suc count) asked) rests.queue (taken_queue s asked (suc count) waits) (more_numbers the_space (in_use own) r) none) rests.settled
 
   -- so the proxy has nothing to ask once the modem took it
-  nothing_then : (own facts : List Fact) → Rests s c own → MayQueue own facts → (count : ℕ) → length (modem.modem_queue (wire s) facts) ≡ suc count → number_of_list s (merged s (drained (suc count) facts)) (drained (suc count) facts) ≡ None
+  nothing_then : (own facts : List Fact) → Rests s c own → MayQueue own facts → (count : ℕ) → length (modem.modem_queue (wire s) facts) ≡ suc count → number_of_list s (merged s (was_taken (suc count) facts)) (was_taken (suc count) facts) ≡ None
   unfolding state pending
   nothing_then own facts rests queues count waits =
       ⊎_elim
       (λ (empty : modem.modem_queue (wire s) facts ≡ []). absurd (let clash : zero ≡ suc count = sym (ap length empty) ∙ waits in cc))
       (λ (some : (state s.starts_away facts ≡ IsOpening) ⊎ ForwardsOne own facts). ⊎_elim
-      (λ (opening : state s.starts_away facts ≡ IsOpening). busy_none s (merged s (drained (suc count) facts)) (drained (suc count) facts) (ap (λ (m : ModemState). is_ready m && not (list_any is_own (pending facts))) opening))
-      (λ (one : ForwardsOne own facts). subst (λ (l : List Fact). length (modem.modem_queue (wire s) l) ≡ suc count → number_of_list s (merged s (drained (suc count) l)) (drained (suc count) l) ≡ None) (sym one.is)
+      (λ (opening : state s.starts_away facts ≡ IsOpening). busy_none s (merged s (was_taken (suc count) facts)) (was_taken (suc count) facts) (ap (λ (m : ModemState). is_ready m && not (list_any is_own (pending facts))) opening))
+      (λ (one : ForwardsOne own facts). subst (λ (l : List Fact). length (modem.modem_queue (wire s) l) ≡ suc count → number_of_list s (merged s (was_taken (suc count) l)) (was_taken (suc count) l) ≡ None) (sym one.is)
       (one_then_none own rests one.request one.place one.message count) waits)
       some)
       queues
@@ -220,12 +220,12 @@ module _ (s : Setup) (R : IsRoomy s) (c : ℕ) (client : c ≢ 0) (event : Event
     busy : is_free s sent ≡ false
     busy = false_from_ne_true (is_free s sent) (sent_waits s list n facts)
 
-    still_busy : (count : ℕ) → is_free s (drained count sent) ≡ false
+    still_busy : (count : ℕ) → is_free s (was_taken count sent) ≡ false
     unfolding state pending
     still_busy count = busy
 
     T : HasTaken s c sent (history s first)
-    T = takes s c (event ∷ solo) sent sent_is (busy_none s (merged s sent) sent busy) (λ count waits. busy_none s (merged s (drained (suc count) sent)) (drained (suc count) sent) (still_busy (suc count)))
+    T = takes s c (event ∷ solo) sent sent_is (busy_none s (merged s sent) sent busy) (λ count waits. busy_none s (merged s (was_taken (suc count) sent)) (was_taken (suc count) sent) (still_busy (suc count)))
 
     own_orderly : IsOrderly s c (history s first)
     own_orderly = histories_are_orderly s c client first (taken_sound s c (event ∷ solo) sound)
@@ -310,7 +310,7 @@ module _ (s : Setup) (R : IsRoomy s) (c : ℕ) (client : c ≢ 0) (event : Event
     nothing_more = asked_none s (merged s heard) heard (last_then ∙ sym lists_then)
 
     empty_then : modem.modem_queue (wire s) heard ≡ []
-    unfolding modem.to_modem modem.modem_drained
+    unfolding modem.to_modem modem.modem_taken_count
     empty_then = T.queue
 
     -- ---- the modem is there ----

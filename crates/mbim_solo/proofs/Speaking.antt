@@ -6,11 +6,11 @@ use Rattle.mbim_frame.specs.Frame.{size_of, mbim_cut}
 use Rattle.proxy_history.specs.History as proxy
 use Rattle.proxy_history.specs.Events.{Event, ModemPiece}
 use Rattle.proxy_history.specs.Streams.{stream, modem_stream, with_piece, is_bad}
-use Rattle.proxy_history.specs.Items.{ModemSays, ModemFails, item_if, delivered_by_piece, modem_items, items_of}
+use Rattle.proxy_history.specs.Items.{ModemSays, ModemIsLost, item_if, delivered_by_piece, modem_items, items_of}
 use Rattle.proxy_history.specs.Facts.{Fact, Request, EventBegan}
 use Rattle.proxy_history.specs.Connections.{present}
 use Rattle.proxy_history.specs.Requests.{in_use, pending, last_number}
-use Rattle.proxy_history.specs.Modem.{now, to_modem, modem_drained, modem_queue}
+use Rattle.proxy_history.specs.Modem.{now, to_modem, modem_taken_count, modem_queue}
 use Rattle.proxy_history.specs.View.{view}
 use Rattle.proxy_history.specs.Coming.{AreSound}
 use Rattle.proxy_history.specs.History.{add_all}
@@ -60,11 +60,11 @@ module _ (s : Setup) (c : ℕ) where
   -- ---- an event of which nothing follows ----
 
   begun_none : (own : List Fact) → Rests s c own → finish s (EventBegan ∷ own) ≡ EventBegan ∷ own
-  unfolding state pending present view last_list in_use last_number to_modem modem_drained
+  unfolding state pending present view last_list in_use last_number to_modem modem_taken_count
   begun_none own rests = ap (λ (o : Option ℕ). send_under s (merged s own) o (EventBegan ∷ own)) rests.settled
 
   pub rests_begun : (own : List Fact) → Rests s c own → Rests s c (EventBegan ∷ own)
-  unfolding state pending present view last_list in_use last_number to_modem modem_drained
+  unfolding state pending present view last_list in_use last_number to_modem modem_taken_count
   rests_begun own rests = record { queue = rests.queue; list = rests.list; settled = rests.settled }
 
   nothing_follows : (event : Event) (solo : List Event) → Rests s c (history s solo) → history s (event ∷ solo) ≡ EventBegan ∷ history s solo → meet event solo ≡ event ∷ solo
@@ -100,7 +100,7 @@ module _ (s : Setup) (c : ℕ) where
         → added_alone (ModemPiece piece) solo ≡ add_all (mbim_protocol s) (map (λ m. ModemSays m) messages ++ []) (EventBegan ∷ history s solo)
     piece_adds solo before piece stream_is messages messages_are good =
         ap (λ (o : Option (List ℕ)). add_all (mbim_protocol s) (modem_items (mbim_protocol s) piece o) (EventBegan ∷ history s solo)) stream_is
-        ∙ ap₂ (λ (l : List (List ℕ)) (b : Bool). add_all (mbim_protocol s) (map (λ m. ModemSays m) l ++ item_if b ModemFails) (EventBegan ∷ history s solo)) messages_are good
+        ∙ ap₂ (λ (l : List (List ℕ)) (b : Bool). add_all (mbim_protocol s) (map (λ m. ModemSays m) l ++ item_if b ModemIsLost) (EventBegan ∷ history s solo)) messages_are good
 
     piece_stream : (solo : List Event) (before piece : List ℕ) → modem_bytes s c solo ≡ Some before → is_bad size_of (before ++ piece) ≡ false → modem_bytes s c (ModemPiece piece ∷ solo) ≡ Some (before ++ piece)
     unfolding modem_stream
@@ -124,7 +124,7 @@ module _ (s : Setup) (c : ℕ) where
 
     -- the piece that ends it
     ends : (solo : List Event) (front piece : List ℕ) → Speaking first solo (start ++ front) → AreUnheard s.longest_body front → front ++ piece ≡ bytes → length piece ≤ piece_limit → Spoke first whole (meet (ModemPiece piece) solo)
-    unfolding add_all stream in_use to_modem modem_drained
+    unfolding add_all stream in_use to_modem modem_taken_count
     ends solo front piece S none is few =
         let E = ends_heard s start Q front piece whole none (ap (λ (l : List ℕ). (mbim_cut l).rest) is ∙ one.rest) (subst (λ (l : List ℕ). AreHeardAs s.longest_body (mbim_cut l).messages whole) (sym is) one.heard) in
         let own : List Fact = EventBegan ∷ history s solo in

@@ -13,7 +13,7 @@ use Rattle.mbim_fragments.specs.Assembling.{fresh, joining_behind, assembled_aft
 use Rattle.mbim_fragments.proofs.Cutting.{pieces_are_cut}
 use Rattle.mbim_frame.specs.Frame.{size_of, mbim_cut}
 use Rattle.proxy_history.specs.Streams.{is_bad}
-use Rattle.proxy_history.specs.Items.{ModemSays, ModemFails, item_if, modem_items, delivered, delivered_by_piece}
+use Rattle.proxy_history.specs.Items.{ModemSays, ModemIsLost, item_if, modem_items, delivered, delivered_by_piece}
 use Rattle.proxy_history.proofs.Pieces.{EndsMessage, ends_message, goes_on}
 use Rattle.mbim_proxy.specs.Setup.{Setup}
 use Rattle.mbim_proxy.specs.Delivering.{Begun, none_begun, is_fragment, heard_whole, heard_from, begun_from, begun_after, deliver}
@@ -113,7 +113,7 @@ module _ (s : Setup) (before bytes whole : List ℕ) (Q : IsQuiet s before) (one
   comes_at_once =
       let ends = ends_heard s before Q [] bytes whole empty_is_unheard one.rest one.heard in
       record {
-        items = ap₂ (λ (messages : List (List ℕ)) (bad : Bool). map (λ m. ModemSays m) messages ++ item_if bad ModemFails) (ap (λ (l : List ℕ). delivered_by_piece (mbim_protocol s) l bytes) (sym (append-nil before)) ∙ ends.heard) good;
+        items = ap₂ (λ (messages : List (List ℕ)) (bad : Bool). map (λ m. ModemSays m) messages ++ item_if bad ModemIsLost) (ap (λ (l : List ℕ). delivered_by_piece (mbim_protocol s) l bytes) (sym (append-nil before)) ∙ ends.heard) good;
         good = good;
         quiet = subst (λ (l : List ℕ). IsQuiet s (l ++ bytes)) (append-nil before) ends.quiet;
       }

@@ -5,7 +5,7 @@ use Rattle.proxy_history.specs.Events.{Event}
 use Rattle.proxy_history.specs.Facts.{Fact, Request, EventBegan, Admitted, Ended, Forwarded}
 use Rattle.proxy_history.specs.Connections.{present, is_present}
 use Rattle.proxy_history.specs.Requests.{in_use, pending, deadline_of}
-use Rattle.proxy_history.specs.Modem.{now, to_modem, modem_drained, modem_queue}
+use Rattle.proxy_history.specs.Modem.{now, to_modem, modem_taken_count, modem_queue}
 use Rattle.proxy_history.specs.Rendering.{Rendering, render}
 use Rattle.proxy_history.specs.Wording.{text_behind}
 use Rattle.proxy_history.specs.Adding.{AllFit}
@@ -170,7 +170,7 @@ module _ (s : Setup) (c : ℕ) (client : c ≢ 0) where
   }
 
   pub both_begin : (past : List Fact) (solo : List Event) (bytes : List ℕ) → Alike s c past solo bytes → Both past (EventBegan ∷ history s solo)
-  unfolding alone_part.part now state in_use pending to_modem modem_drained
+  unfolding alone_part.part now state in_use pending to_modem modem_taken_count
   both_begin past solo bytes A = record {
     orderly = A.orderly;
     alone = begun_orderly s c client (history s solo) (histories_are_orderly s c client solo A.may);

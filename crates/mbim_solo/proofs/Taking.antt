@@ -2,7 +2,7 @@
 use Rattle.std.proofs.Common.{◌≡◌, ℕ, zero, suc, ◌+◌, ◌≤◌, List, [], ◌∷◌, length, refl, ap, sym, ◌∙◌, subst, arith, None, length-drop}
 use Rattle.proxy_history.specs.Events.{Event, ModemTook}
 use Rattle.proxy_history.specs.Streams.{modem_stream}
-use Rattle.proxy_history.specs.Facts.{Fact, EventBegan, ModemDrained}
+use Rattle.proxy_history.specs.Facts.{Fact, EventBegan, ModemTaken}
 use Rattle.proxy_history.specs.Connections.{present}
 use Rattle.proxy_history.specs.Requests.{in_use, pending}
 use Rattle.proxy_history.specs.Modem.{now, is_away}
@@ -28,13 +28,13 @@ empty_of [] e = refl
 empty_of (byte ∷ bytes) e = absurd (omega (arith, e))
 
 -- the modem took so many bytes
-abbrev pub drained : ℕ → List Fact → List Fact
-drained count facts = ModemDrained count ∷ EventBegan ∷ facts
+abbrev pub was_taken : ℕ → List Fact → List Fact
+was_taken count facts = ModemTaken count ∷ EventBegan ∷ facts
 
-pub drained_queue : (s : Setup) (facts : List Fact) (count : ℕ) → length (modem.modem_queue (wire s) facts) ≡ count → modem.modem_queue (wire s) (drained count facts) ≡ []
-unfolding modem.to_modem modem.modem_drained
-drained_queue s facts count is =
-    empty_of (modem.modem_queue (wire s) (drained count facts)) (omega (arith, is, length-drop (modem.modem_drained facts) (modem.to_modem (wire s) facts), length-drop (modem.modem_drained facts + count) (modem.to_modem (wire s) facts)))
+pub taken_queue : (s : Setup) (facts : List Fact) (count : ℕ) → length (modem.modem_queue (wire s) facts) ≡ count → modem.modem_queue (wire s) (was_taken count facts) ≡ []
+unfolding modem.to_modem modem.modem_taken_count
+taken_queue s facts count is =
+    empty_of (modem.modem_queue (wire s) (was_taken count facts)) (omega (arith, is, length-drop (modem.modem_taken_count facts) (modem.to_modem (wire s) facts), length-drop (modem.modem_taken_count facts + count) (modem.to_modem (wire s) facts)))
 
 module _ (s : Setup) (c : ℕ) where
   -- behind these facts the modem took all that waited, and nothing else came
@@ -53,16 +53,16 @@ module _ (s : Setup) (c : ℕ) where
   taken solo = alone.taken (mbim_protocol s) solo
 
   module _ (solo : List Event) (facts : List Fact) (is : history s solo ≡ facts) (none : number_of_list s (merged s facts) facts ≡ None)
-      (still : (count : ℕ) → length (modem.modem_queue (wire s) facts) ≡ suc count → number_of_list s (merged s (drained (suc count) facts)) (drained (suc count) facts) ≡ None) where
+      (still : (count : ℕ) → length (modem.modem_queue (wire s) facts) ≡ suc count → number_of_list s (merged s (was_taken (suc count) facts)) (was_taken (suc count) facts) ≡ None) where
     drains : (count : ℕ) → length (modem.modem_queue (wire s) facts) ≡ count → HasTaken facts (history s (take_all count solo))
     unfolding proxy.history proxy.add_all alone_part.part in_use pending now state last_list present view
     drains zero waits =
         subst (HasTaken facts) (sym is) (record { same = refl; in_use = refl; pending = refl; time = refl; state = refl; lists = refl; last = refl; queue = empty_of (modem.modem_queue (wire s) facts) waits; none = none })
     drains (suc count) waits =
-        let goes : history s (ModemTook (suc count) ∷ solo) ≡ drained (suc count) facts =
-        ap (λ (l : List Fact). finish s (drained (suc count) l)) is ∙ finish_none s (drained (suc count) facts) (still count waits)
+        let goes : history s (ModemTook (suc count) ∷ solo) ≡ was_taken (suc count) facts =
+        ap (λ (l : List Fact). finish s (was_taken (suc count) l)) is ∙ finish_none s (was_taken (suc count) facts) (still count waits)
         in
-        subst (HasTaken facts) (sym goes) (record { same = refl; in_use = refl; pending = refl; time = refl; state = refl; lists = refl; last = refl; queue = drained_queue s facts (suc count) waits; none = still count waits })
+        subst (HasTaken facts) (sym goes) (record { same = refl; in_use = refl; pending = refl; time = refl; state = refl; lists = refl; last = refl; queue = taken_queue s facts (suc count) waits; none = still count waits })
 
     pub takes : HasTaken facts (history s (taken solo))
     takes = subst (λ (l : List Fact). HasTaken facts (history s (take_all (length (modem.modem_queue (wire s) l)) solo))) (sym is) (drains (length (modem.modem_queue (wire s) facts)) refl)

@@ -4,7 +4,7 @@ use Rattle.std.specs.List.{list_any}
 use Rattle.mbim_frame.specs.declared.kind.MessageKind.TheVariants.{Open}
 use Rattle.mbim_frame.specs.Head.{is_kind}
 use Rattle.proxy_history.specs.Events.{Event}
-use Rattle.proxy_history.specs.Items.{Item, Joins, Says, Garbles, Leaves, ModemSays, ModemFails, ModemReturns, ClockShows, Takes, ModemTakes, items_of}
+use Rattle.proxy_history.specs.Items.{Item, Joins, Says, GoesBad, Leaves, ModemSays, ModemIsLost, ModemReturns, ClockShows, Takes, ModemTakes, items_of}
 use Rattle.proxy_history.specs.Facts.{Fact, NoRoom, Forward, Waits, EventBegan, Ended, Judged, Forwarded, Answered, IdHeld, Late, Expired, Aborted, Reset, ModemLost}
 use Rattle.proxy_history.specs.Decision.{Decision, Replies, Forwards}
 use Rattle.proxy_history.specs.Connections.{is_present, message_count}
@@ -95,10 +95,10 @@ module _ (s : Setup) (c : ℕ) (client : c ≢ 0) where
   unfolding says
   item_unlisted (Says d m) past may O none = said_unlisted d m past O none
   item_unlisted (Joins d) past may O none = quiet_unlisted (Joins d) past refl O.sound none
-  item_unlisted (Garbles d) past may O none = quiet_unlisted (Garbles d) past refl O.sound none
+  item_unlisted (GoesBad d) past may O none = quiet_unlisted (GoesBad d) past refl O.sound none
   item_unlisted (Leaves d) past may O none = quiet_unlisted (Leaves d) past refl O.sound none
   item_unlisted (ModemSays m) past may O none = quiet_unlisted (ModemSays m) past refl O.sound none
-  item_unlisted ModemFails past may O none = quiet_unlisted ModemFails past refl O.sound none
+  item_unlisted ModemIsLost past may O none = quiet_unlisted ModemIsLost past refl O.sound none
   item_unlisted ModemReturns past may O none = quiet_unlisted ModemReturns past refl O.sound none
   item_unlisted (ClockShows time) past may O none = quiet_unlisted (ClockShows time) past refl O.sound none
   item_unlisted (Takes d count) past may O none = quiet_unlisted (Takes d count) past refl O.sound none

@@ -4,10 +4,10 @@ use Rattle.std.proofs.lemmas.Bool.Decides.{nat_tests}
 use Rattle.mbim_frame.specs.declared.status.TheConstants.{SUCCESS}
 use Rattle.mbim_frame.specs.Head.{number_of}
 use Rattle.mbim_frame.specs.Writing.{open_done}
-use Rattle.proxy_history.specs.Facts.{Fact, Verdict, Own, Share, Foreign, Away, Full, Forward, Ready, Waits, NotAdmitted, BadStream, Closed, Admitted, Ended, Judged, Drained, Answered, IdHeld, Expired, Aborted, Indicated, OpeningEnded, SessionsClosed}
+use Rattle.proxy_history.specs.Facts.{Fact, Verdict, Own, Share, Foreign, Away, Full, Forward, Ready, Waits, NotAdmitted, BadStream, Leaving, Admitted, Ended, Judged, Taken, Answered, IdHeld, Expired, Aborted, Indicated, OpeningEnded, SessionsClosed}
 use Rattle.proxy_history.specs.Connections.{contains}
-use Rattle.proxy_history.specs.View.{Entry, Sent, Response, Refused, Indication, OpenedWith, Shut, Collected, End, HeldId, NoAnswer, view, entry_if}
-use Rattle.proxy_history.specs.Rendering.{Rendering, put, put_unless, collect, render}
+use Rattle.proxy_history.specs.View.{Entry, Said, Response, Refused, Indication, OpenedWith, Shut, Taking, End, HeldId, NoAnswer, view, entry_if}
+use Rattle.proxy_history.specs.Rendering.{Rendering, put, put_unless, take_waiting, render}
 use Rattle.proxy_history.specs.Wording.{told_by, text_behind}
 use Rattle.proxy_history.proofs.Rendering.{waiting_within}
 use Rattle.proxy_solo.specs.Part.{as_sent, concerns, as_known, facts_if, part}
@@ -48,7 +48,7 @@ module _ (s : Setup) where
 
   -- an entry more
   abbrev text_with : Entry → Told → Rendering
-  text_with (Collected count) t = collect count t.text
+  text_with (Taking count) t = take_waiting count t.text
   text_with Shut t = t.text
   text_with (End why) t = t.text
   text_with entry t = put s.limits.outbox (text_as s t.known entry) t.text
@@ -58,17 +58,17 @@ module _ (s : Setup) where
 
   one_more : (entry : Entry) (entries : List Entry) → told (entry ∷ entries) ≡ with_entry entry (told entries)
   unfolding render told_by
-  one_more (Sent m verdict) entries = refl
+  one_more (Said m verdict) entries = refl
   one_more (Response place m) entries = refl
   one_more (Refused place cause) entries = refl
   one_more (Indication m) entries = refl
   one_more (OpenedWith status) entries = refl
   one_more Shut entries = refl
-  one_more (Collected count) entries = refl
+  one_more (Taking count) entries = refl
   one_more (End why) entries = refl
 
   -- a request to open that an open modem answers, of a client none of whose waits
-  ready_is : (m : List ℕ) (t : Told) → t.known.waits ≡ None → length t.text.waiting ≤ s.limits.outbox → with_entry (OpenedWith SUCCESS) (with_entry (Sent m Waits) t) ≡ with_entry (Sent m Ready) t
+  ready_is : (m : List ℕ) (t : Told) → t.known.waits ≡ None → length t.text.waiting ≤ s.limits.outbox → with_entry (OpenedWith SUCCESS) (with_entry (Said m Waits) t) ≡ with_entry (Said m Ready) t
   ready_is m t none within =
       ap (λ (r : Rendering). let both : Told = record { known = record (with_message s m t.known) { waits = None; opened = true }; text = put s.limits.outbox (open_done (number_of m) SUCCESS) r } in both) (put_none s.limits.outbox t.text within)
       ∙ ap (λ (o : Option ℕ). let both : Told = record { known = record (with_message s m t.known) { waits = o; opened = true }; text = put s.limits.outbox (open_done (number_of m) SUCCESS) t.text } in both) (sym none)
@@ -117,31 +117,31 @@ module _ (s : Setup) where
     -- ---- judged messages ----
 
     module _ (d place : ℕ) (m : List ℕ) (past : List Fact) (same : told (known_view (mbim.part c past)) ≡ told (view_of c past)) where
-      as_it_stands : (verdict : Verdict) → told (known_view (facts_if (d == c) (Judged d place m verdict ∷ []) (mbim.part c past))) ≡ told (entry_if (d == c) (Sent m verdict) (view_of c past))
+      as_it_stands : (verdict : Verdict) → told (known_view (facts_if (d == c) (Judged d place m verdict ∷ []) (mbim.part c past))) ≡ told (entry_if (d == c) (Said m verdict) (view_of c past))
       unfolding view
       as_it_stands verdict =
-          ap told (kept known_view (λ t l. entry_if t (Sent m verdict) l) (d == c) (Judged d place m verdict ∷ []) (mbim.part c past) refl (λ e. refl))
-          ∙ same_if (d == c) (Sent m verdict) (known_view (mbim.part c past)) (view_of c past) same
+          ap told (kept known_view (λ t l. entry_if t (Said m verdict) l) (d == c) (Judged d place m verdict ∷ []) (mbim.part c past) refl (λ e. refl))
+          ∙ same_if (d == c) (Said m verdict) (known_view (mbim.part c past)) (view_of c past) same
 
-      by_waiting : ((d == c) ≡ true → (known_now s c past).waits ≡ None) → told (known_view (facts_if (d == c) (OpeningEnded SUCCESS (d ∷ []) ∷ Judged d place m Waits ∷ []) (mbim.part c past))) ≡ told (entry_if (d == c) (Sent m Ready) (view_of c past))
+      by_waiting : ((d == c) ≡ true → (known_now s c past).waits ≡ None) → told (known_view (facts_if (d == c) (OpeningEnded SUCCESS (d ∷ []) ∷ Judged d place m Waits ∷ []) (mbim.part c past))) ≡ told (entry_if (d == c) (Said m Ready) (view_of c past))
       unfolding view
       by_waiting none =
           let facts : List Fact = OpeningEnded SUCCESS (d ∷ []) ∷ Judged d place m Waits ∷ [] in
-          let step : (b : Bool) → (d == c) ≡ b → told (known_view (facts_if b facts (mbim.part c past))) ≡ told (entry_if b (Sent m Ready) (view_of c past)) =
-          λ b. elim b as (λ b. (d == c) ≡ b → told (known_view (facts_if b facts (mbim.part c past))) ≡ told (entry_if b (Sent m Ready) (view_of c past))) [
+          let step : (b : Bool) → (d == c) ≡ b → told (known_view (facts_if b facts (mbim.part c past))) ≡ told (entry_if b (Said m Ready) (view_of c past)) =
+          λ b. elim b as (λ b. (d == c) ≡ b → told (known_view (facts_if b facts (mbim.part c past))) ≡ told (entry_if b (Said m Ready) (view_of c past))) [
             | true ↦ λ e.
-                ap (λ (t : Bool). told (entry_if t (OpenedWith SUCCESS) (entry_if (d == c) (Sent m Waits) (known_view (mbim.part c past))))) (only c d ∙ e)
-                ∙ ap (λ (t : Bool). told (OpenedWith SUCCESS ∷ entry_if t (Sent m Waits) (known_view (mbim.part c past)))) e
-                ∙ one_more (OpenedWith SUCCESS) (Sent m Waits ∷ known_view (mbim.part c past))
-                ∙ ap (with_entry (OpenedWith SUCCESS)) (one_more (Sent m Waits) (known_view (mbim.part c past)))
-                ∙ ap (λ (t : Told). with_entry (OpenedWith SUCCESS) (with_entry (Sent m Waits) t)) same
+                ap (λ (t : Bool). told (entry_if t (OpenedWith SUCCESS) (entry_if (d == c) (Said m Waits) (known_view (mbim.part c past))))) (only c d ∙ e)
+                ∙ ap (λ (t : Bool). told (OpenedWith SUCCESS ∷ entry_if t (Said m Waits) (known_view (mbim.part c past)))) e
+                ∙ one_more (OpenedWith SUCCESS) (Said m Waits ∷ known_view (mbim.part c past))
+                ∙ ap (with_entry (OpenedWith SUCCESS)) (one_more (Said m Waits) (known_view (mbim.part c past)))
+                ∙ ap (λ (t : Told). with_entry (OpenedWith SUCCESS) (with_entry (Said m Waits) t)) same
                 ∙ ready_is m (told (view_of c past)) (none e) (waiting_within s.limits.outbox (text_behind (mbim_wording s)) (view_of c past))
-                ∙ sym (one_more (Sent m Ready) (view_of c past))
+                ∙ sym (one_more (Said m Ready) (view_of c past))
             | false ↦ λ e. same
           ]
           in step (d == c) refl
 
-      judged_tells : (verdict : Verdict) → OpensOnce (Judged d place m verdict) past → told (known_view (facts_if (d == c) (restated (Judged d place m verdict)) (mbim.part c past))) ≡ told (entry_if (d == c) (Sent m verdict) (view_of c past))
+      judged_tells : (verdict : Verdict) → OpensOnce (Judged d place m verdict) past → told (known_view (facts_if (d == c) (restated (Judged d place m verdict)) (mbim.part c past))) ≡ told (entry_if (d == c) (Said m verdict) (view_of c past))
       judged_tells Own once = as_it_stands Own
       judged_tells Share once = as_it_stands Share
       judged_tells Foreign once = as_it_stands Foreign
@@ -163,9 +163,9 @@ module _ (s : Setup) where
         ap told (kept_plain restated reads known_view (λ t l. if t then End NotAdmitted ∷ [] else l) (d == c) (Ended d NotAdmitted) (mbim.part c past) refl refl (λ e. refl))
         ∙ anew_if (d == c) (End NotAdmitted ∷ []) (known_view (mbim.part c past)) (view_of c past) (told-part past once.1)
     told-part (Ended d BadStream ∷ past) once = ap told (entered (d == c) (Ended d BadStream) (End BadStream) (mbim.part c past) refl (λ e. refl)) ∙ same_if (d == c) (End BadStream) (known_view (mbim.part c past)) (view_of c past) (told-part past once.1)
-    told-part (Ended d Closed ∷ past) once = ap told (entered (d == c) (Ended d Closed) (End Closed) (mbim.part c past) refl (λ e. refl)) ∙ same_if (d == c) (End Closed) (known_view (mbim.part c past)) (view_of c past) (told-part past once.1)
+    told-part (Ended d Leaving ∷ past) once = ap told (entered (d == c) (Ended d Leaving) (End Leaving) (mbim.part c past) refl (λ e. refl)) ∙ same_if (d == c) (End Leaving) (known_view (mbim.part c past)) (view_of c past) (told-part past once.1)
     told-part (Judged d place m verdict ∷ past) once = judged_tells d place m past (told-part past once.1) verdict once.0
-    told-part (Drained d count ∷ past) once = ap told (entered (d == c) (Drained d count) (Collected count) (mbim.part c past) refl (λ e. refl)) ∙ same_if (d == c) (Collected count) (known_view (mbim.part c past)) (view_of c past) (told-part past once.1)
+    told-part (Taken d count ∷ past) once = ap told (entered (d == c) (Taken d count) (Taking count) (mbim.part c past) refl (λ e. refl)) ∙ same_if (d == c) (Taking count) (known_view (mbim.part c past)) (view_of c past) (told-part past once.1)
     told-part (Answered r m ∷ past) once =
         ap told (entered (r.conn == c) (Answered (as_sent r) (blank m)) (Response r.place (blank m)) (mbim.part c past) refl (λ e. refl))
         ∙ same_if (r.conn == c) (Response r.place (blank m)) (known_view (mbim.part c past)) (view_of c past) (told-part past once.1)

@@ -16,7 +16,7 @@ use Rattle.mbim_frame.specs.Writing.{open_done, plain_done}
 use Rattle.mbim_fragments.specs.Splitting.{split}
 use Rattle.proxy_history.specs.Events.{Event}
 use Rattle.proxy_history.specs.Streams.{messages_of_piece}
-use Rattle.proxy_history.specs.Items.{Item, Says, ModemSays, ModemFails, ClockShows}
+use Rattle.proxy_history.specs.Items.{Item, Says, ModemSays, ModemIsLost, ClockShows}
 use Rattle.proxy_history.specs.Facts.{Fact, Request, Judged, OpeningEnded, Ready, Waits}
 use Rattle.proxy_history.specs.Decision.{Decision, Replies}
 use Rattle.proxy_history.specs.Connections.{contains, is_present}
@@ -90,7 +90,7 @@ is_waiting_open (Some r) past = is_own_open r && is_pending r past
 -- the OPEN_DONE that tells how an opening ends with this item, where one ends: one that the modem sends, and else one that tells of a failure
 abbrev pub ends_opening : Item → List Fact → Option (List ℕ)
 ends_opening (ModemSays m) past = message_if (is_waiting_open (answered_by (heard_as m) m past) past) (if is_kind OpenDone m then m else failed)
-ends_opening ModemFails past = message_if (list_any is_own_open (pending past)) failed
+ends_opening ModemIsLost past = message_if (list_any is_own_open (pending past)) failed
 ends_opening (ClockShows time) past = message_if (list_any is_own_open (due (max time (now past)) (pending past))) failed
 ends_opening _ past = None
 

@@ -15,7 +15,7 @@ use Rattle.number_space.specs.Table as space
 use Rattle.proxy_history.specs.Facts.{Fact, Request, Answered, Late, Stray}
 use Rattle.proxy_history.specs.Connections.{present, dropped}
 use Rattle.proxy_history.specs.Requests.{in_use, pending, last_number}
-use Rattle.proxy_history.specs.Modem.{now, is_away, to_modem, modem_drained}
+use Rattle.proxy_history.specs.Modem.{now, is_away, to_modem, modem_taken_count}
 use Rattle.proxy_history.specs.View.{Response, view}
 use Rattle.proxy_history.specs.Rendering.{render}
 use Rattle.proxy_history.specs.Wording.{told_by}
@@ -107,11 +107,11 @@ module _ (s : Setup) (within : HasNumbers s) (streams : Streams) where
   -- ---- what concerns no client ----
 
   kept_stray : (past : List Fact) (x : MbimState) → Kept past x → Kept (Stray ∷ past) x
-  unfolding present dropped now is_away state requests_in_use last_number askers last_list to_modem modem_drained view
+  unfolding present dropped now is_away state requests_in_use last_number askers last_list to_modem modem_taken_count view
   kept_stray past x K = keeps_side s streams (Stray ∷ past) past x x.beside (λ d. refl) refl refl K.holds.beside (regular_more s Stray past tt tt tt K.fine) K
 
   kept_late : (past : List Fact) (x : MbimState) (r : Request) → Contains (in_use past) r → Kept past x → Kept (Late r ∷ past) (with_numbers (answers r.number x.beside.numbers) x)
-  unfolding present dropped now is_away state askers last_list to_modem modem_drained view
+  unfolding present dropped now is_away state askers last_list to_modem modem_taken_count view
   kept_late past x r at K =
       keeps_side s streams (Late r ∷ past) past x (record x.beside { numbers = answers r.number x.beside.numbers }) (λ d. refl) refl refl
       (numbers_changed s streams (answers r.number) past x K ∙ ap (side_with s streams.messages past) (sym (numbers_late s within past r K.fine at))) (regular_more s (Late r) past at tt tt K.fine) K
@@ -138,7 +138,7 @@ module _ (s : Setup) (within : HasNumbers s) (streams : Streams) where
     is_at = request_waits past a (are_different s.limits within past K.fine.sound) at s.limits K.fine.sound waiting
 
     side_is : (let side : ModemSide = record x.beside { numbers = answers r.number x.beside.numbers } in side) ≡ side_of s streams.messages (Answered r m ∷ past)
-    unfolding now is_away state askers last_list to_modem modem_drained
+    unfolding now is_away state askers last_list to_modem modem_taken_count
     side_is = numbers_changed s streams (answers r.number) past x K ∙ ap (side_with s streams.messages past) (sym (numbers_answered s within past r K.fine (request_in_use past a at) m))
 
     regular : Regular s (Answered r m ∷ past)

@@ -4,7 +4,7 @@ use Rattle.std.proofs.lemmas.Bool.{eq-eqb, eqb-true}
 use Rattle.std.proofs.lemmas.Bool.Decides.{nat_tests}
 use Rattle.proxy_history.specs.Facts.{Fact, Judged, Verdict, Own, Share, Foreign, Away, Full, Forward, Ready, Waits}
 use Rattle.proxy_history.specs.Connections.{contains}
-use Rattle.proxy_history.specs.View.{Entry, Sent, view, entry_if}
+use Rattle.proxy_history.specs.View.{Entry, Said, view, entry_if}
 use Rattle.proxy_history.specs.Rendering.{render}
 use Rattle.proxy_history.specs.Wording.{told_by}
 use Rattle.proxy_state.specs.Stands as proxy
@@ -41,7 +41,7 @@ module _ (s : Setup) where
     abbrev kept : Known
     kept = known_by (client_of known)
 
-    same_text : (verdict : Verdict) → text_as s known (Sent m verdict) ≡ text_as s kept (Sent m verdict)
+    same_text : (verdict : Verdict) → text_as s known (Said m verdict) ≡ text_as s kept (Said m verdict)
     same_text Own = refl
     same_text Share = refl
     same_text Foreign = refl
@@ -60,7 +60,7 @@ module _ (s : Setup) where
     same_reply (Configures command) = refl
     same_reply (Subscribes command list) = refl
 
-    same_client : (verdict : Verdict) → client_of (step s known (Sent m verdict)) ≡ client_of (step s kept (Sent m verdict))
+    same_client : (verdict : Verdict) → client_of (step s known (Said m verdict)) ≡ client_of (step s kept (Said m verdict))
     same_client Own = same_reply (own_reply s known m)
     same_client Share = refl
     same_client Foreign = refl
@@ -78,23 +78,23 @@ module _ (s : Setup) where
   abbrev told : List Entry → Known
   told entries = told_by (mbim_wording s).fresh (mbim_wording s).step entries
 
-  sent_as : (m : List ℕ) (verdict : Verdict) (entries : List Entry) → client_state_from (Sent m verdict ∷ entries) ≡ record (put_to (text_as s (told entries) (Sent m verdict)) (client_state_from entries)) { client = client_of (step s (told entries) (Sent m verdict)) }
+  sent_as : (m : List ℕ) (verdict : Verdict) (entries : List Entry) → client_state_from (Said m verdict ∷ entries) ≡ record (put_to (text_as s (told entries) (Said m verdict)) (client_state_from entries)) { client = client_of (step s (told entries) (Said m verdict)) }
   unfolding render told_by
   sent_as m verdict entries = refl
 
-  sent : (m : List ℕ) (verdict : Verdict) (entries : List Entry) → client_state_from (Sent m verdict ∷ entries) ≡ with_entry (Sent m verdict) (client_state_from entries)
+  sent : (m : List ℕ) (verdict : Verdict) (entries : List Entry) → client_state_from (Said m verdict ∷ entries) ≡ with_entry (Said m verdict) (client_state_from entries)
   sent m verdict entries =
       sent_as m verdict entries
-      ∙ ap (λ (bytes : List ℕ). let a : ClientState = record (put_to bytes (client_state_from entries)) { client = client_of (step s (told entries) (Sent m verdict)) } in a) (same_text (told entries) m verdict)
-      ∙ ap (λ (client : Client). let a : ClientState = record (put_to (text s (Sent m verdict) (client_state_from entries).client) (client_state_from entries)) { client = client } in a) (same_client (told entries) m verdict)
+      ∙ ap (λ (bytes : List ℕ). let a : ClientState = record (put_to bytes (client_state_from entries)) { client = client_of (step s (told entries) (Said m verdict)) } in a) (same_text (told entries) m verdict)
+      ∙ ap (λ (client : Client). let a : ClientState = record (put_to (text s (Said m verdict) (client_state_from entries).client) (client_state_from entries)) { client = client } in a) (same_client (told entries) m verdict)
 
-  pub judged_own : (past : List Fact) (c place : ℕ) (m : List ℕ) (verdict : Verdict) → client_state_of (Judged c place m verdict ∷ past) c ≡ with_entry (Sent m verdict) (client_state_of past c)
+  pub judged_own : (past : List Fact) (c place : ℕ) (m : List ℕ) (verdict : Verdict) → client_state_of (Judged c place m verdict ∷ past) c ≡ with_entry (Said m verdict) (client_state_of past c)
   unfolding view
-  judged_own past c place m verdict = ap (λ (b : Bool). client_state_from (entry_if b (Sent m verdict) (view_of c past))) (eq-eqb c c refl) ∙ sent m verdict (view_of c past)
+  judged_own past c place m verdict = ap (λ (b : Bool). client_state_from (entry_if b (Said m verdict) (view_of c past))) (eq-eqb c c refl) ∙ sent m verdict (view_of c past)
 
   pub judged_other : (past : List Fact) (c place d : ℕ) (m : List ℕ) (verdict : Verdict) → (c == d) ≡ false → client_state_of (Judged c place m verdict ∷ past) d ≡ client_state_of past d
   unfolding view
-  judged_other past c place d m verdict other = ap (λ (b : Bool). client_state_from (entry_if b (Sent m verdict) (view_of d past))) other
+  judged_other past c place d m verdict other = ap (λ (b : Bool). client_state_from (entry_if b (Said m verdict) (view_of d past))) other
 
   -- ---- an entry of one client ----
 

@@ -15,10 +15,10 @@ use Rattle.mbim_frame.specs.Fragment.{body_of}
 use Rattle.mbim_frame.specs.Bodies.{uuid_of, cid_of}
 use Rattle.mbim_frame.specs.Writing.{unsplit}
 use Rattle.mbim_frame.proofs.Numbers.{u32_at-bytes, u32_at-behind}
-use Rattle.proxy_history.specs.Facts.{NotAdmitted, BadStream, NoRoom, Closed, Fact, Request, Verdict, Own, Share, Foreign, Away, Full, Forward, Ready, Waits, Admitted, Ended, Judged, Drained, Forwarded, Answered, IdHeld, Late, Expired, Aborted, Indicated, OpeningEnded, SessionsClosed, Reset, ModemLost}
+use Rattle.proxy_history.specs.Facts.{NotAdmitted, BadStream, NoRoom, Leaving, Fact, Request, Verdict, Own, Share, Foreign, Away, Full, Forward, Ready, Waits, Admitted, Ended, Judged, Taken, Forwarded, Answered, IdHeld, Late, Expired, Aborted, Indicated, OpeningEnded, SessionsClosed, Reset, ModemLost}
 use Rattle.proxy_history.specs.Connections.{present, contains}
 use Rattle.proxy_history.specs.Requests.{pending}
-use Rattle.proxy_history.specs.View.{Entry, Sent, Response, Refused, Indication, OpenedWith, Shut, Collected, End, HeldId, NoAnswer, view, entry_if, sent_count}
+use Rattle.proxy_history.specs.View.{Entry, Said, Response, Refused, Indication, OpenedWith, Shut, Taking, End, HeldId, NoAnswer, view, entry_if, said_count}
 use Rattle.proxy_history.specs.Wording.{told_by}
 use Rattle.proxy_history.specs.Sound.{IsParty}
 use Rattle.proxy_history.proofs.Lists.{Contains-cons_cases, ne_apart}
@@ -109,7 +109,7 @@ module _ (s : Setup) where
   same_behind_reply (Configures command) known = (refl, refl)
   same_behind_reply (Subscribes command list) known = (refl, refl)
 
-  sent_more : (known : Known) (m : List ℕ) (verdict : Verdict) → (step s known (Sent m verdict)).sent ≡ known.sent + 1
+  sent_more : (known : Known) (m : List ℕ) (verdict : Verdict) → (step s known (Said m verdict)).sent ≡ known.sent + 1
   sent_more known m Own = (same_behind_reply (own_reply s known m) (with_message s m known)).0
   sent_more known m Share = refl
   sent_more known m Foreign = refl
@@ -120,10 +120,10 @@ module _ (s : Setup) where
   sent_more known m Waits = refl
 
   -- a further message changes nothing of those before it
-  held_sent : (known : Known) (m : List ℕ) (verdict : Verdict) (r : Request) → IsHeld known r → IsHeld (step s known (Sent m verdict)) r
-  held_sent known m verdict r H = held_as known (step s known (Sent m verdict)) r (let more = sent_more known m verdict in omega arith) (same verdict) H
+  held_sent : (known : Known) (m : List ℕ) (verdict : Verdict) (r : Request) → IsHeld known r → IsHeld (step s known (Said m verdict)) r
+  held_sent known m verdict r H = held_as known (step s known (Said m verdict)) r (let more = sent_more known m verdict in omega arith) (same verdict) H
     where
-      same : (verdict : Verdict) → ask_at r.place (step s known (Sent m verdict)).asks ≡ ask_at r.place known.asks
+      same : (verdict : Verdict) → ask_at r.place (step s known (Said m verdict)).asks ≡ ask_at r.place known.asks
       same Own = ap (ask_at r.place) (same_behind_reply (own_reply s known m) (with_message s m known)).1
       same Share = refl
       same Foreign = refl
@@ -133,10 +133,10 @@ module _ (s : Setup) where
       same Ready = refl
       same Waits = refl
 
-  sent_is : (entries : List Entry) → (known_from s entries).sent ≡ sent_count entries
+  sent_is : (entries : List Entry) → (known_from s entries).sent ≡ said_count entries
   unfolding told_by
   sent_is [] = refl
-  sent_is (Sent m verdict ∷ entries) = sent_more (known_from s entries) m verdict ∙ ap (λ (n : ℕ). n + 1) (sent_is entries)
+  sent_is (Said m verdict ∷ entries) = sent_more (known_from s entries) m verdict ∙ ap (λ (n : ℕ). n + 1) (sent_is entries)
   sent_is (_ ∷ entries) = sent_is entries
 
   -- ---- an entry of a view ----
@@ -174,10 +174,10 @@ module _ (s : Setup) where
   still_held (Admitted d) past r spared H = not_anew (d == r.conn) [] (view_of r.conn past) r spared H
   still_held (Ended d NotAdmitted) past r spared H = not_anew (d == r.conn) (End NotAdmitted ∷ []) (view_of r.conn past) r spared H
   still_held (Ended d BadStream) past r spared H = held_behind (d == r.conn) (End BadStream) (view_of r.conn past) r (λ e held. held) H
-  still_held (Ended d Closed) past r spared H = held_behind (d == r.conn) (End Closed) (view_of r.conn past) r (λ e held. held) H
+  still_held (Ended d Leaving) past r spared H = held_behind (d == r.conn) (End Leaving) (view_of r.conn past) r (λ e held. held) H
   still_held (Ended d NoRoom) past r spared H = H
-  still_held (Judged d place m verdict) past r spared H = held_behind (d == r.conn) (Sent m verdict) (view_of r.conn past) r (λ e held. held_sent (known_now s r.conn past) m verdict r held) H
-  still_held (Drained d count) past r spared H = held_behind (d == r.conn) (Collected count) (view_of r.conn past) r (λ e held. held) H
+  still_held (Judged d place m verdict) past r spared H = held_behind (d == r.conn) (Said m verdict) (view_of r.conn past) r (λ e held. held_sent (known_now s r.conn past) m verdict r held) H
+  still_held (Taken d count) past r spared H = held_behind (d == r.conn) (Taking count) (view_of r.conn past) r (λ e held. held) H
   still_held (Answered q m) past r spared H = held_behind (q.conn == r.conn) (Response q.place (blank m)) (view_of r.conn past) r (λ e held. held_without (known_now s r.conn past) q.place r (spared e) held) H
   still_held (IdHeld q) past r spared H = held_behind (q.conn == r.conn) (Refused q.place HeldId) (view_of r.conn past) r (λ e held. held_without (known_now s r.conn past) q.place r (spared e) held) H
   still_held (Expired q) past r spared H = held_behind (q.conn == r.conn) (Refused q.place NoAnswer) (view_of r.conn past) r (λ e held. held_without (known_now s r.conn past) q.place r (spared e) held) H
@@ -194,9 +194,9 @@ module _ (s : Setup) where
     abbrev known : Known
     known = known_now s r.conn C.before
 
-    known_is : known_now s r.conn past ≡ step s known (Sent C.message Forward)
+    known_is : known_now s r.conn past ≡ step s known (Said C.message Forward)
     unfolding view told_by
-    known_is = ap (known_now s r.conn) C.judged ∙ ap (λ (b : Bool). known_from s (entry_if b (Sent C.message Forward) (view_of r.conn C.before))) (eq-eqb r.conn r.conn refl)
+    known_is = ap (known_now s r.conn) C.judged ∙ ap (λ (b : Bool). known_from s (entry_if b (Said C.message Forward) (view_of r.conn C.before))) (eq-eqb r.conn r.conn refl)
 
     place_is : r.place ≡ known.sent + 1
     place_is = C.place ∙ sym (sent_is (view_of r.conn past)) ∙ ap (λ (k : Known). k.sent) known_is

@@ -9,7 +9,7 @@ use Rattle.number_space.specs.Table.{first_due}
 use Rattle.proxy_history.specs.Facts.{Fact, Request, OpeningEnded}
 use Rattle.proxy_history.specs.Connections.{present, dropped}
 use Rattle.proxy_history.specs.Requests.{pending, is_pending, of_space}
-use Rattle.proxy_history.specs.Modem.{now, is_away, to_modem, modem_drained}
+use Rattle.proxy_history.specs.Modem.{now, is_away, to_modem, modem_taken_count}
 use Rattle.proxy_history.specs.View.{Refused, NoAnswer, view, entry_if}
 use Rattle.proxy_history.specs.Rendering.{render}
 use Rattle.proxy_history.specs.Wording.{told_by}
@@ -110,7 +110,7 @@ module _ (s : Setup) (within : HasNumbers s) (streams : Streams) where
     is_at = request_waits past a (are_different s.limits within past K.fine.sound) at s.limits K.fine.sound waits
 
     side_is : (flag : Bool) → (let side : ModemSide = record x.beside { numbers = silences r.number x.beside.numbers } in side) ≡ side_of s streams.messages (refusal flag r ∷ past)
-    unfolding now is_away state askers last_list to_modem modem_drained
+    unfolding now is_away state askers last_list to_modem modem_taken_count
     side_is true = numbers_changed s streams (silences r.number) past x K ∙ ap (side_with s streams.messages past) (sym (numbers_expired s within past r K.fine (request_in_use past a at)))
     side_is false = numbers_changed s streams (silences r.number) past x K ∙ ap (side_with s streams.messages past) (sym (numbers_aborted s within past r K.fine (request_in_use past a at)))
 

@@ -8,7 +8,7 @@ use Rattle.mbim_proxy.proofs.Walk.{Asks, orderly}
 use Rattle.mbim_state.specs.Core.{kept_of, HasNumbers}
 use Rattle.mbim_state.specs.Transitions.{mbim_handlers}
 use Rattle.mbim_state.proofs.Regular.{Regular, histories_are_regular}
-use Rattle.mbim_state.proofs.Keeping.{follows_connections, kept_returned, kept_modem_drained}
+use Rattle.mbim_state.proofs.Keeping.{follows_connections, kept_returned, kept_modem_taken}
 use Rattle.mbim_state.proofs.Hearing.{keeps_heard}
 use Rattle.mbim_state.proofs.Finishing.{keeps_finished}
 use Rattle.mbim_state.proofs.Modem.{delivers, kept_message, kept_lost, kept_ticked}
@@ -25,7 +25,7 @@ is_faithful s within = record {
   hear_modem = kept_message s within;
   lose = kept_lost s within;
   regain = λ streams past x none K. kept_returned s streams past x K;
-  take_modem = λ count streams past x some K. kept_modem_drained s streams past x count some K;
+  take_modem = λ count streams past x some K. kept_modem_taken s streams past x count some K;
   tick = λ time streams past x K. kept_ticked s within streams time past x K;
   finish = keeps_finished s;
 }

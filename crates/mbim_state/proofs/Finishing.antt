@@ -6,7 +6,7 @@ use Rattle.connections.specs.Table.{Connection}
 use Rattle.proxy_history.specs.Facts.{Fact}
 use Rattle.proxy_history.specs.Connections.{present, dropped}
 use Rattle.proxy_history.specs.Requests.{last_number}
-use Rattle.proxy_history.specs.Modem.{now, is_away, to_modem, modem_drained}
+use Rattle.proxy_history.specs.Modem.{now, is_away, to_modem, modem_taken_count}
 use Rattle.proxy_history.specs.View.{view}
 use Rattle.proxy_state.specs.Requests.{requests_in_use}
 use Rattle.proxy_state.specs.Stands.{Streams, connection_of}
@@ -60,7 +60,7 @@ module _ (s : Setup) (streams : Streams) where
   -- ---- the list is asked for ----
 
   side_sent : (list : List Pair) (number : Option ℕ) (past : List Fact) → Regular s past → state.send_under s list number (side_now past) ≡ side_now (send_under s list number past)
-  unfolding now is_away modem.state requests_in_use last_number askers last_list to_modem modem_drained
+  unfolding now is_away modem.state requests_in_use last_number askers last_list to_modem modem_taken_count
   side_sent list None past R = refl
   side_sent list (Some n) past R = ap (λ (b : ModemSide). let c : ModemSide = record b { last_list = list } in c) (side_forwarded s streams.messages past 0 (own_subscribe list) n (taken_within s past R.new))
 

@@ -10,9 +10,9 @@ use Rattle.proxy_history.specs.Facts.{Fact, Judged, Forwarded, Verdict, Own, Sha
 use Rattle.proxy_history.specs.Decision.{Decision, Replies, Forwards, forwards_under}
 use Rattle.proxy_history.specs.Connections.{present, dropped, contains, message_count}
 use Rattle.proxy_history.specs.Requests.{last_number}
-use Rattle.proxy_history.specs.Modem.{now, is_away, to_modem, modem_drained}
+use Rattle.proxy_history.specs.Modem.{now, is_away, to_modem, modem_taken_count}
 use Rattle.proxy_history.specs.Sound.{IsSound}
-use Rattle.proxy_history.specs.View.{Sent, view}
+use Rattle.proxy_history.specs.View.{Said, view}
 use Rattle.proxy_history.specs.Noting.{end_overfull}
 use Rattle.proxy_history.specs.Wording.{text_behind}
 use Rattle.proxy_history.specs.Adding.{MayAdd, Soundly}
@@ -70,16 +70,16 @@ module _ (s : Setup) (messages : List (List ℕ)) where
 
   side_judged : (past : List Fact) (c place : ℕ) (m : List ℕ) (verdict : Verdict) → IsSound s.limits past → contains c (present past) ≡ true
       → (let after : ModemSide = record (side past) { askers = asked_with s c verdict (askers past) } in after) ≡ side (Judged c place m verdict ∷ past)
-  unfolding now is_away state requests_in_use last_number last_list to_modem modem_drained
+  unfolding now is_away state requests_in_use last_number last_list to_modem modem_taken_count
   side_judged past c place m verdict sound there = ap (λ (l : List ℕ). let after : ModemSide = record (side past) { askers = l } in after) (asked_is s past c place m verdict sound there)
 
   -- a request goes to the modem
-  pub side_forwarded : (past : List Fact) (c : ℕ) (m : List ℕ) (n : ℕ) → modem_drained past ≤ length (to_modem (wire s) past)
+  pub side_forwarded : (past : List Fact) (c : ℕ) (m : List ℕ) (n : ℕ) → modem_taken_count past ≤ length (to_modem (wire s) past)
       → record (forwards s c m n (side past)) { modem = if is_kind kind.Open m then IsOpening else state s.starts_away past } ≡ side (Forwarded (request_of s c m n past) ∷ past)
-  unfolding now is_away state askers last_list to_modem modem_drained
+  unfolding now is_away state askers last_list to_modem modem_taken_count
   side_forwarded past c m n within =
       ap (λ (l : List ℕ). let b : ModemSide = record (forwards s c m n (side past)) { modem = if is_kind kind.Open m then IsOpening else state s.starts_away past; outbox = record { bytes = l; capacity = s.limits.modem_outbox } } in b)
-      (sym (drop-append-le (modem_drained past) (to_modem (wire s) past) (wire_of s n m) within))
+      (sym (drop-append-le (modem_taken_count past) (to_modem (wire s) past) (wire_of s n m) within))
       ∙ ap (λ (numbers : Numbers). let b : ModemSide = record (side (Forwarded (request_of s c m n past) ∷ past)) { numbers = numbers } in b) (sym (numbers_forwarded s past (request_of s c m n past) refl))
 
 module _ (s : Setup) (streams : Streams) where
@@ -124,7 +124,7 @@ module _ (s : Setup) (streams : Streams) where
     replied : (verdict : Verdict) → Kept (note s (Judged c (message_count c past + 1) m verdict) past) (settled (mbim_handlers s) c (replies s c m verdict one.client one.outbox (side_now past)) x)
     unfolding present dropped connection_of end_overfull
     replied verdict =
-        replying.keeps_replied (mbim_protocol s) (kept_of s) (mbim_handlers s) (Regular s) (follows_connections s) streams (judged verdict) past x c (text s (Sent m verdict) was.client) (λ found. after s (Sent m verdict) was.client) (side_after verdict)
+        replying.keeps_replied (mbim_protocol s) (kept_of s) (mbim_handlers s) (Regular s) (follows_connections s) streams (judged verdict) past x c (text s (Said m verdict) was.client) (λ found. after s (Said m verdict) was.client) (side_after verdict)
         (judged_own s past c (message_count c past + 1) m verdict) (others verdict) refl refl (judged_side verdict)
         (regular_more s (Judged c (message_count c past + 1) m verdict) past there tt tt K.fine) there K
 
@@ -141,29 +141,29 @@ module _ (s : Setup) (streams : Streams) where
           | false ↦ ap (λ (l : List ℕ). let a : ClientState = record { client = was.client; waiting = l; is_over = false } in a) (append-nil was.waiting)
         ]
 
-    module _ (verdict : Verdict) (silent : text s (Sent m verdict) was.client ≡ []) (sent : List ℕ) (sender n : ℕ) where
+    module _ (verdict : Verdict) (silent : text s (Said m verdict) was.client ≡ []) (sent : List ℕ) (sender n : ℕ) where
       abbrev facts : List Fact
       facts = forward s sender sent n (judged verdict)
 
-      own : client_state_of s facts c ≡ record was { client = after s (Sent m verdict) was.client }
+      own : client_state_of s facts c ≡ record was { client = after s (Said m verdict) was.client }
       unfolding view
       own =
           judged_own s past c (message_count c past + 1) m verdict
-          ∙ ap (λ (bytes : List ℕ). let a : ClientState = record (put_to s bytes was) { client = after s (Sent m verdict) was.client } in a) silent
-          ∙ ap (λ (a : ClientState). let b : ClientState = record a { client = after s (Sent m verdict) was.client } in b) still
+          ∙ ap (λ (bytes : List ℕ). let a : ClientState = record (put_to s bytes was) { client = after s (Said m verdict) was.client } in a) silent
+          ∙ ap (λ (a : ClientState). let b : ClientState = record a { client = after s (Said m verdict) was.client } in b) still
 
       other : (d : ℕ) → (c == d) ≡ false → client_state_of s facts d ≡ client_state_of s past d
       unfolding view
       other d differs = others verdict d differs
 
-      sent_on : (beside : ModemSide) → beside ≡ side_now facts → Regular s facts → Kept facts (settled_if (mbim_handlers s) true c (record { client = after s (Sent m verdict) one.client; outbox = one.outbox; beside = beside; has_room = true }) x)
+      sent_on : (beside : ModemSide) → beside ≡ side_now facts → Regular s facts → Kept facts (settled_if (mbim_handlers s) true c (record { client = after s (Said m verdict) one.client; outbox = one.outbox; beside = beside; has_room = true }) x)
       unfolding present dropped connection_of
       sent_on beside is regular =
-          keeps_changed (mbim_protocol s) (kept_of s) (Regular s) streams facts past x c (λ l. record l { client = after s (Sent m verdict) one.client; outbox = one.outbox }) beside
+          keeps_changed (mbim_protocol s) (kept_of s) (Regular s) streams facts past x c (λ l. record l { client = after s (Said m verdict) one.client; outbox = one.outbox }) beside
           (ap (connection_as s.limits.outbox (streams.rests c) c) own) (ap (λ (a : ClientState). a.is_over) own ∙ K.fits c there) other refl refl is regular there K
 
-    within_judged : (verdict : Verdict) → modem_drained (judged verdict) ≤ length (to_modem (wire s) (judged verdict))
-    unfolding modem_drained to_modem
+    within_judged : (verdict : Verdict) → modem_taken_count (judged verdict) ≤ length (to_modem (wire s) (judged verdict))
+    unfolding modem_taken_count to_modem
     within_judged verdict = taken_within s past K.fine.new
 
     forwarded : (n : ℕ) (opens_it : Bool) → Regular s (forward_for opens_it s known c m n past) → Kept (forward_for opens_it s known c m n past) (settled (mbim_handlers s) c (asks_modem opens_it s c m n one.client one.outbox (side_now past)) x)

@@ -1,10 +1,10 @@
 -- What a core of the MBIM proxy keeps in the midst of an event goes on from fact to fact.
 use Rattle.std.proofs.Common.{◌≡◌, ℕ, ◌-◌, ◌≤◌, List, ◌∷◌, length, drop, refl, ap, sym, ◌∙◌, arith}
 use Rattle.std.proofs.lemmas.List.{length-drop, drop-drop}
-use Rattle.proxy_history.specs.Facts.{Fact, NotAdmitted, ModemReturned, ModemDrained}
+use Rattle.proxy_history.specs.Facts.{Fact, NotAdmitted, ModemReturned, ModemTaken}
 use Rattle.proxy_history.specs.Connections.{present, dropped, without}
 use Rattle.proxy_history.specs.Requests.{last_number}
-use Rattle.proxy_history.specs.Modem.{now, is_away, to_modem, modem_drained}
+use Rattle.proxy_history.specs.Modem.{now, is_away, to_modem, modem_taken_count}
 use Rattle.proxy_history.specs.View.{view}
 use Rattle.proxy_state.specs.Requests.{requests_in_use}
 use Rattle.proxy_state.specs.Stands.{Streams, client_state_of}
@@ -33,17 +33,17 @@ module _ (s : Setup) where
   -- ---- facts of connections ----
 
   pub follows_connections : FollowsConnections (mbim_protocol s) (kept_of s) (mbim_handlers s) (Regular s)
-  unfolding now is_away state requests_in_use last_number askers last_list to_modem modem_drained
+  unfolding now is_away state requests_in_use last_number askers last_list to_modem modem_taken_count
   follows_connections = record {
     fine_more = regular_behind s;
     fresh = refl;
-    collected = λ known count. refl;
+    taken_bytes = λ known count. refl;
     time = λ messages past. refl;
     away = λ messages past. refl;
     modem_queue = λ messages past. refl;
     begun = λ past messages. refl;
     admitted = λ c past messages. refl;
-    drained = λ c count past messages. refl;
+    was_taken = λ c count past messages. refl;
     refused =
         λ c past some absent R messages.
         ap (side_left messages past c) (numbers_of_stranger s past c NotAdmitted some absent R.sound)
@@ -64,16 +64,16 @@ module _ (s : Setup) (streams : Streams) where
   -- ---- the modem comes back, and takes bytes ----
 
   pub kept_returned : (past : List Fact) (x : MbimState) → Kept past x → Kept (ModemReturned ∷ past) (record x { beside = regain x.beside })
-  unfolding now is_away state requests_in_use last_number askers last_list to_modem modem_drained present dropped view
+  unfolding now is_away state requests_in_use last_number askers last_list to_modem modem_taken_count present dropped view
   kept_returned past x K = keeps_side (ModemReturned ∷ past) past x (regain x.beside) (λ d. refl) refl refl (ap regain K.holds.beside) (regular_more s ModemReturned past tt tt tt K.fine) K
 
-  pub kept_modem_drained : (past : List Fact) (x : MbimState) (count : ℕ) → count ≤ length x.beside.outbox.bytes → Kept past x → Kept (ModemDrained count ∷ past) (record x { beside = take_modem count x.beside })
-  unfolding now is_away state requests_in_use last_number askers last_list to_modem modem_drained present dropped view
-  kept_modem_drained past x count within K =
-      let queue : x.beside.outbox.bytes ≡ drop (modem_drained past) (to_modem (wire s) past) = ap (λ (b : ModemSide). b.outbox.bytes) K.holds.beside in
-      let left : length x.beside.outbox.bytes ≡ length (to_modem (wire s) past) - modem_drained past = ap length queue ∙ length-drop (modem_drained past) (to_modem (wire s) past) in
-      let before : modem_drained past ≤ length (to_modem (wire s) past) = taken_within s past K.fine.new in
-      keeps_side (ModemDrained count ∷ past) past x (take_modem count x.beside) (λ d. refl) refl refl
+  pub kept_modem_taken : (past : List Fact) (x : MbimState) (count : ℕ) → count ≤ length x.beside.outbox.bytes → Kept past x → Kept (ModemTaken count ∷ past) (record x { beside = take_modem count x.beside })
+  unfolding now is_away state requests_in_use last_number askers last_list to_modem modem_taken_count present dropped view
+  kept_modem_taken past x count within K =
+      let queue : x.beside.outbox.bytes ≡ drop (modem_taken_count past) (to_modem (wire s) past) = ap (λ (b : ModemSide). b.outbox.bytes) K.holds.beside in
+      let left : length x.beside.outbox.bytes ≡ length (to_modem (wire s) past) - modem_taken_count past = ap length queue ∙ length-drop (modem_taken_count past) (to_modem (wire s) past) in
+      let before : modem_taken_count past ≤ length (to_modem (wire s) past) = taken_within s past K.fine.new in
+      keeps_side (ModemTaken count ∷ past) past x (take_modem count x.beside) (λ d. refl) refl refl
       (ap (take_modem count) K.holds.beside
-      ∙ ap (λ (l : List ℕ). let side : ModemSide = record (side_of s streams.messages past) { outbox = record { bytes = l; capacity = s.limits.modem_outbox } } in side) (drop-drop count (modem_drained past) (to_modem (wire s) past)))
-      (regular_more s (ModemDrained count) past tt tt (omega arith) K.fine) K
+      ∙ ap (λ (l : List ℕ). let side : ModemSide = record (side_of s streams.messages past) { outbox = record { bytes = l; capacity = s.limits.modem_outbox } } in side) (drop-drop count (modem_taken_count past) (to_modem (wire s) past)))
+      (regular_more s (ModemTaken count) past tt tt (omega arith) K.fine) K

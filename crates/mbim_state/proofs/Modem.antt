@@ -9,7 +9,7 @@ use Rattle.connections.specs.Table as connections
 use Rattle.proxy_history.specs.Facts.{Fact, SessionsClosed, ModemLost, TimeIs}
 use Rattle.proxy_history.specs.Connections.{present, dropped, contains}
 use Rattle.proxy_history.specs.Requests.{pending, last_number}
-use Rattle.proxy_history.specs.Modem.{now, is_away, to_modem, modem_drained}
+use Rattle.proxy_history.specs.Modem.{now, is_away, to_modem, modem_taken_count}
 use Rattle.proxy_history.specs.Items.{ModemSays}
 use Rattle.proxy_history.specs.View.{Shut, view, entry_if}
 use Rattle.proxy_history.specs.Rendering.{render}
@@ -17,9 +17,9 @@ use Rattle.proxy_history.specs.Wording.{told_by}
 use Rattle.proxy_history.specs.Unanswered as unanswered
 use Rattle.proxy_history.specs.History.{add_all}
 use Rattle.proxy_history.proofs.Sound.{each_contained}
-use Rattle.proxy_state.specs.State.{Parting}
+use Rattle.proxy_state.specs.State.{DroppedClient}
 use Rattle.proxy_state.specs.Requests.{requests_in_use}
-use Rattle.proxy_state.specs.Stands.{Streams, connection_as, connection_of, parting_of}
+use Rattle.proxy_state.specs.Stands.{Streams, connection_as, connection_of, dropped_client_of}
 use Rattle.proxy_state.specs.Faithful.{delivered_by}
 use Rattle.proxy_state.proofs.Lists.{map_agrees}
 use Rattle.proxy_state.proofs.Keeping as proxy
@@ -93,12 +93,12 @@ module _ (s : Setup) (within : HasNumbers s) (streams : Streams) where
   unfolding connection_of
   shut_there past d at = ap (connection_as s.limits.outbox (streams.rests d) d) (sym (shut_now past d true at))
 
-  shut_absent : (past : List Fact) (d : ℕ) → contains d (present past) ≡ false → parting_of (mbim_protocol s) past d ≡ parting_of (mbim_protocol s) (history.close past) d
-  shut_absent past d none = ap (λ (a : ClientState). let l : Parting = record { name = d; waiting = a.waiting } in l) (sym (shut_now past d false none))
+  shut_absent : (past : List Fact) (d : ℕ) → contains d (present past) ≡ false → dropped_client_of (mbim_protocol s) past d ≡ dropped_client_of (mbim_protocol s) (history.close past) d
+  shut_absent past d none = ap (λ (a : ClientState). let l : DroppedClient = record { name = d; waiting = a.waiting } in l) (sym (shut_now past d false none))
 
   -- no client is open any more
   kept_shut : (past : List Fact) (x : MbimState) → Kept past x → Kept (history.close past) (record x { table = record x.table { present = shut_all s x.table.present } })
-  unfolding present dropped now is_away state requests_in_use last_number askers last_list to_modem modem_drained
+  unfolding present dropped now is_away state requests_in_use last_number askers last_list to_modem modem_taken_count
   kept_shut past x K = record {
     holds = record {
       connections =
@@ -112,10 +112,10 @@ module _ (s : Setup) (within : HasNumbers s) (streams : Streams) where
       room = K.holds.room;
       names = K.holds.names;
     };
-    partings =
-        K.partings
-        ∙ map_agrees (parting_of (mbim_protocol s) past) (parting_of (mbim_protocol s) (history.close past)) (dropped past)
-        (all_weaker (λ d. contains d (present past) ≡ false) (λ d. parting_of (mbim_protocol s) past d ≡ parting_of (mbim_protocol s) (history.close past) d) (shut_absent past) (dropped past) K.apart);
+    dropped_clients =
+        K.dropped_clients
+        ∙ map_agrees (dropped_client_of (mbim_protocol s) past) (dropped_client_of (mbim_protocol s) (history.close past)) (dropped past)
+        (all_weaker (λ d. contains d (present past) ≡ false) (λ d. dropped_client_of (mbim_protocol s) past d ≡ dropped_client_of (mbim_protocol s) (history.close past) d) (shut_absent past) (dropped past) K.apart);
     apart = K.apart;
     fits = λ d at. ap (λ (a : ClientState). a.is_over) (shut_now past d true at) ∙ K.fits d at;
     fine = regular_more s (SessionsClosed (present past)) past (each_contained (present past)) tt tt K.fine;
@@ -127,7 +127,7 @@ module _ (s : Setup) (within : HasNumbers s) (streams : Streams) where
 
   -- the modem knows of no request any more, and of its stream nothing is left
   kept_gone : (past : List Fact) (x : MbimState) → Kept past x → KeptWith [] (ModemLost ∷ past) (with_side (lost x.beside) x)
-  unfolding present dropped now is_away state requests_in_use last_number askers last_list to_modem modem_drained view begun_from
+  unfolding present dropped now is_away state requests_in_use last_number askers last_list to_modem modem_taken_count view begun_from
   kept_gone past x K =
       let silent : ModemSide = record x.beside { begun = none_begun } in
       keeps_side s (record streams { messages = [] }) (ModemLost ∷ past) past (with_side silent x) (lost x.beside) (λ d. refl) refl refl (ap lost K.holds.beside) (regular_more s ModemLost past tt tt tt K.fine)
@@ -145,7 +145,7 @@ module _ (s : Setup) (within : HasNumbers s) (streams : Streams) where
   at_time time x = with_side (record x.beside { time = time }) x
 
   kept_timed : (past : List Fact) (x : MbimState) (time : ℕ) → now past ≤ time → Kept past x → Kept (TimeIs time ∷ past) (at_time time x)
-  unfolding present dropped now is_away state requests_in_use last_number askers last_list to_modem modem_drained view
+  unfolding present dropped now is_away state requests_in_use last_number askers last_list to_modem modem_taken_count view
   kept_timed past x time later K =
       keeps_side s streams (TimeIs time ∷ past) past x (record x.beside { time = time }) (λ d. refl) refl refl
       (ap (λ (b : ModemSide). let c : ModemSide = record b { time = time } in c) K.holds.beside) (regular_more s (TimeIs time) past later tt tt K.fine) K

@@ -10,7 +10,7 @@ use Rattle.mbim_frame.specs.Bodies.{uuid_of, cid_of}
 use Rattle.proxy_history.specs.Facts.{Fact, Indicated, OpeningEnded}
 use Rattle.proxy_history.specs.Connections.{present, is_present, dropped, contains}
 use Rattle.proxy_history.specs.Requests.{last_number}
-use Rattle.proxy_history.specs.Modem.{now, is_away, to_modem, modem_drained}
+use Rattle.proxy_history.specs.Modem.{now, is_away, to_modem, modem_taken_count}
 use Rattle.proxy_history.specs.Sound.{IsPresent}
 use Rattle.proxy_history.specs.View.{Entry, Indication, OpenedWith, view, entry_if}
 use Rattle.proxy_history.specs.Rendering.{render}
@@ -94,7 +94,7 @@ module _ (s : Setup) (streams : Streams) where
 
     -- each that waits is told
     pub kept_opened : (status : ℕ) → Kept (history.end_opening s status past) (ends_opening s status x)
-    unfolding present dropped now is_away state requests_in_use last_number askers last_list to_modem modem_drained
+    unfolding present dropped now is_away state requests_in_use last_number askers last_list to_modem modem_taken_count
     kept_opened status =
         let cs : List ℕ = waiting s past in
         subst (λ (names : List ℕ). Kept (history.end_opening s status past) (tell_each s (OpenedWith status) names (with_side (opening_ended status x.beside) x))) (sym waiting_is)
@@ -120,7 +120,7 @@ module _ (s : Setup) (streams : Streams) where
 
   -- those who want it are told
   pub kept_indicated : (m : List ℕ) (past : List Fact) (x : MbimState) → Kept past x → Kept (history.indicate s m past) (indicate s m x)
-  unfolding present dropped now is_away state requests_in_use last_number askers last_list to_modem modem_drained
+  unfolding present dropped now is_away state requests_in_use last_number askers last_list to_modem modem_taken_count
   kept_indicated m past x K =
       let uuid : List ℕ = uuid_of (body_of m) in
       let cid : ℕ = cid_of (body_of m) in

@@ -3,9 +3,9 @@ use Rattle.std.proofs.Common.{◌≡◌, ℕ, ◌+◌, ◌≤◌, nat_lt, Bool, 
 use Rattle.std.proofs.lemmas.Bool.Decides.{nat_tests}
 use Rattle.std.proofs.lemmas.List.{length-drop}
 use Rattle.proxy_history.specs.Events.{Event, Joined, ModemTook}
-use Rattle.proxy_history.specs.Facts.{Fact, NotAdmitted, EventBegan, Admitted, Ended, Drained, Forwarded, ListSent, ModemDrained, ModemLost}
+use Rattle.proxy_history.specs.Facts.{Fact, NotAdmitted, EventBegan, Admitted, Ended, Taken, Forwarded, ListSent, ModemTaken, ModemLost}
 use Rattle.proxy_history.specs.Connections.{present, dropped, contains}
-use Rattle.proxy_history.specs.Modem.{to_modem, modem_drained}
+use Rattle.proxy_history.specs.Modem.{to_modem, modem_taken_count}
 use Rattle.proxy_history.specs.Sound.{MayFollow, IsSound}
 use Rattle.proxy_history.specs.Noting.{join}
 use Rattle.proxy_history.specs.History as proxy
@@ -26,7 +26,7 @@ use Rattle.mbim_proxy.proofs.Walk.{Asks, orderly}
 abbrev pub IsNew : Setup → Fact → List Fact → Type 0
 IsNew s (Admitted c) past = (1 ≤ c) × (contains c (present past) ≡ false)
 IsNew s (Ended c NotAdmitted) past = 1 ≤ c
-IsNew s (ModemDrained count) past = modem_drained past + count ≤ length (to_modem (wire s) past)
+IsNew s (ModemTaken count) past = modem_taken_count past + count ≤ length (to_modem (wire s) past)
 IsNew s _ past = Unit {0}
 
 abbrev pub AreNew : Setup → List Fact → Type 0
@@ -47,17 +47,17 @@ module _ (s : Setup) where
   regular_behind (Admitted c) past follows of R = regular_more (Admitted c) past follows tt of R
   regular_behind (Ended c NotAdmitted) past follows of R = regular_more (Ended c NotAdmitted) past follows tt of R
   regular_behind (Ended c why) past follows of R = regular_more (Ended c why) past follows tt tt R
-  regular_behind (Drained c count) past follows of R = regular_more (Drained c count) past follows tt tt R
+  regular_behind (Taken c count) past follows of R = regular_more (Taken c count) past follows tt tt R
   regular_behind _ past follows of R = absurd of
 
   -- ---- what is known by that ----
 
   -- the modem took no more than was queued for it
-  pub taken_within : (past : List Fact) → AreNew s past → modem_drained past ≤ length (to_modem (wire s) past)
-  unfolding to_modem modem_drained
+  pub taken_within : (past : List Fact) → AreNew s past → modem_taken_count past ≤ length (to_modem (wire s) past)
+  unfolding to_modem modem_taken_count
   taken_within [] new = omega arith
   taken_within (Forwarded r ∷ past) new = let within = taken_within past new.1 in let both = length-append (to_modem (wire s) past) (wire s r) in omega arith
-  taken_within (ModemDrained count ∷ past) new = new.0
+  taken_within (ModemTaken count ∷ past) new = new.0
   taken_within (ModemLost ∷ past) new = omega arith
   taken_within (_ ∷ past) new = taken_within past new.1
 
@@ -86,7 +86,7 @@ module _ (s : Setup) where
   new_by (ModemTakes count) _ past other may = absurd (cc)
   new_by _ (Admitted c) past other may = absurd may
   new_by _ (Ended c NotAdmitted) past other may = absurd may
-  new_by _ (ModemDrained count) past other may = absurd may
+  new_by _ (ModemTaken count) past other may = absurd may
   new_by _ _ past other may = tt
 
   new_at_end : (fact : Fact) (past : List Fact) → MayFinish fact past → IsNew s fact past
@@ -117,13 +117,13 @@ module _ (s : Setup) where
       by false full = regular_more (Ended c NotAdmitted) past (grind (arith, nat_tests, full)) tt some R
 
   pub histories_are_regular : (events : List Event) → AreSound (mbim_protocol s) events → Regular s (history s events)
-  unfolding proxy.history proxy.add_all modem_drained to_modem present
+  unfolding proxy.history proxy.add_all modem_taken_count to_modem present
   histories_are_regular [] sound = record { sound = tt; asked = tt; new = tt }
   histories_are_regular (Joined c ∷ events) sound =
       regular_at_end _ (regular_join (EventBegan ∷ history s events) c (let above = sound.0 in omega arith) (new_names (mbim_protocol s) (Asks s) (orderly s) events c sound.0) (regular_begun (history s events) (histories_are_regular events sound.1)))
   histories_are_regular (ModemTook count ∷ events) sound =
       let R = histories_are_regular events sound.1 in
-      let left = length-drop (modem_drained (history s events)) (to_modem (wire s) (history s events)) in
+      let left = length-drop (modem_taken_count (history s events)) (to_modem (wire s) (history s events)) in
       let within = taken_within (history s events) R.new in
-      regular_at_end _ (regular_more (ModemDrained count) (EventBegan ∷ history s events) tt tt (let some = sound.0 in omega arith) (regular_begun (history s events) R))
+      regular_at_end _ (regular_more (ModemTaken count) (EventBegan ∷ history s events) tt tt (let some = sound.0 in omega arith) (regular_begun (history s events) R))
   histories_are_regular (event ∷ events) sound = regular_event event events refl (histories_are_regular events sound.1)

@@ -21,7 +21,7 @@ use Rattle.proxy_history.specs.Facts.{Verdict, Own, Share, Forward, Waits}
 use Rattle.proxy_history.specs.Connections.{without}
 use Rattle.proxy_history.specs.Decision.{Decision, Replies, Forwards, forwards_under}
 use Rattle.proxy_history.specs.Requests.{deadline_of}
-use Rattle.proxy_history.specs.View.{Entry, Sent, Indication, OpenedWith, Shut}
+use Rattle.proxy_history.specs.View.{Entry, Said, Indication, OpenedWith, Shut}
 use Rattle.proxy_state.specs.State.{Handlers}
 use Rattle.proxy_state.specs.Step as proxy
 use Rattle.proxy_state.specs.Chosen.{names_in}
@@ -100,22 +100,22 @@ text s entry client = text_as s (known_by client) entry
 
 abbrev pub replies : Setup → (conn : ℕ) → (message : List ℕ) → Verdict → Client → Queue → ModemSide → Hearing Client ModemSide
 replies s c m verdict client outbox side = record {
-  client = after s (Sent m verdict) client;
-  outbox = queues (text s (Sent m verdict) client) outbox;
+  client = after s (Said m verdict) client;
+  outbox = queues (text s (Said m verdict) client) outbox;
   beside = record side { askers = asked_with s c verdict side.askers };
-  has_room = has_room (text s (Sent m verdict) client) outbox;
+  has_room = has_room (text s (Said m verdict) client) outbox;
 }
 
 -- what is forwarded queues nothing for the client; a request to open waits for the proxy's own
 abbrev pub asks_modem : (opens_it : Bool) → Setup → (conn : ℕ) → (message : List ℕ) → (number : ℕ) → Client → Queue → ModemSide → Hearing Client ModemSide
 asks_modem true s c m number client outbox side = record {
-  client = after s (Sent m Waits) client;
+  client = after s (Said m Waits) client;
   outbox = outbox;
   beside = record (opens s number side) { askers = asked_with s c Waits side.askers };
   has_room = true;
 }
 asks_modem false s c m number client outbox side = record {
-  client = after s (Sent m Forward) client;
+  client = after s (Said m Forward) client;
   outbox = outbox;
   beside = forwards s c (command_message s (known_by client) m) number side;
   has_room = true;

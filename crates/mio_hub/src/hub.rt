@@ -5,11 +5,12 @@ ghost use Rattle.kit_io.specs.Counts.{one_more};
 ghost use Rattle.hub_io.specs.Clients.{fault_of, is_there};
 ghost use Rattle.hub_io.specs.Hub.{NoneFell, SameClients, opened_call, reopen_call, send_call, send_modem_call};
 ghost use Rattle.hub_io.specs.Record.{Paired, Records};
-ghost use Rattle.many_io.specs.Hub.{unnamed_told};
-ghost use Rattle.mio_hub.specs.Ways.{modem_of};
+ghost use Rattle.many_io.specs.Hub.{told_without_device};
+ghost use Rattle.mio_hub.specs.Routes.{modem_of};
 
 use crate::sockets::Sockets;
 use hub_io::{ConnFaults, Hub, HubEvent};
+use kit_bytes::ConnId;
 use kit_io::{CallCount, Failed, Faults};
 use link_io::Target;
 use many_io::ManyHubEvent;
@@ -61,7 +62,7 @@ impl<'a, R: Net + Clock + Files<File = File>> MioHub<'a, R> {
 
 // What is told of the one device, which needs no name.
 fn of_no_device(told: ManyHubEvent) -> HubEvent
-    ensures { result ≡ unnamed_told told }
+    ensures { result ≡ told_without_device told }
 {
     match told {
         ManyHubEvent::Joined(conn) => HubEvent::Joined(conn),
@@ -120,7 +121,7 @@ impl<R: Net + Clock + Files<File = File>> Hub for MioHub<'_, R> {
         ensures names { self.new.sockets.names.greatest ≡ self.old.sockets.names.greatest }
         ensures clients { SameClients (is_there self.old.sockets.names) (is_there self.new.sockets.names) }
         ensures made { self.new.made ≡ one_more self.old.made }
-        ensures reached { OnOk result (IsSome (modem_of self.new.sockets.ways.ways.items 0)) }
+        ensures reached { OnOk result (IsSome (modem_of self.new.sockets.routes.routes.items 0)) }
     {
         self.made.add();
         match self.sockets.pair() {
@@ -137,7 +138,7 @@ impl<R: Net + Clock + Files<File = File>> Hub for MioHub<'_, R> {
         }
     }
 
-    fn send(&mut self, conn: u64, bytes: &[u8]) -> Result<usize, Failed>
+    fn send(&mut self, conn: ConnId, bytes: &[u8]) -> Result<usize, Failed>
         ensures within { IfOk result (λ count. count ≤ length bytes.now) }
         ensures calls { Records None (send_call result conn bytes.now) None }
         ensures cause { HasCause (fault_of self.old.conn_faults conn) (fault_of self.new.conn_faults conn) result }
@@ -165,8 +166,8 @@ impl<R: Net + Clock + Files<File = File>> Hub for MioHub<'_, R> {
         ensures names { self.new.sockets.names.greatest ≡ self.old.sockets.names.greatest }
         ensures clients { SameClients (is_there self.old.sockets.names) (is_there self.new.sockets.names) }
         ensures made { self.new.made ≡ one_more self.old.made }
-        ensures reached { OnOk result (IsSome (modem_of self.old.sockets.ways.ways.items 0)) }
-        ensures lost { is_ok result ≡ false → modem_of self.new.sockets.ways.ways.items 0 ≡ None }
+        ensures reached { OnOk result (IsSome (modem_of self.old.sockets.routes.routes.items 0)) }
+        ensures lost { is_ok result ≡ false → modem_of self.new.sockets.routes.routes.items 0 ≡ None }
     {
         self.made.add();
         match self.sockets.send_modem(0, bytes) {
@@ -183,8 +184,8 @@ impl<R: Net + Clock + Files<File = File>> Hub for MioHub<'_, R> {
         ensures names { self.new.sockets.names.greatest ≡ self.old.sockets.names.greatest }
         ensures clients { SameClients (is_there self.old.sockets.names) (is_there self.new.sockets.names) }
         ensures made { self.new.made ≡ one_more self.old.made }
-        ensures reached { OnOk result (IsSome (modem_of self.new.sockets.ways.ways.items 0)) }
-        ensures closed { is_ok result ≡ false → modem_of self.new.sockets.ways.ways.items 0 ≡ None }
+        ensures reached { OnOk result (IsSome (modem_of self.new.sockets.routes.routes.items 0)) }
+        ensures closed { is_ok result ≡ false → modem_of self.new.sockets.routes.routes.items 0 ≡ None }
     {
         self.made.add();
         match self.sockets.open_device(0) {
@@ -193,7 +194,7 @@ impl<R: Net + Clock + Files<File = File>> Hub for MioHub<'_, R> {
         }
     }
 
-    fn hang_up(&mut self, conn: u64) {
+    fn hang_up(&mut self, conn: ConnId) {
         self.made.add();
         self.sockets.hang_up(conn);
     }

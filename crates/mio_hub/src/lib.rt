@@ -8,10 +8,10 @@ mod modem;
 mod pace;
 mod peer;
 mod resting;
+mod routes;
 mod sockets;
 mod ticker;
 mod tokens;
-mod ways;
 
 pub use hub::MioHub;
 pub use many::MioManyHub;

@@ -6,10 +6,11 @@ ghost use Rattle.hub_io.specs.Hub.{NoneFell, SameClients};
 ghost use Rattle.hub_io.specs.Record.{Records};
 ghost use Rattle.many_io.specs.Hub.{opened_call, reopen_call, send_call, send_modem_call};
 ghost use Rattle.many_io.specs.Record.{Paired};
-ghost use Rattle.mio_hub.specs.Ways.{OthersStay, modem_fault_of, modem_of};
+ghost use Rattle.mio_hub.specs.Routes.{OthersStay, modem_fault_of, modem_of};
 
 use crate::sockets::Sockets;
 use hub_io::{ConnFaults, PLACES};
+use kit_bytes::ConnId;
 use kit_io::{CallCount, Failed, Faults};
 use link_io::Target;
 use many_io::{ManyHub, ManyHubEvent};
@@ -117,7 +118,7 @@ impl<R: Net + Clock + Files<File = File>> ManyHub for MioManyHub<'_, R> {
         }
     }
 
-    fn send(&mut self, conn: u64, bytes: &[u8]) -> Result<usize, Failed>
+    fn send(&mut self, conn: ConnId, bytes: &[u8]) -> Result<usize, Failed>
         ensures within { IfOk result (λ count. count ≤ length bytes.now) }
         ensures calls { Records None (send_call result conn bytes.now) None }
         ensures cause { HasCause (fault_of self.old.conn_faults conn) (fault_of self.new.conn_faults conn) result }
@@ -149,9 +150,9 @@ impl<R: Net + Clock + Files<File = File>> ManyHub for MioManyHub<'_, R> {
         ensures clients { SameClients (is_there self.old.sockets.names) (is_there self.new.sockets.names) }
         ensures devices { self.new.devices ≡ self.old.devices }
         ensures made { self.new.made ≡ one_more self.old.made }
-        ensures reached { OnOk result (IsSome (modem_of self.old.sockets.ways.ways.items device)) }
-        ensures lost { is_ok result ≡ false → modem_of self.new.sockets.ways.ways.items device ≡ None }
-        ensures others { OthersStay device self.old.sockets.ways.ways.items self.new.sockets.ways.ways.items }
+        ensures reached { OnOk result (IsSome (modem_of self.old.sockets.routes.routes.items device)) }
+        ensures lost { is_ok result ≡ false → modem_of self.new.sockets.routes.routes.items device ≡ None }
+        ensures others { OthersStay device self.old.sockets.routes.routes.items self.new.sockets.routes.routes.items }
     {
         self.made.add();
         match self.sockets.send_modem(device, bytes) {
@@ -171,9 +172,9 @@ impl<R: Net + Clock + Files<File = File>> ManyHub for MioManyHub<'_, R> {
         ensures clients { SameClients (is_there self.old.sockets.names) (is_there self.new.sockets.names) }
         ensures devices { self.new.devices ≡ self.old.devices }
         ensures made { self.new.made ≡ one_more self.old.made }
-        ensures reached { OnOk result (IsSome (modem_of self.new.sockets.ways.ways.items device)) }
-        ensures closed { is_ok result ≡ false → modem_of self.new.sockets.ways.ways.items device ≡ None }
-        ensures others { OthersStay device self.old.sockets.ways.ways.items self.new.sockets.ways.ways.items }
+        ensures reached { OnOk result (IsSome (modem_of self.new.sockets.routes.routes.items device)) }
+        ensures closed { is_ok result ≡ false → modem_of self.new.sockets.routes.routes.items device ≡ None }
+        ensures others { OthersStay device self.old.sockets.routes.routes.items self.new.sockets.routes.routes.items }
     {
         self.made.add();
         match self.sockets.open_device(device) {
@@ -182,7 +183,7 @@ impl<R: Net + Clock + Files<File = File>> ManyHub for MioManyHub<'_, R> {
         }
     }
 
-    fn hang_up(&mut self, conn: u64) {
+    fn hang_up(&mut self, conn: ConnId) {
         self.made.add();
         self.sockets.hang_up(conn);
     }

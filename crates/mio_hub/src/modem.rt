@@ -1,4 +1,4 @@
-//! The way to a hub's modem.
+//! The route to a hub's modem.
 ghost use Rattle.std.specs.Prelude.{◌≡◌, ◌<◌, ◌≤◌, length, IfOk};
 ghost use Rattle.mio_hub.specs.Reading.{GaveFits};
 

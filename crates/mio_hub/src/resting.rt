@@ -1,6 +1,7 @@
 //! Clients that send few bytes at a time, and are left alone for a while each time.
 use arrayvec::ArrayVec;
 use hub_io::PLACES;
+use kit_bytes::ConnId;
 
 /// Behind so many microseconds a client is read again, at the earliest.
 const REST: u64 = 2_000;
@@ -11,7 +12,7 @@ const APART: u64 = 250;
 /// A client that is read again at a time.
 #[derive(Clone, Copy, Default)]
 struct Rest {
-    name: u64,
+    name: ConnId,
     due: u64,
 }
 
@@ -36,7 +37,7 @@ impl Resting {
     }
 
     /// Adds a client, where there is room. It tells whether there was.
-    pub(crate) fn add(&mut self, name: u64, now: u64) -> bool {
+    pub(crate) fn add(&mut self, name: ConnId, now: u64) -> bool {
         let due = now.saturating_add(REST);
         self.rests.try_push(Rest { name, due }).is_ok()
     }

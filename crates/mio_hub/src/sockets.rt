@@ -5,16 +5,16 @@ ghost use Rattle.std.specs.Result.{result_ok};
 ghost use Rattle.hub_io.specs.Clients.{is_there, TellsOf};
 ghost use Rattle.hub_io.specs.Hub.{FitsBuffer, GoesAlone, NamesRise, ToldOfThose};
 ghost use Rattle.hub_io.specs.declared.hub.HubEvent.TheVariants.{Joined};
-ghost use Rattle.many_io.specs.Hub.{IsOfDevice, unnamed_told};
-ghost use Rattle.mio_hub.specs.Ways.{OthersStay, modem_of};
+ghost use Rattle.many_io.specs.Hub.{IsOfDevice, told_without_device};
+ghost use Rattle.mio_hub.specs.Routes.{OthersStay, modem_of};
 
 use crate::peer::{Gave, Peer};
 use crate::resting::Resting;
+use crate::routes::{OfModem, Routes, without_waiting};
 use crate::ticker::Ticker;
 use crate::tokens::{LISTENER, device_of};
-use crate::ways::{OfModem, Ways, without_waiting};
 use hub_io::{NEXT_ROOM, Names, PLACES, place_of};
-use kit_bytes::Text;
+use kit_bytes::{ConnId, Text};
 use link_io::Target;
 use many_io::ManyHubEvent;
 use mio::event::Event;
@@ -52,7 +52,7 @@ pub(crate) struct Sockets<'a, R: Files> {
     pub(crate) names: Names,
     resting: Resting,
     /// To the modems, by their devices.
-    pub(crate) ways: Ways,
+    pub(crate) routes: Routes,
     /// Where the pumps of devices connect that are reached over them.
     bridges: Vec<(usize, Bridge<'a, R>)>,
 }
@@ -73,7 +73,7 @@ impl<'a, R: Net + Clock + Files<File = File>> Sockets<'a, R> {
             clients: Slab::with_capacity(alloc, PLACES)?,
             names: Names::none(alloc)?,
             resting: Resting::nobody(),
-            ways: Ways::closed(alloc, devices)?,
+            routes: Routes::closed(alloc, devices)?,
             bridges: Vec::with_capacity(alloc, devices)?,
         })
     }
@@ -107,7 +107,7 @@ impl<'a, R: Net + Clock + Files<File = File>> Sockets<'a, R> {
         left_over(self.rt, socket)?;
         for device in 0..targets.len() {
             if self.lead(device, &targets[device])? && self.open_device(device).is_err() {
-                self.ways.lose(device);
+                self.routes.lose(device);
             }
         }
         self.listen(socket)
@@ -120,7 +120,7 @@ impl<'a, R: Net + Clock + Files<File = File>> Sockets<'a, R> {
         match target {
             Target::Socket(path) => {
                 let path = Text::from_str(self.alloc, path.as_str())?;
-                self.ways.lead(device, path);
+                self.routes.lead(device, path);
                 Ok(true)
             }
             Target::Bridge(path) => {
@@ -147,25 +147,25 @@ impl<'a, R: Net + Clock + Files<File = File>> Sockets<'a, R> {
     /// Connects to a device whose socket was named at the opening. Where pumps reach it, what is left
     /// of their line is closed, so that they end.
     pub(crate) fn open_device(&mut self, device: usize) -> io::Result<()>
-        ensures reached { OnOk result (IsSome (modem_of self.new.ways.ways.items device)) }
-        ensures closed { is_ok result ≡ false → modem_of self.new.ways.ways.items device ≡ None }
-        ensures others { OthersStay device self.old.ways.ways.items self.new.ways.ways.items }
+        ensures reached { OnOk result (IsSome (modem_of self.new.routes.routes.items device)) }
+        ensures closed { is_ok result ≡ false → modem_of self.new.routes.routes.items device ≡ None }
+        ensures others { OthersStay device self.old.routes.routes.items self.new.routes.routes.items }
         ensures names { self.new.names ≡ self.old.names }
     {
-        self.ways
+        self.routes
             .open(self.rt, self.alloc, self.poll.registry(), device)
     }
 
     /// Waits for the pumps of the first bridge that was named at the opening.
     pub(crate) fn pair(&mut self) -> io::Result<()>
-        ensures reached { OnOk result (IsSome (modem_of self.new.ways.ways.items 0)) }
+        ensures reached { OnOk result (IsSome (modem_of self.new.routes.routes.items 0)) }
         ensures names { self.new.names ≡ self.old.names }
     {
         let Some((_, bridge)) = self.bridges.first() else {
             return Err(ErrorKind::NotFound.into());
         };
         let pumps = bridge.pair()?;
-        self.ways.pair(self.alloc, self.poll.registry(), 0, pumps)
+        self.routes.pair(self.alloc, self.poll.registry(), 0, pumps)
     }
 
     /// Waits for the pumps of each bridge that was named at the opening, one after the other. A device
@@ -179,12 +179,12 @@ impl<'a, R: Net + Clock + Files<File = File>> Sockets<'a, R> {
         for (device, bridge) in &self.bridges {
             let paired = match bridge.pair() {
                 Ok(pumps) => self
-                    .ways
+                    .routes
                     .pair(self.alloc, self.poll.registry(), *device, pumps),
                 Err(error) => Err(error),
             };
             if paired.is_err() {
-                self.ways.lose(*device);
+                self.routes.lose(*device);
             }
         }
         Ok(())
@@ -193,16 +193,16 @@ impl<'a, R: Net + Clock + Files<File = File>> Sockets<'a, R> {
     /// Waits for the next event, of one of so many devices where it is of a modem.
     pub(crate) fn next(&mut self, devices: usize, buf: &mut [u8]) -> io::Result<ManyHubEvent>
         requires { length buf.old ≡ NEXT_ROOM }
-        ensures fits { IfOk result (λ event. FitsBuffer (unnamed_told event) NEXT_ROOM) }
+        ensures fits { IfOk result (λ event. FitsBuffer (told_without_device event) NEXT_ROOM) }
         ensures device { IfOk result (λ event. IsOfDevice event devices) }
-        ensures names { NamesRise (option_map unnamed_told (result_ok result)) self.old.names.greatest self.new.names.greatest }
-        ensures clients { ToldOfThose (option_map unnamed_told (result_ok result)) (is_there self.old.names) (is_there self.new.names) }
+        ensures names { NamesRise (option_map told_without_device (result_ok result)) self.old.names.greatest self.new.names.greatest }
+        ensures clients { ToldOfThose (option_map told_without_device (result_ok result)) (is_there self.old.names) (is_there self.new.names) }
     {
         for _ in 0..u64::MAX {
             if self.is_barred {
                 break;
             }
-            if let Some(device) = self.ways.next_lost(devices) {
+            if let Some(device) = self.routes.next_lost(devices) {
                 return Ok(ManyHubEvent::ModemGone(device));
             }
             if let Some(event) = self.events.iter().nth(self.at) {
@@ -225,7 +225,7 @@ impl<'a, R: Net + Clock + Files<File = File>> Sockets<'a, R> {
         ensures names { self.new.names ≡ self.old.names }
     {
         self.at = 0;
-        self.ways.write_gathered();
+        self.routes.write_gathered();
         self.wake_next();
         let left = self.ticker.left(self.resting.is_empty());
         match self.poll.poll(&mut self.events, Some(left)) {
@@ -240,10 +240,10 @@ impl<'a, R: Net + Clock + Files<File = File>> Sockets<'a, R> {
     /// What there is to tell of an event. It is asked again until it is done with.
     fn tell(&mut self, event: Event, devices: usize, buf: &mut [u8]) -> Option<ManyHubEvent>
         requires { length buf.old ≡ NEXT_ROOM }
-        ensures fits { IfSome result (λ event. FitsBuffer (unnamed_told event) NEXT_ROOM) }
+        ensures fits { IfSome result (λ event. FitsBuffer (told_without_device event) NEXT_ROOM) }
         ensures device { IfSome result (λ event. IsOfDevice event devices) }
         ensures len { length buf.new ≡ length buf.old }
-        ensures names { TellsOf (option_map unnamed_told result) self.old.names self.new.names }
+        ensures names { TellsOf (option_map told_without_device result) self.old.names self.new.names }
     {
         if let Some(device) = device_of(event.token(), devices) {
             return self.tell_modem(device, event, buf);
@@ -302,12 +302,12 @@ impl<'a, R: Net + Clock + Files<File = File>> Sockets<'a, R> {
 
     fn tell_modem(&mut self, device: usize, event: Event, buf: &mut [u8]) -> Option<ManyHubEvent>
         requires { length buf.old ≡ NEXT_ROOM }
-        ensures fits { IfSome result (λ event. FitsBuffer (unnamed_told event) NEXT_ROOM) }
+        ensures fits { IfSome result (λ event. FitsBuffer (told_without_device event) NEXT_ROOM) }
         ensures device { (devices : ℕ) → device < devices → IfSome result (λ event. IsOfDevice event devices) }
         ensures len { length buf.new ≡ length buf.old }
-        ensures names { TellsOf (option_map unnamed_told result) self.old.names self.new.names }
+        ensures names { TellsOf (option_map told_without_device result) self.old.names self.new.names }
     {
-        let told = self.ways.tell(device, self.poll.registry(), &event, buf);
+        let told = self.routes.tell(device, self.poll.registry(), &event, buf);
         if told.is_last {
             self.done();
         }
@@ -319,12 +319,12 @@ impl<'a, R: Net + Clock + Files<File = File>> Sockets<'a, R> {
         }
     }
 
-    fn tell_client(&mut self, name: u64, event: Event, buf: &mut [u8]) -> Option<ManyHubEvent>
+    fn tell_client(&mut self, name: ConnId, event: Event, buf: &mut [u8]) -> Option<ManyHubEvent>
         requires { length buf.old ≡ NEXT_ROOM }
-        ensures fits { IfSome result (λ event. FitsBuffer (unnamed_told event) NEXT_ROOM) }
+        ensures fits { IfSome result (λ event. FitsBuffer (told_without_device event) NEXT_ROOM) }
         ensures device { (devices : ℕ) → IfSome result (λ event. IsOfDevice event devices) }
         ensures len { length buf.new ≡ length buf.old }
-        ensures names { TellsOf (option_map unnamed_told result) self.old.names self.new.names }
+        ensures names { TellsOf (option_map told_without_device result) self.old.names self.new.names }
     {
         let Some(peer) = peer_of(&mut self.clients, &self.names, name) else {
             self.done();
@@ -360,7 +360,7 @@ impl<'a, R: Net + Clock + Files<File = File>> Sockets<'a, R> {
 
     /// Leaves a client alone that sends few bytes at a time, so that others needn't wait for it. Where
     /// no more can be left alone, it is read on.
-    fn rest(&mut self, name: u64)
+    fn rest(&mut self, name: ConnId)
         ensures names { self.new.names ≡ self.old.names }
     {
         let Some(peer) = peer_of(&mut self.clients, &self.names, name) else {
@@ -386,7 +386,7 @@ impl<'a, R: Net + Clock + Files<File = File>> Sockets<'a, R> {
     }
 
     /// Writes to a client's socket.
-    pub(crate) fn send(&mut self, name: u64, bytes: &[u8]) -> io::Result<usize>
+    pub(crate) fn send(&mut self, name: ConnId, bytes: &[u8]) -> io::Result<usize>
         ensures there { OnOk result (is_there self.old.names name ≡ true) }
         ensures within { IfOk result (λ count. count ≤ length bytes.now) }
         ensures names { self.new.names ≡ self.old.names }
@@ -399,18 +399,18 @@ impl<'a, R: Net + Clock + Files<File = File>> Sockets<'a, R> {
 
     /// Takes bytes for a device's modem. One that fails is closed.
     pub(crate) fn send_modem(&mut self, device: usize, bytes: &[u8]) -> io::Result<usize>
-        ensures reached { OnOk result (IsSome (modem_of self.old.ways.ways.items device)) }
-        ensures lost { is_ok result ≡ false → modem_of self.new.ways.ways.items device ≡ None }
-        ensures others { OthersStay device self.old.ways.ways.items self.new.ways.ways.items }
+        ensures reached { OnOk result (IsSome (modem_of self.old.routes.routes.items device)) }
+        ensures lost { is_ok result ≡ false → modem_of self.new.routes.routes.items device ≡ None }
+        ensures others { OthersStay device self.old.routes.routes.items self.new.routes.routes.items }
         ensures within { IfOk result (λ count. count ≤ length bytes.now) }
         ensures names { self.new.names ≡ self.old.names }
     {
         let is_last = self.at >= self.events.iter().len();
-        self.ways.send(device, bytes, is_last)
+        self.routes.send(device, bytes, is_last)
     }
 
     /// Closes a client's socket, and asks again for clients that wait.
-    pub(crate) fn hang_up(&mut self, name: u64)
+    pub(crate) fn hang_up(&mut self, name: ConnId)
         ensures clients { GoesAlone name (is_there self.old.names) (is_there self.new.names) }
         ensures names { self.new.names.greatest ≡ self.old.names.greatest }
     {
@@ -450,7 +450,7 @@ fn look_apart<R: Net + Files>(rt: &R, socket: &str, target: &Target) -> io::Resu
 }
 
 /// The socket of the client of this name, where it is there.
-fn peer_of<'a>(clients: &'a mut Slab<Peer>, names: &Names, name: u64) -> Option<&'a mut Peer>
+fn peer_of<'a>(clients: &'a mut Slab<Peer>, names: &Names, name: ConnId) -> Option<&'a mut Peer>
     ensures { IsSome result → is_there names.now name ≡ true }
 {
     if names.has(name) {

@@ -2,6 +2,7 @@
 ghost use Rattle.std.specs.Prelude.{◌≡◌, ◌-◌, ◌<◌, if◌then◌else◌, Some, option_map, IfOk};
 ghost use Rattle.number_space.specs.Counts.{place_of, known, NobodyWaits, OthersStay};
 
+use kit_bytes::ConnId;
 use std::alloc::{AllocError, Global};
 use std::marker::Model;
 
@@ -11,7 +12,7 @@ const PLACES: usize = 128;
 /// A connection, and how many numbers it waits for.
 #[derive(Clone, Copy)]
 pub(crate) struct Count {
-    pub(crate) conn: u64,
+    pub(crate) conn: ConnId,
     pub(crate) waits: u32,
 }
 
@@ -46,7 +47,7 @@ impl Counts {
     }
 
     /// How many numbers this connection waits for, if its place has its count.
-    pub(crate) fn get(&self, conn: u64) -> Option<u32>
+    pub(crate) fn get(&self, conn: ConnId) -> Option<u32>
         ensures { result ≡ known self.now conn }
     {
         let count = self.by_place[place_of(conn)];
@@ -58,7 +59,7 @@ impl Counts {
     }
 
     /// This connection waits for so many numbers.
-    pub(crate) fn set(&mut self, conn: u64, waits: u32)
+    pub(crate) fn set(&mut self, conn: ConnId, waits: u32)
         ensures here { known self.new conn ≡ Some waits }
         ensures others { OthersStay conn self.old self.new }
     {
@@ -66,7 +67,7 @@ impl Counts {
     }
 
     /// This connection waits for one number fewer, if it waited for that one.
-    pub(crate) fn ended(&mut self, conn: u64, pending: bool)
+    pub(crate) fn ended(&mut self, conn: ConnId, pending: bool)
         ensures here { known self.new conn ≡ option_map (λ waits. waits - (if pending then 1 else 0)) (known self.old conn) }
         ensures others { OthersStay conn self.old self.new }
     {
@@ -83,7 +84,7 @@ impl Counts {
     }
 }
 
-fn place_of(conn: u64) -> usize
+fn place_of(conn: ConnId) -> usize
     ensures value { result ≡ place_of conn }
     ensures within { result < PLACES }
 {

@@ -7,6 +7,7 @@ ghost use Rattle.number_space.specs.Table.{waiting_of, settled_where, is_due, Is
 
 use crate::chain::Chain;
 use crate::space::Row;
+use kit_bytes::ConnId;
 
 fn is_due<T>(row: &Row<T>, now: u64) -> bool
     ensures { result ≡ is_due now row.now }
@@ -14,7 +15,7 @@ fn is_due<T>(row: &Row<T>, now: u64) -> bool
     row.pending && row.deadline <= now
 }
 
-fn is_awaited<T>(row: &Row<T>, conn: u64) -> bool
+fn is_awaited<T>(row: &Row<T>, conn: ConnId) -> bool
     ensures { result ≡ (row.now.pending && (row.now.conn == conn)) }
 {
     row.pending && row.conn == conn
@@ -60,7 +61,7 @@ pub fn earliest_deadline<T: Copy>(rows: &Chain<Row<T>>) -> u64
 }
 
 /// Whether some row is one that this connection waits for.
-pub fn some_await<T: Copy>(rows: &Chain<Row<T>>, conn: u64) -> bool
+pub fn some_await<T: Copy>(rows: &Chain<Row<T>>, conn: ConnId) -> bool
     ensures { result ≡ list_any (λ r. r.pending && (r.conn == conn)) (values rows.now.entries) }
 {
     let mut at = rows.first();
@@ -86,7 +87,7 @@ fn with_one(count: usize, awaited: bool) -> usize
 }
 
 /// How many rows this connection waits for.
-pub fn how_many_await<T: Copy>(rows: &Chain<Row<T>>, conn: u64) -> usize
+pub fn how_many_await<T: Copy>(rows: &Chain<Row<T>>, conn: ConnId) -> usize
     ensures { result ≡ waiting_of conn (values rows.now.entries) }
 {
     let mut count = 0;
@@ -103,7 +104,7 @@ pub fn how_many_await<T: Copy>(rows: &Chain<Row<T>>, conn: u64) -> usize
 }
 
 /// Nobody waits any more for the numbers of this connection.
-pub fn orphan<T: Copy>(rows: &mut Chain<Row<T>>, conn: u64)
+pub fn orphan<T: Copy>(rows: &mut Chain<Row<T>>, conn: ConnId)
     ensures entries { rows.new.entries ≡ map (on_row (settled_where (λ r. conn == r.conn))) rows.old.entries }
     ensures capacity { rows.new.capacity ≡ rows.old.capacity }
 {

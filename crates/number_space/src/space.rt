@@ -11,6 +11,7 @@ use crate::chain::Chain;
 use crate::counts::Counts;
 use crate::numbers::Numbers;
 use crate::rows;
+use kit_bytes::ConnId;
 use std::alloc::{AllocError, Global};
 use std::marker::Model;
 
@@ -19,7 +20,7 @@ use std::marker::Model;
 pub struct Row<T> {
     pub number: u32,
     /// The connection that it was given to.
-    pub conn: u64,
+    pub conn: ConnId,
     /// What that connection is to get back.
     pub note: T,
     /// The time from which on the number expires.
@@ -98,7 +99,7 @@ impl<T: Copy> Space<T> {
 
     /// Gives the first number after the last one given, cyclic from 1 to the top, that isn't in
     /// use; none where as many as may be are in use.
-    pub fn give(&mut self, conn: u64, note: T, deadline: u64) -> Option<u32>
+    pub fn give(&mut self, conn: ConnId, note: T, deadline: u64) -> Option<u32>
         ensures number { result ≡ next_number self.old }
         ensures table { self.new ≡ gives conn note deadline self.old }
         ensures first_free { IfSome result (IsFirstFree self.old.top (following self.old.top self.old.last) (numbers self.old.rows)) }
@@ -144,14 +145,14 @@ impl<T: Copy> Space<T> {
     }
 
     /// Whether this connection waits for an answer.
-    pub fn is_awaited(&self, conn: u64) -> bool
+    pub fn is_awaited(&self, conn: ConnId) -> bool
         ensures { result ≡ list_any (λ r. r.pending && (r.conn == conn)) self.now.rows }
     {
         rows::some_await(&self.rows, conn)
     }
 
     /// How many numbers this connection waits for.
-    pub fn pending(&self, conn: u64) -> u32
+    pub fn pending(&self, conn: ConnId) -> u32
         ensures { result ≡ pending_of conn self.now }
     {
         match self.counts.get(conn) {
@@ -162,7 +163,7 @@ impl<T: Copy> Space<T> {
 
     // How many they are, by a walk: nothing is kept of this connection.
     #[inline(never)]
-    fn count(&self, conn: u64) -> u32
+    fn count(&self, conn: ConnId) -> u32
         ensures { result ≡ pending_of conn self.now }
     {
         // no more are in use than may be
@@ -210,7 +211,7 @@ impl<T: Copy> Space<T> {
     }
 
     /// Keeps the numbers of this connection in use, and nobody waits for them any more.
-    pub fn orphan(&mut self, conn: u64)
+    pub fn orphan(&mut self, conn: ConnId)
         ensures table { self.new ≡ orphans conn self.old }
         ensures stands { (limit top : ℕ) (calls : List (Call T)) → StandsFor limit top calls self.old → StandsFor limit top (Orphan conn ∷ calls) self.new }
     {

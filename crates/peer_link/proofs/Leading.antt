@@ -4,7 +4,7 @@ use Rattle.std.proofs.Common.{◌≡◌, ◌⊎◌, inl, inr, ℕ, ◌+◌, ◌<
 use Rattle.std.proofs.lemmas.List.{append-nil, drop-append-le, drop_more, map_push}
 use Rattle.std.proofs.lemmas.List.Folds.{drop_split}
 use Rattle.std.specs.Option.{option_map}
-use Rattle.kit_io.specs.Told.{Grows}
+use Rattle.kit_io.specs.Growth.{Grows}
 use Rattle.link_io.specs.declared.link.Taken.{Taken}
 use Rattle.link_io.specs.declared.link.Taken.TheVariants.{End}
 use Rattle.link_io.specs.Calls.{Call, EndsForGood, Sent, Took, WasQuiet}
@@ -143,8 +143,8 @@ kept_are made one all is = ap (map call_of) is ∙ map_push call_of made one
 
 -- one call more is told, where any is
 pub told_goes : (tells : Bool) (calls : List Call) (call : Call) → Grows (if tells then Some calls else None) (call ∷ []) (if tells then Some (calls ++ call ∷ []) else None)
-told_goes true calls call = record { told = λ all is. let same : calls ++ call ∷ [] ≡ all = cc in (calls, refl, sym same) }
-told_goes false calls call = record { told = λ all is. absurd (cc) }
+told_goes true calls call = record { recorded = λ all is. let same : calls ++ call ∷ [] ≡ all = cc in (calls, refl, sym same) }
+told_goes false calls call = record { recorded = λ all is. absurd (cc) }
 
 pub told_as : (tells : Bool) (calls more : List Call) (call other : Call) {old : Option (List Call)} → (if tells then Some calls else None) ≡ old → call ≡ other → more ≡ calls ++ call ∷ []
     → Grows old (other ∷ []) (if tells then Some more else None)
@@ -162,12 +162,12 @@ module _ {A : Type 0} (named : A → List Call → List Call) (behind : (a : A) 
   pub grows_named : (old new : A) → ((calls : List Call) → named new calls ≡ named old calls) → {added : List Call} {before after : Option (List Call)}
       → Grows before added after → Grows (option_map (named old) before) added (option_map (named new) after)
   grows_named old new same {added = added} {before = before} {after = Some calls} grows = record {
-    told = λ all is.
-        let it = grows.told calls refl in
+    recorded = λ all is.
+        let it = grows.recorded calls refl in
         let is_all : named new calls ≡ all = cc in
         (named old it.0, ap (option_map (named old)) it.1, sym is_all ∙ same calls ∙ ap (named old) it.2 ∙ behind old it.0 added);
   }
-  grows_named old new same {after = None} grows = record { told = λ all is. absurd (cc) }
+  grows_named old new same {after = None} grows = record { recorded = λ all is. absurd (cc) }
 
 pub no_end : {E : Type 0} (taken : Taken) → IsNoEnd taken → EndsForGood {E = E} false (Ok taken) false
 no_end {E = E} taken isnt = record {

@@ -8,8 +8,8 @@ use Rattle.link_session.specs.Peer.{Peer, LeadsTo, said, texts_in}
 
 pub record Linked (A : Type 0) : Type 0 where
   pub answerer : A
-  -- the calls, where told
-  pub told : Option (List Call)
+  -- the calls, where recorded
+  pub recorded : Option (List Call)
   -- how many calls have failed
   pub faults : ℕ
   -- how many calls were made

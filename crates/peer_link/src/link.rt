@@ -45,7 +45,7 @@ impl<A: Answerer> Model for PeerLink<A> {
 
     ghost view = { λ l. record {
       answerer = l.answerer;
-      told = (if l.tells then Some (map call_of l.made.items) else None);
+      recorded = (if l.tells then Some (map call_of l.made.items) else None);
       faults = l.faults;
       count = l.count;
     } };
@@ -62,7 +62,7 @@ impl<A: Answerer> PeerLink<A> {
     pub fn to(alloc: Global, answerer: A) -> Self
         requires { A.has_met [] answerer }
         ensures answerer { result.answerer ≡ answerer }
-        ensures told { result.told ≡ Some [] }
+        ensures recorded { result.recorded ≡ Some [] }
     {
         PeerLink {
             alloc,
@@ -77,23 +77,23 @@ impl<A: Answerer> PeerLink<A> {
     }
 
     /// Whether all its calls are told.
-    pub fn is_told(&self) -> bool
-        ensures told { result ≡ is_some self.now.told }
-        ensures leads { (calls : List Call) → self.now.told ≡ Some calls → LeadsTo (A.peer self.now.answerer) [] [] calls }
+    pub fn is_recorded(&self) -> bool
+        ensures recorded { result ≡ is_some self.now.recorded }
+        ensures leads { (calls : List Call) → self.now.recorded ≡ Some calls → LeadsTo (A.peer self.now.answerer) [] [] calls }
     {
         self.tells
     }
 
     /// Whether all that the peer said was taken.
     pub fn is_drained(&self) -> bool
-        ensures { IsTrue result → (calls : List Call) → self.now.told ≡ Some calls → said (A.peer self.now.answerer) [] (texts_in calls) ≡ bytes_in calls }
+        ensures { IsTrue result → (calls : List Call) → self.now.recorded ≡ Some calls → said (A.peer self.now.answerer) [] (texts_in calls) ≡ bytes_in calls }
     {
         self.taken == self.said.len()
     }
 
     /// The texts that were sent, the oldest first.
     pub fn texts(&self) -> Result<Vec<Octets>, AllocError>
-        ensures { IfOk result (λ texts. (calls : List Call) → self.now.told ≡ Some calls → texts.items ≡ texts_in calls) }
+        ensures { IfOk result (λ texts. (calls : List Call) → self.now.recorded ≡ Some calls → texts.items ≡ texts_in calls) }
     {
         let mut texts = Vec::new(self.alloc);
         for made in &self.made {
@@ -117,7 +117,7 @@ fn add_text(alloc: Global, texts: &mut Vec<Octets>, made: &Made) -> Result<(), A
 
 impl<A: Answerer> PeerLink<A> {
     ghost use Rattle.std.specs.Prelude.{OnErr};
-    ghost use Rattle.kit_io.specs.Told.{Grows};
+    ghost use Rattle.kit_io.specs.Growth.{Grows};
     ghost use Rattle.link_io.specs.Calls as calls;
     ghost use Rattle.link_io.specs.Calls.{take_call};
     ghost use Rattle.link_io.specs.Target.{IsWithin};
@@ -125,9 +125,9 @@ impl<A: Answerer> PeerLink<A> {
 
     // The peer answers a text, and the answer is kept.
     fn ask(&mut self, text: &[u8]) -> Result<(), AllocError>
-        ensures told { OnOk result (Grows self.old.told (calls.Sent text.now true ∷ []) self.new.told) }
+        ensures recorded { OnOk result (Grows self.old.recorded (calls.Sent text.now true ∷ []) self.new.recorded) }
         ensures named { OnOk result ((calls : List Call) → A.named self.new.answerer calls ≡ A.named self.old.answerer calls) }
-        ensures err { OnErr result (self.new.told ≡ None) }
+        ensures err { OnErr result (self.new.recorded ≡ None) }
         ensures faults { self.new.faults ≡ self.old.faults }
         ensures count { self.new.count ≡ self.old.count }
     {
@@ -145,9 +145,9 @@ impl<A: Answerer> PeerLink<A> {
     fn bring(&mut self, buffer: &mut [u8]) -> Result<Taken, AllocError>
         ensures within { IfOk result (λ taken. IsWithin taken (length buffer.old)) }
         ensures no_end { IfOk result IsNoEnd }
-        ensures told { OnOk result (Grows self.old.told (take_call result buffer.new ∷ []) self.new.told) }
+        ensures recorded { OnOk result (Grows self.old.recorded (take_call result buffer.new ∷ []) self.new.recorded) }
         ensures same { self.new.answerer ≡ self.old.answerer }
-        ensures err { OnErr result (self.new.told ≡ None) }
+        ensures err { OnErr result (self.new.recorded ≡ None) }
         ensures faults { self.new.faults ≡ self.old.faults }
         ensures count { self.new.count ≡ self.old.count }
     {
@@ -173,7 +173,7 @@ impl<A: Answerer> PeerLink<A> {
 impl<A: Answerer> Link for PeerLink<A> {
     ghost use Rattle.std.specs.Option.{option_map};
 
-    ghost calls = { λ s. option_map (A.named s.answerer) s.told };
+    ghost calls = { λ s. option_map (A.named s.answerer) s.recorded };
 
     ghost ended = { λ s. false };
 

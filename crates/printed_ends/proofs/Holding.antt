@@ -32,11 +32,11 @@ module _ {E W : Type 0} (session : List Call → Result E SessionFault → Type 
   -- what answers, and is named by calls
   module _ {A : Type 0} (peer : A → Peer) (named : A → List Call → List Call) (behind : (a : A) (calls more : List Call) → named a (calls ++ more) ≡ named a calls ++ more)
       (naming : (a b : A) (calls more : List Call) → named a calls ≡ named b more → (peer a ≡ peer b) × (calls ≡ more)) where
-    ends_as : {end : Result E SessionFault} (first last : Linked A) (all : List Call) → first.told ≡ Some [] → last.told ≡ Some all
-        → Makes (λ calls. session calls end) (option_map (named first.answerer) first.told) (option_map (named last.answerer) last.told) → LeadsTo (peer last.answerer) [] [] all → IsByPeer end
+    ends_as : {end : Result E SessionFault} (first last : Linked A) (all : List Call) → first.recorded ≡ Some [] → last.recorded ≡ Some all
+        → Makes (λ calls. session calls end) (option_map (named first.answerer) first.recorded) (option_map (named last.answerer) last.recorded) → LeadsTo (peer last.answerer) [] [] all → IsByPeer end
         → (end ≡ Err fault.TimedOut → said (peer last.answerer) [] (texts_in all) ≡ bytes_in all) → EndsWith end (session_at (peer first.answerer)).end × (texts_in all ≡ (session_at (peer first.answerer)).talk.texts)
     ends_as {end} first last all begins told makes leads is silent =
-        let grown = makes.grows.told (named last.answerer all) (ap (option_map (named last.answerer)) told) in
+        let grown = makes.grows.recorded (named last.answerer all) (ap (option_map (named last.answerer)) told) in
         let same : Some (named first.answerer []) ≡ Some grown.0 = sym (ap (option_map (named first.answerer)) begins) ∙ grown.1 in
         let before : named first.answerer [] ≡ grown.0 = cc in
         let are : named last.answerer all ≡ named first.answerer makes.calls = grown.2 ∙ ap (λ (l : List Call). l ++ makes.calls) (sym before) ∙ sym (behind first.answerer [] makes.calls) in
@@ -47,8 +47,8 @@ module _ {E W : Type 0} (session : List Call → Result E SessionFault → Type 
         let ended = ends_as_at_peers (peer first.answerer) makes.calls end makes.are there (by_peer _ _ end is taken) in
         (ended.0, ap texts_in it.1 ∙ ended.1)
 
-    pub is_held : (text : E → List ℕ) (refusal : E → Option ℕ) {end : Result E SessionFault} {held : Held} (first last : Linked A) → first.told ≡ Some []
-        → Makes (λ calls. session calls end) (option_map (named first.answerer) first.told) (option_map (named last.answerer) last.told) → IsTold peer last held → IsByPeer end → IsOf text refusal end held.printed
+    pub is_held : (text : E → List ℕ) (refusal : E → Option ℕ) {end : Result E SessionFault} {held : Held} (first last : Linked A) → first.recorded ≡ Some []
+        → Makes (λ calls. session calls end) (option_map (named first.answerer) first.recorded) (option_map (named last.answerer) last.recorded) → IsTold peer last held → IsByPeer end → IsOf text refusal end held.printed
         → IsHeld (Prints text refusal EndsWith) (session_at (peer first.answerer)) held
     is_held text refusal {end} first last begins makes told is of =
         let it = ends_as first last told.calls begins told.told makes told.leads is (λ e. told.silent (of.1 ∙ ap (status_of refusal) e)) in

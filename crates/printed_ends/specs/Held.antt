@@ -15,7 +15,7 @@ pub record IsHeld {W : Type 0} (Prints : W → Printed → Type 0) (run : Finish
 -- all calls of the link are told, these texts were sent by them, and behind silence nothing waits
 pub record IsTold {A : Type 0} (peer : A → Peer) (link : Linked A) (held : Held) : Type 0 where
   pub calls : List Call
-  pub told : link.told ≡ Some calls
+  pub told : link.recorded ≡ Some calls
   pub leads : LeadsTo (peer link.answerer) [] [] calls
   pub silent : held.printed.status ≡ 5 → said (peer link.answerer) [] (texts_in calls) ≡ bytes_in calls
   pub texts_are : held.texts.items ≡ texts_in calls

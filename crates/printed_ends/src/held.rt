@@ -23,7 +23,7 @@ pub fn held_over<A: Answerer>(link: &PeerLink<A>, printed: Printed) -> Result<He
     ensures printed { IfOk result (λ held. held.printed ≡ printed) }
     ensures told { IfOk result (IsTold A.peer link.now) }
 {
-    if !link.is_told() {
+    if !link.is_recorded() {
         return Err(AllocError);
     }
     if printed.status == SILENCE && !link.is_drained() {

@@ -8,8 +8,8 @@ use Rattle.stream_lines.specs.declared.end.DissectEnd.TheVariants as shown
 use Rattle.tool_runs.specs.declared.run_end.RunEnd.{RunEnd}
 use Rattle.tool_runs.specs.declared.run_end.RunEnd.TheVariants as run
 use Rattle.program.specs.declared.status.Status.TheVariants as status
-use Rattle.sim_keeping.specs.declared.keeping.KeepEnd.{KeepEnd}
-use Rattle.sim_keeping.specs.declared.keeping.KeepEnd.TheVariants as keep
+use Rattle.sim_supervision.specs.declared.supervision.SupervisionEnd.{SupervisionEnd}
+use Rattle.sim_supervision.specs.declared.supervision.SupervisionEnd.TheVariants as keep
 use Rattle.hub_io.specs.declared.settings.ServeEnd.TheVariants as end
 use Rattle.sim_runs.specs.declared.sim_end.SimEnd.{SimEnd}
 use Rattle.sim_runs.specs.declared.sim_end.SimEnd.TheVariants as sim
@@ -74,7 +74,7 @@ start_fault_comes (Ok t) ends later started stops is = let rose = started is in 
 start_fault_comes (Err e) ends later started stops is = omega (arith, later, stops.failed)
 
 -- a run ends so whose simulated modem was kept running
-pub is_of_keeping : (ends : KeepEnd) → IsOfKeeping (status_of_keeping ends)
+pub is_of_keeping : (ends : SupervisionEnd) → IsOfKeeping (status_of_keeping ends)
 unfolding status_of_child
 is_of_keeping (keep.Ended (pos zero)) = tt
 is_of_keeping (keep.Ended (pos (suc code))) = tt
@@ -83,7 +83,7 @@ is_of_keeping keep.StartFault = tt
 is_of_keeping keep.OutOfMemory = tt
 
 -- only one whose children couldn't be started or waited for ends with a start fault
-pub keeping_fault_is : (ends : KeepEnd) → status_of_keeping ends ≡ status.StartFault → ends ≡ keep.StartFault
+pub keeping_fault_is : (ends : SupervisionEnd) → status_of_keeping ends ≡ status.StartFault → ends ≡ keep.StartFault
 unfolding status_of_child
 keeping_fault_is (keep.Ended (pos zero)) e = absurd (cc)
 keeping_fault_is (keep.Ended (pos (suc code))) e = absurd (cc)

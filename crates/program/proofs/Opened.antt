@@ -1,14 +1,14 @@
 -- What a hub recorded of its opening.
 use Rattle.std.proofs.Common.{◌≡◌, ℕ, List, [], ◌∷◌, Option, Some, Result, Ok, Err, OnErr, true, false, is_ok, refl, ap}
 use Rattle.std.proofs.lemmas.List.Elements.{All-nil}
-use Rattle.kit_io.proofs.Told.{Grows-none}
+use Rattle.kit_io.proofs.Growth.{Grows-none}
 use Rattle.link_io.specs.Target.{Address}
 use Rattle.hub_io.specs.Record.{Call, Opened, Since, Records}
 use Rattle.hub_io.proofs.Record.{since-starts, since-grows}
 use Rattle.child_io.specs.Calls as child
 use Rattle.kit_bytes.specs.declared.Kind.{Kind}
-use Rattle.modem_ways.specs.Ways.{Place, AtOnce}
-use Rattle.modem_ways.specs.Reaching.{StartsBy}
+use Rattle.modem_routes.specs.Routes.{Place, AtOnce}
+use Rattle.modem_routes.specs.Reaching.{StartsBy}
 use Rattle.program.specs.Serving.{Asked, OpensHub, opened, not_opened, ServesProxy, no_memory}
 use Rattle.program.specs.declared.status.Status.TheVariants as status
 use Rattle.program.specs.declared.opening.OpenFault.{OpenFault}

@@ -1,7 +1,7 @@
 -- How a run ends as a proxy of several devices.
 use Rattle.std.proofs.Common.{◌≡◌, ◌⊎◌, ℕ, Bool, true, false, [], refl, ap, sym, ◌∙◌, inl, inr, Option, List, Result, Ok, Err}
 use Rattle.std.proofs.lemmas.List.Elements.{All-nil}
-use Rattle.kit_io.proofs.Told.{Grows-none}
+use Rattle.kit_io.proofs.Growth.{Grows-none}
 use Rattle.hub_io.proofs.Record.{since-starts}
 use Rattle.hub_io.specs.declared.settings.ServeEnd.TheVariants as end
 use Rattle.child_io.specs.Calls as child

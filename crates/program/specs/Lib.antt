@@ -1,5 +1,5 @@
 pub mod Status
-pub mod Ways
+pub mod Routes
 pub mod Tables
 pub mod Running
 pub mod Serving

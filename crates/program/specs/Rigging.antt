@@ -1,7 +1,7 @@
 -- What the program does as a rig: what it runs on its bench, and the lines that it prints. Lists of runs have the newest first.
 use Rattle.std.specs.Prelude.{◌≡◌, ℕ, List, [], Option}
 use Rattle.kit_bytes.specs.declared.Kind.{Kind}
-use Rattle.kit_io.specs.Told.{Grows, GrowsByFront}
+use Rattle.kit_io.specs.Growth.{Grows, GrowsByFront}
 use Rattle.core_bench.specs.Runs.{Run}
 use Rattle.rig.specs.Lines.{rig_lines, runs_of}
 use Rattle.rig.specs.Playing.{AddsRuns}

@@ -1,14 +1,14 @@
 -- What the program does: to its link, its hub, its children, its files and its bench, and what it prints.
 use Rattle.std.specs.Prelude.{◌≡◌, ◌⊎◌, ℕ, Bool, true, false, List, [], Option, Some, None, Result, Ok, Err, if◌then◌else◌}
 use Rattle.std.specs.Str.{encode_utf8_all}
-use Rattle.kit_io.specs.Told.{Grows}
+use Rattle.kit_io.specs.Growth.{Grows}
 use Rattle.link_io.specs.Calls as link
 use Rattle.hub_io.specs.Record as hub
 use Rattle.child_io.specs.Calls as child
 use Rattle.file_io.specs.Calls as file
 use Rattle.core_bench.specs.Runs.{Run}
-use Rattle.modem_ways.specs.Ways.{Path, place_of}
-use Rattle.modem_ways.specs.Reaching.{LinkFails}
+use Rattle.modem_routes.specs.Routes.{Path, place_of}
+use Rattle.modem_routes.specs.Reaching.{LinkFails}
 use Rattle.kit_io.specs.Causes.{Rose}
 use Rattle.kit_io.specs.Counts.{together}
 use Rattle.kit_bytes.specs.declared.Kind.{Kind}
@@ -40,14 +40,14 @@ use Rattle.tool_runs.specs.Tunnel.{tunnel_asked}
 use Rattle.tool_runs.specs.Json.{mbim_json, no_bodies, qmi_json, tunnel_json}
 use Rattle.tool_runs.specs.Describing.{DescribesFile}
 use Rattle.dissect.specs.Tables.{Dissects}
-use Rattle.sim_keeping.specs.Keeping.{KeepsOrLacksMemory}
-use Rattle.sim_keeping.specs.Words.{start_words}
+use Rattle.sim_supervision.specs.Supervision.{SupervisesOrLacksMemory}
+use Rattle.sim_supervision.specs.Words.{start_words}
 use Rattle.sim_runs.specs.Simulating as sim
 use Rattle.program.specs.declared.status.Status.{Status}
 use Rattle.program.specs.declared.status.Status.TheVariants as status
 use Rattle.program.specs.Status.{EndsAs, IsOfProxy, status_of, status_of_capture, status_of_keeping, status_of_sim}
 use Rattle.program.specs.Tables.{AsksByTables}
-use Rattle.program.specs.Ways.{Asks, way_to}
+use Rattle.program.specs.Routes.{Asks, route_to}
 use Rattle.program.specs.Serving.{ServesProxy, asked_in}
 use Rattle.program.specs.Pumping.{PumpsTo}
 use Rattle.rig.specs.Playing.{AddsRuns}
@@ -120,8 +120,8 @@ mbim_asked_in form.Json plan = mbim_json plan
 
 -- a tool asks a modem, also by the tables of a file, makes short messages or describes a file, a proxy or a simulated modem serves, one of several devices does (`Several.antt` says how), one is kept running, a pump passes on, a rig runs a core on the bench, or a tool alone, a captured stream is shown, and the version is printed
 abbrev pub RunsCommand : ToolCommand → Told → Told → Status → Type 0
-RunsCommand (Qmicli task) before after result = AsksQmi task.link.kind task.form (qmi_plan task) (way_to task.device task.link) (of_tool before) (of_tool after) result
-RunsCommand (Mbimcli task) before after result = Asks (way_to task.device task.link) (mbim_asked_in task.form (mbim_plan task)) (of_tool before) (of_tool after) result
+RunsCommand (Qmicli task) before after result = AsksQmi task.link.kind task.form (qmi_plan task) (route_to task.device task.link) (of_tool before) (of_tool after) result
+RunsCommand (Mbimcli task) before after result = Asks (route_to task.device task.link) (mbim_asked_in task.form (mbim_plan task)) (of_tool before) (of_tool after) result
 RunsCommand (Request task) before after result = AsksByTables task before.files after.files (of_tool before) (of_tool after) result
 RunsCommand (PduSubmit number text reference) before after result = EndsAs status_of result (λ ends. PrintsText (hex_lines (messages number text reference)) before.out ends after.out)
 RunsCommand (Describe path message) before after result = EndsAs status_of result (λ ends. DescribesFile (encode_utf8_all path) message before.files after.files before.out ends after.out)
@@ -133,7 +133,7 @@ RunsCommand (Simulator kind socket profile None turns None) before after result 
 RunsCommand (Simulator kind socket profile (Some rules) turns None) before after result =
     EndsAs status_of_sim result (λ ends. sim.SimulatesByRules rules profile kind socket turns (record { files = before.files; hub = before.hub }) (record { files = after.files; hub = after.hub }) ends)
 RunsCommand (Simulator kind socket profile rules turns (Some most)) before after result =
-    EndsAs status_of_keeping result (λ ends. KeepsOrLacksMemory (start_words kind socket turns profile rules) most before.spawner ends after.spawner)
+    EndsAs status_of_keeping result (λ ends. SupervisesOrLacksMemory (start_words kind socket turns profile rules) most before.spawner ends after.spawner)
 RunsCommand (Pump read node bridge) before after result = PumpsTo read node bridge before.link before.files result after.link after.files
 RunsCommand (Rig kind clients messages number) before after result = RigsTo kind clients messages number before.bench before.out result after.bench after.out
 RunsCommand (Transparency kind) before after result = ShowsTransparency kind before.bench before.out result after.bench after.out
@@ -220,11 +220,11 @@ LeavesAlone (Err why) before after = after ≡ before
 
 -- ---- faults of the link ----
 
--- on its way to a modem, or of a pump's
+-- on its route to a modem, or of a pump's
 abbrev pub CommandFailsOnLink : {L : Type 0} → ToolCommand → (L → ℕ) → (L → ℕ) → L → L → Type 0
-CommandFailsOnLink (Qmicli task) = LinkFails (way_to task.device task.link)
-CommandFailsOnLink (Mbimcli task) = LinkFails (way_to task.device task.link)
-CommandFailsOnLink (Request task) = LinkFails (way_to task.device task.link)
+CommandFailsOnLink (Qmicli task) = LinkFails (route_to task.device task.link)
+CommandFailsOnLink (Mbimcli task) = LinkFails (route_to task.device task.link)
+CommandFailsOnLink (Request task) = LinkFails (route_to task.device task.link)
 CommandFailsOnLink (Pump read node bridge) = λ faults open_faults before after. Rose (open_faults before) (open_faults after) ⊎ Rose (faults before) (faults after)
 CommandFailsOnLink _ = λ faults open_faults before after. ⊥
 

@@ -4,8 +4,8 @@ use Rattle.std.specs.Str.{encode_utf8_all}
 use Rattle.link_io.specs.Target.{Address}
 use Rattle.hub_io.specs.Record.{Call, Opened, Paired, Since}
 use Rattle.child_io.specs.Calls as child
-use Rattle.modem_ways.specs.Ways.{Place, AtOnce, BehindPumps, PumpWords}
-use Rattle.modem_ways.specs.Reaching.{StartsPumps, StartsAndStops}
+use Rattle.modem_routes.specs.Routes.{Place, AtOnce, BehindPumps, PumpWords}
+use Rattle.modem_routes.specs.Reaching.{StartsPumps, StartsAndStops}
 use Rattle.kit_bytes.specs.declared.Kind.{Kind}
 use Rattle.kit_bytes.specs.declared.Kind.TheVariants as kind
 use Rattle.hub_io.specs.declared.settings.ServeEnd.{ServeEnd}

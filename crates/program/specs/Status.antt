@@ -23,8 +23,8 @@ use Rattle.modem_rules.specs.declared.fault.RulesFault.{RulesFault}
 use Rattle.modem_rules.specs.declared.fault.RulesFault.TheVariants as rules
 use Rattle.pump.specs.declared.ending.PumpEnd.{PumpEnd}
 use Rattle.pump.specs.declared.ending.PumpEnd.TheVariants as pump
-use Rattle.sim_keeping.specs.declared.keeping.KeepEnd.{KeepEnd}
-use Rattle.sim_keeping.specs.declared.keeping.KeepEnd.TheVariants as keep
+use Rattle.sim_supervision.specs.declared.supervision.SupervisionEnd.{SupervisionEnd}
+use Rattle.sim_supervision.specs.declared.supervision.SupervisionEnd.TheVariants as keep
 use Rattle.sim_runs.specs.declared.sim_end.SimEnd.{SimEnd}
 use Rattle.sim_runs.specs.declared.sim_end.SimEnd.TheVariants as sim
 use Rattle.tool_runs.specs.declared.run_end.RunEnd.{RunEnd}
@@ -192,8 +192,8 @@ status_of_child (pos zero) = status.Done
 status_of_child (pos (suc code)) = status.Denied false (suc code)
 status_of_child (negsuc code) = status.Denied false 255
 
--- how a run ends whose keeping of a simulated modem ended so
-abbrev pub status_of_keeping : KeepEnd → Status
+-- how a run ends whose supervision of a simulated modem ended so
+abbrev pub status_of_keeping : SupervisionEnd → Status
 status_of_keeping (keep.Ended status) = status_of_child status
 status_of_keeping keep.StartFault = status.StartFault
 status_of_keeping keep.OutOfMemory = status.OutOfMemory

@@ -17,7 +17,7 @@ use Rattle.tool_runs.specs.Asking as asking
 use Rattle.tool_runs.specs.Tables.{asked_by_tables}
 use Rattle.program.specs.declared.status.Status.{Status}
 use Rattle.program.specs.Status.{status_of_none}
-use Rattle.program.specs.Ways.{Asks, Follows, NothingAsked, way_to}
+use Rattle.program.specs.Routes.{Asks, Follows, NothingAsked, route_to}
 
 -- ---- the plans ----
 
@@ -52,13 +52,13 @@ GivesIndications task = OfFile (λ told. messages_in told.items) told_in (encode
 
 -- the file was read, and a modem was asked with the request that it gives; or it gives none, and nothing more was done
 pub data AsksOnce (task : RequestTask) (files more : Option (List Call)) (before after : asking.Told) (result : Status) : Type 0 where
-  asked : (found : Asked) → GivesRequest task files (Ok found) more → Asks (way_to task.device task.link) (asked_by_tables (table_plan task found)) before after result
+  asked : (found : Asked) → GivesRequest task files (Ok found) more → Asks (route_to task.device task.link) (asked_by_tables (table_plan task found)) before after result
       → AsksOnce task files more before after result
   not_asked : (none : NoRequest) → GivesRequest task files (Err none) more → result ≡ status_of_none none → NothingAsked before after → AsksOnce task files more before after result
 
 -- the same, and these indications were followed behind the answer
 pub data FollowsTold (task : RequestTask) (told : List Message) (turns : ℕ) (files more : Option (List Call)) (before after : asking.Told) (result : Status) : Type 0 where
-  followed : (found : Asked) → GivesRequest task files (Ok found) more → Follows (way_to task.device task.link) (follow_plan task found told turns) before after result
+  followed : (found : Asked) → GivesRequest task files (Ok found) more → Follows (route_to task.device task.link) (follow_plan task found told turns) before after result
       → FollowsTold task told turns files more before after result
   not_followed : (none : NoRequest) → GivesRequest task files (Err none) more → result ≡ status_of_none none → NothingAsked before after → FollowsTold task told turns files more before after result
 

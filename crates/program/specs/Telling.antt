@@ -1,6 +1,6 @@
 -- What the program prints where its version is asked for.
 use Rattle.std.specs.Prelude.{ℕ, List, Option}
-use Rattle.kit_io.specs.Told.{Grows, GrowsByFront}
+use Rattle.kit_io.specs.Growth.{Grows, GrowsByFront}
 use Rattle.version.specs.Line.{version_line}
 use Rattle.program.specs.declared.status.Status.{Status}
 use Rattle.program.specs.declared.status.Status.TheVariants as status

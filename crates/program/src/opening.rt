@@ -3,15 +3,15 @@ ghost use Rattle.std.specs.Prelude.{◌≡◌, ◌≤◌, [], is_ok, Some, Err, 
 ghost use Rattle.kit_io.specs.Causes.{Rose, HasCause};
 ghost use Rattle.link_io.specs.Target.{address_of};
 ghost use Rattle.hub_io.specs.Record.{Records, Opened};
-ghost use Rattle.modem_ways.specs.Reaching.{StartsBy};
-ghost use Rattle.modem_ways.specs.Ways.{BehindPumps, place_in, words_in};
+ghost use Rattle.modem_routes.specs.Reaching.{StartsBy};
+ghost use Rattle.modem_routes.specs.Routes.{BehindPumps, place_in, words_in};
 ghost use Rattle.program.specs.Serving.{OpensHub};
 
 use child_io::{Kids, Spawner};
 use hub_io::Hub;
 use kit_io::Failed;
 use link_io::Target;
-use modem_ways::{Device, Pumps, start_pumps};
+use modem_routes::{Device, Pumps, start_pumps};
 
 // Why a device wasn't opened.
 #[derive(Clone, Copy, Debug, PartialEq, Eq)]

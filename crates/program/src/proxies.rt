@@ -1,6 +1,6 @@
 ghost use Rattle.std.specs.Prelude.{◌≡◌, Ok, length, map, string_bytes, IfOk};
 ghost use Rattle.kit_io.specs.Causes.{Rose};
-ghost use Rattle.kit_io.specs.Told.{Grows};
+ghost use Rattle.kit_io.specs.Growth.{Grows};
 ghost use Rattle.tool_words.specs.Command.{command_in};
 ghost use Rattle.program.specs.Several.{HasRoom, LeavesSeveralAlone, RunsSeveral, ServesSeveral};
 ghost use Rattle.program.specs.Status.{IsOfProxy, line_of};

@@ -1,6 +1,6 @@
 ghost use Rattle.std.specs.Prelude.{◌≡◌, OnOk, Some};
 ghost use Rattle.kit_io.specs.Causes.{Rose, HasCause};
-ghost use Rattle.kit_io.specs.Told.{Grows};
+ghost use Rattle.kit_io.specs.Growth.{Grows};
 ghost use Rattle.program.specs.Status.{denied_text, error_line, input_line, line_of, message_line, object_line, profile_line, rules_line, tables_line};
 
 use crate::Status;
@@ -42,7 +42,7 @@ pub fn report<E: Sink>(status: &Status, err: &mut E)
     let _ = write_line(status, err);
 }
 
-#[tactic(auto, using(kit_io::proofs::Told::growing))]
+#[tactic(auto, using(kit_io::proofs::Growth::growing))]
 fn write_line<E: Sink>(status: &Status, err: &mut E) -> Result<(), WriteFault>
     ensures line { OnOk result (Grows (E.taken err.old) (line_of status.now) (E.taken err.new)) }
     ensures cause { HasCause (E.faults err.old) (E.faults err.new) result }
@@ -98,7 +98,7 @@ fn write_error<E: Sink>(what: &[u8], which: &[u8], err: &mut E) -> Result<(), Wr
     Ok(())
 }
 
-#[tactic(auto, using(kit_io::proofs::Told::growing))]
+#[tactic(auto, using(kit_io::proofs::Growth::growing))]
 fn write_fault_of_tables<E: Sink>(fault: TableFault, err: &mut E) -> Result<(), WriteFault>
     ensures line { OnOk result (Grows (E.taken err.old) (tables_line (Some fault)) (E.taken err.new)) }
     ensures cause { HasCause (E.faults err.old) (E.faults err.new) result }

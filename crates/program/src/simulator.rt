@@ -1,8 +1,8 @@
 ghost use Rattle.std.specs.Prelude.{◌≡◌, None};
 ghost use Rattle.std.specs.Option.{option_copied};
 ghost use Rattle.kit_io.specs.Causes.{Rose};
-ghost use Rattle.sim_keeping.specs.Keeping.{KeepsOrLacksMemory};
-ghost use Rattle.sim_keeping.specs.Words.{start_words};
+ghost use Rattle.sim_supervision.specs.Supervision.{SupervisesOrLacksMemory};
+ghost use Rattle.sim_supervision.specs.Words.{start_words};
 ghost use Rattle.sim_runs.specs.Simulating.{Simulates, SimulatesByRules, asked_in};
 ghost use Rattle.program.specs.Status.{EndsAs, IsOfKeeping, IsOfSimulator, status_of_keeping, status_of_sim};
 
@@ -11,8 +11,8 @@ use child_io::Spawner;
 use file_io::Files;
 use hub_io::Hub;
 use kit_bytes::{Kind, PathText};
-use sim_keeping::keep_simulator;
 use sim_runs::{simulate, simulate_by_rules};
+use sim_supervision::supervise_simulator;
 use std::alloc::Global;
 
 // Simulates a modem to the clients of a socket.
@@ -60,7 +60,7 @@ pub fn simulate_ruled_modem<H: Hub, F: Files>(
     Status::from(ends)
 }
 
-// Keeps a simulated modem running, as a child that is started so often at most.
+// Supervises a simulated modem, as a child that is started so often at most.
 pub fn keep_modem<P: Spawner>(
     alloc: Global,
     kind: Kind,
@@ -71,9 +71,9 @@ pub fn keep_modem<P: Spawner>(
     most: u8,
     spawner: &mut P,
 ) -> Status
-    ensures keeps { EndsAs status_of_keeping result (λ ends. KeepsOrLacksMemory (start_words kind socket.now turns (option_copied profile.entry) (option_copied rules.entry)) most (P.calls spawner.old) ends (P.calls spawner.new)) }
+    ensures keeps { EndsAs status_of_keeping result (λ ends. SupervisesOrLacksMemory (start_words kind socket.now turns (option_copied profile.entry) (option_copied rules.entry)) most (P.calls spawner.old) ends (P.calls spawner.new)) }
     ensures own { IsOfKeeping result }
     ensures start_fault { result ≡ Status.StartFault → Rose (P.faults spawner.old) (P.faults spawner.new) }
 {
-    Status::from(keep_simulator(alloc, kind, socket, profile, rules, turns, most, spawner))
+    Status::from(supervise_simulator(alloc, kind, socket, profile, rules, turns, most, spawner))
 }

@@ -10,8 +10,8 @@ use modem_profile::ProfileFault;
 use modem_rules::RulesFault;
 use named_messages::NamedFault;
 use pump::PumpEnd;
-use sim_keeping::KeepEnd;
 use sim_runs::SimEnd;
+use sim_supervision::SupervisionEnd;
 use table_requests::{InputFault, NoRequest};
 use tool_runs::RunEnd;
 use tool_words::UsageKind;
@@ -236,16 +236,16 @@ impl From<SimEnd> for Status {
     }
 }
 
-impl From<KeepEnd> for Status {
+impl From<SupervisionEnd> for Status {
     ghost use Rattle.program.specs.Status.{status_of_keeping};
 
     ghost from_gives = { λ end status. status ≡ status_of_keeping end };
 
-    fn from(end: KeepEnd) -> Self {
+    fn from(end: SupervisionEnd) -> Self {
         match end {
-            KeepEnd::Ended(status) => Status::of_child(status),
-            KeepEnd::StartFault => Status::StartFault,
-            KeepEnd::OutOfMemory => Status::OutOfMemory,
+            SupervisionEnd::Ended(status) => Status::of_child(status),
+            SupervisionEnd::StartFault => Status::StartFault,
+            SupervisionEnd::OutOfMemory => Status::OutOfMemory,
         }
     }
 }

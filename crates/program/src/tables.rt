@@ -4,16 +4,16 @@ ghost use Rattle.kit_io.specs.Causes.{Rose};
 ghost use Rattle.kit_io.specs.Counts.{together};
 ghost use Rattle.message_tables.specs.View.{message_view, messages_in};
 ghost use Rattle.message_tables.specs.WellMade.{IsSoundMessage};
-ghost use Rattle.modem_ways.specs.Reaching.{LinkFails};
-ghost use Rattle.modem_ways.specs.Ways.{path_in};
+ghost use Rattle.modem_routes.specs.Reaching.{LinkFails};
+ghost use Rattle.modem_routes.specs.Routes.{path_in};
 ghost use Rattle.tool_runs.specs.Tables.{asked_by_tables};
 ghost use Rattle.following_runs.specs.Following.{FollowsModem};
 ghost use Rattle.program.specs.Status.{EndsAs, IsOfTool, status_of};
 ghost use Rattle.program.specs.Tables.{AsksByTables, FollowsByTables, follow_plan, table_plan};
-ghost use Rattle.program.specs.Ways.{Asks, Follows, way_to};
+ghost use Rattle.program.specs.Routes.{Asks, Follows, route_to};
 
 use crate::status::Status;
-use crate::tool::{ask_device, way_to};
+use crate::tool::{ask_device, route_to};
 use child_io::Spawner;
 use file_io::Files;
 use following_runs::{follow_modem, indications_in_file};
@@ -21,7 +21,7 @@ use json_requests::Asked;
 use kit_io::Sink;
 use link_io::Link;
 use message_tables::Message;
-use modem_ways::Way;
+use modem_routes::Route;
 use qmux_frame::LONGEST_TLVS;
 use request_session::{RequestPlan, TlvRequest};
 use sms_print::Decoding;
@@ -45,7 +45,7 @@ pub fn ask_by_tables<O: Sink, L: Link, P: Spawner, F: Files>(
         (record { link = L.calls link.new; spawner = P.calls spawner.new; out = O.taken out.new; made = together (L.made link.new) (O.made out.new) })
         result }
     ensures own { IsOfTool result }
-    ensures link_fault { result ≡ Status.LinkFault → LinkFails (way_to task.device task.link) L.faults L.open_faults link.old link.new }
+    ensures link_fault { result ≡ Status.LinkFault → LinkFails (route_to task.device task.link) L.faults L.open_faults link.old link.new }
     ensures start_fault { result ≡ Status.StartFault → Rose (P.faults spawner.old) (P.faults spawner.new) }
     ensures read_fault { result ≡ Status.ReadFault → Rose (F.read_faults files.old) (F.read_faults files.new) }
     ensures write_fault { result ≡ Status.WriteFault → Rose (O.faults out.old) (O.faults out.new) }
@@ -73,13 +73,13 @@ fn ask_with<O: Sink, L: Link, P: Spawner>(
 ) -> Status
     requires short { length asked.tlvs ≤ LONGEST_TLVS }
     requires sound { IsSoundMessage (message_view asked.message) }
-    ensures asks { Asks (way_to task.device task.link) (asked_by_tables (table_plan task asked))
+    ensures asks { Asks (route_to task.device task.link) (asked_by_tables (table_plan task asked))
         (record { link = L.calls link.old; spawner = P.calls spawner.old; out = O.taken out.old; made = together (L.made link.old) (O.made out.old) })
         (record { link = L.calls link.new; spawner = P.calls spawner.new; out = O.taken out.new; made = together (L.made link.new) (O.made out.new) })
         result }
     ensures own { IsOfTool result }
     ensures read_fault { ¬ (result ≡ Status.ReadFault) }
-    ensures link_fault { result ≡ Status.LinkFault → LinkFails (way_to task.device task.link) L.faults L.open_faults link.old link.new }
+    ensures link_fault { result ≡ Status.LinkFault → LinkFails (route_to task.device task.link) L.faults L.open_faults link.old link.new }
     ensures start_fault { result ≡ Status.StartFault → Rose (P.faults spawner.old) (P.faults spawner.new) }
     ensures write_fault { result ≡ Status.WriteFault → Rose (O.faults out.old) (O.faults out.new) }
 {
@@ -107,7 +107,7 @@ fn follow_by_tables<O: Sink, L: Link, P: Spawner, F: Files>(
         (record { link = L.calls link.new; spawner = P.calls spawner.new; out = O.taken out.new; made = together (L.made link.new) (O.made out.new) })
         result }
     ensures own { IsOfTool result }
-    ensures link_fault { result ≡ Status.LinkFault → LinkFails (way_to task.device task.link) L.faults L.open_faults link.old link.new }
+    ensures link_fault { result ≡ Status.LinkFault → LinkFails (route_to task.device task.link) L.faults L.open_faults link.old link.new }
     ensures start_fault { result ≡ Status.StartFault → Rose (P.faults spawner.old) (P.faults spawner.new) }
     ensures read_fault { result ≡ Status.ReadFault → Rose (F.read_faults files.old) (F.read_faults files.new) }
     ensures write_fault { result ≡ Status.WriteFault → Rose (O.faults out.old) (O.faults out.new) }
@@ -142,48 +142,48 @@ fn follow_with<O: Sink, L: Link, P: Spawner>(
     requires short { length asked.tlvs ≤ LONGEST_TLVS }
     requires sound { IsSoundMessage (message_view asked.message) }
     requires told_sound { AllByRecursion IsSoundMessage (messages_in told.items) }
-    ensures follows { Follows (way_to task.device task.link) (follow_plan task asked told.items turns)
+    ensures follows { Follows (route_to task.device task.link) (follow_plan task asked told.items turns)
         (record { link = L.calls link.old; spawner = P.calls spawner.old; out = O.taken out.old; made = together (L.made link.old) (O.made out.old) })
         (record { link = L.calls link.new; spawner = P.calls spawner.new; out = O.taken out.new; made = together (L.made link.new) (O.made out.new) })
         result }
     ensures own { IsOfTool result }
     ensures read_fault { ¬ (result ≡ Status.ReadFault) }
-    ensures link_fault { result ≡ Status.LinkFault → LinkFails (way_to task.device task.link) L.faults L.open_faults link.old link.new }
+    ensures link_fault { result ≡ Status.LinkFault → LinkFails (route_to task.device task.link) L.faults L.open_faults link.old link.new }
     ensures start_fault { result ≡ Status.StartFault → Rose (P.faults spawner.old) (P.faults spawner.new) }
     ensures write_fault { result ≡ Status.WriteFault → Rose (O.faults out.old) (O.faults out.new) }
 {
-    let Ok(way) = way_to(alloc, &task.device, &task.link) else {
+    let Ok(route) = route_to(alloc, &task.device, &task.link) else {
         drop((task, asked, told));
         return Status::OutOfMemory;
     };
     let (settings, plan) = plan_of(task, asked);
     drop(settings);
     let plan = FollowPlan::new(plan, told, turns);
-    let status = follow_on(alloc, &way, &plan, out, link, spawner);
+    let status = follow_on(alloc, &route, &plan, out, link, spawner);
     drop(plan);
     status
 }
 
-// Follows them on this way.
+// Follows them on this route.
 fn follow_on<O: Sink, L: Link, P: Spawner>(
     alloc: Global,
-    way: &Way,
+    route: &Route,
     plan: &FollowPlan,
     out: &mut O,
     link: &mut L,
     spawner: &mut P,
 ) -> Status
-    ensures follows { EndsAs status_of result (λ ends. FollowsModem (path_in way.now) plan.now
+    ensures follows { EndsAs status_of result (λ ends. FollowsModem (path_in route.now) plan.now
         (record { link = L.calls link.old; spawner = P.calls spawner.old; out = O.taken out.old; made = together (L.made link.old) (O.made out.old) })
         (record { link = L.calls link.new; spawner = P.calls spawner.new; out = O.taken out.new; made = together (L.made link.new) (O.made out.new) })
         ends) }
     ensures own { IsOfTool result }
     ensures read_fault { ¬ (result ≡ Status.ReadFault) }
-    ensures link_fault { result ≡ Status.LinkFault → LinkFails (path_in way.now) L.faults L.open_faults link.old link.new }
+    ensures link_fault { result ≡ Status.LinkFault → LinkFails (path_in route.now) L.faults L.open_faults link.old link.new }
     ensures start_fault { result ≡ Status.StartFault → Rose (P.faults spawner.old) (P.faults spawner.new) }
     ensures write_fault { result ≡ Status.WriteFault → Rose (O.faults out.old) (O.faults out.new) }
 {
-    Status::from(follow_modem(alloc, way, plan, out, link, spawner))
+    Status::from(follow_modem(alloc, route, plan, out, link, spawner))
 }
 
 // The link's settings, and the plan of the request that the file gives.

@@ -3,14 +3,14 @@ ghost use Rattle.std.specs.Option.{option_copied};
 ghost use Rattle.std.specs.Str.{encode_utf8_all};
 ghost use Rattle.kit_io.specs.Causes.{Rose};
 ghost use Rattle.kit_io.specs.Counts.{together};
-ghost use Rattle.modem_ways.specs.Reaching.{LinkFails};
-ghost use Rattle.modem_ways.specs.Ways.{path_in};
+ghost use Rattle.modem_routes.specs.Reaching.{LinkFails};
+ghost use Rattle.modem_routes.specs.Routes.{path_in};
 ghost use Rattle.sms_pdu.specs.Parts.{can_be_sent, messages};
 ghost use Rattle.sms_print.specs.Printed.{hex_lines};
 ghost use Rattle.tool_runs.specs.Asking.{AsksModem, asked_of, PrintsText, shown};
 ghost use Rattle.tool_runs.specs.Describing.{DescribesFile};
 ghost use Rattle.program.specs.Running.{asked_in_form, AsksQmi, mbim_asked_in, qmi_plan, mbim_plan};
-ghost use Rattle.program.specs.Ways.{Asks, way_to};
+ghost use Rattle.program.specs.Routes.{Asks, route_to};
 ghost use Rattle.program.specs.Status.{IsOfTool, EndsAs, status_of};
 
 use crate::status::Status;
@@ -21,7 +21,7 @@ use kit_bytes::{Kind, PathText, ShortText, Text};
 use kit_io::Sink;
 use link_io::Link;
 use mbim_session::MbimPlan;
-use modem_ways::Way;
+use modem_routes::Route;
 use sms_print::Decoding;
 use std::alloc::{AllocError, Global};
 use tool_runs::{
@@ -29,17 +29,21 @@ use tool_runs::{
 };
 use tool_words::{AnswerForm, LinkSettings, MbimTask, QmiTask};
 
-// The way of a tool to the device of its modem.
-pub fn way_to(alloc: Global, device: &PathText, settings: &LinkSettings) -> Result<Way, AllocError>
-    ensures { IfOk result (λ way. path_in way ≡ way_to device.now settings.now) }
+// The route of a tool to the device of its modem.
+pub fn route_to(
+    alloc: Global,
+    device: &PathText,
+    settings: &LinkSettings,
+) -> Result<Route, AllocError>
+    ensures { IfOk result (λ route. path_in route ≡ route_to device.now settings.now) }
 {
     let device = device.value().as_str();
     let bridge = settings.bridge.value().as_str();
     if settings.proxied {
         let socket = settings.socket.value().as_str();
-        return Way::by_proxy(alloc, settings.kind, device, socket, bridge);
+        return Route::by_proxy(alloc, settings.kind, device, socket, bridge);
     }
-    Way::direct(alloc, device, bridge)
+    Route::direct(alloc, device, bridge)
 }
 
 // Asks a QMI modem what the words of `qmicli` want, over the link that leads to it, or to the MBIM modem
@@ -51,12 +55,12 @@ pub fn ask_qmi<O: Sink, L: Link, P: Spawner>(
     link: &mut L,
     spawner: &mut P,
 ) -> Status
-    ensures asks { AsksQmi task.link.kind task.form (qmi_plan task) (way_to task.device task.link)
+    ensures asks { AsksQmi task.link.kind task.form (qmi_plan task) (route_to task.device task.link)
         (record { link = L.calls link.old; spawner = P.calls spawner.old; out = O.taken out.old; made = together (L.made link.old) (O.made out.old) })
         (record { link = L.calls link.new; spawner = P.calls spawner.new; out = O.taken out.new; made = together (L.made link.new) (O.made out.new) })
         result }
     ensures own { IsOfTool result }
-    ensures link_fault { result ≡ Status.LinkFault → LinkFails (way_to task.device task.link) L.faults L.open_faults link.old link.new }
+    ensures link_fault { result ≡ Status.LinkFault → LinkFails (route_to task.device task.link) L.faults L.open_faults link.old link.new }
     ensures start_fault { result ≡ Status.StartFault → Rose (P.faults spawner.old) (P.faults spawner.new) }
     ensures write_fault { result ≡ Status.WriteFault → Rose (O.faults out.old) (O.faults out.new) }
 {
@@ -82,12 +86,12 @@ fn ask_of_kind<O: Sink, L: Link, P: Spawner>(
     link: &mut L,
     spawner: &mut P,
 ) -> Status
-    ensures asks { AsksQmi settings.now.kind form plan (way_to plan.device settings.now)
+    ensures asks { AsksQmi settings.now.kind form plan (route_to plan.device settings.now)
         (record { link = L.calls link.old; spawner = P.calls spawner.old; out = O.taken out.old; made = together (L.made link.old) (O.made out.old) })
         (record { link = L.calls link.new; spawner = P.calls spawner.new; out = O.taken out.new; made = together (L.made link.new) (O.made out.new) })
         result }
     ensures own { IsOfTool result }
-    ensures link_fault { result ≡ Status.LinkFault → LinkFails (way_to plan.device settings.now) L.faults L.open_faults link.old link.new }
+    ensures link_fault { result ≡ Status.LinkFault → LinkFails (route_to plan.device settings.now) L.faults L.open_faults link.old link.new }
     ensures start_fault { result ≡ Status.StartFault → Rose (P.faults spawner.old) (P.faults spawner.new) }
     ensures write_fault { result ≡ Status.WriteFault → Rose (O.faults out.old) (O.faults out.new) }
 {
@@ -120,12 +124,12 @@ pub fn ask_mbim<O: Sink, L: Link, P: Spawner>(
     link: &mut L,
     spawner: &mut P,
 ) -> Status
-    ensures asks { Asks (way_to task.device task.link) (mbim_asked_in task.form (mbim_plan task))
+    ensures asks { Asks (route_to task.device task.link) (mbim_asked_in task.form (mbim_plan task))
         (record { link = L.calls link.old; spawner = P.calls spawner.old; out = O.taken out.old; made = together (L.made link.old) (O.made out.old) })
         (record { link = L.calls link.new; spawner = P.calls spawner.new; out = O.taken out.new; made = together (L.made link.new) (O.made out.new) })
         result }
     ensures own { IsOfTool result }
-    ensures link_fault { result ≡ Status.LinkFault → LinkFails (way_to task.device task.link) L.faults L.open_faults link.old link.new }
+    ensures link_fault { result ≡ Status.LinkFault → LinkFails (route_to task.device task.link) L.faults L.open_faults link.old link.new }
     ensures start_fault { result ≡ Status.StartFault → Rose (P.faults spawner.old) (P.faults spawner.new) }
     ensures write_fault { result ≡ Status.WriteFault → Rose (O.faults out.old) (O.faults out.new) }
 {
@@ -157,12 +161,12 @@ fn ask_in_form<S: JsonSession, O: Sink, L: Link, P: Spawner>(
     link: &mut L,
     spawner: &mut P,
 ) -> Status
-    ensures asks { Asks (way_to device.now settings.now) (asked_in_form form decoding S.session S.refused S.printed S.bodies S.line plan.now)
+    ensures asks { Asks (route_to device.now settings.now) (asked_in_form form decoding S.session S.refused S.printed S.bodies S.line plan.now)
         (record { link = L.calls link.old; spawner = P.calls spawner.old; out = O.taken out.old; made = together (L.made link.old) (O.made out.old) })
         (record { link = L.calls link.new; spawner = P.calls spawner.new; out = O.taken out.new; made = together (L.made link.new) (O.made out.new) })
         result }
     ensures own { IsOfTool result }
-    ensures link_fault { result ≡ Status.LinkFault → LinkFails (way_to device.now settings.now) L.faults L.open_faults link.old link.new }
+    ensures link_fault { result ≡ Status.LinkFault → LinkFails (route_to device.now settings.now) L.faults L.open_faults link.old link.new }
     ensures start_fault { result ≡ Status.StartFault → Rose (P.faults spawner.old) (P.faults spawner.new) }
     ensures write_fault { result ≡ Status.WriteFault → Rose (O.faults out.old) (O.faults out.new) }
 {
@@ -190,41 +194,41 @@ pub fn ask_device<S: Session, O: Sink, L: Link, P: Spawner>(
     link: &mut L,
     spawner: &mut P,
 ) -> Status
-    ensures asks { Asks (way_to device.now settings.now) (asked_of S.session S.refused (shown decoding S.printed S.bodies) plan.now)
+    ensures asks { Asks (route_to device.now settings.now) (asked_of S.session S.refused (shown decoding S.printed S.bodies) plan.now)
         (record { link = L.calls link.old; spawner = P.calls spawner.old; out = O.taken out.old; made = together (L.made link.old) (O.made out.old) })
         (record { link = L.calls link.new; spawner = P.calls spawner.new; out = O.taken out.new; made = together (L.made link.new) (O.made out.new) })
         result }
     ensures own { IsOfTool result }
-    ensures link_fault { result ≡ Status.LinkFault → LinkFails (way_to device.now settings.now) L.faults L.open_faults link.old link.new }
+    ensures link_fault { result ≡ Status.LinkFault → LinkFails (route_to device.now settings.now) L.faults L.open_faults link.old link.new }
     ensures start_fault { result ≡ Status.StartFault → Rose (P.faults spawner.old) (P.faults spawner.new) }
     ensures write_fault { result ≡ Status.WriteFault → Rose (O.faults out.old) (O.faults out.new) }
 {
-    let Ok(way) = way_to(alloc, device, settings) else {
+    let Ok(route) = route_to(alloc, device, settings) else {
         return Status::OutOfMemory;
     };
-    ask_modem(alloc, &way, plan, decoding, out, link, spawner)
+    ask_modem(alloc, &route, plan, decoding, out, link, spawner)
 }
 
-// Asks a modem on this way, and prints its answer.
+// Asks a modem on this route, and prints its answer.
 fn ask_modem<S: Session, O: Sink, L: Link, P: Spawner>(
     alloc: Global,
-    way: &Way,
+    route: &Route,
     plan: &S,
     decoding: Decoding,
     out: &mut O,
     link: &mut L,
     spawner: &mut P,
 ) -> Status
-    ensures asks { EndsAs status_of result (λ ends. AsksModem (path_in way.now) (asked_of S.session S.refused (shown decoding S.printed S.bodies) plan.now)
+    ensures asks { EndsAs status_of result (λ ends. AsksModem (path_in route.now) (asked_of S.session S.refused (shown decoding S.printed S.bodies) plan.now)
         (record { link = L.calls link.old; spawner = P.calls spawner.old; out = O.taken out.old; made = together (L.made link.old) (O.made out.old) })
         (record { link = L.calls link.new; spawner = P.calls spawner.new; out = O.taken out.new; made = together (L.made link.new) (O.made out.new) })
         ends) }
     ensures own { IsOfTool result }
-    ensures link_fault { result ≡ Status.LinkFault → LinkFails (path_in way.now) L.faults L.open_faults link.old link.new }
+    ensures link_fault { result ≡ Status.LinkFault → LinkFails (path_in route.now) L.faults L.open_faults link.old link.new }
     ensures start_fault { result ≡ Status.StartFault → Rose (P.faults spawner.old) (P.faults spawner.new) }
     ensures write_fault { result ≡ Status.WriteFault → Rose (O.faults out.old) (O.faults out.new) }
 {
-    Status::from(ask(alloc, way, plan, decoding, out, link, spawner))
+    Status::from(ask(alloc, route, plan, decoding, out, link, spawner))
 }
 
 // Prints the bodies of the messages that carry a text to a number.

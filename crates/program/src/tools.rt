@@ -1,7 +1,7 @@
 //! Each tool by itself, for a program that has no more of the outside than this tool needs.
 ghost use Rattle.std.specs.Prelude.{◌≡◌, None, Ok, map, string_bytes};
 ghost use Rattle.kit_io.specs.Causes.{Rose};
-ghost use Rattle.kit_io.specs.Told.{Grows};
+ghost use Rattle.kit_io.specs.Growth.{Grows};
 ghost use Rattle.tool_words.specs.Command.{command_in};
 ghost use Rattle.tool_words.specs.Rig.{IsWithinLimits};
 ghost use Rattle.program.specs.Running.{Absent, FailsOnLink, LeavesAlone, Runs, RunsWords, is_of_proxy, is_of_pump, is_of_rig, is_of_simulator, is_of_tool, words_for};

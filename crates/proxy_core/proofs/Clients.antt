@@ -5,7 +5,7 @@ use Rattle.std.proofs.lemmas.Bool.{eqb-true}
 use Rattle.std.proofs.lemmas.Bool.Decides.{nat_tests}
 use Rattle.std.proofs.lemmas.List.{map-append}
 use Rattle.kit_bytes.specs.Sorted.{IsInOrder}
-use Rattle.connections.specs.Table.{Connection, Table, AreRising, IsRegular, connection_in, changed, without, joined, joins, joins_if, leaves, took, collects}
+use Rattle.connections.specs.Table.{Connection, Table, AreRising, IsRegular, connection_in, changed, without, joined, joins, joins_if, leaves, took, client_takes}
 use Rattle.proxy_core.specs.Meaning.{Named, clients_in, AreOthers, Meaning, Agrees}
 
 abbrev pub named : {T : Type 0} → Connection T → Named T
@@ -103,7 +103,7 @@ module _ {T S P : Type 0} (d : Meaning T S P) {table : Table T} {beside : S} {ha
     refused_agrees full = subst (λ (t : Table T). Agrees d t beside hand) (sym (is ∙ ap (λ (b : Bool). joins_if b c fresh table) full)) (record { limit = A.limit; clients = A.clients })
 
   -- its socket took bytes
-  pub took_agrees : (c count : ℕ) (after : Table T) → after ≡ collects c count table → Agrees d after beside hand
+  pub took_agrees : (c count : ℕ) (after : Table T) → after ≡ client_takes c count table → Agrees d after beside hand
   took_agrees c count after is =
       subst (λ (t : Table T). Agrees d t beside hand) (sym is)
       (record { limit = A.limit; clients = subst (λ (l : List (Named T)). d.agrees l beside hand) (sym (clients_same c (took count) (λ k. refl) table.present)) A.clients })

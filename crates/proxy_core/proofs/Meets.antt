@@ -15,9 +15,9 @@ use Rattle.proxy_core.specs.Core.{handlers_in, lasting_in, Stands, StandsAfter, 
 use Rattle.proxy_core.specs.Lawful.{IsLawful, proxy_by}
 use Rattle.proxy_core.specs.Face.{face_of, Keeps}
 
-no_partings : (partings : List Dropped) → map (λ (l : Dropped). l.name) partings ≡ [] → partings ≡ []
-no_partings [] is = refl
-no_partings (l ∷ others) is = absurd (cc)
+no_dropped_clients : (dropped_clients : List Dropped) → map (λ (l : Dropped). l.name) dropped_clients ≡ [] → dropped_clients ≡ []
+no_dropped_clients [] is = refl
+no_dropped_clients (l ∷ others) is = absurd (cc)
 
 module _ {T S P : Type 0} (d : Meaning T S P) where
   -- ---- the events that may come ----
@@ -34,7 +34,7 @@ module _ {T S P : Type 0} (d : Meaning T S P) where
   may_come (ModemTook count) core may = may
 
   pub can_step : (event : Event) (core : Core T S) → CanMeet event (face_of d core) → CanStep d event core
-  can_step event core can = record { hung_up = no_partings core.state.table.dropped can.hung_up; may_come = may_come event core can.may_come }
+  can_step event core can = record { hung_up = no_dropped_clients core.state.table.dropped can.hung_up; may_come = may_come event core can.may_come }
 
   -- ---- what it keeps ----
 

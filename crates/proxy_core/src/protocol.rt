@@ -9,6 +9,7 @@ ghost use Rattle.proxy_core.specs.Lawful.{IsLawful};
 use connections::{Connections, Hears, Renews};
 use framing::{Framing, LONGEST_PIECE};
 use hub_io::Limits;
+use kit_bytes::ConnId;
 use std::alloc::{AllocError, Global};
 
 /// What a protocol's core makes of what it meets. The protocol itself is what it has at hand: room for
@@ -48,13 +49,13 @@ pub trait Protocol: Drop {
         ensures { result.0.now ++ result.1.now ≡ (handlers_at meaning side.now).modem_queue side.now };
 
     /// A client joined, behind the others that are there.
-    fn join(&mut self, side: &Self::Side, name: u64)
+    fn join(&mut self, side: &Self::Side, name: ConnId)
         requires { HasRoom meaning side.now self.old }
         ensures { (clients : List (Named Self.Client)) → AreOthers name clients →
             meaning.agrees clients side.now self.old → meaning.agrees (clients ++ record { name = name; client = Self.Client.fresh } ∷ []) side.now self.new };
 
     /// The connection of this name is gone.
-    fn give_up(&mut self, side: &mut Self::Side, name: u64)
+    fn give_up(&mut self, side: &mut Self::Side, name: ConnId)
         ensures beside { side.new ≡ (handlers_at meaning side.old).give_up name side.old }
         ensures agrees { (front behind : List (Named Self.Client)) (client : Self.Client) → AreOthers name front → AreOthers name behind →
             meaning.agrees (front ++ record { name = name; client = client } ∷ behind) side.old self.old → meaning.agrees (front ++ behind) side.new self.new };
@@ -75,7 +76,7 @@ pub trait Protocol: Drop {
         &mut self,
         connections: &mut Connections<Self::Frame, Self::Client>,
         side: &mut Self::Side,
-        name: u64,
+        name: ConnId,
         piece: &[u8],
     )
         requires short { length piece.now ≤ LONGEST_PIECE }

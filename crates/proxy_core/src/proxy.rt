@@ -17,7 +17,7 @@ use crate::protocol::Protocol;
 use connections::Connections;
 use framing::{Cutter, LONGEST_PIECE};
 use hub_io::{Event, Limits};
-use kit_bytes::Cut;
+use kit_bytes::{ConnId, Cut};
 use std::alloc::{AllocError, Global};
 use std::marker::Model;
 
@@ -111,7 +111,7 @@ impl<P: Protocol> Core<P> {
     }
 
     // A client connected: it is let in, or is to be hung up where as many as may be are there.
-    fn join(&mut self, name: u64)
+    fn join(&mut self, name: ConnId)
         requires newer { self.old.state.table.greatest < name }
         requires hung_up { self.old.state.table.dropped ≡ [] }
         ensures { self.new ≡ meet P.meaning P.Frame.size (history.Joined name) self.old }
@@ -122,7 +122,7 @@ impl<P: Protocol> Core<P> {
     }
 
     // A client is gone.
-    fn leave(&mut self, name: u64)
+    fn leave(&mut self, name: ConnId)
         ensures { self.new ≡ meet P.meaning P.Frame.size (history.Left name) self.old }
     {
         if self.connections.leave(name) {
@@ -131,7 +131,7 @@ impl<P: Protocol> Core<P> {
     }
 
     // A client's socket took the first so many of the bytes that waited for it.
-    fn take(&mut self, name: u64, count: usize)
+    fn take(&mut self, name: ConnId, count: usize)
         requires { count ≤ length (waiting_for name self.old) }
         ensures { self.new ≡ meet P.meaning P.Frame.size (history.Took name count) self.old }
     {
@@ -139,7 +139,7 @@ impl<P: Protocol> Core<P> {
     }
 
     // A piece of a client's stream.
-    fn bring(&mut self, name: u64, piece: &[u8])
+    fn bring(&mut self, name: ConnId, piece: &[u8])
         requires { length piece.now ≤ LONGEST_PIECE }
         ensures { self.new ≡ meet P.meaning P.Frame.size (history.Piece name piece.now) self.old }
     {
@@ -209,7 +209,7 @@ impl<P: Protocol> Core<P> {
 
     /// The first of the bytes that wait for a connection that is there, or that was dropped and wasn't
     /// asked for yet; none only where none wait, and for any other name.
-    pub fn queued(&self, conn: u64) -> &[u8]
+    pub fn queued(&self, conn: ConnId) -> &[u8]
         ensures queue { IsFrontOf result.now (waiting_for conn self.now) }
         ensures text { (setup : P.meaning.Setup) (events : List history.Event) →
             Stands P.meaning setup events self.now → IsTrue (is_owed conn self.now) → IsFrontOf result.now (text_for (P.meaning.protocol setup) conn events).waiting }
@@ -228,7 +228,7 @@ impl<P: Protocol> Core<P> {
 
     /// All the bytes that wait for a connection that is there, or that was dropped and wasn't asked for
     /// yet, in two parts; none for any other name.
-    pub fn parts(&self, conn: u64) -> (&[u8], &[u8])
+    pub fn parts(&self, conn: ConnId) -> (&[u8], &[u8])
         ensures queue { result.0.now ++ result.1.now ≡ waiting_for conn self.now }
         ensures text { (setup : P.meaning.Setup) (events : List history.Event) →
             Stands P.meaning setup events self.now → IsTrue (is_owed conn self.now) → result.0.now ++ result.1.now ≡ (text_for (P.meaning.protocol setup) conn events).waiting }
@@ -257,7 +257,7 @@ impl<P: Protocol> Core<P> {
     }
 
     /// The next connection to hang up, each once.
-    pub fn next_dropped(&mut self) -> Option<u64>
+    pub fn next_dropped(&mut self) -> Option<ConnId>
         ensures next { NextDropped self.old self.new result }
         ensures hung_up { IsNone result → self.new.state.table.dropped ≡ [] }
         ensures stands { (setup : P.meaning.Setup) (events : List history.Event) → Stands P.meaning setup events self.old → Stands P.meaning setup events self.new }
@@ -288,7 +288,7 @@ impl<P: Protocol> Core<P> {
     }
 
     /// The connection of this place in the order of joining.
-    pub fn conn_at(&self, index: usize) -> u64
+    pub fn conn_at(&self, index: usize) -> ConnId
         requires { index < length self.now.state.table.present }
         ensures { slice_get (names_of self.now) index ≡ Some result }
     {

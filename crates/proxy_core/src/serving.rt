@@ -9,6 +9,7 @@ ghost use Rattle.proxy_core.specs.Shows.{shows_of};
 use crate::protocol::Protocol;
 use crate::proxy::Core;
 use hub_io::{Event, Hub, Limits, ServeEnd, Settings};
+use kit_bytes::ConnId;
 use proxy_serving::ProxyCore;
 use serving_loop::serve;
 use std::alloc::{AllocError, Global};
@@ -25,7 +26,7 @@ impl<P: Protocol> ProxyCore for Core<P> {
         Ok(())
     }
 
-    fn queued(&self, conn: u64) -> &[u8] {
+    fn queued(&self, conn: ConnId) -> &[u8] {
         Core::queued(self, conn)
     }
 
@@ -33,7 +34,7 @@ impl<P: Protocol> ProxyCore for Core<P> {
         Core::queued_modem(self)
     }
 
-    fn parts(&self, conn: u64) -> (&[u8], &[u8]) {
+    fn parts(&self, conn: ConnId) -> (&[u8], &[u8]) {
         Core::parts(self, conn)
     }
 
@@ -41,7 +42,7 @@ impl<P: Protocol> ProxyCore for Core<P> {
         Core::modem_parts(self)
     }
 
-    fn next_dropped(&mut self) -> Option<u64> {
+    fn next_dropped(&mut self) -> Option<ConnId> {
         Core::next_dropped(self)
     }
 
@@ -49,7 +50,7 @@ impl<P: Protocol> ProxyCore for Core<P> {
         Core::waiting_from(self, from)
     }
 
-    fn conn_at(&self, index: usize) -> u64 {
+    fn conn_at(&self, index: usize) -> ConnId {
         Core::conn_at(self, index)
     }
 

@@ -6,7 +6,7 @@ use Rattle.qmux_frame.specs.Reply.{result_reply}
 use Rattle.proxy_history.specs.Facts.{Fact, Ended, NoRoom, Answered, Expired, Indicated, Freed}
 use Rattle.proxy_history.specs.Connections.{present}
 use Rattle.proxy_history.specs.ClientIds.{Grant, is_of, held, holder, holder_in}
-use Rattle.proxy_history.specs.View.{Response, view, sent_at}
+use Rattle.proxy_history.specs.View.{Response, view, said_at}
 use Rattle.proxy_history.specs.Rendering.{Rendering, render, put}
 use Rattle.proxy_history.specs.Noting.{end_overfull}
 use Rattle.qmi_proxy.specs.Limits.{outbox_limit}
@@ -53,7 +53,7 @@ pub expiry_ends : (past : List Fact) → HasElevenLeft past → note setup.devic
 unfolding end_overfull view render present
 expiry_ends past has =
     ends (Expired version_request) past _ _ has.present
-    (over (result_reply (sent_at 2 (view_of 1 past)) aborted) (rendering setup.device 1 past) has.going has.waiting (refusal_is_more (sent_at 2 (view_of 1 past))))
+    (over (result_reply (said_at 2 (view_of 1 past)) aborted) (rendering setup.device 1 past) has.going has.waiting (refusal_is_more (said_at 2 (view_of 1 past))))
 
 pub release_ends : (past : List Fact) → HasElevenLeft past → answer_or_late setup.device true release_request released past ≡ Ended 1 NoRoom ∷ Answered release_request released ∷ Freed 1 2 5 ∷ past
 unfolding cut_from end_overfull view render present

@@ -10,14 +10,14 @@ use Rattle.qmi_proxy.specs.History as proxy
 use Rattle.proxy_examples.specs.Story.{setup, opened, get_version, version, version_internal, version_aborted, both_open, bytes_for, to_modem, history}
 
 -- both are there, in order of joining, and the stream of client 1 goes on with a byte that begins no message
-abbrev pub garbles : List Event
-garbles = both_open (Piece 1 (2 ∷ []) ∷ [])
+abbrev pub goes_bad : List Event
+goes_bad = both_open (Piece 1 (2 ∷ []) ∷ [])
 
 pub record BadStreamIsDropped : Type 0 where
   pub before : present (history (both_open [])) ≡ 1 ∷ 2 ∷ []
-  pub dropped : dropped (history garbles) ≡ 1 ∷ []
-  pub present : present (history garbles) ≡ 2 ∷ []
-  pub second : bytes_for 2 garbles ≡ opened
+  pub dropped : dropped (history goes_bad) ≡ 1 ∷ []
+  pub present : present (history goes_bad) ≡ 2 ∷ []
+  pub second : bytes_for 2 goes_bad ≡ opened
 
 -- a refusal of 19 bytes is due to a client whose outbox has 18 bytes of room: what was queued stays, and nothing is added
 pub record FullOutboxEnds : Type 0 where

@@ -20,22 +20,22 @@ pub record LeavingHangsUpNobody : Type 0 where
   pub present : present (history one_leaves) ≡ 2 ∷ []
 
 -- a bad stream of client 1, and then the clock: the name is to be hung up in its own event alone
-abbrev pub garbles_before_the_clock : List Event
-garbles_before_the_clock = both_open (Piece 1 (2 ∷ []) ∷ Now 1000 ∷ [])
+abbrev pub goes_bad_before_the_clock : List Event
+goes_bad_before_the_clock = both_open (Piece 1 (2 ∷ []) ∷ Now 1000 ∷ [])
 
 pub record NamesAreOfTheirEvent : Type 0 where
-  pub dropped : dropped (history garbles_before_the_clock) ≡ []
-  pub present : present (history garbles_before_the_clock) ≡ 2 ∷ []
+  pub dropped : dropped (history goes_bad_before_the_clock) ≡ []
+  pub present : present (history goes_bad_before_the_clock) ≡ 2 ∷ []
 
 -- a good message, and behind it a byte that begins none: the message goes to the modem, and then the client ends
-abbrev pub garbles_behind_a_message : List Event
-garbles_behind_a_message = both_open (Piece 1 (get_version ++ 2 ∷ []) ∷ [])
+abbrev pub goes_bad_behind_a_message : List Event
+goes_bad_behind_a_message = both_open (Piece 1 (get_version ++ 2 ∷ []) ∷ [])
 
 pub record GoodMessagesCount : Type 0 where
-  pub modem : to_modem garbles_behind_a_message ≡ get_version
-  pub in_use : numbers_in_use 0 (history garbles_behind_a_message) ≡ 1 ∷ []
-  pub waits : pending (history garbles_behind_a_message) ≡ []
-  pub dropped : dropped (history garbles_behind_a_message) ≡ 1 ∷ []
+  pub modem : to_modem goes_bad_behind_a_message ≡ get_version
+  pub in_use : numbers_in_use 0 (history goes_bad_behind_a_message) ≡ 1 ∷ []
+  pub waits : pending (history goes_bad_behind_a_message) ≡ []
+  pub dropped : dropped (history goes_bad_behind_a_message) ≡ 1 ∷ []
 
 -- ---- no room ----
 

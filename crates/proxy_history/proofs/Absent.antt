@@ -4,7 +4,7 @@ use Rattle.proxy_history.specs.Facts.{Fact}
 use Rattle.proxy_history.specs.Connections.{is_present}
 use Rattle.proxy_history.specs.Modem.{is_away}
 use Rattle.proxy_history.specs.Protocol.{Protocol}
-use Rattle.proxy_history.specs.Items.{ModemFails, ModemReturns}
+use Rattle.proxy_history.specs.Items.{ModemIsLost, ModemReturns}
 use Rattle.proxy_history.specs.History.{add}
 use Rattle.proxy_history.specs.Absent.{AddsNothing}
 
@@ -21,7 +21,7 @@ module _ {Known : Type 0} (p : Protocol Known) where
     taking = λ count. skipped (is_present c past) _ past absent;
   }
 
-  pub lost_is_away : (away : Bool) (past : List Fact) → is_away away (add p ModemFails past) ≡ true
+  pub lost_is_away : (away : Bool) (past : List Fact) → is_away away (add p ModemIsLost past) ≡ true
   unfolding is_away
   lost_is_away away past = refl
 

@@ -9,7 +9,7 @@ use Rattle.proxy_history.specs.Facts.{NotAdmitted, NoRoom, Verdict, Fact, Reques
 use Rattle.proxy_history.specs.Connections.{present, is_present}
 use Rattle.proxy_history.specs.Requests.{pending, is_pending}
 use Rattle.proxy_history.specs.Modem.{now}
-use Rattle.proxy_history.specs.View.{Entry, Sent}
+use Rattle.proxy_history.specs.View.{Entry, Said}
 use Rattle.proxy_history.specs.Wording.{Wording, text_behind}
 use Rattle.proxy_history.specs.Noting.{join, if_present, end_overfull, note, each_pending, receivers_of}
 use Rattle.proxy_history.specs.Unanswered.{Refusal, Order, abort_all, tick, due}
@@ -89,7 +89,7 @@ module _ {Known : Type 0} (limits : Limits) (wording : Wording Known) (May : Fac
   }
 
   -- a message that brings its sender no bytes
-  pub judged : (c place : ℕ) (m : List ℕ) (verdict : Verdict) (past : List Fact) → ((entries : List Entry) → text_behind wording entries (Sent m verdict) ≡ []) → May (Judged c place m verdict) past
+  pub judged : (c place : ℕ) (m : List ℕ) (verdict : Verdict) (past : List Fact) → ((entries : List Entry) → text_behind wording entries (Said m verdict) ≡ []) → May (Judged c place m verdict) past
       → AddsMore past (Judged c place m verdict ∷ past)
   judged c place m verdict past silent may = record {
     extends = extends_one May (Judged c place m verdict) past may;

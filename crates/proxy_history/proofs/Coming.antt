@@ -4,7 +4,7 @@ use Rattle.std.specs.List.{AllByRecursion}
 use Rattle.kit_bytes.proofs.Lists.{all_weaker, all_filter, all_push}
 use Rattle.proxy_history.specs.Events.{Event, Joined, ModemTook}
 use Rattle.proxy_history.specs.Items.{Item, Joins, ModemTakes}
-use Rattle.proxy_history.specs.Facts.{Fact, Request, NotAdmitted, Admitted, Ended, Forwarded, ListSent, ModemDrained}
+use Rattle.proxy_history.specs.Facts.{Fact, Request, NotAdmitted, Admitted, Ended, Forwarded, ListSent, ModemTaken}
 use Rattle.proxy_history.specs.Connections.{present, contains}
 use Rattle.proxy_history.specs.Protocol.{Protocol}
 use Rattle.proxy_history.specs.History.{history}
@@ -69,7 +69,7 @@ module _ {Known : Type 0} (p : Protocol Known) (Asks : Request → List Fact →
 abbrev pub lets_in_or_drains : Fact → Bool
 lets_in_or_drains (Admitted c) = true
 lets_in_or_drains (Ended c NotAdmitted) = true
-lets_in_or_drains (ModemDrained count) = true
+lets_in_or_drains (ModemTaken count) = true
 lets_in_or_drains _ = false
 
 abbrev pub joins_or_modem_takes : Item → Bool
@@ -82,7 +82,7 @@ new_alone (Joins c) _ past other may = absurd (cc)
 new_alone (ModemTakes count) _ past other may = absurd (cc)
 new_alone _ (Admitted c) past other may = absurd may
 new_alone _ (Ended c NotAdmitted) past other may = absurd may
-new_alone _ (ModemDrained count) past other may = absurd may
+new_alone _ (ModemTaken count) past other may = absurd may
 new_alone _ _ past other may = refl
 
 -- the event is a joining, or a taking of the modem

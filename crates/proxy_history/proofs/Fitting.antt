@@ -2,9 +2,9 @@
 use Rattle.std.proofs.Common.{◌≡◌, ℕ, ◌+◌, Bool, true, false, ◌&&◌, ◌||◌, ◌==◌, nat_lt, if◌then◌else◌, List, [], ◌∷◌, length, refl, ap, sym, ◌∙◌, arith, subst}
 use Rattle.std.proofs.lemmas.Bool.Decides.{nat_tests}
 use Rattle.proxy_history.specs.Limits.{Limits}
-use Rattle.proxy_history.specs.Facts.{Why, NotAdmitted, BadStream, NoRoom, Closed, Verdict, Fact, Admitted, Ended, Judged, Drained, Answered, IdHeld, Expired, Aborted, Indicated, OpeningEnded, SessionsClosed}
+use Rattle.proxy_history.specs.Facts.{Why, NotAdmitted, BadStream, NoRoom, Leaving, Verdict, Fact, Admitted, Ended, Judged, Taken, Answered, IdHeld, Expired, Aborted, Indicated, OpeningEnded, SessionsClosed}
 use Rattle.proxy_history.specs.Connections.{contains, present, is_present}
-use Rattle.proxy_history.specs.View.{Entry, Sent, Response, Refused, Indication, OpenedWith, Shut, Collected, End, HeldId, NoAnswer, entry_if, view}
+use Rattle.proxy_history.specs.View.{Entry, Said, Response, Refused, Indication, OpenedWith, Shut, Taking, End, HeldId, NoAnswer, entry_if, view}
 use Rattle.proxy_history.specs.Rendering.{Rendering, render, put}
 use Rattle.proxy_history.specs.Wording.{Wording, text_behind}
 use Rattle.proxy_history.specs.Noting.{rendering, end_overfull, note, receivers_of}
@@ -41,7 +41,7 @@ module _ {Known : Type 0} (limits : Limits) (wording : Wording Known) where
   shut_entry true entries fits = fits
   shut_entry false entries fits = fits
 
-  taken_entry : (b : Bool) (count : ℕ) (entries : List Entry) → (bytes_of entries).is_over ≡ false → (bytes_of (entry_if b (Collected count) entries)).is_over ≡ false
+  taken_entry : (b : Bool) (count : ℕ) (entries : List Entry) → (bytes_of entries).is_over ≡ false → (bytes_of (entry_if b (Taking count) entries)).is_over ≡ false
   unfolding render
   taken_entry true count entries fits = fits
   taken_entry false count entries fits = fits
@@ -58,10 +58,10 @@ module _ {Known : Type 0} (limits : Limits) (wording : Wording Known) where
   fact_fits (Admitted d) past fits c there none = fresh_entries (d == c) [] (view wording.blank c past) refl (λ other. fits c (joined_was_there c d past other there))
   fact_fits (Ended d NotAdmitted) past fits c there none = fresh_entries (d == c) (End NotAdmitted ∷ []) (view wording.blank c past) refl (λ other. fits c (stayed_was_there c d past there))
   fact_fits (Ended d BadStream) past fits c there none = ended_entry (d == c) BadStream (view wording.blank c past) (fits c (stayed_was_there c d past there))
-  fact_fits (Ended d Closed) past fits c there none = ended_entry (d == c) Closed (view wording.blank c past) (fits c (stayed_was_there c d past there))
+  fact_fits (Ended d Leaving) past fits c there none = ended_entry (d == c) Leaving (view wording.blank c past) (fits c (stayed_was_there c d past there))
   fact_fits (Ended d NoRoom) past fits c there none = fits c (stayed_was_there c d past there)
-  fact_fits (Judged d place m verdict) past fits c there none = other_entry (d == c) (Sent m verdict) (view wording.blank c past) (only_other c d none) (fits c there)
-  fact_fits (Drained d count) past fits c there none = taken_entry (d == c) count (view wording.blank c past) (fits c there)
+  fact_fits (Judged d place m verdict) past fits c there none = other_entry (d == c) (Said m verdict) (view wording.blank c past) (only_other c d none) (fits c there)
+  fact_fits (Taken d count) past fits c there none = taken_entry (d == c) count (view wording.blank c past) (fits c there)
   fact_fits (Answered r m) past fits c there none = other_entry (r.conn == c) (Response r.place (wording.blank m)) (view wording.blank c past) (only_other c r.conn none) (fits c there)
   fact_fits (IdHeld r) past fits c there none = other_entry (r.conn == c) (Refused r.place HeldId) (view wording.blank c past) (only_other c r.conn none) (fits c there)
   fact_fits (Expired r) past fits c there none = other_entry (r.conn == c) (Refused r.place NoAnswer) (view wording.blank c past) (only_other c r.conn none) (fits c there)
@@ -104,13 +104,13 @@ module _ {Known : Type 0} (limits : Limits) (wording : Wording Known) where
   note_fits fact past fits = overfull_fits (receivers_of fact) (fact ∷ past) (fact_fits fact past fits)
 
   -- a message that brings its sender no bytes finds room
-  pub silent_fits : (d place : ℕ) (m : List ℕ) (verdict : Verdict) (past : List Fact) → ((entries : List Entry) → text_behind wording entries (Sent m verdict) ≡ []) → AllFit limits wording past → AllFit limits wording (Judged d place m verdict ∷ past)
+  pub silent_fits : (d place : ℕ) (m : List ℕ) (verdict : Verdict) (past : List Fact) → ((entries : List Entry) → text_behind wording entries (Said m verdict) ≡ []) → AllFit limits wording past → AllFit limits wording (Judged d place m verdict ∷ past)
   unfolding view present render
   silent_fits d place m verdict past silent fits c there =
       let r : Rendering = rendering limits wording c past in
       let within = waiting_within limits.outbox (text_behind wording) (view wording.blank c past) in
       let room : nat_lt limits.outbox (length r.waiting + 0) ≡ false = grind (arith, nat_tests, within) in
-      elim (d == c) as (λ b. (bytes_of (entry_if b (Sent m verdict) (view wording.blank c past))).is_over ≡ false) [
+      elim (d == c) as (λ b. (bytes_of (entry_if b (Said m verdict) (view wording.blank c past))).is_over ≡ false) [
         | true ↦ ap (λ (new : List ℕ). (put limits.outbox new r).is_over) (silent (view wording.blank c past)) ∙ ap (λ (b : Bool). b || nat_lt limits.outbox (length r.waiting + 0)) (fits c there) ∙ room
         | false ↦ fits c there
       ]

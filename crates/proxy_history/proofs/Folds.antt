@@ -6,12 +6,12 @@ use Rattle.std.proofs.lemmas.List.Elements.{All-nil, All-cons}
 use Rattle.kit_bytes.specs.Subscriptions.{Pair}
 use Rattle.proxy_history.specs.Events.{Event, Joined, Piece, Left, ModemPiece, ModemGone, ModemBack, Now, Took, ModemTook, joins_or_takes, is_anothers, modem_takes}
 use Rattle.proxy_history.specs.Streams.{messages_of_piece, is_bad, stream, modem_stream, with_piece, come_back}
-use Rattle.proxy_history.specs.Items.{Item, Joins, Says, Garbles, Leaves, ModemSays, ModemFails, ModemReturns, ClockShows, Takes, item_if, delivered_by_piece, modem_items, fails_once, returns_once, items_of}
-use Rattle.proxy_history.specs.Facts.{Admitted, Ended, NotAdmitted, Drained, Fact, Request, EventBegan, Forwarded, ListSent, ModemLost}
+use Rattle.proxy_history.specs.Items.{Item, Joins, Says, GoesBad, Leaves, ModemSays, ModemIsLost, ModemReturns, ClockShows, Takes, item_if, delivered_by_piece, modem_items, is_lost_once, returns_once, items_of}
+use Rattle.proxy_history.specs.Facts.{Admitted, Ended, NotAdmitted, Taken, Fact, Request, EventBegan, Forwarded, ListSent, ModemLost}
 use Rattle.proxy_history.specs.Connections.{present, is_present}
-use Rattle.proxy_history.specs.Modem.{now, is_away, to_modem, modem_drained}
-use Rattle.proxy_history.specs.View.{Collected, End, entry_if, Entry, view}
-use Rattle.proxy_history.specs.Rendering.{empty, collect, render, Grows}
+use Rattle.proxy_history.specs.Modem.{now, is_away, to_modem, modem_taken_count}
+use Rattle.proxy_history.specs.View.{Taking, End, entry_if, Entry, view}
+use Rattle.proxy_history.specs.Rendering.{empty, take_waiting, render, Grows}
 use Rattle.proxy_history.specs.Wording.{text_behind}
 use Rattle.proxy_history.specs.Noting.{join, rendering}
 use Rattle.proxy_history.specs.HungUp.{is_beginning}
@@ -67,7 +67,7 @@ module _ {Known : Type 0} (p : Protocol Known) (Asks : Request → List Fact →
     others_items : (event : Event) (item : Item) → IsOf event item → is_anothers client event ≡ true → is_anothers_item client item ≡ true
     others_items (Joined c) (Joins d) is other = ap (λ (x : ℕ). not (x == client)) is ∙ other
     others_items (Piece c bytes) (Says d m) is other = ap (λ (x : ℕ). not (x == client)) is ∙ other
-    others_items (Piece c bytes) (Garbles d) is other = ap (λ (x : ℕ). not (x == client)) is ∙ other
+    others_items (Piece c bytes) (GoesBad d) is other = ap (λ (x : ℕ). not (x == client)) is ∙ other
     others_items (Left c) (Leaves d) is other = ap (λ (x : ℕ). not (x == client)) is ∙ other
     others_items (Took c count) (Takes d taken) is other = ap (λ (x : ℕ). not (x == client)) is.0 ∙ other
     others_items (Joined c) _ is other = absurd is
@@ -134,25 +134,25 @@ module _ {Known : Type 0} (p : Protocol Known) (Asks : Request → List Fact →
     unfolding history add_all
     joining_starts_with_none events = ended_view (Joins client ∷ []) events ∙ joined_view (EventBegan ∷ history p events)
 
-    pub taking_takes_the_first : (count : ℕ) (events : List Event) → is_present client (history p events) ≡ true → text_for p client (Took client count ∷ events) ≡ collect count (text_for p client events)
+    pub taking_takes_the_first : (count : ℕ) (events : List Event) → is_present client (history p events) ≡ true → text_for p client (Took client count ∷ events) ≡ take_waiting count (text_for p client events)
     unfolding history add_all view render present
     taking_takes_the_first count events there =
         let past : List Fact = EventBegan ∷ history p events in
         ended_view (Takes client count ∷ []) events
-        ∙ ap (λ (b : Bool). render p.limits.outbox (text_behind p.wording) (view_now (if b then Drained client count ∷ past else past))) there
-        ∙ ap (λ (b : Bool). render p.limits.outbox (text_behind p.wording) (entry_if b (Collected count) (view_now (history p events)))) (eq-eqb client client refl)
+        ∙ ap (λ (b : Bool). render p.limits.outbox (text_behind p.wording) (view_now (if b then Taken client count ∷ past else past))) there
+        ∙ ap (λ (b : Bool). render p.limits.outbox (text_behind p.wording) (entry_if b (Taking count) (view_now (history p events)))) (eq-eqb client client refl)
 
     pub taking_of_the_absent_takes_none : (count : ℕ) (events : List Event) → is_present client (history p events) ≡ false → text_for p client (Took client count ∷ events) ≡ text_for p client events
     unfolding history add_all view present
     taking_of_the_absent_takes_none count events absent =
         let past : List Fact = EventBegan ∷ history p events in
         ended_view (Takes client count ∷ []) events
-        ∙ ap (λ (b : Bool). render p.limits.outbox (text_behind p.wording) (view_now (if b then Drained client count ∷ past else past))) absent
+        ∙ ap (λ (b : Bool). render p.limits.outbox (text_behind p.wording) (view_now (if b then Taken client count ∷ past else past))) absent
 
-    pub taking_takes : (count : ℕ) (events : List Event) → text_for p client (Took client count ∷ events) ≡ (if is_present client (history p events) then collect count (text_for p client events) else text_for p client events)
+    pub taking_takes : (count : ℕ) (events : List Event) → text_for p client (Took client count ∷ events) ≡ (if is_present client (history p events) then take_waiting count (text_for p client events) else text_for p client events)
     taking_takes count events = by (is_present client (history p events)) refl
       where
-        by : (there : Bool) → is_present client (history p events) ≡ there → text_for p client (Took client count ∷ events) ≡ (if there then collect count (text_for p client events) else text_for p client events)
+        by : (there : Bool) → is_present client (history p events) ≡ there → text_for p client (Took client count ∷ events) ≡ (if there then take_waiting count (text_for p client events) else text_for p client events)
         by true is = taking_takes_the_first count events is
         by false is = taking_of_the_absent_takes_none count events is
 
@@ -192,7 +192,7 @@ module _ {Known : Type 0} (p : Protocol Known) (Asks : Request → List Fact →
     Is past = is_away away past
 
     away_then : Bool → Item → Bool
-    away_then before ModemFails = true
+    away_then before ModemIsLost = true
     away_then before ModemReturns = false
     away_then before _ = before
 
@@ -208,7 +208,7 @@ module _ {Known : Type 0} (p : Protocol Known) (Asks : Request → List Fact →
 
     item_moves : (item : Item) (past : List Fact) → IsSound p.limits past → Is (add p item past) ≡ away_then (Is past) item
     unfolding away_then is_away
-    item_moves ModemFails past sound = refl
+    item_moves ModemIsLost past sound = refl
     item_moves ModemReturns past sound = refl
     item_moves item past sound = item_keeps_away item past sound refl
 
@@ -236,10 +236,10 @@ module _ {Known : Type 0} (p : Protocol Known) (Asks : Request → List Fact →
     unfolding away_after away_then
     piece_agrees piece None = refl
     piece_agrees piece (Some before) =
-        skipped false (λ m. ModemSays m) (delivered_by_piece p before piece) (item_if (is_bad p.size (before ++ piece)) ModemFails) (λ m. refl)
-        ∙ elim (is_bad p.size (before ++ piece)) as (λ b. away_after false (item_if b ModemFails) ≡ is_none (if b then None else Some (before ++ piece))) [ true ↦ refl | false ↦ refl ]
+        skipped false (λ m. ModemSays m) (delivered_by_piece p before piece) (item_if (is_bad p.size (before ++ piece)) ModemIsLost) (λ m. refl)
+        ∙ elim (is_bad p.size (before ++ piece)) as (λ b. away_after false (item_if b ModemIsLost) ≡ is_none (if b then None else Some (before ++ piece))) [ true ↦ refl | false ↦ refl ]
 
-    gone_agrees : (before : Option (List ℕ)) → away_after (is_none before) (fails_once before) ≡ true
+    gone_agrees : (before : Option (List ℕ)) → away_after (is_none before) (is_lost_once before) ≡ true
     unfolding away_after away_then
     gone_agrees None = refl
     gone_agrees (Some before) = refl
@@ -249,11 +249,11 @@ module _ {Known : Type 0} (p : Protocol Known) (Asks : Request → List Fact →
     back_agrees None = refl
     back_agrees (Some before) = refl
 
-    client_agrees : (b bad : Bool) (c : ℕ) (messages : List (List ℕ)) → away_after b (map (λ m. Says c m) messages ++ item_if bad (Garbles c)) ≡ b
+    client_agrees : (b bad : Bool) (c : ℕ) (messages : List (List ℕ)) → away_after b (map (λ m. Says c m) messages ++ item_if bad (GoesBad c)) ≡ b
     unfolding away_after away_then
     client_agrees b bad c messages =
-        skipped b (λ m. Says c m) messages (item_if bad (Garbles c)) (λ m. refl)
-        ∙ elim bad as (λ t. away_after b (item_if t (Garbles c)) ≡ b) [ true ↦ refl | false ↦ refl ]
+        skipped b (λ m. Says c m) messages (item_if bad (GoesBad c)) (λ m. refl)
+        ∙ elim bad as (λ t. away_after b (item_if t (GoesBad c)) ≡ b) [ true ↦ refl | false ↦ refl ]
 
   abbrev pub stream_now : List Event → Option (List ℕ)
   stream_now events = modem_stream p.size p.starts_away events
@@ -304,12 +304,12 @@ module _ {Known : Type 0} (p : Protocol Known) (Asks : Request → List Fact →
   unfolding NoneFails
   piece_goes_on piece None going = tt
   piece_goes_on piece (Some before) going =
-      elim (is_bad p.size (before ++ piece)) as (λ b. is_lost (Some before) (if b then None else Some (before ++ piece)) ≡ false → NoneFails (map (λ m. ModemSays m) (delivered_by_piece p before piece) ++ item_if b ModemFails)) [
+      elim (is_bad p.size (before ++ piece)) as (λ b. is_lost (Some before) (if b then None else Some (before ++ piece)) ≡ false → NoneFails (map (λ m. ModemSays m) (delivered_by_piece p before piece) ++ item_if b ModemIsLost)) [
         | true ↦ λ e. absurd (cc)
         | false ↦ λ e. none_fails (λ m. ModemSays m) (delivered_by_piece p before piece) [] (λ m. refl) tt
       ] going
 
-  gone_goes_on : (before : Option (List ℕ)) → is_lost before None ≡ false → NoneFails (fails_once before)
+  gone_goes_on : (before : Option (List ℕ)) → is_lost before None ≡ false → NoneFails (is_lost_once before)
   unfolding NoneFails
   gone_goes_on None going = tt
   gone_goes_on (Some before) going = absurd (cc)
@@ -323,7 +323,7 @@ module _ {Known : Type 0} (p : Protocol Known) (Asks : Request → List Fact →
   unfolding NoneFails modem_stream
   goes_on (Joined c) events none going = (refl, tt)
   goes_on (Piece c bytes) events none going =
-      none_fails (λ m. Says c m) (messages_of_piece p.size (stream c events) bytes) _ (λ m. refl) (one_if (λ item. fails_or_takes item ≡ false) (is_bad p.size (stream c events ++ bytes)) (Garbles c) refl)
+      none_fails (λ m. Says c m) (messages_of_piece p.size (stream c events) bytes) _ (λ m. refl) (one_if (λ item. fails_or_takes item ≡ false) (is_bad p.size (stream c events ++ bytes)) (GoesBad c) refl)
   goes_on (Left c) events none going = (refl, tt)
   goes_on (ModemPiece bytes) events none going = piece_goes_on bytes (stream_now events) going
   goes_on ModemGone events none going = gone_goes_on (stream_now events) going
@@ -335,7 +335,7 @@ module _ {Known : Type 0} (p : Protocol Known) (Asks : Request → List Fact →
   -- where the modem takes nothing and isn't lost, the bytes for it only grow
   pub modem_bytes_grow : (event : Event) (events : List Event) → modem_takes event ≡ false → is_lost (stream_now events) (stream_now (event ∷ events)) ≡ false
       → QueueGrows p.wire (history p events) (history p (event ∷ events))
-  unfolding history NoneFails to_modem modem_drained
+  unfolding history NoneFails to_modem modem_taken_count
   modem_bytes_grow event events none going =
       let before : List Fact = history p events in
       let begun = begun_is_sound p Asks O events in
@@ -359,12 +359,12 @@ module _ {Known : Type 0} (p : Protocol Known) (Asks : Request → List Fact →
     piece_loses piece None lost = absurd (cc)
     piece_loses piece (Some before) lost =
         let messages : List Item = map (λ m. ModemSays m) (delivered_by_piece p before piece) in
-        elim (is_bad p.size (before ++ piece)) as (λ b. is_lost (Some before) (if b then None else Some (before ++ piece)) ≡ true → LossIsLast (add_all p (messages ++ item_if b ModemFails) past)) [
-          | true ↦ λ e. (p.close (abort_all p.refuse p.order (add_all p messages past)), add_all-append p messages (ModemFails ∷ []) past)
+        elim (is_bad p.size (before ++ piece)) as (λ b. is_lost (Some before) (if b then None else Some (before ++ piece)) ≡ true → LossIsLast (add_all p (messages ++ item_if b ModemIsLost) past)) [
+          | true ↦ λ e. (p.close (abort_all p.refuse p.order (add_all p messages past)), add_all-append p messages (ModemIsLost ∷ []) past)
           | false ↦ λ e. absurd (cc)
         ] lost
 
-    gone_loses : (before : Option (List ℕ)) → is_lost before None ≡ true → LossIsLast (add_all p (fails_once before) past)
+    gone_loses : (before : Option (List ℕ)) → is_lost before None ≡ true → LossIsLast (add_all p (is_lost_once before) past)
     unfolding LossIsLast add_all
     gone_loses None lost = absurd (cc)
     gone_loses (Some before) lost = (p.close (abort_all p.refuse p.order past), refl)
@@ -386,6 +386,6 @@ module _ {Known : Type 0} (p : Protocol Known) (Asks : Request → List Fact →
 
   -- it leaves no bytes for the modem, before the proxy asks anything at the event's end
   pub loss_leaves_none : (event : Event) (events : List Event) → is_lost (stream_now events) (stream_now (event ∷ events)) ≡ true
-      → (to_modem p.wire (add_all p (items_of p events event) (EventBegan ∷ history p events)) ≡ []) × (modem_drained (add_all p (items_of p events event) (EventBegan ∷ history p events)) ≡ 0)
-  unfolding LossIsLast to_modem modem_drained
-  loss_leaves_none event events lost = let last = loss_is_last event events lost in (ap (to_modem p.wire) last.1, ap modem_drained last.1)
+      → (to_modem p.wire (add_all p (items_of p events event) (EventBegan ∷ history p events)) ≡ []) × (modem_taken_count (add_all p (items_of p events event) (EventBegan ∷ history p events)) ≡ 0)
+  unfolding LossIsLast to_modem modem_taken_count
+  loss_leaves_none event events lost = let last = loss_is_last event events lost in (ap (to_modem p.wire) last.1, ap modem_taken_count last.1)

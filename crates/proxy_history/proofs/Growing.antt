@@ -2,9 +2,9 @@
 use Rattle.std.proofs.Common.{◌≡◌, ℕ, Bool, true, false, ◌==◌, if◌then◌else◌, List, [], ◌∷◌, ◌++◌, refl, ap, sym, ◌∙◌, subst, append_assoc}
 use Rattle.std.proofs.lemmas.List.{append-nil}
 use Rattle.proxy_history.specs.Limits.{Limits}
-use Rattle.proxy_history.specs.Facts.{NotAdmitted, BadStream, Closed, Fact, Admitted, Ended, Judged, Drained, Answered, IdHeld, Expired, Aborted, Indicated, OpeningEnded, SessionsClosed}
+use Rattle.proxy_history.specs.Facts.{NotAdmitted, BadStream, Leaving, Fact, Admitted, Ended, Judged, Taken, Answered, IdHeld, Expired, Aborted, Indicated, OpeningEnded, SessionsClosed}
 use Rattle.proxy_history.specs.Connections.{contains}
-use Rattle.proxy_history.specs.View.{Entry, Sent, Response, Refused, Indication, OpenedWith, Shut, Collected, End, HeldId, NoAnswer, entry_if, view}
+use Rattle.proxy_history.specs.View.{Entry, Said, Response, Refused, Indication, OpenedWith, Shut, Taking, End, HeldId, NoAnswer, entry_if, view}
 use Rattle.proxy_history.specs.Rendering.{Rendering, EntryText, render, put_unless, Grows}
 use Rattle.proxy_history.specs.Wording.{Wording, text_behind}
 use Rattle.proxy_history.specs.Noting.{rendering}
@@ -27,15 +27,15 @@ put_grows : (over : Bool) (new : List ℕ) (r : Rendering) → Grows r (put_unle
 put_grows true new r = record { more = []; bytes = sym (append-nil r.bytes); waiting = sym (append-nil r.waiting) }
 put_grows false new r = record { more = new; bytes = refl; waiting = refl }
 
-abbrev pub is_collected : Entry → Bool
-is_collected (Collected count) = true
-is_collected _ = false
+abbrev pub is_taking : Entry → Bool
+is_taking (Taking count) = true
+is_taking _ = false
 
 module _ (room : ℕ) (text : EntryText) where
-  entry_grows : (entry : Entry) (entries : List Entry) → is_collected entry ≡ false → Grows (render room text entries) (render room text (entry ∷ entries))
+  entry_grows : (entry : Entry) (entries : List Entry) → is_taking entry ≡ false → Grows (render room text entries) (render room text (entry ∷ entries))
   unfolding render
-  entry_grows (Collected count) entries none = absurd (cc)
-  entry_grows (Sent message verdict) entries none = put_grows _ (text entries (Sent message verdict)) (render room text entries)
+  entry_grows (Taking count) entries none = absurd (cc)
+  entry_grows (Said message verdict) entries none = put_grows _ (text entries (Said message verdict)) (render room text entries)
   entry_grows (Response place message) entries none = put_grows _ (text entries (Response place message)) (render room text entries)
   entry_grows (Refused place cause) entries none = put_grows _ (text entries (Refused place cause)) (render room text entries)
   entry_grows (Indication message) entries none = put_grows _ (text entries (Indication message)) (render room text entries)
@@ -43,7 +43,7 @@ module _ (room : ℕ) (text : EntryText) where
   entry_grows Shut entries none = grows_same (render room text entries)
   entry_grows (End why) entries none = grows_same (render room text entries)
 
-  entry_if_grows : (b : Bool) (entry : Entry) (entries : List Entry) → is_collected entry ≡ false → Grows (render room text entries) (render room text (entry_if b entry entries))
+  entry_if_grows : (b : Bool) (entry : Entry) (entries : List Entry) → is_taking entry ≡ false → Grows (render room text entries) (render room text (entry_if b entry entries))
   entry_if_grows true entry entries none = entry_grows entry entries none
   entry_if_grows false entry entries none = grows_same (render room text entries)
 
@@ -51,7 +51,7 @@ module _ (room : ℕ) (text : EntryText) where
 
 -- a connection of this name begins anew, or its socket takes bytes
 abbrev pub begins_or_takes : ℕ → Fact → Bool
-begins_or_takes c (Drained d count) = d == c
+begins_or_takes c (Taken d count) = d == c
 begins_or_takes c fact = begins_anew c fact
 
 module _ {Known : Type 0} (limits : Limits) (wording : Wording Known) (client : ℕ) where
@@ -78,9 +78,9 @@ module _ {Known : Type 0} (limits : Limits) (wording : Wording Known) (client : 
   fact_grows (Admitted d) past none = other_grows (view wording.blank client past) [] (d == client) none
   fact_grows (Ended d NotAdmitted) past none = other_grows (view wording.blank client past) (End NotAdmitted ∷ []) (d == client) none
   fact_grows (Ended d BadStream) past none = entry_if_grows limits.outbox (text_behind wording) (d == client) (End BadStream) (view wording.blank client past) refl
-  fact_grows (Ended d Closed) past none = entry_if_grows limits.outbox (text_behind wording) (d == client) (End Closed) (view wording.blank client past) refl
-  fact_grows (Drained d count) past none = subst (λ (b : Bool). Grows (bytes_of (view wording.blank client past)) (bytes_of (entry_if b (Collected count) (view wording.blank client past)))) (sym none) (same past)
-  fact_grows (Judged d place message verdict) past none = entry_if_grows limits.outbox (text_behind wording) (d == client) (Sent message verdict) (view wording.blank client past) refl
+  fact_grows (Ended d Leaving) past none = entry_if_grows limits.outbox (text_behind wording) (d == client) (End Leaving) (view wording.blank client past) refl
+  fact_grows (Taken d count) past none = subst (λ (b : Bool). Grows (bytes_of (view wording.blank client past)) (bytes_of (entry_if b (Taking count) (view wording.blank client past)))) (sym none) (same past)
+  fact_grows (Judged d place message verdict) past none = entry_if_grows limits.outbox (text_behind wording) (d == client) (Said message verdict) (view wording.blank client past) refl
   fact_grows (Answered r message) past none = entry_if_grows limits.outbox (text_behind wording) (r.conn == client) (Response r.place (wording.blank message)) (view wording.blank client past) refl
   fact_grows (IdHeld r) past none = entry_if_grows limits.outbox (text_behind wording) (r.conn == client) (Refused r.place HeldId) (view wording.blank client past) refl
   fact_grows (Expired r) past none = entry_if_grows limits.outbox (text_behind wording) (r.conn == client) (Refused r.place NoAnswer) (view wording.blank client past) refl

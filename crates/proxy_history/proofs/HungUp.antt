@@ -2,7 +2,7 @@
 use Rattle.std.proofs.Common.{◌≡◌, ℕ, false, List, [], ◌∷◌, ◌++◌, reverse, filter_map, refl, ap, sym, ◌∙◌, All, append-nil}
 use Rattle.std.proofs.lemmas.List.{reverse-append}
 use Rattle.std.proofs.lemmas.List.Elements.{All-head, All-tail, filter_map-append}
-use Rattle.proxy_history.specs.Facts.{NotAdmitted, BadStream, NoRoom, Closed, Fact, EventBegan, Ended}
+use Rattle.proxy_history.specs.Facts.{NotAdmitted, BadStream, NoRoom, Leaving, Fact, EventBegan, Ended}
 use Rattle.proxy_history.specs.Connections.{dropped}
 use Rattle.proxy_history.specs.HungUp.{hung_up_by, is_beginning}
 
@@ -12,7 +12,7 @@ names facts = filter_map hung_up_by facts
 dropped-step : (fact : Fact) (past : List Fact) → is_beginning fact ≡ false → dropped (fact ∷ past) ≡ dropped past ++ filter_map hung_up_by (fact ∷ [])
 unfolding dropped
 dropped-step EventBegan past other = absurd (cc)
-dropped-step (Ended c Closed) past other = sym (append-nil (dropped past))
+dropped-step (Ended c Leaving) past other = sym (append-nil (dropped past))
 dropped-step (Ended c NotAdmitted) past other = refl
 dropped-step (Ended c BadStream) past other = refl
 dropped-step (Ended c NoRoom) past other = refl

@@ -4,9 +4,9 @@ use Rattle.std.proofs.lemmas.List.{length-drop}
 use Rattle.proxy_history.specs.Events.{Event, Joined, Piece, Left, ModemPiece, ModemGone, ModemBack, Now, Took, ModemTook, joins_or_takes}
 use Rattle.proxy_history.specs.Items.{items_of, returns_once}
 use Rattle.proxy_history.specs.Streams.{modem_stream}
-use Rattle.proxy_history.specs.Facts.{Fact, Request, EventBegan, Ended, Closed, Drained, Forwarded, ListSent, ModemDrained}
+use Rattle.proxy_history.specs.Facts.{Fact, Request, EventBegan, Ended, Leaving, Taken, Forwarded, ListSent, ModemTaken}
 use Rattle.proxy_history.specs.Connections.{present, dropped, without, is_present}
-use Rattle.proxy_history.specs.Modem.{is_away, to_modem, modem_drained}
+use Rattle.proxy_history.specs.Modem.{is_away, to_modem, modem_taken_count}
 use Rattle.proxy_history.specs.View.{Entry, view}
 use Rattle.proxy_history.specs.Rendering.{Rendering, render}
 use Rattle.proxy_history.specs.Wording.{text_behind}
@@ -76,7 +76,7 @@ module _ {Known : Type 0} (p : Protocol Known) (Asks : Request → List Fact →
   no_bytes c = refl
 
   no_modem_bytes : modem_queue p [] ≡ []
-  unfolding history to_modem modem_drained
+  unfolding history to_modem modem_taken_count
   no_modem_bytes = refl
 
   -- ---- who is there ----
@@ -85,13 +85,13 @@ module _ {Known : Type 0} (p : Protocol Known) (Asks : Request → List Fact →
   unfolding add_all present
   took_present c count past =
       let facts : List Fact = EventBegan ∷ history p past in
-      before_end present leaves_present (Took c count) past ∙ left_either present (is_present c facts) (Drained c count) facts refl
+      before_end present leaves_present (Took c count) past ∙ left_either present (is_present c facts) (Taken c count) facts refl
 
   left_present : (c : ℕ) (past : List Event) → is_present c (history p past) ≡ true → present (history p (Left c ∷ past)) ≡ without c (present (history p past))
   unfolding add_all present
   left_present c past there =
       let facts : List Fact = EventBegan ∷ history p past in
-      before_end present leaves_present (Left c) past ∙ ap (λ (b : Bool). present (if b then Ended c Closed ∷ facts else facts)) there
+      before_end present leaves_present (Left c) past ∙ ap (λ (b : Bool). present (if b then Ended c Leaving ∷ facts else facts)) there
 
   modem_took_present : (count : ℕ) (past : List Event) → present (history p (ModemTook count ∷ past)) ≡ present (history p past)
   unfolding add_all present
@@ -103,13 +103,13 @@ module _ {Known : Type 0} (p : Protocol Known) (Asks : Request → List Fact →
   unfolding add_all dropped
   took_dropped c count past =
       let facts : List Fact = EventBegan ∷ history p past in
-      before_end dropped leaves_dropped (Took c count) past ∙ left_either dropped (is_present c facts) (Drained c count) facts refl
+      before_end dropped leaves_dropped (Took c count) past ∙ left_either dropped (is_present c facts) (Taken c count) facts refl
 
   left_dropped : (c : ℕ) (past : List Event) → dropped (history p (Left c ∷ past)) ≡ []
   unfolding add_all dropped
   left_dropped c past =
       let facts : List Fact = EventBegan ∷ history p past in
-      before_end dropped leaves_dropped (Left c) past ∙ left_either dropped (is_present c facts) (Ended c Closed) facts refl
+      before_end dropped leaves_dropped (Left c) past ∙ left_either dropped (is_present c facts) (Ended c Leaving) facts refl
 
   modem_took_dropped : (count : ℕ) (past : List Event) → dropped (history p (ModemTook count ∷ past)) ≡ []
   unfolding add_all dropped
@@ -154,20 +154,20 @@ module _ {Known : Type 0} (p : Protocol Known) (Asks : Request → List Fact →
   unfolding modem_stream
   gone_away past = away_agrees p Asks O (ModemGone ∷ past)
 
-  modem_grows : (count : ℕ) (past : List Event) → QueueGrows p.wire (ModemDrained count ∷ EventBegan ∷ history p past) (history p (ModemTook count ∷ past))
+  modem_grows : (count : ℕ) (past : List Event) → QueueGrows p.wire (ModemTaken count ∷ EventBegan ∷ history p past) (history p (ModemTook count ∷ past))
   unfolding history add_all
   modem_grows count past =
-      let after : List Fact = ModemDrained count ∷ EventBegan ∷ history p past in
+      let after : List Fact = ModemTaken count ∷ EventBegan ∷ history p past in
       kept_at_end p Asks O (QueueGrows p.wire after)
       (λ fact before follows may asked. queue_grows p.wire after fact before (at_end (λ f. takes_from_queue f ≡ false) (λ r. refl) (λ list. refl) fact before may)) after
       (sound_items p Asks O (items_of p past (ModemTook count)) (EventBegan ∷ history p past) (begun_is_sound p Asks O past)) (queue_same p.wire after)
 
   modem_taken : (own : List Fact → ℕ) (count : ℕ) (past : List Event) → IsTakenByModem (proxy_of p own) count past
-  unfolding to_modem modem_drained
+  unfolding to_modem modem_taken_count
   modem_taken own count past =
       let g = modem_grows count past in
       let all : List ℕ = to_modem p.wire (history p past) in
-      let taken : ℕ = modem_drained (history p past) in
+      let taken : ℕ = modem_taken_count (history p past) in
       let rest = drop_front (taken + count) all g.more in
       record {
         more = rest.0;
@@ -180,13 +180,13 @@ module _ {Known : Type 0} (p : Protocol Known) (Asks : Request → List Fact →
 
   backlog_lessens : (own : List Fact → ℕ) → AsksUpTo p own → (count : ℕ) (past : List Event) → 0 < count → count ≤ length (modem_queue p past)
       → backlog p own (history p (ModemTook count ∷ past)) < backlog p own (history p past)
-  unfolding history add_all to_modem modem_drained
+  unfolding history add_all to_modem modem_taken_count
   backlog_lessens own upto count past some within =
       let facts : List Fact = EventBegan ∷ history p past in
-      let asked = upto.asked (ModemDrained count ∷ facts) (sound_items p Asks O (items_of p past (ModemTook count)) facts (begun_is_sound p Asks O past)) in
-      let same : own (ModemDrained count ∷ facts) ≡ own (history p past) = upto.taken count facts ∙ upto.begun (history p past) in
+      let asked = upto.asked (ModemTaken count ∷ facts) (sound_items p Asks O (items_of p past (ModemTook count)) facts (begun_is_sound p Asks O past)) in
+      let same : own (ModemTaken count ∷ facts) ≡ own (history p past) = upto.taken count facts ∙ upto.begun (history p past) in
       let all : List ℕ = to_modem p.wire (history p past) in
-      let taken : ℕ = modem_drained (history p past) in
+      let taken : ℕ = modem_taken_count (history p past) in
       omega (arith, asked, same, length-drop taken all, length-drop (taken + count) all)
 
   -- ---- the rules ----

@@ -3,8 +3,8 @@ use Rattle.std.proofs.Common.{◌≡◌, ℕ, ◌+◌, Bool, true, false, not, �
 use Rattle.std.proofs.lemmas.Bool.{eqb-true, eq-eqb, or_left, or_right}
 use Rattle.std.proofs.lemmas.List.Elements.{All-nil, All-cons}
 use Rattle.std.specs.List.{AllByRecursion}
-use Rattle.proxy_history.specs.Items.{Item, Joins, Says, Garbles, Leaves, ModemSays, ModemFails, ModemReturns, ClockShows, Takes, ModemTakes}
-use Rattle.proxy_history.specs.Facts.{Fact, EventBegan, Admitted, Ended, NotAdmitted, BadStream, NoRoom, Closed, Judged, Drained, Request, Answered, IdHeld, Expired, Aborted, Indicated, OpeningEnded, SessionsClosed}
+use Rattle.proxy_history.specs.Items.{Item, Joins, Says, GoesBad, Leaves, ModemSays, ModemIsLost, ModemReturns, ClockShows, Takes, ModemTakes}
+use Rattle.proxy_history.specs.Facts.{Fact, EventBegan, Admitted, Ended, NotAdmitted, BadStream, NoRoom, Leaving, Judged, Taken, Request, Answered, IdHeld, Expired, Aborted, Indicated, OpeningEnded, SessionsClosed}
 use Rattle.proxy_history.specs.Connections.{contains, present, is_present, dropped}
 use Rattle.proxy_history.specs.View.{Entry, Response, Refused, Indication, OpenedWith, Shut, HeldId, NoAnswer, entry_if, view}
 use Rattle.proxy_history.specs.Rendering.{Rendering, render, put, put_unless, Grows}
@@ -32,7 +32,7 @@ is_of_modem (Admitted c) = false
 is_of_modem (Ended c NoRoom) = true
 is_of_modem (Ended c why) = false
 is_of_modem (Judged c place message verdict) = false
-is_of_modem (Drained c count) = false
+is_of_modem (Taken c count) = false
 is_of_modem _ = true
 
 abbrev pub OfModem : Fact → List Fact → Type 0
@@ -40,13 +40,13 @@ OfModem fact past = is_of_modem fact ≡ true
 
 abbrev pub is_modems : Item → Bool
 is_modems (ModemSays m) = true
-is_modems ModemFails = true
+is_modems ModemIsLost = true
 is_modems _ = false
 
 of_modem : (item : Item) (fact : Fact) (past : List Fact) → is_modems item ≡ true → MayAdd item fact past → OfModem fact past
 of_modem (Joins c) _ past modems may = absurd (cc)
 of_modem (Says c m) _ past modems may = absurd (cc)
-of_modem (Garbles c) _ past modems may = absurd (cc)
+of_modem (GoesBad c) _ past modems may = absurd (cc)
 of_modem (Leaves c) _ past modems may = absurd (cc)
 of_modem ModemReturns _ past modems may = absurd (cc)
 of_modem (ClockShows time) _ past modems may = absurd (cc)
@@ -56,9 +56,9 @@ of_modem _ EventBegan past modems may = absurd may
 of_modem _ (Admitted c) past modems may = absurd may
 of_modem _ (Ended c NotAdmitted) past modems may = absurd may
 of_modem _ (Ended c BadStream) past modems may = absurd may
-of_modem _ (Ended c Closed) past modems may = absurd may
+of_modem _ (Ended c Leaving) past modems may = absurd may
 of_modem _ (Judged c place message verdict) past modems may = absurd may
-of_modem _ (Drained c count) past modems may = absurd may
+of_modem _ (Taken c count) past modems may = absurd may
 of_modem _ _ past modems may = refl
 
 -- the messages of a piece, and the loss behind a stream that went bad
@@ -82,7 +82,7 @@ module _ {Known : Type 0} (limits : Limits) (wording : Wording Known) (client : 
   begins_none : (fact : Fact) → is_of_modem fact ≡ true → growing.begins_or_takes client fact ≡ false
   begins_none (Admitted c) is = absurd (cc)
   begins_none (Ended c NotAdmitted) is = absurd (cc)
-  begins_none (Drained c count) is = absurd (cc)
+  begins_none (Taken c count) is = absurd (cc)
   begins_none _ is = refl
 
   -- its bytes stay, and more may come behind them
@@ -110,9 +110,9 @@ module _ {Known : Type 0} (limits : Limits) (wording : Wording Known) (client : 
   full_fact (Admitted c) past is over = absurd (cc)
   full_fact (Ended c NotAdmitted) past is over = absurd (cc)
   full_fact (Ended c BadStream) past is over = absurd (cc)
-  full_fact (Ended c Closed) past is over = absurd (cc)
+  full_fact (Ended c Leaving) past is over = absurd (cc)
   full_fact (Judged c place message verdict) past is over = absurd (cc)
-  full_fact (Drained c count) past is over = absurd (cc)
+  full_fact (Taken c count) past is over = absurd (cc)
   full_fact (Answered r m) past is over = full_entry (r.conn == client) (Response r.place (wording.blank m)) _ (view wording.blank client past) over refl
   full_fact (IdHeld r) past is over = full_entry (r.conn == client) (Refused r.place HeldId) _ (view wording.blank client past) over refl
   full_fact (Expired r) past is over = full_entry (r.conn == client) (Refused r.place NoAnswer) _ (view wording.blank client past) over refl

@@ -2,7 +2,7 @@
 use Rattle.std.proofs.Common.{◌≡◌, ℕ, zero, suc, ◌≤◌, Bool, true, false, not, ◌&&◌, ◌||◌, ◌==◌, List, [], ◌∷◌, ◌++◌, refl, ap, ◌∙◌, arith}
 use Rattle.std.proofs.lemmas.Bool.Decides.{nat_tests}
 use Rattle.proxy_history.specs.Limits.{Limits}
-use Rattle.proxy_history.specs.Facts.{Fact, NotAdmitted, BadStream, NoRoom, Closed, EventBegan, Admitted, Ended}
+use Rattle.proxy_history.specs.Facts.{Fact, NotAdmitted, BadStream, NoRoom, Leaving, EventBegan, Admitted, Ended}
 use Rattle.proxy_history.specs.Connections.{present, dropped, contains}
 use Rattle.proxy_history.specs.Sound.{MayFollow}
 use Rattle.proxy_history.proofs.Lists.{contains_kept}
@@ -40,5 +40,5 @@ still_never_dropped limits EventBegan past follows named none never = refl
 still_never_dropped limits (Ended c NotAdmitted) past follows named none never = none_behind c (dropped past) named never
 still_never_dropped limits (Ended c BadStream) past follows named none never = none_behind c (dropped past) (there_is_some c (present past) none follows) never
 still_never_dropped limits (Ended c NoRoom) past follows named none never = none_behind c (dropped past) (there_is_some c (present past) none follows) never
-still_never_dropped limits (Ended c Closed) past follows named none never = never
+still_never_dropped limits (Ended c Leaving) past follows named none never = never
 still_never_dropped limits _ past follows named none never = never

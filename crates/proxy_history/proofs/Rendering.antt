@@ -2,9 +2,9 @@
 use Rattle.std.proofs.Common.{◌≡◌, ℕ, ◌+◌, ◌≤◌, Bool, true, false, ◌||◌, nat_lt, if◌then◌else◌, List, [], ◌∷◌, ◌++◌, length, take, drop, refl, ap, sym, ◌∙◌, arith, append_assoc, take-append-drop, length-append, length-take-le, length-drop}
 use Rattle.std.proofs.Math.Seq.{drop-append_seam, take-append_seam}
 use Rattle.std.proofs.lemmas.Bool.Decides.{nat_tests}
-use Rattle.proxy_history.specs.View.{Entry, Sent, Response, Refused, Indication, OpenedWith, Shut, Collected, End}
+use Rattle.proxy_history.specs.View.{Entry, Said, Response, Refused, Indication, OpenedWith, Shut, Taking, End}
 use Rattle.proxy_history.specs.Rendering.{Rendering, EntryText, render, put, put_unless}
-use Rattle.proxy_history.specs.Laws.{collected, collected_count, CollectsWhatWaits, IsSplitByCount}
+use Rattle.proxy_history.specs.Laws.{taken_bytes, taken_count, TakesWhatWaits, IsSplitByCount}
 
 put_unless-split : (over : Bool) (new front : List ℕ) (r : Rendering) → r.bytes ≡ front ++ r.waiting → (put_unless over new r).bytes ≡ front ++ (put_unless over new r).waiting
 put_unless-split true new front r split = split
@@ -14,44 +14,44 @@ put-split : (room : ℕ) (new front : List ℕ) (r : Rendering) → r.bytes ≡ 
 put-split room new front r split = put_unless-split (r.is_over || nat_lt room (length r.waiting + length new)) new front r split
 
 module _ (room : ℕ) (text : EntryText) where
-  pub collected_and_waiting : (entries : List Entry) → (render room text entries).bytes ≡ collected room text entries ++ (render room text entries).waiting
-  unfolding render collected
-  collected_and_waiting [] = refl
-  collected_and_waiting (Collected count ∷ entries) =
-      collected_and_waiting entries
-      ∙ ap (λ (l : List ℕ). collected room text entries ++ l) (sym (take-append-drop count (render room text entries).waiting))
-      ∙ sym (append_assoc (collected room text entries) (take count (render room text entries).waiting) (drop count (render room text entries).waiting))
-  collected_and_waiting (Sent message verdict ∷ entries) = put-split room (text entries (Sent message verdict)) (collected room text entries) (render room text entries) (collected_and_waiting entries)
-  collected_and_waiting (Response place message ∷ entries) = put-split room (text entries (Response place message)) (collected room text entries) (render room text entries) (collected_and_waiting entries)
-  collected_and_waiting (Refused place cause ∷ entries) = put-split room (text entries (Refused place cause)) (collected room text entries) (render room text entries) (collected_and_waiting entries)
-  collected_and_waiting (Indication message ∷ entries) = put-split room (text entries (Indication message)) (collected room text entries) (render room text entries) (collected_and_waiting entries)
-  collected_and_waiting (OpenedWith status ∷ entries) = put-split room (text entries (OpenedWith status)) (collected room text entries) (render room text entries) (collected_and_waiting entries)
-  collected_and_waiting (Shut ∷ entries) = collected_and_waiting entries
-  collected_and_waiting (End why ∷ entries) = collected_and_waiting entries
+  pub taken_and_waiting : (entries : List Entry) → (render room text entries).bytes ≡ taken_bytes room text entries ++ (render room text entries).waiting
+  unfolding render taken_bytes
+  taken_and_waiting [] = refl
+  taken_and_waiting (Taking count ∷ entries) =
+      taken_and_waiting entries
+      ∙ ap (λ (l : List ℕ). taken_bytes room text entries ++ l) (sym (take-append-drop count (render room text entries).waiting))
+      ∙ sym (append_assoc (taken_bytes room text entries) (take count (render room text entries).waiting) (drop count (render room text entries).waiting))
+  taken_and_waiting (Said message verdict ∷ entries) = put-split room (text entries (Said message verdict)) (taken_bytes room text entries) (render room text entries) (taken_and_waiting entries)
+  taken_and_waiting (Response place message ∷ entries) = put-split room (text entries (Response place message)) (taken_bytes room text entries) (render room text entries) (taken_and_waiting entries)
+  taken_and_waiting (Refused place cause ∷ entries) = put-split room (text entries (Refused place cause)) (taken_bytes room text entries) (render room text entries) (taken_and_waiting entries)
+  taken_and_waiting (Indication message ∷ entries) = put-split room (text entries (Indication message)) (taken_bytes room text entries) (render room text entries) (taken_and_waiting entries)
+  taken_and_waiting (OpenedWith status ∷ entries) = put-split room (text entries (OpenedWith status)) (taken_bytes room text entries) (render room text entries) (taken_and_waiting entries)
+  taken_and_waiting (Shut ∷ entries) = taken_and_waiting entries
+  taken_and_waiting (End why ∷ entries) = taken_and_waiting entries
 
-  length-collected : (entries : List Entry) → CollectsWhatWaits room text entries → length (collected room text entries) ≡ collected_count entries
-  unfolding collected collected_count
-  length-collected [] c = refl
-  length-collected (Collected count ∷ entries) c =
-      length-append (collected room text entries) (take count (render room text entries).waiting)
-      ∙ ap (λ (n : ℕ). n + length (take count (render room text entries).waiting)) (length-collected entries c.1)
-      ∙ ap (λ (n : ℕ). collected_count entries + n) (length-take-le count (render room text entries).waiting c.0)
-  length-collected (Sent message verdict ∷ entries) c = length-collected entries c
-  length-collected (Response place message ∷ entries) c = length-collected entries c
-  length-collected (Refused place cause ∷ entries) c = length-collected entries c
-  length-collected (Indication message ∷ entries) c = length-collected entries c
-  length-collected (OpenedWith status ∷ entries) c = length-collected entries c
-  length-collected (Shut ∷ entries) c = length-collected entries c
-  length-collected (End why ∷ entries) c = length-collected entries c
+  length-taken_bytes : (entries : List Entry) → TakesWhatWaits room text entries → length (taken_bytes room text entries) ≡ taken_count entries
+  unfolding taken_bytes taken_count
+  length-taken_bytes [] c = refl
+  length-taken_bytes (Taking count ∷ entries) c =
+      length-append (taken_bytes room text entries) (take count (render room text entries).waiting)
+      ∙ ap (λ (n : ℕ). n + length (take count (render room text entries).waiting)) (length-taken_bytes entries c.1)
+      ∙ ap (λ (n : ℕ). taken_count entries + n) (length-take-le count (render room text entries).waiting c.0)
+  length-taken_bytes (Said message verdict ∷ entries) c = length-taken_bytes entries c
+  length-taken_bytes (Response place message ∷ entries) c = length-taken_bytes entries c
+  length-taken_bytes (Refused place cause ∷ entries) c = length-taken_bytes entries c
+  length-taken_bytes (Indication message ∷ entries) c = length-taken_bytes entries c
+  length-taken_bytes (OpenedWith status ∷ entries) c = length-taken_bytes entries c
+  length-taken_bytes (Shut ∷ entries) c = length-taken_bytes entries c
+  length-taken_bytes (End why ∷ entries) c = length-taken_bytes entries c
 
-  pub split_by_count : (entries : List Entry) → CollectsWhatWaits room text entries → IsSplitByCount room text entries
+  pub split_by_count : (entries : List Entry) → TakesWhatWaits room text entries → IsSplitByCount room text entries
   split_by_count entries c = record {
-    collected = sym (ap (λ (l : List ℕ). take (collected_count entries) l) (collected_and_waiting entries)
-        ∙ ap (λ (n : ℕ). take n (collected room text entries ++ (render room text entries).waiting)) (sym (length-collected entries c))
-        ∙ take-append_seam (collected room text entries) (render room text entries).waiting);
-    waiting = sym (ap (λ (l : List ℕ). drop (collected_count entries) l) (collected_and_waiting entries)
-        ∙ ap (λ (n : ℕ). drop n (collected room text entries ++ (render room text entries).waiting)) (sym (length-collected entries c))
-        ∙ drop-append_seam (collected room text entries) (render room text entries).waiting);
+    taken_bytes = sym (ap (λ (l : List ℕ). take (taken_count entries) l) (taken_and_waiting entries)
+        ∙ ap (λ (n : ℕ). take n (taken_bytes room text entries ++ (render room text entries).waiting)) (sym (length-taken_bytes entries c))
+        ∙ take-append_seam (taken_bytes room text entries) (render room text entries).waiting);
+    waiting = sym (ap (λ (l : List ℕ). drop (taken_count entries) l) (taken_and_waiting entries)
+        ∙ ap (λ (n : ℕ). drop n (taken_bytes room text entries ++ (render room text entries).waiting)) (sym (length-taken_bytes entries c))
+        ∙ drop-append_seam (taken_bytes room text entries) (render room text entries).waiting);
   }
 
 -- ---- no more waits than there is room for ----
@@ -72,8 +72,8 @@ module _ (room : ℕ) (text : EntryText) where
   pub waiting_within : (entries : List Entry) → length (render room text entries).waiting ≤ room
   unfolding render
   waiting_within [] = omega arith
-  waiting_within (Collected count ∷ entries) = let before = waiting_within entries in let left = length-drop count (render room text entries).waiting in omega arith
-  waiting_within (Sent m verdict ∷ entries) = put_within room (text entries (Sent m verdict)) (render room text entries) (waiting_within entries)
+  waiting_within (Taking count ∷ entries) = let before = waiting_within entries in let left = length-drop count (render room text entries).waiting in omega arith
+  waiting_within (Said m verdict ∷ entries) = put_within room (text entries (Said m verdict)) (render room text entries) (waiting_within entries)
   waiting_within (Response place m ∷ entries) = put_within room (text entries (Response place m)) (render room text entries) (waiting_within entries)
   waiting_within (Refused place cause ∷ entries) = put_within room (text entries (Refused place cause)) (render room text entries) (waiting_within entries)
   waiting_within (Indication m ∷ entries) = put_within room (text entries (Indication m)) (render room text entries) (waiting_within entries)

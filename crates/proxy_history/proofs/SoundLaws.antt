@@ -6,11 +6,11 @@ use Rattle.std.proofs.lemmas.List.Kept.{AllPairs-filter}
 use Rattle.std.proofs.lemmas.List.Quantifiers.{all_pairs_push}
 use Rattle.std.proofs.lemmas.Bool.{or_left, or_right, not-true}
 use Rattle.proxy_history.specs.Limits.{Limits}
-use Rattle.proxy_history.specs.Facts.{Why, NotAdmitted, BadStream, NoRoom, Closed, Fact, Request, Admitted, Ended, Judged, Drained, Forwarded, Answered, IdHeld, Late, Expired, Aborted, Indicated, OpeningEnded, SessionsClosed, Granted, Freed, Reset, ModemLost}
+use Rattle.proxy_history.specs.Facts.{Why, NotAdmitted, BadStream, NoRoom, Leaving, Fact, Request, Admitted, Ended, Judged, Taken, Forwarded, Answered, IdHeld, Late, Expired, Aborted, Indicated, OpeningEnded, SessionsClosed, Granted, Freed, Reset, ModemLost}
 use Rattle.proxy_history.specs.Connections.{contains, without, present, is_present}
 use Rattle.proxy_history.specs.Requests.{in_use, pending, number_after, last_number, of_space, numbers_of, numbers_in_use, following}
 use Rattle.proxy_history.specs.ClientIds.{Grant, held, is_of}
-use Rattle.proxy_history.specs.View.{Entry, Sent, Response, Refused, Indication, OpenedWith, Shut, Collected, End, HeldId, NoAnswer, view, entry_if}
+use Rattle.proxy_history.specs.View.{Entry, Said, Response, Refused, Indication, OpenedWith, Shut, Taking, End, HeldId, NoAnswer, view, entry_if}
 use Rattle.proxy_history.specs.Laws.{IsFirstFree}
 use Rattle.proxy_history.specs.Sound.{IsPresent, IsParty, IsSound, Differ, begins_anew, is_end, HasNoEnd, EndsWithItsEnd}
 use Rattle.proxy_history.proofs.Lists.{Contains-nil, Contains-cons, Contains-cons_cases}
@@ -243,10 +243,10 @@ module _ (limits : Limits) where
     stays_gone (Admitted d) past s gone other = (ap (λ (b : Bool). if b then [] else view blank c past) other, joins_gone d past gone other)
     stays_gone (Ended d NotAdmitted) past s gone other = (ap (λ (b : Bool). if b then End NotAdmitted ∷ [] else view blank c past) other, leaves_gone d past gone)
     stays_gone (Ended d BadStream) past s gone other = (no_entry (d == c) _ _ (present_elsewhere d past gone s.0), leaves_gone d past gone)
-    stays_gone (Ended d Closed) past s gone other = (no_entry (d == c) _ _ (present_elsewhere d past gone s.0), leaves_gone d past gone)
+    stays_gone (Ended d Leaving) past s gone other = (no_entry (d == c) _ _ (present_elsewhere d past gone s.0), leaves_gone d past gone)
     stays_gone (Ended d NoRoom) past s gone other = (refl, leaves_gone d past gone)
     stays_gone (Judged d place message verdict) past s gone other = (no_entry (d == c) _ _ (present_elsewhere d past gone s.0), gone)
-    stays_gone (Drained d count) past s gone other = (no_entry (d == c) _ _ (present_elsewhere d past gone s.0), gone)
+    stays_gone (Taken d count) past s gone other = (no_entry (d == c) _ _ (present_elsewhere d past gone s.0), gone)
     stays_gone (Answered r message) past s gone other = (no_entry (r.conn == c) _ _ (waits_elsewhere r past s.1 gone s.0), gone)
     stays_gone (IdHeld r) past s gone other = (no_entry (r.conn == c) _ _ (waits_elsewhere r past s.1 gone s.0), gone)
     stays_gone (Expired r) past s gone other = (no_entry (r.conn == c) _ _ (waits_elsewhere r past s.1 gone s.0), gone)
@@ -322,10 +322,10 @@ module _ (limits : Limits) where
         begins_well (d == c) _ (End NotAdmitted ∷ []) (view blank c past) (All-nil (λ (x : Entry). is_end x ≡ false))
         (λ e is. absurd (let clash : true ≡ false = sym is ∙ left_is_absent c d past e in cc)) well.0 (λ e is. well.1 (stayed_was_there c d past is))
     fact_ends_well (Ended d BadStream) past s well = ends_well (d == c) (is_present c past) _ (End BadStream) (view blank c past) (present_here d past s.0) (left_is_absent c d past) (stayed_was_there c d past) well
-    fact_ends_well (Ended d Closed) past s well = ends_well (d == c) (is_present c past) _ (End Closed) (view blank c past) (present_here d past s.0) (left_is_absent c d past) (stayed_was_there c d past) well
+    fact_ends_well (Ended d Leaving) past s well = ends_well (d == c) (is_present c past) _ (End Leaving) (view blank c past) (present_here d past s.0) (left_is_absent c d past) (stayed_was_there c d past) well
     fact_ends_well (Ended d NoRoom) past s well = (well.0, λ is. well.1 (stayed_was_there c d past is))
-    fact_ends_well (Judged d place message verdict) past s well = grows_well (d == c) (is_present c past) (Sent message verdict) (view blank c past) refl (present_here d past s.0) well
-    fact_ends_well (Drained d count) past s well = grows_well (d == c) (is_present c past) (Collected count) (view blank c past) refl (present_here d past s.0) well
+    fact_ends_well (Judged d place message verdict) past s well = grows_well (d == c) (is_present c past) (Said message verdict) (view blank c past) refl (present_here d past s.0) well
+    fact_ends_well (Taken d count) past s well = grows_well (d == c) (is_present c past) (Taking count) (view blank c past) refl (present_here d past s.0) well
     fact_ends_well (Answered r message) past s well = grows_well (r.conn == c) (is_present c past) (Response r.place (blank message)) (view blank c past) refl (waits_here r past s.1 s.0) well
     fact_ends_well (IdHeld r) past s well = grows_well (r.conn == c) (is_present c past) (Refused r.place HeldId) (view blank c past) refl (waits_here r past s.1 s.0) well
     fact_ends_well (Expired r) past s well = grows_well (r.conn == c) (is_present c past) (Refused r.place NoAnswer) (view blank c past) refl (waits_here r past s.1 s.0) well

@@ -2,7 +2,7 @@
 use Rattle.std.proofs.Common.{◌≡◌, ℕ, ◌+◌, ◌<◌, Bool, true, false, ◌||◌, nat_lt, List, [], ◌∷◌, ◌++◌, length, map, refl, ap, sym, ◌∙◌, subst, Option, Some}
 use Rattle.std.proofs.lemmas.Bool.{true≢false, le-ltb, lt-ltb, false_from_ne_true}
 use Rattle.proxy_history.specs.Events.{Event, ModemPiece}
-use Rattle.proxy_history.specs.Items.{Item, ModemSays, ModemFails, item_if, delivered_by_piece, modem_items}
+use Rattle.proxy_history.specs.Items.{Item, ModemSays, ModemIsLost, item_if, delivered_by_piece, modem_items}
 use Rattle.proxy_history.specs.Streams.{is_bad, modem_stream}
 use Rattle.proxy_history.specs.Facts.{Fact, Request, EventBegan}
 use Rattle.proxy_history.specs.Connections.{is_present}
@@ -88,7 +88,7 @@ module _ {Known : Type 0} (p : Protocol Known) (Asks : Request → List Fact →
 
     module _ (stream piece : List ℕ) (later : List (List ℕ)) (m : List ℕ) (back : modem_stream p.size p.starts_away events ≡ Some stream) (brings : delivered_by_piece p stream piece ≡ earlier ++ m ∷ later) where
       abbrev end : List Item
-      end = map (λ m. ModemSays m) later ++ item_if (is_bad p.size (stream ++ piece)) ModemFails
+      end = map (λ m. ModemSays m) later ++ item_if (is_bad p.size (stream ++ piece)) ModemIsLost
 
       abbrev heard : List Fact
       heard = p.hear_modem m facts_before
@@ -97,8 +97,8 @@ module _ {Known : Type 0} (p : Protocol Known) (Asks : Request → List Fact →
       unfolding history
       whole =
           ap (λ (before : Option (List ℕ)). p.finish (add_all p (modem_items p piece before) (EventBegan ∷ history p events))) back
-          ∙ ap (λ (messages : List (List ℕ)). p.finish (add_all p (map (λ m. ModemSays m) messages ++ item_if (is_bad p.size (stream ++ piece)) ModemFails) (EventBegan ∷ history p events))) brings
-          ∙ ap p.finish (splits p (λ m. ModemSays m) (item_if (is_bad p.size (stream ++ piece)) ModemFails) earlier later m (EventBegan ∷ history p events))
+          ∙ ap (λ (messages : List (List ℕ)). p.finish (add_all p (map (λ m. ModemSays m) messages ++ item_if (is_bad p.size (stream ++ piece)) ModemIsLost) (EventBegan ∷ history p events))) brings
+          ∙ ap p.finish (splits p (λ m. ModemSays m) (item_if (is_bad p.size (stream ++ piece)) ModemIsLost) earlier later m (EventBegan ∷ history p events))
 
       sound_heard : IsSound p.limits heard
       unfolding add_all
@@ -112,7 +112,7 @@ module _ {Known : Type 0} (p : Protocol Known) (Asks : Request → List Fact →
       rest =
           end_adds p Asks O heard (add_all p end heard) (sound_items p Asks O end heard sound_heard)
           (modem_adds p Asks O end heard
-          (behind_messages (λ item. is_modems item ≡ true) (λ m. ModemSays m) later (item_if (is_bad p.size (stream ++ piece)) ModemFails) (λ m. refl) (one_if (λ item. is_modems item ≡ true) (is_bad p.size (stream ++ piece)) ModemFails refl))
+          (behind_messages (λ item. is_modems item ≡ true) (λ m. ModemSays m) later (item_if (is_bad p.size (stream ++ piece)) ModemIsLost) (λ m. refl) (one_if (λ item. is_modems item ≡ true) (is_bad p.size (stream ++ piece)) ModemIsLost refl))
           sound_heard)
 
       pub served : (c : ℕ) (bytes : List ℕ) → is_present c facts_before ≡ true → rendering p.limits p.wording c heard ≡ put p.limits.outbox bytes (rendering p.limits p.wording c facts_before)

@@ -1,11 +1,11 @@
 -- Which questions about a history the items may answer anew, each by a table of items and facts.
 use Rattle.std.proofs.Common.{◌≡◌, ℕ, Bool, true, false, not, ◌==◌, if◌then◌else◌, List, [], ◌∷◌, ◌++◌, refl, ap, sym, ◌∙◌, append_assoc, append-nil}
 use Rattle.std.proofs.lemmas.Bool.{not-true}
-use Rattle.proxy_history.specs.Items.{Item, Joins, Says, Garbles, Leaves, ModemSays, ModemFails, ModemReturns, ClockShows, Takes, ModemTakes}
-use Rattle.proxy_history.specs.Facts.{NotAdmitted, BadStream, NoRoom, Closed, Fact, Request, EventBegan, Admitted, Ended, Judged, Drained, Forwarded, Answered, IdHeld, Expired, Aborted, Indicated, Granted, OpeningEnded, SessionsClosed, ModemLost, ModemReturned, ModemDrained, TimeIs}
+use Rattle.proxy_history.specs.Items.{Item, Joins, Says, GoesBad, Leaves, ModemSays, ModemIsLost, ModemReturns, ClockShows, Takes, ModemTakes}
+use Rattle.proxy_history.specs.Facts.{NotAdmitted, BadStream, NoRoom, Leaving, Fact, Request, EventBegan, Admitted, Ended, Judged, Taken, Forwarded, Answered, IdHeld, Expired, Aborted, Indicated, Granted, OpeningEnded, SessionsClosed, ModemLost, ModemReturned, ModemTaken, TimeIs}
 use Rattle.proxy_history.specs.Connections.{contains}
-use Rattle.proxy_history.specs.Modem.{now, is_away, to_modem, modem_drained}
-use Rattle.proxy_history.specs.View.{Blank, Entry, Sent, Response, Refused, Indication, OpenedWith, Shut, Collected, End, HeldId, NoAnswer, entry_if, view}
+use Rattle.proxy_history.specs.Modem.{now, is_away, to_modem, modem_taken_count}
+use Rattle.proxy_history.specs.View.{Blank, Entry, Said, Response, Refused, Indication, OpenedWith, Shut, Taking, End, HeldId, NoAnswer, entry_if, view}
 use Rattle.proxy_history.specs.HungUp.{is_beginning}
 use Rattle.proxy_history.specs.Adding.{MayAdd}
 use Rattle.proxy_history.proofs.Growing.{begins_or_takes}
@@ -50,12 +50,12 @@ same_away away ModemReturned past none = absurd (cc)
 same_away away _ past none = refl
 
 abbrev pub fails_or_returns : Item → Bool
-fails_or_returns ModemFails = true
+fails_or_returns ModemIsLost = true
 fails_or_returns ModemReturns = true
 fails_or_returns _ = false
 
 pub losses_alone : (item : Item) (fact : Fact) (past : List Fact) → fails_or_returns item ≡ false → MayAdd item fact past → moves_modem fact ≡ false
-losses_alone ModemFails _ past none may = absurd (cc)
+losses_alone ModemIsLost _ past none may = absurd (cc)
 losses_alone ModemReturns _ past none may = absurd (cc)
 losses_alone _ ModemLost past none may = absurd may
 losses_alone _ ModemReturned past none may = absurd may
@@ -65,35 +65,35 @@ losses_alone _ _ past none may = refl
 
 abbrev pub takes_from_queue : Fact → Bool
 takes_from_queue ModemLost = true
-takes_from_queue (ModemDrained count) = true
+takes_from_queue (ModemTaken count) = true
 takes_from_queue _ = false
 
 abbrev pub fails_or_takes : Item → Bool
-fails_or_takes ModemFails = true
+fails_or_takes ModemIsLost = true
 fails_or_takes (ModemTakes count) = true
 fails_or_takes _ = false
 
 pub takings_alone : (item : Item) (fact : Fact) (past : List Fact) → fails_or_takes item ≡ false → MayAdd item fact past → takes_from_queue fact ≡ false
-takings_alone ModemFails _ past none may = absurd (cc)
+takings_alone ModemIsLost _ past none may = absurd (cc)
 takings_alone (ModemTakes count) _ past none may = absurd (cc)
 takings_alone _ ModemLost past none may = absurd may
-takings_alone _ (ModemDrained count) past none may = absurd may
+takings_alone _ (ModemTaken count) past none may = absurd may
 takings_alone _ _ past none may = refl
 
 -- the bytes for the modem that there were, and perhaps more behind them; none is taken
 pub record QueueGrows (wire : Request → List ℕ) (before past : List Fact) : Type 0 where
   pub more : List ℕ
   pub bytes : to_modem wire past ≡ to_modem wire before ++ more
-  pub taken : modem_drained past ≡ modem_drained before
+  pub taken : modem_taken_count past ≡ modem_taken_count before
 
 module _ (wire : Request → List ℕ) (before : List Fact) where
   pub queue_same : QueueGrows wire before before
   queue_same = record { more = []; bytes = sym (append-nil (to_modem wire before)); taken = refl }
 
   pub queue_grows : (fact : Fact) (past : List Fact) → takes_from_queue fact ≡ false → QueueGrows wire before past → QueueGrows wire before (fact ∷ past)
-  unfolding to_modem modem_drained
+  unfolding to_modem modem_taken_count
   queue_grows ModemLost past none g = absurd (cc)
-  queue_grows (ModemDrained count) past none g = absurd (cc)
+  queue_grows (ModemTaken count) past none g = absurd (cc)
   queue_grows (Forwarded r) past none g = record {
     more = g.more ++ wire r;
     bytes = ap (λ (l : List ℕ). l ++ wire r) g.bytes ∙ append_assoc (to_modem wire before) g.more (wire r);
@@ -110,7 +110,7 @@ module _ (client : ℕ) where
   enters (Ended c NoRoom) = false
   enters (Ended c why) = c == client
   enters (Judged c place message verdict) = c == client
-  enters (Drained c count) = c == client
+  enters (Taken c count) = c == client
   enters (Answered r message) = r.conn == client
   enters (IdHeld r) = r.conn == client
   enters (Expired r) = r.conn == client
@@ -133,9 +133,9 @@ module _ (client : ℕ) where
   same_view blank (Admitted c) past none = not_anew (c == client) [] (view blank client past) none
   same_view blank (Ended c NotAdmitted) past none = not_anew (c == client) (End NotAdmitted ∷ []) (view blank client past) none
   same_view blank (Ended c BadStream) past none = no_entry (c == client) (End BadStream) (view blank client past) none
-  same_view blank (Ended c Closed) past none = no_entry (c == client) (End Closed) (view blank client past) none
-  same_view blank (Judged c place message verdict) past none = no_entry (c == client) (Sent message verdict) (view blank client past) none
-  same_view blank (Drained c count) past none = no_entry (c == client) (Collected count) (view blank client past) none
+  same_view blank (Ended c Leaving) past none = no_entry (c == client) (End Leaving) (view blank client past) none
+  same_view blank (Judged c place message verdict) past none = no_entry (c == client) (Said message verdict) (view blank client past) none
+  same_view blank (Taken c count) past none = no_entry (c == client) (Taking count) (view blank client past) none
   same_view blank (Answered r message) past none = no_entry (r.conn == client) (Response r.place (blank message)) (view blank client past) none
   same_view blank (IdHeld r) past none = no_entry (r.conn == client) (Refused r.place HeldId) (view blank client past) none
   same_view blank (Expired r) past none = no_entry (r.conn == client) (Refused r.place NoAnswer) (view blank client past) none
@@ -149,7 +149,7 @@ module _ (client : ℕ) where
   abbrev pub is_anothers_item : Item → Bool
   is_anothers_item (Joins c) = not (c == client)
   is_anothers_item (Says c m) = not (c == client)
-  is_anothers_item (Garbles c) = not (c == client)
+  is_anothers_item (GoesBad c) = not (c == client)
   is_anothers_item (Leaves c) = not (c == client)
   is_anothers_item (Takes c count) = not (c == client)
   is_anothers_item _ = false
@@ -161,11 +161,11 @@ module _ (client : ℕ) where
   others_enter_nothing (Joins c) (Admitted d) past other may = other_is c d may other
   others_enter_nothing (Joins c) (Ended d NotAdmitted) past other may = other_is c d may other
   others_enter_nothing (Says c m) (Judged d place message verdict) past other may = other_is c d may.0 other
-  others_enter_nothing (Garbles c) (Ended d BadStream) past other may = other_is c d may other
-  others_enter_nothing (Leaves c) (Ended d Closed) past other may = other_is c d may other
-  others_enter_nothing (Takes c count) (Drained d taken) past other may = other_is c d may.0 other
+  others_enter_nothing (GoesBad c) (Ended d BadStream) past other may = other_is c d may other
+  others_enter_nothing (Leaves c) (Ended d Leaving) past other may = other_is c d may other
+  others_enter_nothing (Takes c count) (Taken d taken) past other may = other_is c d may.0 other
   others_enter_nothing (ModemSays m) _ past other may = absurd (cc)
-  others_enter_nothing ModemFails _ past other may = absurd (cc)
+  others_enter_nothing ModemIsLost _ past other may = absurd (cc)
   others_enter_nothing ModemReturns _ past other may = absurd (cc)
   others_enter_nothing (ClockShows time) _ past other may = absurd (cc)
   others_enter_nothing (ModemTakes count) _ past other may = absurd (cc)
@@ -183,8 +183,8 @@ module _ (client : ℕ) where
   pub joinings_alone : (item : Item) (fact : Fact) (past : List Fact) → item_joins_or_takes item ≡ false → MayAdd item fact past → begins_or_takes client fact ≡ false
   joinings_alone (Joins c) (Admitted d) past none may = ap (λ (x : ℕ). x == client) may ∙ none
   joinings_alone (Joins c) (Ended d NotAdmitted) past none may = ap (λ (x : ℕ). x == client) may ∙ none
-  joinings_alone (Takes c count) (Drained d taken) past none may = ap (λ (x : ℕ). x == client) may.0 ∙ none
+  joinings_alone (Takes c count) (Taken d taken) past none may = ap (λ (x : ℕ). x == client) may.0 ∙ none
   joinings_alone _ (Admitted d) past none may = absurd may
   joinings_alone _ (Ended d NotAdmitted) past none may = absurd may
-  joinings_alone _ (Drained d taken) past none may = absurd may
+  joinings_alone _ (Taken d taken) past none may = absurd may
   joinings_alone _ _ past none may = refl

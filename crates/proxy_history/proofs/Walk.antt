@@ -4,10 +4,10 @@ use Rattle.std.proofs.lemmas.List.{length-append, length-drop}
 use Rattle.std.specs.List.{AllByRecursion}
 use Rattle.proxy_history.specs.Events.{Event, Joined, Piece, Left, ModemPiece, ModemGone, ModemBack, Now, Took, ModemTook}
 use Rattle.proxy_history.specs.Streams.{messages_of_piece, is_bad, stream, modem_stream}
-use Rattle.proxy_history.specs.Items.{Item, Joins, Says, Garbles, Leaves, ModemSays, ModemFails, ModemReturns, ClockShows, Takes, ModemTakes, item_if, delivered_by_piece, modem_items, fails_once, returns_once, items_of}
-use Rattle.proxy_history.specs.Facts.{BadStream, NoRoom, Closed, Fact, Request, EventBegan, Ended, Drained, Forwarded, Expired, Aborted, OpeningEnded, Granted, Freed, ModemLost, ModemReturned, ModemDrained, TimeIs}
+use Rattle.proxy_history.specs.Items.{Item, Joins, Says, GoesBad, Leaves, ModemSays, ModemIsLost, ModemReturns, ClockShows, Takes, ModemTakes, item_if, delivered_by_piece, modem_items, is_lost_once, returns_once, items_of}
+use Rattle.proxy_history.specs.Facts.{BadStream, NoRoom, Leaving, Fact, Request, EventBegan, Ended, Taken, Forwarded, Expired, Aborted, OpeningEnded, Granted, Freed, ModemLost, ModemReturned, ModemTaken, TimeIs}
 use Rattle.proxy_history.specs.Connections.{present}
-use Rattle.proxy_history.specs.Modem.{now, to_modem, modem_drained, modem_queue}
+use Rattle.proxy_history.specs.Modem.{now, to_modem, modem_taken_count, modem_queue}
 use Rattle.proxy_history.specs.Unanswered.{abort_all, tick}
 use Rattle.proxy_history.specs.Sound.{MayFollow, IsSound}
 use Rattle.proxy_history.specs.Protocol.{Protocol}
@@ -29,11 +29,11 @@ add_all-append p (item ∷ items) more past = add_all-append p items more (add p
 abbrev pub IsOf : Event → Item → Type 0
 IsOf (Joined c) (Joins d) = d ≡ c
 IsOf (Piece c bytes) (Says d m) = d ≡ c
-IsOf (Piece c bytes) (Garbles d) = d ≡ c
+IsOf (Piece c bytes) (GoesBad d) = d ≡ c
 IsOf (Left c) (Leaves d) = d ≡ c
 IsOf (ModemPiece bytes) (ModemSays m) = Unit {0}
-IsOf (ModemPiece bytes) ModemFails = Unit {0}
-IsOf ModemGone ModemFails = Unit {0}
+IsOf (ModemPiece bytes) ModemIsLost = Unit {0}
+IsOf ModemGone ModemIsLost = Unit {0}
 IsOf ModemBack ModemReturns = Unit {0}
 IsOf (Now time) (ClockShows shown) = shown ≡ time
 IsOf (Took c count) (Takes d taken) = (d ≡ c) × (taken ≡ count)
@@ -56,16 +56,16 @@ one_if Q false item is = tt
 pub items_are_of : {Known : Type 0} (p : Protocol Known) (event : Event) (events : List Event) → AllByRecursion (IsOf event) (items_of p events event)
 items_are_of p (Joined c) events = (refl, tt)
 items_are_of p (Piece c bytes) events =
-    behind_messages (IsOf (Piece c bytes)) (λ m. Says c m) (messages_of_piece p.size (stream c events) bytes) _ (λ m. refl) (one_if (IsOf (Piece c bytes)) (is_bad p.size (stream c events ++ bytes)) (Garbles c) refl)
+    behind_messages (IsOf (Piece c bytes)) (λ m. Says c m) (messages_of_piece p.size (stream c events) bytes) _ (λ m. refl) (one_if (IsOf (Piece c bytes)) (is_bad p.size (stream c events ++ bytes)) (GoesBad c) refl)
 items_are_of p (Left c) events = (refl, tt)
 items_are_of p (ModemPiece bytes) events = of_modem (modem_stream p.size p.starts_away events)
   where
     of_modem : (before : Option (List ℕ)) → AllByRecursion (IsOf (ModemPiece bytes)) (modem_items p bytes before)
     of_modem None = tt
-    of_modem (Some before) = behind_messages (IsOf (ModemPiece bytes)) (λ m. ModemSays m) (delivered_by_piece p before bytes) _ (λ m. tt) (one_if (IsOf (ModemPiece bytes)) (is_bad p.size (before ++ bytes)) ModemFails tt)
+    of_modem (Some before) = behind_messages (IsOf (ModemPiece bytes)) (λ m. ModemSays m) (delivered_by_piece p before bytes) _ (λ m. tt) (one_if (IsOf (ModemPiece bytes)) (is_bad p.size (before ++ bytes)) ModemIsLost tt)
 items_are_of p ModemGone events = of_loss (modem_stream p.size p.starts_away events)
   where
-    of_loss : (before : Option (List ℕ)) → AllByRecursion (IsOf ModemGone) (fails_once before)
+    of_loss : (before : Option (List ℕ)) → AllByRecursion (IsOf ModemGone) (is_lost_once before)
     of_loss None = tt
     of_loss (Some before) = (tt, tt)
 items_are_of p ModemBack events = of_return (modem_stream p.size p.starts_away events)
@@ -88,13 +88,13 @@ was_asked p Asks (fact ∷ past) r asked at =
 
 -- so no more bytes wait for the modem than may
 pub few_wait_for_modem : {Known : Type 0} (p : Protocol Known) (Asks : Request → List Fact → Type 0) (facts : List Fact) → AreAsked p Asks facts → length (modem_queue p.wire facts) ≤ p.limits.modem_outbox
-unfolding to_modem modem_drained
+unfolding to_modem modem_taken_count
 few_wait_for_modem p Asks [] asked = omega arith
 few_wait_for_modem p Asks (Forwarded r ∷ past) asked =
     let room = asked.0.0 in
-    omega (arith, length-drop (modem_drained past) (to_modem p.wire past ++ p.wire r), length-drop (modem_drained past) (to_modem p.wire past), length-append (to_modem p.wire past) (p.wire r))
-few_wait_for_modem p Asks (ModemDrained count ∷ past) asked =
-    let before = few_wait_for_modem p Asks past asked.1 in omega (arith, length-drop (modem_drained past + count) (to_modem p.wire past), length-drop (modem_drained past) (to_modem p.wire past))
+    omega (arith, length-drop (modem_taken_count past) (to_modem p.wire past ++ p.wire r), length-drop (modem_taken_count past) (to_modem p.wire past), length-append (to_modem p.wire past) (p.wire r))
+few_wait_for_modem p Asks (ModemTaken count ∷ past) asked =
+    let before = few_wait_for_modem p Asks past asked.1 in omega (arith, length-drop (modem_taken_count past + count) (to_modem p.wire past), length-drop (modem_taken_count past) (to_modem p.wire past))
 few_wait_for_modem p Asks (ModemLost ∷ past) asked = omega arith
 few_wait_for_modem p Asks (_ ∷ past) asked = few_wait_for_modem p Asks past asked.1
 
@@ -173,22 +173,22 @@ module _ {Known : Type 0} (p : Protocol Known) (Asks : Request → List Fact →
   pub item_adds : (item : Item) (past : List Fact) → Sound past → AddsOf (MayAdd item) past (add p item past)
   item_adds (Joins c) past sound = adds_join p.limits p.wording (By (Joins c)) c past (λ room. (room, refl, tt)) (λ full. (full, refl, tt))
   item_adds (Says c m) past sound = adds_if_present p.limits p.wording (By (Says c m)) c past _ (λ there. O.client c m past sound there)
-  item_adds (Garbles c) past sound = adds_if_present p.limits p.wording (By (Garbles c)) c past _ (λ there. added p.limits p.wording (By (Garbles c)) (Ended c BadStream) past refl (there, refl, tt))
-  item_adds (Leaves c) past sound = adds_if_present p.limits p.wording (By (Leaves c)) c past _ (λ there. added p.limits p.wording (By (Leaves c)) (Ended c Closed) past refl (there, refl, tt))
+  item_adds (GoesBad c) past sound = adds_if_present p.limits p.wording (By (GoesBad c)) c past _ (λ there. added p.limits p.wording (By (GoesBad c)) (Ended c BadStream) past refl (there, refl, tt))
+  item_adds (Leaves c) past sound = adds_if_present p.limits p.wording (By (Leaves c)) c past _ (λ there. added p.limits p.wording (By (Leaves c)) (Ended c Leaving) past refl (there, refl, tt))
   item_adds (ModemSays m) past sound = O.modem m past sound
-  item_adds ModemFails past sound =
-      let aborts = adds_aborts ModemFails (λ r before. tt) (λ c before. tt) (λ status receivers before. tt) (λ c service client before own. own) past sound in
+  item_adds ModemIsLost past sound =
+      let aborts = adds_aborts ModemIsLost (λ r before. tt) (λ c before. tt) (λ status receivers before. tt) (λ c service client before own. own) past sound in
       let aborted : List Fact = abort_all p.refuse p.order past in
-      let closes = O.loss aborted (stays_sound (MayAdd ModemFails) past aborted aborts sound) in
-      further p.limits p.wording (By ModemFails) past aborted _ aborts
-      (further p.limits p.wording (By ModemFails) aborted (p.close aborted) _ closes (added p.limits p.wording (By ModemFails) ModemLost (p.close aborted) refl (tt, tt, tt)))
+      let closes = O.loss aborted (stays_sound (MayAdd ModemIsLost) past aborted aborts sound) in
+      further p.limits p.wording (By ModemIsLost) past aborted _ aborts
+      (further p.limits p.wording (By ModemIsLost) aborted (p.close aborted) _ closes (added p.limits p.wording (By ModemIsLost) ModemLost (p.close aborted) refl (tt, tt, tt)))
   item_adds ModemReturns past sound = added p.limits p.wording (By ModemReturns) ModemReturned past refl (tt, tt, tt)
   item_adds (ClockShows time) past sound =
       let ticked : List Fact = tick p.refuse p.order time past in
       further p.limits p.wording (By (ClockShows time)) past ticked _ (ticks time past sound)
       (adds_weaker p.limits p.wording (Soundly p Asks MayTick) (By (ClockShows time)) (λ fact before is. (is.0, ticks_too time fact before is.1, is.2)) ticked _ (O.clock ticked (stays_sound (MayAdd (ClockShows time)) past ticked (ticks time past sound) sound)))
-  item_adds (Takes c count) past sound = adds_if_present p.limits p.wording (By (Takes c count)) c past _ (λ there. added p.limits p.wording (By (Takes c count)) (Drained c count) past refl (there, (refl, refl), tt))
-  item_adds (ModemTakes count) past sound = added p.limits p.wording (By (ModemTakes count)) (ModemDrained count) past refl (tt, refl, tt)
+  item_adds (Takes c count) past sound = adds_if_present p.limits p.wording (By (Takes c count)) c past _ (λ there. added p.limits p.wording (By (Takes c count)) (Taken c count) past refl (there, (refl, refl), tt))
+  item_adds (ModemTakes count) past sound = added p.limits p.wording (By (ModemTakes count)) (ModemTaken count) past refl (tt, refl, tt)
 
   -- the time that the clock shows stands
   IsntClock : Fact → List Fact → Type 0
@@ -263,10 +263,10 @@ module _ {Known : Type 0} (p : Protocol Known) (Asks : Request → List Fact →
       (adds_ticks (MayAddStill (ClockShows time)) time (λ past. refl) (λ r past. tt) (λ c past. tt) (λ status receivers past. tt) (λ c service client past own. own) past sound)
   item_adds_still still (Joins c) past sound = item_adds (Joins c) past sound
   item_adds_still still (Says c m) past sound = item_adds (Says c m) past sound
-  item_adds_still still (Garbles c) past sound = item_adds (Garbles c) past sound
+  item_adds_still still (GoesBad c) past sound = item_adds (GoesBad c) past sound
   item_adds_still still (Leaves c) past sound = item_adds (Leaves c) past sound
   item_adds_still still (ModemSays m) past sound = item_adds (ModemSays m) past sound
-  item_adds_still still ModemFails past sound = item_adds ModemFails past sound
+  item_adds_still still ModemIsLost past sound = item_adds ModemIsLost past sound
   item_adds_still still ModemReturns past sound = item_adds ModemReturns past sound
   item_adds_still still (Takes c count) past sound = item_adds (Takes c count) past sound
   item_adds_still still (ModemTakes count) past sound = item_adds (ModemTakes count) past sound

@@ -1,8 +1,8 @@
 -- What each item may add to the history, and the protocols that add no more than that. A list of facts has the newest first.
 use Rattle.std.specs.Prelude.{◌≡◌, ◌⊎◌, ◌≤◌, ℕ, ◌+◌, max, false, true, List, [], ◌∷◌, ◌++◌, length, Contains}
 use Rattle.proxy_history.specs.Limits.{Limits}
-use Rattle.proxy_history.specs.Items.{Item, Joins, Says, Garbles, Leaves, ModemSays, ModemFails, ModemReturns, ClockShows, Takes, ModemTakes}
-use Rattle.proxy_history.specs.Facts.{NotAdmitted, BadStream, NoRoom, Closed, Fact, Request, Admitted, Ended, Judged, Drained, Forwarded, Answered, IdHeld, Late, Expired, Aborted, Indicated, Stray, Granted, Freed, OpeningEnded, SessionsClosed, ListSent, Reset, ModemLost, ModemReturned, ModemDrained, TimeIs}
+use Rattle.proxy_history.specs.Items.{Item, Joins, Says, GoesBad, Leaves, ModemSays, ModemIsLost, ModemReturns, ClockShows, Takes, ModemTakes}
+use Rattle.proxy_history.specs.Facts.{NotAdmitted, BadStream, NoRoom, Leaving, Fact, Request, Admitted, Ended, Judged, Taken, Forwarded, Answered, IdHeld, Late, Expired, Aborted, Indicated, Stray, Granted, Freed, OpeningEnded, SessionsClosed, ListSent, Reset, ModemLost, ModemReturned, ModemTaken, TimeIs}
 use Rattle.proxy_history.specs.Connections.{is_present}
 use Rattle.proxy_history.specs.Modem.{now, modem_queue}
 use Rattle.proxy_history.specs.Wording.{Wording}
@@ -45,9 +45,9 @@ MayAdd (Says c m) (Forwarded r) past = (r.conn ≡ c) ⊎ (r.conn ≡ 0)
 MayAdd (Says c m) (Granted d service client) past = d ≡ c
 MayAdd (Says c m) (Ended d NoRoom) past = d ≡ c
 -- the end and the takings of a connection are of no other one
-MayAdd (Garbles c) (Ended d BadStream) past = d ≡ c
-MayAdd (Leaves c) (Ended d Closed) past = d ≡ c
-MayAdd (Takes c count) (Drained d taken) past = (d ≡ c) × (taken ≡ count)
+MayAdd (GoesBad c) (Ended d BadStream) past = d ≡ c
+MayAdd (Leaves c) (Ended d Leaving) past = d ≡ c
+MayAdd (Takes c count) (Taken d taken) past = (d ≡ c) × (taken ≡ count)
 -- the modem answers, tells, and begins anew; who has no room for what it brings ends
 MayAdd (ModemSays m) (Answered r message) past = message ≡ m
 MayAdd (ModemSays m) (IdHeld r) past = Unit {0}
@@ -61,12 +61,12 @@ MayAdd (ModemSays m) (Freed c service client) past = Unit {0}
 MayAdd (ModemSays m) Reset past = Unit {0}
 MayAdd (ModemSays m) (Ended c NoRoom) past = Unit {0}
 -- where the modem is lost, and where the clock shows the greater time, requests are refused
-MayAdd ModemFails (Aborted r) past = Unit {0}
-MayAdd ModemFails (OpeningEnded status receivers) past = Unit {0}
-MayAdd ModemFails (SessionsClosed receivers) past = Unit {0}
-MayAdd ModemFails (Ended c NoRoom) past = Unit {0}
-MayAdd ModemFails (Freed c service client) past = c ≡ 0
-MayAdd ModemFails ModemLost past = Unit {0}
+MayAdd ModemIsLost (Aborted r) past = Unit {0}
+MayAdd ModemIsLost (OpeningEnded status receivers) past = Unit {0}
+MayAdd ModemIsLost (SessionsClosed receivers) past = Unit {0}
+MayAdd ModemIsLost (Ended c NoRoom) past = Unit {0}
+MayAdd ModemIsLost (Freed c service client) past = c ≡ 0
+MayAdd ModemIsLost ModemLost past = Unit {0}
 MayAdd (ClockShows time) (TimeIs shown) past = shown ≡ max time (now past)
 MayAdd (ClockShows time) (Expired r) past = Unit {0}
 MayAdd (ClockShows time) (OpeningEnded status receivers) past = Unit {0}
@@ -76,7 +76,7 @@ MayAdd (ClockShows time) (Forwarded r) past = r.conn ≡ 0
 MayAdd (ClockShows time) (Granted c service client) past = c ≡ 0
 MayAdd (ClockShows time) (Freed c service client) past = c ≡ 0
 MayAdd ModemReturns ModemReturned past = Unit {0}
-MayAdd (ModemTakes count) (ModemDrained taken) past = taken ≡ count
+MayAdd (ModemTakes count) (ModemTaken taken) past = taken ≡ count
 MayAdd _ _ past = ⊥
 
 -- the refusal of a request: the fact that says why, the end of an opening that others wait for, and the ends of those who have no room for it
@@ -125,6 +125,6 @@ pub record IsOrderly {Known : Type 0} (p : Protocol Known) (Asks : Request → L
   pub refusal : (why : Fact) (r : Request) (past : List Fact) → Soundly p Asks (MayRefuse why) why past → IsSound p.limits past → AddsSoundly p Asks (MayRefuse why) past (p.refuse why r past)
   -- no other requests are refused than those that are to be
   pub order : (requests : List Request) (r : Request) → Contains (p.order requests) r → Contains requests r
-  pub loss : (past : List Fact) → IsSound p.limits past → AddsSoundly p Asks (MayAdd ModemFails) past (p.close past)
+  pub loss : (past : List Fact) → IsSound p.limits past → AddsSoundly p Asks (MayAdd ModemIsLost) past (p.close past)
   pub clock : (past : List Fact) → IsSound p.limits past → AddsSoundly p Asks MayTick past (p.on_clock past)
   pub finish : (past : List Fact) → IsSound p.limits past → AddsSoundly p Asks MayFinish past (p.finish past)

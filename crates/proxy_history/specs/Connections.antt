@@ -1,7 +1,7 @@
 -- Who is there, as the facts tell it.
 -- A list of facts has the newest first; the lists that are read off it have the oldest first.
 use Rattle.std.specs.Prelude.{ℕ, ◌+◌, Bool, false, not, ◌||◌, ◌==◌, if◌then◌else◌, List, [], ◌∷◌, ◌++◌, filter}
-use Rattle.proxy_history.specs.Facts.{Fact, EventBegan, Admitted, Ended, Judged, Closed}
+use Rattle.proxy_history.specs.Facts.{Fact, EventBegan, Admitted, Ended, Judged, Leaving}
 
 abbrev pub contains : ℕ → List ℕ → Bool
 contains x [] = false
@@ -24,7 +24,7 @@ is_present c past = contains c (present past)
 unfoldable pub dropped : List Fact → List ℕ
 dropped [] = []
 dropped (EventBegan ∷ past) = []
-dropped (Ended c Closed ∷ past) = dropped past
+dropped (Ended c Leaving ∷ past) = dropped past
 dropped (Ended c _ ∷ past) = dropped past ++ c ∷ []
 dropped (_ ∷ past) = dropped past
 

@@ -12,7 +12,7 @@ pub data Why : Type 0 where
   -- its outbox lacked room for what was due to it
   NoRoom : Why
   -- it went by itself
-  Closed : Why
+  Leaving : Why
 
 -- what became of a client's message
 pub data Verdict : Type 0 where
@@ -56,7 +56,7 @@ pub data Fact : Type 0 where
   -- a message of a client, its place among the client's messages, and the verdict on it
   Judged : (conn : ℕ) → (place : ℕ) → (message : List ℕ) → (verdict : Verdict) → Fact
   -- its socket took so many bytes of its outbox
-  Drained : (conn : ℕ) → (count : ℕ) → Fact
+  Taken : (conn : ℕ) → (count : ℕ) → Fact
   -- ---- requests ----
   Forwarded : (request : Request) → Fact
   Answered : (request : Request) → (message : List ℕ) → Fact
@@ -86,5 +86,5 @@ pub data Fact : Type 0 where
   Reset : Fact
   ModemLost : Fact
   ModemReturned : Fact
-  ModemDrained : (count : ℕ) → Fact
+  ModemTaken : (count : ℕ) → Fact
   TimeIs : (time : ℕ) → Fact

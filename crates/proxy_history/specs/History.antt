@@ -2,8 +2,8 @@
 -- Lists of events and of facts have the newest first.
 use Rattle.std.specs.Prelude.{ℕ, List, [], ◌∷◌}
 use Rattle.proxy_history.specs.Events.{Event}
-use Rattle.proxy_history.specs.Items.{Item, Joins, Says, Garbles, Leaves, ModemSays, ModemFails, ModemReturns, ClockShows, Takes, ModemTakes, items_of}
-use Rattle.proxy_history.specs.Facts.{Fact, EventBegan, BadStream, Closed, Drained, ModemReturned, ModemDrained}
+use Rattle.proxy_history.specs.Items.{Item, Joins, Says, GoesBad, Leaves, ModemSays, ModemIsLost, ModemReturns, ClockShows, Takes, ModemTakes, items_of}
+use Rattle.proxy_history.specs.Facts.{Fact, EventBegan, BadStream, Leaving, Taken, ModemReturned, ModemTaken}
 use Rattle.proxy_history.specs.Modem as modem
 use Rattle.proxy_history.specs.View.{view}
 use Rattle.proxy_history.specs.Rendering.{Rendering}
@@ -20,14 +20,14 @@ known_of p c past = told_by p.wording.fresh p.wording.step (view p.wording.blank
 abbrev pub add : {Known : Type 0} → Protocol Known → Item → List Fact → List Fact
 add p (Joins c) past = join p.limits c past
 add p (Says c m) past = if_present c past (p.hear_client (known_of p c past) c m past)
-add p (Garbles c) past = if_present c past (end c BadStream past)
-add p (Leaves c) past = if_present c past (end c Closed past)
+add p (GoesBad c) past = if_present c past (end c BadStream past)
+add p (Leaves c) past = if_present c past (end c Leaving past)
 add p (ModemSays m) past = p.hear_modem m past
-add p ModemFails past = lose p.refuse p.order p.close past
+add p ModemIsLost past = lose p.refuse p.order p.close past
 add p ModemReturns past = ModemReturned ∷ past
 add p (ClockShows time) past = p.on_clock (tick p.refuse p.order time past)
-add p (Takes c count) past = if_present c past (Drained c count ∷ past)
-add p (ModemTakes count) past = ModemDrained count ∷ past
+add p (Takes c count) past = if_present c past (Taken c count ∷ past)
+add p (ModemTakes count) past = ModemTaken count ∷ past
 
 unfoldable pub add_all : {Known : Type 0} → Protocol Known → List Item → List Fact → List Fact
 add_all p [] past = past

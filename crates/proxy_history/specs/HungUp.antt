@@ -1,11 +1,11 @@
 -- Whose connections are to be hung up, as a reader of the history would say. A list of facts has the newest first.
 use Rattle.std.specs.Prelude.{◌≡◌, ℕ, Bool, true, false, List, ◌∷◌, ◌++◌, reverse, filter_map, All, Option, Some, None}
-use Rattle.proxy_history.specs.Facts.{Closed, Fact, EventBegan, Ended}
+use Rattle.proxy_history.specs.Facts.{Leaving, Fact, EventBegan, Ended}
 use Rattle.proxy_history.specs.Connections.{dropped}
 
 -- the connection that ends, but for one that goes by itself
 abbrev pub hung_up_by : Fact → Option ℕ
-hung_up_by (Ended c Closed) = None
+hung_up_by (Ended c Leaving) = None
 hung_up_by (Ended c why) = Some c
 hung_up_by _ = None
 

@@ -11,12 +11,12 @@ pub data Item : Type 0 where
   -- a whole message of a client
   Says : (conn : ℕ) → (message : List ℕ) → Item
   -- a client's stream went bad
-  Garbles : (conn : ℕ) → Item
+  GoesBad : (conn : ℕ) → Item
   Leaves : (conn : ℕ) → Item
   -- a whole message of the modem
   ModemSays : (message : List ℕ) → Item
   -- the modem is gone, or its stream went bad
-  ModemFails : Item
+  ModemIsLost : Item
   ModemReturns : Item
   ClockShows : (time : ℕ) → Item
   Takes : (conn : ℕ) → (count : ℕ) → Item
@@ -29,7 +29,7 @@ item_if false item = []
 -- a piece behind the stream so far
 abbrev pub client_items : Framing → ℕ → List ℕ → List ℕ → List Item
 client_items size c before piece =
-    map (λ m. Says c m) (messages_of_piece size before piece) ++ item_if (is_bad size (before ++ piece)) (Garbles c)
+    map (λ m. Says c m) (messages_of_piece size before piece) ++ item_if (is_bad size (before ++ piece)) (GoesBad c)
 
 -- all that the modem said on a stream
 abbrev pub delivered : {Known : Type 0} → Protocol Known → List ℕ → List (List ℕ)
@@ -42,11 +42,11 @@ delivered_by_piece p before piece = drop (length (delivered p before)) (delivere
 abbrev pub modem_items : {Known : Type 0} → Protocol Known → List ℕ → Option (List ℕ) → List Item
 modem_items p piece None = []
 modem_items p piece (Some before) =
-    map (λ m. ModemSays m) (delivered_by_piece p before piece) ++ item_if (is_bad p.size (before ++ piece)) ModemFails
+    map (λ m. ModemSays m) (delivered_by_piece p before piece) ++ item_if (is_bad p.size (before ++ piece)) ModemIsLost
 
-abbrev pub fails_once : Option (List ℕ) → List Item
-fails_once None = []
-fails_once (Some bytes) = ModemFails ∷ []
+abbrev pub is_lost_once : Option (List ℕ) → List Item
+is_lost_once None = []
+is_lost_once (Some bytes) = ModemIsLost ∷ []
 
 abbrev pub returns_once : Option (List ℕ) → List Item
 returns_once None = ModemReturns ∷ []
@@ -58,7 +58,7 @@ items_of p events (Joined c) = Joins c ∷ []
 items_of p events (Piece c bytes) = client_items p.size c (stream c events) bytes
 items_of p events (Left c) = Leaves c ∷ []
 items_of p events (ModemPiece bytes) = modem_items p bytes (modem_stream p.size p.starts_away events)
-items_of p events ModemGone = fails_once (modem_stream p.size p.starts_away events)
+items_of p events ModemGone = is_lost_once (modem_stream p.size p.starts_away events)
 items_of p events ModemBack = returns_once (modem_stream p.size p.starts_away events)
 items_of p events (Now time) = ClockShows time ∷ []
 items_of p events (Took c count) = Takes c count ∷ []

@@ -1,7 +1,7 @@
 -- The proxy of a protocol as whoever serves it sees it, and that it can be served where the protocol is orderly.
 -- Lists of events and of facts have the newest first. `Known` is what a client's own view tells of it.
 use Rattle.std.specs.Prelude.{◌≡◌, ℕ, ◌+◌, ◌≤◌, List, ◌∷◌, length}
-use Rattle.proxy_history.specs.Facts.{Fact, EventBegan, ModemDrained}
+use Rattle.proxy_history.specs.Facts.{Fact, EventBegan, ModemTaken}
 use Rattle.proxy_history.specs.Connections.{present, dropped}
 use Rattle.proxy_history.specs.Modem as modem
 use Rattle.proxy_history.specs.Sound.{IsSound}
@@ -31,7 +31,7 @@ proxy_of p own = record {
 -- by itself the proxy asks for no more bytes than `own` says: neither the beginning of an event nor the modem's taking changes that, and what the proxy asks at an event's end was counted before
 pub record AsksUpTo {Known : Type 0} (p : Protocol Known) (own : List Fact → ℕ) : Type 0 where
   pub begun : (past : List Fact) → own (EventBegan ∷ past) ≡ own past
-  pub taken : (count : ℕ) (past : List Fact) → own (ModemDrained count ∷ past) ≡ own past
+  pub taken : (count : ℕ) (past : List Fact) → own (ModemTaken count ∷ past) ≡ own past
   pub asked : (past : List Fact) → IsSound p.limits past → backlog p own (p.finish past) ≤ backlog p own past
 
 -- the proxy of an orderly protocol keeps the rules, where there is an end to what it asks by itself

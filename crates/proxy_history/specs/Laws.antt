@@ -5,7 +5,7 @@ use Rattle.proxy_history.specs.Streams.{Framing, messages_of_piece, is_bad, is_i
 use Rattle.proxy_history.specs.Facts.{Fact, Request, Ended, Forwarded, Answered, IdHeld, Late, Expired, Aborted, Reset, ModemLost}
 use Rattle.proxy_history.specs.Connections.{contains}
 use Rattle.proxy_history.specs.Requests.{in_use, pending, following, number_after}
-use Rattle.proxy_history.specs.View.{Entry, Collected}
+use Rattle.proxy_history.specs.View.{Entry, Taking}
 use Rattle.proxy_history.specs.Rendering.{EntryText, render}
 
 -- ---- streams: what a piece brings depends on the piece and on what the stream left before it ----
@@ -85,31 +85,31 @@ GivesNoneWhereFull = (limit top last : ℕ) (used : List ℕ) → limit ≤ leng
 -- ---- renderings, with whatever room ----
 
 -- the bytes that the client's socket took
-unfoldable pub collected : ℕ → EntryText → List Entry → List ℕ
-collected room text [] = []
-collected room text (Collected count ∷ entries) = collected room text entries ++ take count (render room text entries).waiting
-collected room text (_ ∷ entries) = collected room text entries
+unfoldable pub taken_bytes : ℕ → EntryText → List Entry → List ℕ
+taken_bytes room text [] = []
+taken_bytes room text (Taking count ∷ entries) = taken_bytes room text entries ++ take count (render room text entries).waiting
+taken_bytes room text (_ ∷ entries) = taken_bytes room text entries
 
 -- how many bytes its socket is said to have taken
-unfoldable pub collected_count : List Entry → ℕ
-collected_count [] = 0
-collected_count (Collected count ∷ entries) = collected_count entries + count
-collected_count (_ ∷ entries) = collected_count entries
+unfoldable pub taken_count : List Entry → ℕ
+taken_count [] = 0
+taken_count (Taking count ∷ entries) = taken_count entries + count
+taken_count (_ ∷ entries) = taken_count entries
 
 -- no taking is said to be of more than what waited
-abbrev pub CollectsWhatWaits : ℕ → EntryText → List Entry → Type 0
-CollectsWhatWaits room text [] = Unit {0}
-CollectsWhatWaits room text (Collected count ∷ entries) = (count ≤ length (render room text entries).waiting) × CollectsWhatWaits room text entries
-CollectsWhatWaits room text (_ ∷ entries) = CollectsWhatWaits room text entries
+abbrev pub TakesWhatWaits : ℕ → EntryText → List Entry → Type 0
+TakesWhatWaits room text [] = Unit {0}
+TakesWhatWaits room text (Taking count ∷ entries) = (count ≤ length (render room text entries).waiting) × TakesWhatWaits room text entries
+TakesWhatWaits room text (_ ∷ entries) = TakesWhatWaits room text entries
 
-abbrev pub CollectedAndWaitingAreAll : Type 0
-CollectedAndWaitingAreAll = (room : ℕ) (text : EntryText) (entries : List Entry)
-    → (render room text entries).bytes ≡ collected room text entries ++ (render room text entries).waiting
+abbrev pub TakenAndWaitingAreAll : Type 0
+TakenAndWaitingAreAll = (room : ℕ) (text : EntryText) (entries : List Entry)
+    → (render room text entries).bytes ≡ taken_bytes room text entries ++ (render room text entries).waiting
 
 -- the bytes taken are the first of all bytes, as many as the takings say, and those that wait are the others
 pub record IsSplitByCount (room : ℕ) (text : EntryText) (entries : List Entry) : Type 0 where
-  pub collected : collected room text entries ≡ take (collected_count entries) (render room text entries).bytes
-  pub waiting : (render room text entries).waiting ≡ drop (collected_count entries) (render room text entries).bytes
+  pub taken_bytes : taken_bytes room text entries ≡ take (taken_count entries) (render room text entries).bytes
+  pub waiting : (render room text entries).waiting ≡ drop (taken_count entries) (render room text entries).bytes
 
 abbrev pub TakingsSplitTheBytes : Type 0
-TakingsSplitTheBytes = (room : ℕ) (text : EntryText) (entries : List Entry) → CollectsWhatWaits room text entries → IsSplitByCount room text entries
+TakingsSplitTheBytes = (room : ℕ) (text : EntryText) (entries : List Entry) → TakesWhatWaits room text entries → IsSplitByCount room text entries

@@ -1,6 +1,6 @@
 -- The clock, whether the modem is there, and what was queued for it. A list of facts has the newest first; bytes have the oldest first.
 use Rattle.std.specs.Prelude.{ℕ, ◌+◌, Bool, true, false, List, [], ◌∷◌, ◌++◌, drop}
-use Rattle.proxy_history.specs.Facts.{Fact, Request, Forwarded, ModemLost, ModemReturned, ModemDrained, TimeIs}
+use Rattle.proxy_history.specs.Facts.{Fact, Request, Forwarded, ModemLost, ModemReturned, ModemTaken, TimeIs}
 
 unfoldable pub now : List Fact → ℕ
 now [] = 0
@@ -22,12 +22,12 @@ to_modem wire (ModemLost ∷ past) = []
 to_modem wire (_ ∷ past) = to_modem wire past
 
 -- how many of them the modem took
-unfoldable pub modem_drained : List Fact → ℕ
-modem_drained [] = 0
-modem_drained (ModemDrained count ∷ past) = modem_drained past + count
-modem_drained (ModemLost ∷ past) = 0
-modem_drained (_ ∷ past) = modem_drained past
+unfoldable pub modem_taken_count : List Fact → ℕ
+modem_taken_count [] = 0
+modem_taken_count (ModemTaken count ∷ past) = modem_taken_count past + count
+modem_taken_count (ModemLost ∷ past) = 0
+modem_taken_count (_ ∷ past) = modem_taken_count past
 
 -- the bytes that wait for the modem
 abbrev pub modem_queue : (Request → List ℕ) → List Fact → List ℕ
-modem_queue wire past = drop (modem_drained past) (to_modem wire past)
+modem_queue wire past = drop (modem_taken_count past) (to_modem wire past)

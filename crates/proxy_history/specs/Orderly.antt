@@ -6,7 +6,7 @@ use Rattle.proxy_history.specs.Streams.{modem_stream}
 use Rattle.proxy_history.specs.Facts.{Fact, Request}
 use Rattle.proxy_history.specs.Connections.{is_present}
 use Rattle.proxy_history.specs.Modem.{now, is_away}
-use Rattle.proxy_history.specs.Rendering.{empty, collect, Grows}
+use Rattle.proxy_history.specs.Rendering.{empty, take_waiting, Grows}
 use Rattle.proxy_history.specs.Sound.{IsSound}
 use Rattle.proxy_history.specs.Protocol.{Protocol}
 use Rattle.proxy_history.specs.History.{history, text_for, modem_queue}
@@ -39,7 +39,7 @@ JoiningStartsWithNone Known = (p : Protocol Known) → IsOrderly p Anything → 
 -- a taking takes the first of those that wait, and of a connection that isn't there none
 abbrev pub TakingTakesTheFirst : Type 0 → Type 0
 TakingTakesTheFirst Known = (p : Protocol Known) → IsOrderly p Anything → (c count : ℕ) (events : List Event)
-    → text_for p c (Took c count ∷ events) ≡ (if is_present c (history p events) then collect count (text_for p c events) else text_for p c events)
+    → text_for p c (Took c count ∷ events) ≡ (if is_present c (history p events) then take_waiting count (text_for p c events) else text_for p c events)
 
 -- a connection that is there got all that was due to it
 abbrev pub NobodyThereIsOver : Type 0 → Type 0

@@ -1,7 +1,7 @@
 -- The bytes for one client, made from its view alone. A view has the newest entry first; bytes have the oldest first.
 -- `room` is how many bytes may wait for the client.
 use Rattle.std.specs.Prelude.{◌≡◌, ℕ, ◌+◌, Bool, false, ◌||◌, nat_lt, if◌then◌else◌, List, [], ◌∷◌, ◌++◌, length, drop}
-use Rattle.proxy_history.specs.View.{Entry, Sent, Response, Refused, Indication, OpenedWith, Shut, Collected, End}
+use Rattle.proxy_history.specs.View.{Entry, Said, Response, Refused, Indication, OpenedWith, Shut, Taking, End}
 
 pub record Rendering : Type 0 where
   -- all bytes for the client so far
@@ -26,8 +26,8 @@ put_unless over new r = record {
 abbrev pub put : ℕ → List ℕ → Rendering → Rendering
 put room new r = put_unless (r.is_over || nat_lt room (length r.waiting + length new)) new r
 
-abbrev pub collect : ℕ → Rendering → Rendering
-collect count r = record { bytes = r.bytes; waiting = drop count r.waiting; is_over = r.is_over }
+abbrev pub take_waiting : ℕ → Rendering → Rendering
+take_waiting count r = record { bytes = r.bytes; waiting = drop count r.waiting; is_over = r.is_over }
 
 -- how a protocol puts an entry
 abbrev pub EntryText : Type 0
@@ -36,8 +36,8 @@ EntryText = List Entry → Entry → List ℕ
 -- `text entries entry`: the bytes of an entry that follows these entries
 unfoldable pub render : ℕ → EntryText → List Entry → Rendering
 render room text [] = empty
-render room text (Collected count ∷ entries) = collect count (render room text entries)
-render room text (Sent message verdict ∷ entries) = put room (text entries (Sent message verdict)) (render room text entries)
+render room text (Taking count ∷ entries) = take_waiting count (render room text entries)
+render room text (Said message verdict ∷ entries) = put room (text entries (Said message verdict)) (render room text entries)
 render room text (Response place message ∷ entries) = put room (text entries (Response place message)) (render room text entries)
 render room text (Refused place cause ∷ entries) = put room (text entries (Refused place cause)) (render room text entries)
 render room text (Indication message ∷ entries) = put room (text entries (Indication message)) (render room text entries)

@@ -2,7 +2,7 @@
 -- A proxy whose history is sound has all that holds of every sound history.
 use Rattle.std.specs.Prelude.{◌≡◌, ◌≢◌, ℕ, ◌+◌, ◌≤◌, ◌<◌, Bool, true, false, ◌||◌, ◌==◌, List, [], ◌∷◌, ◌++◌, length, Some, All, AllPairs, Contains}
 use Rattle.proxy_history.specs.Limits.{Limits}
-use Rattle.proxy_history.specs.Facts.{Why, NotAdmitted, Fact, Request, Admitted, Ended, Judged, Drained, Forwarded, Answered, IdHeld, Late, Expired, Aborted, Indicated, OpeningEnded, SessionsClosed, Granted, TimeIs}
+use Rattle.proxy_history.specs.Facts.{Why, NotAdmitted, Fact, Request, Admitted, Ended, Judged, Taken, Forwarded, Answered, IdHeld, Late, Expired, Aborted, Indicated, OpeningEnded, SessionsClosed, Granted, TimeIs}
 use Rattle.proxy_history.specs.Connections.{present, is_present}
 use Rattle.proxy_history.specs.Requests.{in_use, pending, forward_count, numbers_in_use, next_number}
 use Rattle.proxy_history.specs.ClientIds.{held, holder, is_other}
@@ -31,7 +31,7 @@ MayFollow limits (Admitted c) past = length (present past) < limits.connections
 MayFollow limits (Ended c NotAdmitted) past = limits.connections ≤ length (present past)
 MayFollow limits (Ended c why) past = IsPresent c past
 MayFollow limits (Judged c place message verdict) past = IsPresent c past
-MayFollow limits (Drained c count) past = IsPresent c past
+MayFollow limits (Taken c count) past = IsPresent c past
 MayFollow limits (Forwarded r) past = IsNextRequest limits r past
 MayFollow limits (Answered r message) past = Contains (pending past) r
 MayFollow limits (IdHeld r) past = Contains (pending past) r

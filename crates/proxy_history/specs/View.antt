@@ -1,7 +1,7 @@
 -- What one client can know: its own messages and takings, and what came for it. A view has the newest entry first, as the facts do.
 -- No entry has a transaction number of the proxy, a connection's name or another client's message.
 use Rattle.std.specs.Prelude.{ℕ, ◌+◌, Bool, true, false, ◌==◌, if◌then◌else◌, List, [], ◌∷◌}
-use Rattle.proxy_history.specs.Facts.{Why, NotAdmitted, BadStream, Closed, Verdict, Fact, Admitted, Ended, Judged, Drained, Answered, IdHeld, Expired, Aborted, Indicated, OpeningEnded, SessionsClosed}
+use Rattle.proxy_history.specs.Facts.{Why, NotAdmitted, BadStream, Leaving, Verdict, Fact, Admitted, Ended, Judged, Taken, Answered, IdHeld, Expired, Aborted, Indicated, OpeningEnded, SessionsClosed}
 use Rattle.proxy_history.specs.Connections.{contains}
 
 -- why a forwarded request got a refusal in place of an answer
@@ -12,7 +12,7 @@ pub data Cause : Type 0 where
   NoAnswer : Cause
 
 pub data Entry : Type 0 where
-  Sent : (message : List ℕ) → (verdict : Verdict) → Entry
+  Said : (message : List ℕ) → (verdict : Verdict) → Entry
   -- the modem's answer to the client's message of this place, with its number left blank
   Response : (place : ℕ) → (message : List ℕ) → Entry
   Refused : (place : ℕ) → (cause : Cause) → Entry
@@ -22,7 +22,7 @@ pub data Entry : Type 0 where
   -- a loss of the modem closed its session
   Shut : Entry
   -- the client's socket took so many bytes
-  Collected : (count : ℕ) → Entry
+  Taking : (count : ℕ) → Entry
   End : (why : Why) → Entry
 
 abbrev pub entry_if : Bool → Entry → List Entry → List Entry
@@ -38,7 +38,7 @@ Blank = List ℕ → List ℕ
 unfoldable pub view : Blank → ℕ → List Fact → List Entry
 view blank c [] = []
 view blank c (Admitted d ∷ past) = if d == c then [] else view blank c past
-view blank c (Judged d place message verdict ∷ past) = entry_if (d == c) (Sent message verdict) (view blank c past)
+view blank c (Judged d place message verdict ∷ past) = entry_if (d == c) (Said message verdict) (view blank c past)
 view blank c (Answered r message ∷ past) = entry_if (r.conn == c) (Response r.place (blank message)) (view blank c past)
 view blank c (IdHeld r ∷ past) = entry_if (r.conn == c) (Refused r.place HeldId) (view blank c past)
 view blank c (Expired r ∷ past) = entry_if (r.conn == c) (Refused r.place NoAnswer) (view blank c past)
@@ -46,20 +46,20 @@ view blank c (Aborted r ∷ past) = entry_if (r.conn == c) (Refused r.place NoAn
 view blank c (Indicated message receivers ∷ past) = entry_if (contains c receivers) (Indication message) (view blank c past)
 view blank c (OpeningEnded status receivers ∷ past) = entry_if (contains c receivers) (OpenedWith status) (view blank c past)
 view blank c (SessionsClosed receivers ∷ past) = entry_if (contains c receivers) Shut (view blank c past)
-view blank c (Drained d count ∷ past) = entry_if (d == c) (Collected count) (view blank c past)
+view blank c (Taken d count ∷ past) = entry_if (d == c) (Taking count) (view blank c past)
 view blank c (Ended d NotAdmitted ∷ past) = if d == c then End NotAdmitted ∷ [] else view blank c past
 view blank c (Ended d BadStream ∷ past) = entry_if (d == c) (End BadStream) (view blank c past)
-view blank c (Ended d Closed ∷ past) = entry_if (d == c) (End Closed) (view blank c past)
+view blank c (Ended d Leaving ∷ past) = entry_if (d == c) (End Leaving) (view blank c past)
 view blank c (_ ∷ past) = view blank c past
 
 -- how many messages the client sent
-abbrev pub sent_count : List Entry → ℕ
-sent_count [] = 0
-sent_count (Sent message verdict ∷ entries) = sent_count entries + 1
-sent_count (_ ∷ entries) = sent_count entries
+abbrev pub said_count : List Entry → ℕ
+said_count [] = 0
+said_count (Said message verdict ∷ entries) = said_count entries + 1
+said_count (_ ∷ entries) = said_count entries
 
 -- the client's message of this place, counted from 1
-abbrev pub sent_at : ℕ → List Entry → List ℕ
-sent_at place [] = []
-sent_at place (Sent message verdict ∷ entries) = if sent_count entries + 1 == place then message else sent_at place entries
-sent_at place (_ ∷ entries) = sent_at place entries
+abbrev pub said_at : ℕ → List Entry → List ℕ
+said_at place [] = []
+said_at place (Said message verdict ∷ entries) = if said_count entries + 1 == place then message else said_at place entries
+said_at place (_ ∷ entries) = said_at place entries

@@ -1,5 +1,5 @@
 ghost use Rattle.proxy_history.specs.Sound.{RequestsInUseDiffer, WaitingArePresent, HoldersArePresent, FewArePresent, FewAreInUse, GoneViewsStay, EndsAreLast};
-ghost use Rattle.proxy_history.specs.Laws.{StreamsGoOnFromTheirRest, InUseUntilFreed, PendingUntilEnded, GivesFirstFree, GivesNoneWhereFull, CollectedAndWaitingAreAll, TakingsSplitTheBytes};
+ghost use Rattle.proxy_history.specs.Laws.{StreamsGoOnFromTheirRest, InUseUntilFreed, PendingUntilEnded, GivesFirstFree, GivesNoneWhereFull, TakenAndWaitingAreAll, TakingsSplitTheBytes};
 ghost use Rattle.proxy_history.specs.Absent.{TheAbsentAddNothing, ALostModemIsAway, AModemThatReturnsIsThere};
 ghost use Rattle.proxy_history.specs.Holding.{HeldUntilEnded, HoldersWereGrantedLast, KeptAreNobodys, KeptUntilGranted};
 ghost use Rattle.proxy_history.specs.HungUp.{HungUpSinceTheEventBegan};
@@ -26,7 +26,7 @@ pub fn a_free_number_is_given()
 
 /// The law that the bytes that a client's socket took and those that wait are all its bytes.
 pub fn taken_and_waiting_are_all()
-    ensures all { CollectedAndWaitingAreAll }
+    ensures all { TakenAndWaitingAreAll }
     ensures split { TakingsSplitTheBytes }
 {}
 

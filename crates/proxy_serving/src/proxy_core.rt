@@ -8,6 +8,7 @@ ghost use Rattle.proxy_serving.specs.Face.{Face, CanMeet, BringsIn, NextDropped,
 ghost use Rattle.proxy_serving.specs.Cores.{Shows};
 
 use hub_io::Event;
+use kit_bytes::ConnId;
 use std::alloc::AllocError;
 
 /// The core of a proxy between several clients and one modem: it meets events, and tells what waits
@@ -33,7 +34,7 @@ pub trait ProxyCore: Drop {
         ensures brings { OnErr result (BringsIn (event_of event.entry)) };
 
     /// The first of the bytes that wait for a connection that is there; none only where none wait.
-    fn queued(&self, conn: u64) -> &[u8]
+    fn queued(&self, conn: ConnId) -> &[u8]
         ensures { IsFrontOf result.now ((face self.now).queue conn) };
 
     /// The first of the bytes that wait for the modem; none only where none wait.
@@ -41,7 +42,7 @@ pub trait ProxyCore: Drop {
         ensures { IsFrontOf result.now (face self.now).modem_queue };
 
     /// All the bytes that wait for a connection that is there, in two parts.
-    fn parts(&self, conn: u64) -> (&[u8], &[u8])
+    fn parts(&self, conn: ConnId) -> (&[u8], &[u8])
         ensures { result.0.now ++ result.1.now ≡ (face self.now).queue conn };
 
     /// All the bytes that wait for the modem, in two parts.
@@ -49,7 +50,7 @@ pub trait ProxyCore: Drop {
         ensures { result.0.now ++ result.1.now ≡ (face self.now).modem_queue };
 
     /// The next connection to hang up, each once.
-    fn next_dropped(&mut self) -> Option<u64>
+    fn next_dropped(&mut self) -> Option<ConnId>
         ensures next { NextDropped face self.old self.new result }
         ensures keeps { (p : Proxy) (past : List history.Event) → keeps p past self.old → keeps p past self.new };
 
@@ -62,7 +63,7 @@ pub trait ProxyCore: Drop {
         ensures fits { IfSome result (λ place. place < usize.MAX) };
 
     /// The connection of this place in the order of joining.
-    fn conn_at(&self, index: usize) -> u64
+    fn conn_at(&self, index: usize) -> ConnId
         requires { index < length (face self.now).present }
         ensures { slice_get (face self.now).present index ≡ Some result };
 

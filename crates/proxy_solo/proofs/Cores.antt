@@ -6,7 +6,7 @@ use Rattle.proxy_history.specs.Rendering.{Rendering}
 use Rattle.proxy_history.specs.Protocol.{Protocol}
 use Rattle.proxy_history.specs.History.{history}
 use Rattle.proxy_state.specs.State.{Core, Handlers}
-use Rattle.proxy_state.specs.Stands.{Kept, CanStep, Stands, parting_of}
+use Rattle.proxy_state.specs.Stands.{Kept, CanStep, Stands, dropped_client_of}
 use Rattle.proxy_state.proofs.Waiting.{waiting_is}
 use Rattle.proxy_solo.specs.Alone.{Alone}
 use Rattle.proxy_solo.specs.Law.{IsLetAlone, GetsTheSame}
@@ -30,7 +30,7 @@ module _ {Known T S : Type 0} (p : Protocol Known) (k : Kept Known T S) where
       room = stands.holds.room;
       names = stands.holds.names;
     };
-    partings = (_, append-nil (map (parting_of p (history p events)) (dropped (history p events))));
+    dropped_clients = (_, append-nil (map (dropped_client_of p (history p events)) (dropped (history p events))));
     rest = stands.rest;
     sound = stands.sound;
   }

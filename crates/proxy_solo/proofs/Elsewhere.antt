@@ -2,8 +2,8 @@
 use Rattle.std.proofs.Common.{◌≡◌, ◌≢◌, ℕ, Bool, true, false, ◌==◌, List, ◌∷◌, ◌++◌, map, refl, ap, sym, ◌∙◌, ⊎_elim}
 use Rattle.std.specs.List.{AllByRecursion}
 use Rattle.std.proofs.lemmas.Bool.{eqb-true}
-use Rattle.proxy_history.specs.Items.{Item, Joins, Says, Garbles, Leaves, Takes, ModemTakes, item_if}
-use Rattle.proxy_history.specs.Facts.{Fact, Request, NotAdmitted, BadStream, NoRoom, Closed, Admitted, Ended, Judged, Drained, Forwarded, Granted, ListSent, ModemDrained}
+use Rattle.proxy_history.specs.Items.{Item, Joins, Says, GoesBad, Leaves, Takes, ModemTakes, item_if}
+use Rattle.proxy_history.specs.Facts.{Fact, Request, NotAdmitted, BadStream, NoRoom, Leaving, Admitted, Ended, Judged, Taken, Forwarded, Granted, ListSent, ModemTaken}
 use Rattle.proxy_history.specs.Sound.{IsSound}
 use Rattle.proxy_history.specs.Protocol.{Protocol}
 use Rattle.proxy_history.specs.History.{add_all}
@@ -15,7 +15,7 @@ use Rattle.proxy_solo.specs.Part.{concerns, as_known, facts_if, part}
 abbrev pub IsElsewhere : ℕ → Item → Type 0
 IsElsewhere c (Joins d) = (d == c) ≡ false
 IsElsewhere c (Says d m) = (d == c) ≡ false
-IsElsewhere c (Garbles d) = (d == c) ≡ false
+IsElsewhere c (GoesBad d) = (d == c) ≡ false
 IsElsewhere c (Leaves d) = (d == c) ≡ false
 IsElsewhere c (Takes d count) = (d == c) ≡ false
 IsElsewhere c (ModemTakes count) = Unit {0}
@@ -43,13 +43,13 @@ module _ (c : ℕ) (client : c ≢ 0) where
   elsewhere_concerns (Says d m) other (Granted e service id) past may = theirs c d e may other
   elsewhere_concerns (Says d m) other (Ended e NoRoom) past may = theirs c d e may other
   elsewhere_concerns (Says d m) other _ past may = absurd may
-  elsewhere_concerns (Garbles d) other (Ended e BadStream) past may = theirs c d e may other
-  elsewhere_concerns (Garbles d) other _ past may = absurd may
-  elsewhere_concerns (Leaves d) other (Ended e Closed) past may = theirs c d e may other
+  elsewhere_concerns (GoesBad d) other (Ended e BadStream) past may = theirs c d e may other
+  elsewhere_concerns (GoesBad d) other _ past may = absurd may
+  elsewhere_concerns (Leaves d) other (Ended e Leaving) past may = theirs c d e may other
   elsewhere_concerns (Leaves d) other _ past may = absurd may
-  elsewhere_concerns (Takes d count) other (Drained e taken) past may = theirs c d e may.0 other
+  elsewhere_concerns (Takes d count) other (Taken e taken) past may = theirs c d e may.0 other
   elsewhere_concerns (Takes d count) other _ past may = absurd may
-  elsewhere_concerns (ModemTakes count) other (ModemDrained taken) past may = refl
+  elsewhere_concerns (ModemTakes count) other (ModemTaken taken) past may = refl
   elsewhere_concerns (ModemTakes count) other _ past may = absurd may
   elsewhere_concerns _ other _ past may = absurd other
 
@@ -77,7 +77,7 @@ module _ (c : ℕ) (client : c ≢ 0) where
 
     -- the bytes of another
     pub piece_elsewhere : (d : ℕ) → (d == c) ≡ false → (messages : List (List ℕ)) (bad : Bool) (past : List Fact) → IsSound p.limits past
-        → part_of (add_all p (map (λ m. Says d m) messages ++ item_if bad (Garbles d)) past) ≡ part_of past
+        → part_of (add_all p (map (λ m. Says d m) messages ++ item_if bad (GoesBad d)) past) ≡ part_of past
     piece_elsewhere d other messages bad past sound =
-        items_elsewhere (map (λ m. Says d m) messages ++ item_if bad (Garbles d)) past
-        (behind_messages (IsElsewhere c) (λ m. Says d m) messages (item_if bad (Garbles d)) (λ m. other) (one_if (IsElsewhere c) bad (Garbles d) other)) sound
+        items_elsewhere (map (λ m. Says d m) messages ++ item_if bad (GoesBad d)) past
+        (behind_messages (IsElsewhere c) (λ m. Says d m) messages (item_if bad (GoesBad d)) (λ m. other) (one_if (IsElsewhere c) bad (GoesBad d) other)) sound

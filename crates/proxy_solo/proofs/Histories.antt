@@ -6,7 +6,7 @@ use Rattle.std.proofs.lemmas.Bool.Decides.{nat_tests}
 use Rattle.std.proofs.lemmas.List.Elements.{recursion_from_All}
 use Rattle.proxy_history.specs.Events.{Event, Joined, Piece, Left, ModemPiece, ModemGone, ModemBack, Now, Took, ModemTook}
 use Rattle.proxy_history.specs.Items.{Item, Joins}
-use Rattle.proxy_history.specs.Facts.{Fact, Request, NotAdmitted, BadStream, NoRoom, Closed, EventBegan, Admitted, Ended, Judged, Drained, Forwarded, Answered, IdHeld, Late, Expired, Aborted, Indicated, OpeningEnded, SessionsClosed, Granted, Freed, Reset, ModemLost, ModemReturned, ListSent}
+use Rattle.proxy_history.specs.Facts.{Fact, Request, NotAdmitted, BadStream, NoRoom, Leaving, EventBegan, Admitted, Ended, Judged, Taken, Forwarded, Answered, IdHeld, Late, Expired, Aborted, Indicated, OpeningEnded, SessionsClosed, Granted, Freed, Reset, ModemLost, ModemReturned, ListSent}
 use Rattle.proxy_history.specs.Connections.{contains, present, is_present}
 use Rattle.proxy_history.specs.Sound.{IsPresent, MayFollow, begins_anew}
 use Rattle.proxy_history.specs.Protocol.{Protocol}
@@ -129,9 +129,9 @@ module _ {Known : Type 0} (p : Protocol Known) (Asks : Request → List Fact →
   unheard_fact (Ended d NotAdmitted) past other follows unheard = others_pass (d == c) _ (part_of past) other unheard
   unheard_fact (Ended d BadStream) past other follows unheard = others_pass (d == c) _ (part_of past) (there_is_another d past unheard follows) unheard
   unheard_fact (Ended d NoRoom) past other follows unheard = others_pass (d == c) _ (part_of past) (there_is_another d past unheard follows) unheard
-  unheard_fact (Ended d Closed) past other follows unheard = others_pass (d == c) _ (part_of past) (there_is_another d past unheard follows) unheard
+  unheard_fact (Ended d Leaving) past other follows unheard = others_pass (d == c) _ (part_of past) (there_is_another d past unheard follows) unheard
   unheard_fact (Judged d place m verdict) past other follows unheard = others_pass (d == c) _ (part_of past) (there_is_another d past unheard follows) unheard
-  unheard_fact (Drained d count) past other follows unheard = others_pass (d == c) _ (part_of past) (there_is_another d past unheard follows) unheard
+  unheard_fact (Taken d count) past other follows unheard = others_pass (d == c) _ (part_of past) (there_is_another d past unheard follows) unheard
   unheard_fact (Forwarded r) past other follows unheard = others_pass (r.conn == c) _ (part_of past) (party_is_another r.conn past unheard follows.sender) unheard
   unheard_fact (Answered r m) past other follows unheard = others_pass (r.conn == c) _ (part_of past) (sender_is_another r past unheard (forwarded_from_in_use past r (in_use_from_pending past r follows))) unheard
   unheard_fact (IdHeld r) past other follows unheard = others_pass (r.conn == c) _ (part_of past) (sender_is_another r past unheard (forwarded_from_in_use past r (in_use_from_pending past r follows))) unheard

@@ -2,9 +2,9 @@
 use Rattle.std.proofs.Common.{◌≡◌, ℕ, Bool, true, false, ◌==◌, if◌then◌else◌, List, [], ◌∷◌, refl, sym, subst}
 use Rattle.std.specs.List.{AllByRecursion}
 use Rattle.proxy_history.specs.Items.{Item, Joins}
-use Rattle.proxy_history.specs.Facts.{Fact, Request, NotAdmitted, BadStream, Closed, Admitted, Ended, Judged, Drained, Forwarded, Answered, IdHeld, Expired, Aborted, Indicated, OpeningEnded, SessionsClosed, ListSent}
+use Rattle.proxy_history.specs.Facts.{Fact, Request, NotAdmitted, BadStream, Leaving, Admitted, Ended, Judged, Taken, Forwarded, Answered, IdHeld, Expired, Aborted, Indicated, OpeningEnded, SessionsClosed, ListSent}
 use Rattle.proxy_history.specs.Connections.{contains}
-use Rattle.proxy_history.specs.View.{Blank, Entry, Sent, Response, Refused, Indication, OpenedWith, Shut, Collected, End, HeldId, NoAnswer, view, entry_if}
+use Rattle.proxy_history.specs.View.{Blank, Entry, Said, Response, Refused, Indication, OpenedWith, Shut, Taking, End, HeldId, NoAnswer, view, entry_if}
 use Rattle.proxy_history.specs.Sound.{IsSound, begins_anew}
 use Rattle.proxy_history.specs.Protocol.{Protocol}
 use Rattle.proxy_history.specs.History.{add_all}
@@ -28,9 +28,9 @@ module _ (blank : Blank) (c : ℕ) where
   before_fact (Admitted d) past other all = behind_none (d == c) [] (view blank c past) other all
   before_fact (Ended d NotAdmitted) past other all = behind_none (d == c) (End NotAdmitted ∷ []) (view blank c past) other all
   before_fact (Ended d BadStream) past other all = behind_entry (d == c) (End BadStream) (view blank c past) all
-  before_fact (Ended d Closed) past other all = behind_entry (d == c) (End Closed) (view blank c past) all
-  before_fact (Judged d place m verdict) past other all = behind_entry (d == c) (Sent m verdict) (view blank c past) all
-  before_fact (Drained d count) past other all = behind_entry (d == c) (Collected count) (view blank c past) all
+  before_fact (Ended d Leaving) past other all = behind_entry (d == c) (End Leaving) (view blank c past) all
+  before_fact (Judged d place m verdict) past other all = behind_entry (d == c) (Said m verdict) (view blank c past) all
+  before_fact (Taken d count) past other all = behind_entry (d == c) (Taking count) (view blank c past) all
   before_fact (Answered r m) past other all = behind_entry (r.conn == c) (Response r.place (blank m)) (view blank c past) all
   before_fact (IdHeld r) past other all = behind_entry (r.conn == c) (Refused r.place HeldId) (view blank c past) all
   before_fact (Expired r) past other all = behind_entry (r.conn == c) (Refused r.place NoAnswer) (view blank c past) all

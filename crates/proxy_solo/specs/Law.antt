@@ -11,7 +11,7 @@ use Rattle.proxy_history.specs.Noting.{rendering}
 use Rattle.proxy_history.specs.Coming.{AreSound}
 use Rattle.proxy_history.specs.Adding.{IsOrderly}
 use Rattle.proxy_history.specs.Orderly.{Anything}
-use Rattle.proxy_history.specs.View.{Entry, Sent, Refused, End, HeldId, view}
+use Rattle.proxy_history.specs.View.{Entry, Said, Refused, End, HeldId, view}
 use Rattle.proxy_history.specs.Protocol.{Protocol}
 use Rattle.proxy_history.specs.History.{known_of, history, text_for}
 use Rattle.proxy_solo.specs.Alone.{Alone}
@@ -22,8 +22,8 @@ use Rattle.proxy_solo.specs.Part.{part, sent_by, held_by}
 
 -- the client was one too many, its client id was another's, or what all share was used up
 abbrev pub tells_of_others : Entry → Bool
-tells_of_others (Sent message Foreign) = true
-tells_of_others (Sent message Full) = true
+tells_of_others (Said message Foreign) = true
+tells_of_others (Said message Full) = true
 tells_of_others (Refused place HeldId) = true
 tells_of_others (End NotAdmitted) = true
 tells_of_others _ = false

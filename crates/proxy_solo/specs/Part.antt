@@ -1,7 +1,7 @@
 -- A client's part of a history: the facts that concern it, with all left out that only the proxy knows.
 -- A client that is alone has the same part, whatever the others do. Lists of facts have the newest first.
 use Rattle.std.specs.Prelude.{ℕ, Bool, true, false, ◌==◌, List, [], ◌∷◌, ◌++◌, filter}
-use Rattle.proxy_history.specs.Facts.{Fact, Request, Admitted, Ended, Judged, Drained, Forwarded, Answered, IdHeld, Late, Expired, Aborted, Indicated, OpeningEnded, SessionsClosed, Granted, Freed, Reset, ModemLost, ModemReturned}
+use Rattle.proxy_history.specs.Facts.{Fact, Request, Admitted, Ended, Judged, Taken, Forwarded, Answered, IdHeld, Late, Expired, Aborted, Indicated, OpeningEnded, SessionsClosed, Granted, Freed, Reset, ModemLost, ModemReturned}
 use Rattle.proxy_history.specs.Connections.{contains}
 use Rattle.proxy_history.specs.ClientIds.{Grant}
 use Rattle.proxy_history.specs.View.{Blank}
@@ -15,7 +15,7 @@ abbrev pub concerns : ℕ → Fact → Bool
 concerns c (Admitted d) = d == c
 concerns c (Ended d why) = d == c
 concerns c (Judged d place message verdict) = d == c
-concerns c (Drained d count) = d == c
+concerns c (Taken d count) = d == c
 concerns c (Forwarded r) = r.conn == c
 concerns c (Answered r message) = r.conn == c
 concerns c (IdHeld r) = r.conn == c

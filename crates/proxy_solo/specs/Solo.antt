@@ -5,7 +5,7 @@
 use Rattle.std.specs.Prelude.{ℕ, zero, suc, Bool, true, false, ◌==◌, nat_le, if◌then◌else◌, List, [], ◌∷◌, ◌++◌, length, take, drop, Option, Some, None}
 use Rattle.proxy_history.specs.Events.{Event, Joined, Piece, Left, ModemPiece, ModemGone, ModemBack, Now, Took, ModemTook}
 use Rattle.proxy_history.specs.Streams.{stream}
-use Rattle.proxy_history.specs.Items.{Item, ModemFails, client_items, items_of}
+use Rattle.proxy_history.specs.Items.{Item, ModemIsLost, client_items, items_of}
 use Rattle.proxy_history.specs.Facts.{Fact, EventBegan}
 use Rattle.proxy_history.specs.Protocol.{Protocol}
 use Rattle.proxy_history.specs.History.{add, add_all, history, modem_queue}
@@ -73,7 +73,7 @@ meet_parts p a c before (part ∷ parts) past solo =
 -- the modem is gone, or its stream went bad
 abbrev pub fails : List Item → Bool
 fails [] = false
-fails (ModemFails ∷ items) = true
+fails (ModemIsLost ∷ items) = true
 fails (_ ∷ items) = fails items
 
 -- the modem speaks before what it says with an event

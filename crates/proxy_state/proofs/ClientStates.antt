@@ -1,15 +1,15 @@
 -- What the facts of connections make of a client's client_state.
 use Rattle.std.proofs.Common.{◌≡◌, ℕ, ◌+◌, Bool, true, false, ◌||◌, ◌==◌, List, [], ◌∷◌, ◌++◌, length, drop, nat_lt, refl, ap, ◌∙◌, if◌then◌else◌}
 use Rattle.std.proofs.lemmas.Bool.{eq-eqb}
-use Rattle.proxy_history.specs.Facts.{Fact, Admitted, Ended, Drained, EventBegan, Why, NotAdmitted, BadStream, NoRoom, Closed}
-use Rattle.proxy_history.specs.View.{Entry, Collected, End, view, entry_if}
+use Rattle.proxy_history.specs.Facts.{Fact, Admitted, Ended, Taken, EventBegan, Why, NotAdmitted, BadStream, NoRoom, Leaving}
+use Rattle.proxy_history.specs.View.{Entry, Taking, End, view, entry_if}
 use Rattle.proxy_history.specs.Rendering.{render}
 use Rattle.proxy_history.specs.Wording.{told_by, text_behind}
 use Rattle.proxy_history.specs.Protocol.{Protocol}
 use Rattle.proxy_state.specs.Stands.{Kept, ClientState, client_state_of}
 
-abbrev pub collect : {T : Type 0} → ℕ → ClientState T → ClientState T
-collect count a = record a { waiting = drop count a.waiting }
+abbrev pub take_waiting : {T : Type 0} → ℕ → ClientState T → ClientState T
+take_waiting count a = record a { waiting = drop count a.waiting }
 
 -- bytes lack room; `room` is how many may wait
 abbrev pub lacks_room : {T : Type 0} → (room : ℕ) → List ℕ → ClientState T → Bool
@@ -41,18 +41,18 @@ module _ {Known T S : Type 0} (p : Protocol Known) (k : Kept Known T S) where
 
   -- ---- a socket takes bytes ----
 
-  module _ (collected : (known : Known) (count : ℕ) → k.client (p.wording.step known (Collected count)) ≡ k.client known) where
-    collected_from : (count : ℕ) (entries : List Entry) → client_state_from (Collected count ∷ entries) ≡ collect count (client_state_from entries)
+  module _ (taken_bytes : (known : Known) (count : ℕ) → k.client (p.wording.step known (Taking count)) ≡ k.client known) where
+    taking_from : (count : ℕ) (entries : List Entry) → client_state_from (Taking count ∷ entries) ≡ take_waiting count (client_state_from entries)
     unfolding render told_by
-    collected_from count entries = ap (λ (t : T). let a : ClientState T = record { client = t; waiting = drop count (client_state_from entries).waiting; is_over = (client_state_from entries).is_over } in a) (collected (told_by p.wording.fresh p.wording.step entries) count)
+    taking_from count entries = ap (λ (t : T). let a : ClientState T = record { client = t; waiting = drop count (client_state_from entries).waiting; is_over = (client_state_from entries).is_over } in a) (taken_bytes (told_by p.wording.fresh p.wording.step entries) count)
 
-    pub drained_own : (past : List Fact) (c count : ℕ) → client_state (Drained c count ∷ past) c ≡ collect count (client_state past c)
+    pub taken_own : (past : List Fact) (c count : ℕ) → client_state (Taken c count ∷ past) c ≡ take_waiting count (client_state past c)
     unfolding view
-    drained_own past c count = ap (λ (b : Bool). client_state_from (entry_if b (Collected count) (view p.wording.blank c past))) (eq-eqb c c refl) ∙ collected_from count (view p.wording.blank c past)
+    taken_own past c count = ap (λ (b : Bool). client_state_from (entry_if b (Taking count) (view p.wording.blank c past))) (eq-eqb c c refl) ∙ taking_from count (view p.wording.blank c past)
 
-  pub drained_other : (past : List Fact) (c count d : ℕ) → (c == d) ≡ false → client_state (Drained c count ∷ past) d ≡ client_state past d
+  pub taken_other : (past : List Fact) (c count d : ℕ) → (c == d) ≡ false → client_state (Taken c count ∷ past) d ≡ client_state past d
   unfolding view
-  drained_other past c count d other = ap (λ (b : Bool). client_state_from (entry_if b (Collected count) (view p.wording.blank d past))) other
+  taken_other past c count d other = ap (λ (b : Bool). client_state_from (entry_if b (Taking count) (view p.wording.blank d past))) other
 
   -- ---- connections ----
 
@@ -62,7 +62,7 @@ module _ {Known T S : Type 0} (p : Protocol Known) (k : Kept Known T S) where
   ended_other past c NotAdmitted d other = ap (λ (b : Bool). client_state_from (if b then End NotAdmitted ∷ [] else view p.wording.blank d past)) other
   ended_other past c BadStream d other = ap (λ (b : Bool). client_state_from (entry_if b (End BadStream) (view p.wording.blank d past))) other
   ended_other past c NoRoom d other = refl
-  ended_other past c Closed d other = ap (λ (b : Bool). client_state_from (entry_if b (End Closed) (view p.wording.blank d past))) other
+  ended_other past c Leaving d other = ap (λ (b : Bool). client_state_from (entry_if b (End Leaving) (view p.wording.blank d past))) other
 
   ended_waiting : (b : Bool) (why : Why) (entries : List Entry) → (client_state_from (entry_if b (End why) entries)).waiting ≡ (client_state_from entries).waiting
   unfolding render

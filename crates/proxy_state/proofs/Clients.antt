@@ -10,22 +10,22 @@ use Rattle.connections.specs.Table as tables
 use Rattle.connections.specs.Hearing.{Hearing, hears_all, heard, Brought, brings_if, brings_to}
 use Rattle.connections.proofs.Named.{without_none, changed_none}
 use Rattle.proxy_history.specs.Streams.{is_invalid}
-use Rattle.proxy_history.specs.Items.{Item, Says, Garbles, item_if}
-use Rattle.proxy_history.specs.Facts.{Fact, Admitted, Ended, Drained, NotAdmitted, BadStream, Closed}
+use Rattle.proxy_history.specs.Items.{Item, Says, GoesBad, item_if}
+use Rattle.proxy_history.specs.Facts.{Fact, Admitted, Ended, Taken, NotAdmitted, BadStream, Leaving}
 use Rattle.proxy_history.specs.Connections.{present, dropped, contains, without}
 use Rattle.proxy_history.specs.Noting as noting
 use Rattle.proxy_history.specs.Protocol.{Protocol}
 use Rattle.proxy_history.specs.History.{known_of, add_all}
 use Rattle.proxy_history.proofs.Lists.{above_absent}
 use Rattle.proxy_history.proofs.Walk.{add_all-append}
-use Rattle.proxy_state.specs.State.{State, Parting, Handlers}
-use Rattle.proxy_state.specs.Stands.{Kept, ClientState, client_state_of, connection_as, connection_of, parting_of, Streams, AreNames}
+use Rattle.proxy_state.specs.State.{State, DroppedClient, Handlers}
+use Rattle.proxy_state.specs.Stands.{Kept, ClientState, client_state_of, connection_as, connection_of, dropped_client_of, Streams, AreNames}
 use Rattle.proxy_state.specs.Step.{given_up_unless, join, leave, take, bring}
 use Rattle.proxy_state.specs.Faithful.{Keeps, settled_if, settled, IsFaithful}
 use Rattle.proxy_state.proofs.Lists.{map_pointwise, map_absent, without_above, without_contains, contains_without}
 use Rattle.proxy_state.proofs.Names.{names_more, names_still}
 use Rattle.proxy_state.proofs.Changed.{changed_found, changed_same, changed_twice, without_changed, found_made, changed_made, without_made, found_changed}
-use Rattle.proxy_state.proofs.ClientStates.{collect, drained_own, drained_other, ended_other, spoilt_waiting, refused_waiting, admitted_own, admitted_other}
+use Rattle.proxy_state.proofs.ClientStates.{take_waiting, taken_own, taken_other, ended_other, spoilt_waiting, refused_waiting, admitted_own, admitted_other}
 use Rattle.proxy_state.proofs.Keeping.{connection_is, connection_name, connection_same, found, found_there, found_absent, keeps_changed, keeps_left, keeps_dropped}
 
 -- c's stream left this
@@ -59,7 +59,7 @@ module _ {Known T S : Type 0} (p : Protocol Known) (k : Kept Known T S) (h : Han
       room = K.holds.room;
       names = subst (λ (n : ℕ). AreNames n (present past)) (sym greatest) K.holds.names;
     };
-    partings = K.partings;
+    dropped_clients = K.dropped_clients;
     apart = K.apart;
     fits = K.fits;
     fine = K.fine;
@@ -106,9 +106,9 @@ module _ {Known T S : Type 0} (p : Protocol Known) (k : Kept Known T S) (h : Han
   says_none c (m ∷ messages) past absent =
       ap (λ (b : Bool). add_all p (said c messages) (if b then hear_it c m past else past)) absent ∙ says_none c messages past absent
 
-  garbles_is : (c : ℕ) (past : List Fact) (there : Bool) → contains c (present past) ≡ there → add_all p (Garbles c ∷ []) past ≡ (if there then Ended c BadStream ∷ past else past)
+  goes_bad_is : (c : ℕ) (past : List Fact) (there : Bool) → contains c (present past) ≡ there → add_all p (GoesBad c ∷ []) past ≡ (if there then Ended c BadStream ∷ past else past)
   unfolding add_all
-  garbles_is c past there is = ap (λ (b : Bool). if b then Ended c BadStream ∷ past else past) is
+  goes_bad_is c past there is = ap (λ (b : Bool). if b then Ended c BadStream ∷ past else past) is
 
   says_first : (c : ℕ) (m : List ℕ) (messages : List (List ℕ)) (past : List Fact) → contains c (present past) ≡ true → add_all p (said c (m ∷ messages)) past ≡ add_all p (said c messages) (hear_it c m past)
   unfolding add_all
@@ -210,21 +210,21 @@ module _ {Known T S : Type 0} (p : Protocol Known) (k : Kept Known T S) (h : Han
 
   -- what a piece adds that leaves a stream with this cut
   abbrev pub piece_facts : ℕ → Cutting → List Fact → List Fact
-  piece_facts c f past = add_all p (said c f.messages ++ item_if (is_invalid (p.size f.rest)) (Garbles c)) past
+  piece_facts c f past = add_all p (said c f.messages ++ item_if (is_invalid (p.size f.rest)) (GoesBad c)) past
 
-  facts_split : (c : ℕ) (f : Cutting) (past : List Fact) (bad : Bool) → is_invalid (p.size f.rest) ≡ bad → piece_facts c f past ≡ add_all p (item_if bad (Garbles c)) (add_all p (said c f.messages) past)
+  facts_split : (c : ℕ) (f : Cutting) (past : List Fact) (bad : Bool) → is_invalid (p.size f.rest) ≡ bad → piece_facts c f past ≡ add_all p (item_if bad (GoesBad c)) (add_all p (said c f.messages) past)
   facts_split c f past bad is =
-      ap (λ (b : Bool). add_all p (said c f.messages ++ item_if b (Garbles c)) past) is ∙ add_all-append p (said c f.messages) (item_if bad (Garbles c)) past
+      ap (λ (b : Bool). add_all p (said c f.messages ++ item_if b (GoesBad c)) past) is ∙ add_all-append p (said c f.messages) (item_if bad (GoesBad c)) past
 
-  absent_garbled : (past : List Fact) (c : ℕ) (bad : Bool) → contains c (present past) ≡ false → add_all p (item_if bad (Garbles c)) past ≡ past
-  absent_garbled past c true absent = garbles_is c past false absent
-  absent_garbled past c false absent = nothing_added past
+  absent_goes_bad : (past : List Fact) (c : ℕ) (bad : Bool) → contains c (present past) ≡ false → add_all p (item_if bad (GoesBad c)) past ≡ past
+  absent_goes_bad past c true absent = goes_bad_is c past false absent
+  absent_goes_bad past c false absent = nothing_added past
 
   piece_none : (c : ℕ) (f : Cutting) (past : List Fact) → contains c (present past) ≡ false → piece_facts c f past ≡ past
   piece_none c f past absent =
       facts_split c f past (is_invalid (p.size f.rest)) refl
-      ∙ ap (add_all p (item_if (is_invalid (p.size f.rest)) (Garbles c))) (says_none c f.messages past absent)
-      ∙ absent_garbled past c (is_invalid (p.size f.rest)) absent
+      ∙ ap (add_all p (item_if (is_invalid (p.size f.rest)) (GoesBad c))) (says_none c f.messages past absent)
+      ∙ absent_goes_bad past c (is_invalid (p.size f.rest)) absent
 
   -- what was made of a client that was heard
   abbrev brought_as : Brought T S → ℕ → State T S
@@ -278,7 +278,7 @@ module _ {Known T S : Type 0} (p : Protocol Known) (k : Kept Known T S) (h : Han
         (λ d differs. ended_other p k heard_past c BadStream d differs) refl (ap (h.give_up c) H.holds.beside ∙ F.connections.ended c BadStream streams.messages heard_past)
         (F.connections.fine_more (Ended c BadStream) heard_past still.0 tt H.fine) still.0 H g.outbox waits refl
         in
-        subst (λ (l : List Fact). KeptAt after l (made false)) (sym (facts_split c f past true bad ∙ garbles_is c heard_past true still.0))
+        subst (λ (l : List Fact). KeptAt after l (made false)) (sym (facts_split c f past true bad ∙ goes_bad_is c heard_past true still.0))
         (keeps_elsewhere streams ended (made false) c f.rest (contains_without c (present heard_past))
         (subst (λ (l : List (Connection T)). KeptAt streams ended (record { table = record (tables.drops c g.outbox x.table) { present = l }; beside = h.give_up c g.beside })) (without_changed c (settle g) (λ l. refl) x.table.present) D))
 
@@ -286,7 +286,7 @@ module _ {Known T S : Type 0} (p : Protocol Known) (k : Kept Known T S) (h : Han
     went_over full =
         let H : KeptAt streams heard_past (settled_if h false c g x) = L_if false full in
         let gone : contains c (present heard_past) ≡ false = gone_now streams c past x there K g heard_past H in
-        subst (λ (l : List Fact). KeptAt after l (made false)) (sym (facts_split c f past (is_invalid (p.size f.rest)) refl ∙ absent_garbled heard_past c (is_invalid (p.size f.rest)) gone))
+        subst (λ (l : List Fact). KeptAt after l (made false)) (sym (facts_split c f past (is_invalid (p.size f.rest)) refl ∙ absent_goes_bad heard_past c (is_invalid (p.size f.rest)) gone))
         (keeps_elsewhere streams heard_past (made false) c f.rest gone H)
 
     went : KeptAt after (piece_facts c f past) (made (g.has_room && not (is_invalid (p.size f.rest))))
@@ -319,16 +319,16 @@ module _ {Known T S : Type 0} (p : Protocol Known) (k : Kept Known T S) (h : Han
 
   -- ---- one leaves, and a socket takes bytes ----
 
-  pub keeps_gone : (streams : Streams) (past : List Fact) (x : State T S) (c : ℕ) → KeptAt streams past x → KeptAt streams (noting.if_present c past (Ended c Closed ∷ past)) (leave h.give_up c x)
+  pub keeps_gone : (streams : Streams) (past : List Fact) (x : State T S) (c : ℕ) → KeptAt streams past x → KeptAt streams (noting.if_present c past (Ended c Leaving ∷ past)) (leave h.give_up c x)
   unfolding present dropped
   keeps_gone streams past x c K =
       let left : Option (Connection T) → State T S = λ o. record { table = tables.leaves c x.table; beside = given_up_unless h.give_up (is_none o) c x.beside } in
-      let step : (b : Bool) → contains c (present past) ≡ b → KeptAt streams (if b then Ended c Closed ∷ past else past) (leave h.give_up c x) =
-      λ b. elim b as (λ b. contains c (present past) ≡ b → KeptAt streams (if b then Ended c Closed ∷ past else past) (leave h.give_up c x)) [
+      let step : (b : Bool) → contains c (present past) ≡ b → KeptAt streams (if b then Ended c Leaving ∷ past else past) (leave h.give_up c x) =
+      λ b. elim b as (λ b. contains c (present past) ≡ b → KeptAt streams (if b then Ended c Leaving ∷ past else past) (leave h.give_up c x)) [
         | true ↦ λ there.
-            subst (λ (o : Option (Connection T)). KeptAt streams (Ended c Closed ∷ past) (record { table = tables.leaves c x.table; beside = given_up_unless h.give_up (is_none o) c x.beside })) (sym (found_there p k streams past x c K.holds there))
-            (keeps_left p k Fine streams (Ended c Closed ∷ past) past x c (h.give_up c x.beside) (λ d differs. ended_other p k past c Closed d differs) refl
-            (ap (h.give_up c) K.holds.beside ∙ F.connections.ended c Closed streams.messages past) (F.connections.fine_more (Ended c Closed) past there tt K.fine) there K refl)
+            subst (λ (o : Option (Connection T)). KeptAt streams (Ended c Leaving ∷ past) (record { table = tables.leaves c x.table; beside = given_up_unless h.give_up (is_none o) c x.beside })) (sym (found_there p k streams past x c K.holds there))
+            (keeps_left p k Fine streams (Ended c Leaving ∷ past) past x c (h.give_up c x.beside) (λ d differs. ended_other p k past c Leaving d differs) refl
+            (ap (h.give_up c) K.holds.beside ∙ F.connections.ended c Leaving streams.messages past) (F.connections.fine_more (Ended c Leaving) past there tt K.fine) there K refl)
         | false ↦ λ absent.
             let none : connection_in c x.table.present ≡ None = found_absent p k streams past x c K.holds absent in
             subst (λ (o : Option (Connection T)). KeptAt streams past (record { table = tables.leaves c x.table; beside = given_up_unless h.give_up (is_none o) c x.beside })) (sym none)
@@ -336,20 +336,20 @@ module _ {Known T S : Type 0} (p : Protocol Known) (k : Kept Known T S) (h : Han
       ]
       in step (contains c (present past)) refl
 
-  keeps_drained : (streams : Streams) (past : List Fact) (x : State T S) (c count : ℕ) → contains c (present past) ≡ true → KeptAt streams past x → KeptAt streams (Drained c count ∷ past) (take c count x)
+  keeps_taken : (streams : Streams) (past : List Fact) (x : State T S) (c count : ℕ) → contains c (present past) ≡ true → KeptAt streams past x → KeptAt streams (Taken c count ∷ past) (take c count x)
   unfolding present dropped connection_of
-  keeps_drained streams past x c count there K =
-      let own : client_state_of p k (Drained c count ∷ past) c ≡ collect count (client_state_of p k past c) = drained_own p k F.connections.collected past c count in
-      keeps_changed p k Fine streams (Drained c count ∷ past) past x c (took count) x.beside
+  keeps_taken streams past x c count there K =
+      let own : client_state_of p k (Taken c count ∷ past) c ≡ take_waiting count (client_state_of p k past c) = taken_own p k F.connections.taken_bytes past c count in
+      keeps_changed p k Fine streams (Taken c count ∷ past) past x c (took count) x.beside
       (ap (connection_as p.limits.outbox (streams.rests c) c) own)
       (ap (λ (a : ClientState T). a.is_over) own ∙ K.fits c there)
-      (λ d differs. drained_other p k past c count d differs) refl refl (K.holds.beside ∙ sym (F.connections.drained c count past streams.messages)) (F.connections.fine_more (Drained c count) past there tt K.fine) there K
+      (λ d differs. taken_other p k past c count d differs) refl refl (K.holds.beside ∙ sym (F.connections.was_taken c count past streams.messages)) (F.connections.fine_more (Taken c count) past there tt K.fine) there K
 
-  pub keeps_took : (streams : Streams) (past : List Fact) (x : State T S) (c count : ℕ) → KeptAt streams past x → KeptAt streams (noting.if_present c past (Drained c count ∷ past)) (take c count x)
+  pub keeps_took : (streams : Streams) (past : List Fact) (x : State T S) (c count : ℕ) → KeptAt streams past x → KeptAt streams (noting.if_present c past (Taken c count ∷ past)) (take c count x)
   keeps_took streams past x c count K =
-      let step : (b : Bool) → contains c (present past) ≡ b → KeptAt streams (if b then Drained c count ∷ past else past) (take c count x) =
-      λ b. elim b as (λ b. contains c (present past) ≡ b → KeptAt streams (if b then Drained c count ∷ past else past) (take c count x)) [
-        | true ↦ λ there. keeps_drained streams past x c count there K
+      let step : (b : Bool) → contains c (present past) ≡ b → KeptAt streams (if b then Taken c count ∷ past else past) (take c count x) =
+      λ b. elim b as (λ b. contains c (present past) ≡ b → KeptAt streams (if b then Taken c count ∷ past else past) (take c count x)) [
+        | true ↦ λ there. keeps_taken streams past x c count there K
         | false ↦ λ absent. subst (λ (l : List (Connection T)). KeptAt streams past (record { table = record x.table { present = l }; beside = x.beside })) (sym (changed_none c (took count) x.table.present (found_absent p k streams past x c K.holds absent))) K
       ]
       in step (contains c (present past)) refl
@@ -385,7 +385,7 @@ module _ {Known T S : Type 0} (p : Protocol Known) (k : Kept Known T S) (h : Han
           room = K.holds.room;
           names = names_more streams.greatest c (present past) above K.holds.names;
         };
-        partings = K.partings ∙ ap (map (parting_of p past)) none ∙ sym (ap (map (parting_of p later)) none);
+        dropped_clients = K.dropped_clients ∙ ap (map (dropped_client_of p past)) none ∙ sym (ap (map (dropped_client_of p later)) none);
         apart = subst (AllByRecursion (λ d. contains d (present past ++ c ∷ []) ≡ false)) (sym none) tt;
         fits = fitting later absent;
         fine = F.connections.fine_more (Admitted c) past room (omega arith, absent) K.fine;
@@ -428,11 +428,11 @@ module _ {Known T S : Type 0} (p : Protocol Known) (k : Kept Known T S) (h : Han
           room = K.holds.room;
           names = subst (AreNames c) (sym same) (names_still streams.greatest c (present past) above K.holds.names);
         };
-        partings =
-            map_push (λ (d : Dropped). let l : Parting = record { name = d.name; waiting = left_in d.outbox } in l) x.table.dropped (record { name = c; outbox = None })
-            ∙ ap (λ (l : List Parting). l ++ record { name = c; waiting = [] } ∷ []) (K.partings ∙ ap (map (parting_of p past)) none)
-            ∙ ap (λ (l : List ℕ). let u : Parting = record { name = c; waiting = l } in u ∷ []) (sym (refused_waiting p k past c))
-            ∙ sym (ap (λ (ds : List ℕ). map (parting_of p later) (ds ++ c ∷ [])) none);
+        dropped_clients =
+            map_push (λ (d : Dropped). let l : DroppedClient = record { name = d.name; waiting = left_in d.outbox } in l) x.table.dropped (record { name = c; outbox = None })
+            ∙ ap (λ (l : List DroppedClient). l ++ record { name = c; waiting = [] } ∷ []) (K.dropped_clients ∙ ap (map (dropped_client_of p past)) none)
+            ∙ ap (λ (l : List ℕ). let u : DroppedClient = record { name = c; waiting = l } in u ∷ []) (sym (refused_waiting p k past c))
+            ∙ sym (ap (λ (ds : List ℕ). map (dropped_client_of p later) (ds ++ c ∷ [])) none);
         apart = subst (λ (ds : List ℕ). AllByRecursion (λ d. contains d (without c (present past)) ≡ false) (ds ++ c ∷ [])) (sym none) (contains_without c (present past), tt);
         fits = λ d at. (let parts = without_contains c d (present past) at in ap (λ (a : ClientState T). a.is_over) (ended_other p k past c NotAdmitted d parts.0) ∙ K.fits d parts.1);
         fine = F.connections.fine_more (Ended c NotAdmitted) past full (omega arith) K.fine;

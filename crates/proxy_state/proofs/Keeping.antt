@@ -10,8 +10,8 @@ use Rattle.proxy_history.specs.Facts.{Fact}
 use Rattle.proxy_history.specs.Connections.{present, dropped, contains, without}
 use Rattle.proxy_history.specs.Adding.{AllFit}
 use Rattle.proxy_history.specs.Protocol.{Protocol}
-use Rattle.proxy_state.specs.State.{State, Parting, partings_in}
-use Rattle.proxy_state.specs.Stands.{Kept, ClientState, client_state_of, connection_as, connection_of, parting_of, Streams, AreNames, HoldsOf}
+use Rattle.proxy_state.specs.State.{State, DroppedClient, dropped_clients_in}
+use Rattle.proxy_state.specs.Stands.{Kept, ClientState, client_state_of, connection_as, connection_of, dropped_client_of, Streams, AreNames, HoldsOf}
 use Rattle.proxy_state.specs.Faithful.{Keeps}
 use Rattle.proxy_state.proofs.Lists.{map_pointwise, map_apart, map_absent, apart_more, apart_still, without_contains}
 use Rattle.proxy_state.proofs.Names.{names_without}
@@ -33,8 +33,8 @@ module _ {Known T S : Type 0} (p : Protocol Known) (k : Kept Known T S) where
   unfolding connection_of
   connection_same rests later earlier d same = ap (connection_as room (rests d) d) same
 
-  pub parting_same : (later earlier : List Fact) (d : ℕ) → client_state_of p k later d ≡ client_state_of p k earlier d → parting_of p later d ≡ parting_of p earlier d
-  parting_same later earlier d same = ap (λ (a : ClientState T). let l : Parting = record { name = d; waiting = a.waiting } in l) same
+  pub dropped_client_same : (later earlier : List Fact) (d : ℕ) → client_state_of p k later d ≡ client_state_of p k earlier d → dropped_client_of p later d ≡ dropped_client_of p earlier d
+  dropped_client_same later earlier d same = ap (λ (a : ClientState T). let l : DroppedClient = record { name = d; waiting = a.waiting } in l) same
 
   -- ---- the connection of a name ----
 
@@ -63,8 +63,8 @@ module _ {Known T S : Type 0} (p : Protocol Known) (k : Kept Known T S) (Fine : 
   abbrev pub made_as : (ℕ → ClientState T) → ℕ → Connection T
   made_as state d = connection_as p.limits.outbox (streams.rests d) d (state d)
 
-  abbrev pub parting_as : (ℕ → ClientState T) → ℕ → Parting
-  parting_as state d = record { name = d; waiting = (state d).waiting }
+  abbrev pub dropped_client_as : (ℕ → ClientState T) → ℕ → DroppedClient
+  dropped_client_as state d = record { name = d; waiting = (state d).waiting }
 
   -- the connections have these states, and all else is as the facts say
   pub record KeepsAs (state : ℕ → ClientState T) (past : List Fact) (x : State T S) : Type 0 where
@@ -74,7 +74,7 @@ module _ {Known T S : Type 0} (p : Protocol Known) (k : Kept Known T S) (Fine : 
     pub limit : x.table.limit ≡ p.limits.connections
     pub room_is : x.table.room ≡ p.limits.outbox
     pub names : AreNames streams.greatest (present past)
-    pub partings : partings_in x.table.dropped ≡ map (parting_as state) (dropped past)
+    pub dropped_clients : dropped_clients_in x.table.dropped ≡ map (dropped_client_as state) (dropped past)
     pub apart : AreApart past
     pub fits : (d : ℕ) → contains d (present past) ≡ true → (state d).is_over ≡ false
     pub fine : Fine past
@@ -90,7 +90,7 @@ module _ {Known T S : Type 0} (p : Protocol Known) (k : Kept Known T S) (Fine : 
       room = A.room_is;
       names = A.names;
     };
-    partings = A.partings ∙ map_pointwise _ _ (λ d. ap (λ (a : ClientState T). parting_as (λ e. a) d) (sym (is d))) (dropped past);
+    dropped_clients = A.dropped_clients ∙ map_pointwise _ _ (λ d. ap (λ (a : ClientState T). dropped_client_as (λ e. a) d) (sym (is d))) (dropped past);
     apart = A.apart;
     fits = λ d at. ap (λ (a : ClientState T). a.is_over) (is d) ∙ A.fits d at;
     fine = A.fine;
@@ -107,7 +107,7 @@ module _ {Known T S : Type 0} (p : Protocol Known) (k : Kept Known T S) (Fine : 
       limit = K.holds.limit;
       room_is = K.holds.room;
       names = subst (AreNames streams.greatest) (sym same_present) K.holds.names;
-      partings = K.partings ∙ ap (map (parting_as (client_state_of p k earlier))) (sym same_dropped);
+      dropped_clients = K.dropped_clients ∙ ap (map (dropped_client_as (client_state_of p k earlier))) (sym same_dropped);
       apart = subst (AllByRecursion (λ d. contains d (present later) ≡ false)) (sym same_dropped) (subst (λ (xs : List ℕ). AllByRecursion (λ d. contains d xs ≡ false) (dropped earlier)) (sym same_present) K.apart);
       fits = λ d at. K.fits d (ap (contains d) (sym same_present) ∙ at);
       fine = fine;
@@ -118,8 +118,8 @@ module _ {Known T S : Type 0} (p : Protocol Known) (k : Kept Known T S) (Fine : 
     made_other : (d : ℕ) → (c == d) ≡ false → made_as after d ≡ made_as before d
     made_other d differs = ap (connection_as p.limits.outbox (streams.rests d) d) (other d differs)
 
-    others_left : map (parting_as before) (dropped past) ≡ map (parting_as after) (dropped past)
-    others_left = map_apart c (present past) _ _ (λ d differs. ap (λ (a : ClientState T). parting_as (λ e. a) d) (sym (other d differs))) there (dropped past) A.apart
+    others_left : map (dropped_client_as before) (dropped past) ≡ map (dropped_client_as after) (dropped past)
+    others_left = map_apart c (present past) _ _ (λ d differs. ap (λ (a : ClientState T). dropped_client_as (λ e. a) d) (sym (other d differs))) there (dropped past) A.apart
 
     pub changed_as : (f : Connection T → Connection T) → made_as after c ≡ f (made_as before c) → (after c).is_over ≡ false → KeepsAs after past (record x { table = record x.table { present = changed c f x.table.present } })
     changed_as f own fit = record {
@@ -129,7 +129,7 @@ module _ {Known T S : Type 0} (p : Protocol Known) (k : Kept Known T S) (Fine : 
       limit = A.limit;
       room_is = A.room_is;
       names = A.names;
-      partings = A.partings ∙ others_left;
+      dropped_clients = A.dropped_clients ∙ others_left;
       apart = A.apart;
       fits = fitting;
       fine = A.fine;
@@ -146,15 +146,15 @@ module _ {Known T S : Type 0} (p : Protocol Known) (k : Kept Known T S) (Fine : 
 
     -- it ends, by itself or dropped
     module _ (later : List Fact) (beside : S) (fewer : present later ≡ without c (present past)) (is : beside ≡ k.beside streams.messages later) (fine : Fine later) where
-      ended_as : (now : List Dropped) → partings_in now ≡ map (parting_as after) (dropped later) → AreApart later → KeepsAs after later (record { table = record x.table { present = tables.without c x.table.present; dropped = now }; beside = beside })
-      ended_as now partings apart = record {
+      ended_as : (now : List Dropped) → dropped_clients_in now ≡ map (dropped_client_as after) (dropped later) → AreApart later → KeepsAs after later (record { table = record x.table { present = tables.without c x.table.present; dropped = now }; beside = beside })
+      ended_as now dropped_clients apart = record {
         connections = ap (tables.without c) A.connections ∙ without_made (made_as before) (λ d. refl) c (made_as after) made_other (present past) A.names.distinct ∙ ap (map (made_as after)) (sym fewer);
         beside = is;
         greatest = A.greatest;
         limit = A.limit;
         room_is = A.room_is;
         names = subst (AreNames streams.greatest) (sym fewer) (names_without streams.greatest c (present past) A.names);
-        partings = partings;
+        dropped_clients = dropped_clients;
         apart = apart;
         fits = λ d at.
             let parts = without_contains c d (present past) (ap (contains d) (sym fewer) ∙ at) in
@@ -166,16 +166,16 @@ module _ {Known T S : Type 0} (p : Protocol Known) (k : Kept Known T S) (Fine : 
       apart_from names is apart = subst (AllByRecursion (λ d. contains d (present later) ≡ false)) (sym is) (subst (λ (xs : List ℕ). AllByRecursion (λ d. contains d xs ≡ false) names) (sym fewer) apart)
 
       pub left_as : dropped later ≡ dropped past → KeepsAs after later (record { table = tables.leaves c x.table; beside = beside })
-      left_as same = ended_as x.table.dropped (A.partings ∙ others_left ∙ ap (map (parting_as after)) (sym same)) (apart_from (dropped past) same (apart_still c (present past) (dropped past) A.apart))
+      left_as same = ended_as x.table.dropped (A.dropped_clients ∙ others_left ∙ ap (map (dropped_client_as after)) (sym same)) (apart_from (dropped past) same (apart_still c (present past) (dropped past) A.apart))
 
       pub dropped_as : (outbox : Queue) → outbox.bytes ≡ (after c).waiting → dropped later ≡ dropped past ++ c ∷ [] → KeepsAs after later (record { table = tables.drops c outbox x.table; beside = beside })
       dropped_as outbox waits more =
           ended_as (x.table.dropped ++ record { name = c; outbox = Some outbox } ∷ [])
-          (map_push (λ (d : Dropped). let l : Parting = record { name = d.name; waiting = left_in d.outbox } in l) x.table.dropped (record { name = c; outbox = Some outbox })
-          ∙ ap (λ (l : List Parting). l ++ record { name = c; waiting = outbox.bytes } ∷ []) (A.partings ∙ others_left)
-          ∙ ap (λ (l : List ℕ). map (parting_as after) (dropped past) ++ record { name = c; waiting = l } ∷ []) waits
-          ∙ sym (map-append (parting_as after) (dropped past) (c ∷ []))
-          ∙ ap (map (parting_as after)) (sym more))
+          (map_push (λ (d : Dropped). let l : DroppedClient = record { name = d.name; waiting = left_in d.outbox } in l) x.table.dropped (record { name = c; outbox = Some outbox })
+          ∙ ap (λ (l : List DroppedClient). l ++ record { name = c; waiting = outbox.bytes } ∷ []) (A.dropped_clients ∙ others_left)
+          ∙ ap (λ (l : List ℕ). map (dropped_client_as after) (dropped past) ++ record { name = c; waiting = l } ∷ []) waits
+          ∙ sym (map-append (dropped_client_as after) (dropped past) (c ∷ []))
+          ∙ ap (map (dropped_client_as after)) (sym more))
           (apart_from (dropped past ++ c ∷ []) more (apart_more c (present past) (dropped past) A.apart))
 
   -- ---- nothing comes for any client ----
@@ -202,7 +202,7 @@ module _ {Known T S : Type 0} (p : Protocol Known) (k : Kept Known T S) (Fine : 
       room = K.holds.room;
       names = K.holds.names;
     };
-    partings = K.partings;
+    dropped_clients = K.dropped_clients;
     apart = K.apart;
     fits = K.fits;
     fine = K.fine;
@@ -227,7 +227,7 @@ module _ {Known T S : Type 0} (p : Protocol Known) (k : Kept Known T S) (Fine : 
           room = A.room_is;
           names = A.names;
         };
-        partings = A.partings ∙ map_absent c _ _ (λ d differs. sym (parting_same p k later earlier d (other d differs))) (dropped later) (ap (contains c) same_dropped ∙ gone);
+        dropped_clients = A.dropped_clients ∙ map_absent c _ _ (λ d differs. sym (dropped_client_same p k later earlier d (other d differs))) (dropped later) (ap (contains c) same_dropped ∙ gone);
         apart = A.apart;
         fits = λ d at.
             let differs : (c == d) ≡ false = false_from_ne_true (c == d) (λ e. let none : contains d (present later) ≡ false = ap (λ (n : ℕ). contains n (present later)) (sym (eqb-true c d e)) ∙ out in absurd (cc)) in

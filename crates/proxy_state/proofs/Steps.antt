@@ -8,8 +8,8 @@ use Rattle.connections.specs.Table.{Table, Dropped}
 use Rattle.connections.specs.Table as tables
 use Rattle.proxy_history.specs.Events.{Event, Joined, Piece, Left, ModemPiece, ModemGone, ModemBack, Now, Took, ModemTook}
 use Rattle.proxy_history.specs.Streams.{stream, modem_stream, is_bad, is_invalid, with_piece, come_back}
-use Rattle.proxy_history.specs.Items.{Says, Garbles, ModemSays, ModemFails, item_if, modem_items, fails_once, returns_once}
-use Rattle.proxy_history.specs.Facts.{Fact, EventBegan, Ended, Drained, Closed, ModemReturned, ModemDrained}
+use Rattle.proxy_history.specs.Items.{Says, GoesBad, ModemSays, ModemIsLost, item_if, modem_items, is_lost_once, returns_once}
+use Rattle.proxy_history.specs.Facts.{Fact, EventBegan, Ended, Taken, Leaving, ModemReturned, ModemTaken}
 use Rattle.proxy_history.specs.Connections.{present, dropped}
 use Rattle.proxy_history.specs.Noting as noting
 use Rattle.proxy_history.specs.Unanswered as unanswered
@@ -19,7 +19,7 @@ use Rattle.proxy_history.specs.History.{history, add_all}
 use Rattle.proxy_history.proofs.Lists.{above_absent}
 use Rattle.proxy_history.proofs.Streams.{goes_on_from_rest}
 use Rattle.proxy_history.proofs.Walk.{add_all-append}
-use Rattle.proxy_state.specs.State.{State, Core, Handlers, partings_in}
+use Rattle.proxy_state.specs.State.{State, Core, Handlers, dropped_clients_in}
 use Rattle.proxy_state.specs.Stands.{Kept, Streams, streams_of, rests_of, rest_in, messages_in, modem_stream_of, Stands, StandsAfter, CanStep}
 use Rattle.proxy_state.specs.Step.{join, leave, take, bring, hear_all, lose_if, hear_cut, bring_modem, lose_modem, regain_modem, lose, finished, step}
 use Rattle.proxy_state.specs.Faithful.{Keeps, IsFaithful}
@@ -42,11 +42,11 @@ module _ {Known T S : Type 0} (p : Protocol Known) (k : Kept Known T S) (h : Han
   unfolding history add_all
   history_joined events c = refl
 
-  history_left : (events : List Event) (c : ℕ) → history p (Left c ∷ events) ≡ p.finish (noting.if_present c (begun events) (Ended c Closed ∷ begun events))
+  history_left : (events : List Event) (c : ℕ) → history p (Left c ∷ events) ≡ p.finish (noting.if_present c (begun events) (Ended c Leaving ∷ begun events))
   unfolding history add_all
   history_left events c = refl
 
-  history_took : (events : List Event) (c count : ℕ) → history p (Took c count ∷ events) ≡ p.finish (noting.if_present c (begun events) (Drained c count ∷ begun events))
+  history_took : (events : List Event) (c count : ℕ) → history p (Took c count ∷ events) ≡ p.finish (noting.if_present c (begun events) (Taken c count ∷ begun events))
   unfolding history add_all
   history_took events c count = refl
 
@@ -54,7 +54,7 @@ module _ {Known T S : Type 0} (p : Protocol Known) (k : Kept Known T S) (h : Han
   unfolding history add_all
   history_timed events time = refl
 
-  history_modem_took : (events : List Event) (count : ℕ) → history p (ModemTook count ∷ events) ≡ p.finish (ModemDrained count ∷ begun events)
+  history_modem_took : (events : List Event) (count : ℕ) → history p (ModemTook count ∷ events) ≡ p.finish (ModemTaken count ∷ begun events)
   unfolding history add_all
   history_modem_took events count = refl
 
@@ -62,16 +62,16 @@ module _ {Known T S : Type 0} (p : Protocol Known) (k : Kept Known T S) (h : Han
   unfolding history
   history_brought events c piece =
       let on = goes_on_from_rest p.size (stream c events) piece in
-      ap (λ (messages : List (List ℕ)). p.finish (add_all p (map (λ m. Says c m) messages ++ item_if (is_bad p.size (stream c events ++ piece)) (Garbles c)) (begun events))) on.messages
-      ∙ ap (λ (b : Bool). p.finish (add_all p (map (λ m. Says c m) (cut p.size (rests_of p events c ++ piece)).messages ++ item_if b (Garbles c)) (begun events))) on.bad
+      ap (λ (messages : List (List ℕ)). p.finish (add_all p (map (λ m. Says c m) messages ++ item_if (is_bad p.size (stream c events ++ piece)) (GoesBad c)) (begun events))) on.messages
+      ∙ ap (λ (b : Bool). p.finish (add_all p (map (λ m. Says c m) (cut p.size (rests_of p events c ++ piece)).messages ++ item_if b (GoesBad c)) (begun events))) on.bad
 
   history_piece : (events : List Event) (piece : List ℕ) (o : Option (List ℕ)) → modem_stream_of p events ≡ o → history p (ModemPiece piece ∷ events) ≡ p.finish (add_all p (modem_items p piece o) (begun events))
   unfolding history
   history_piece events piece o is = ap (λ (o : Option (List ℕ)). p.finish (add_all p (modem_items p piece o) (begun events))) is
 
-  history_gone : (events : List Event) (o : Option (List ℕ)) → modem_stream_of p events ≡ o → history p (ModemGone ∷ events) ≡ p.finish (add_all p (fails_once o) (begun events))
+  history_gone : (events : List Event) (o : Option (List ℕ)) → modem_stream_of p events ≡ o → history p (ModemGone ∷ events) ≡ p.finish (add_all p (is_lost_once o) (begun events))
   unfolding history
-  history_gone events o is = ap (λ (o : Option (List ℕ)). p.finish (add_all p (fails_once o) (begun events))) is
+  history_gone events o is = ap (λ (o : Option (List ℕ)). p.finish (add_all p (is_lost_once o) (begun events))) is
 
   history_back : (events : List Event) (o : Option (List ℕ)) → modem_stream_of p events ≡ o → history p (ModemBack ∷ events) ≡ p.finish (add_all p (returns_once o) (begun events))
   unfolding history
@@ -81,7 +81,7 @@ module _ {Known T S : Type 0} (p : Protocol Known) (k : Kept Known T S) (h : Han
   unfolding add_all
   nothing_added past = refl
 
-  once_lost : (past : List Fact) → add_all p (ModemFails ∷ []) past ≡ unanswered.lose p.refuse p.order p.close past
+  once_lost : (past : List Fact) → add_all p (ModemIsLost ∷ []) past ≡ unanswered.lose p.refuse p.order p.close past
   unfolding add_all
   once_lost past = refl
 
@@ -110,7 +110,7 @@ module _ {Known T S : Type 0} (p : Protocol Known) (k : Kept Known T S) (h : Han
         room = Sd.holds.room;
         names = Sd.holds.names;
       };
-      partings = ap partings_in none;
+      dropped_clients = ap dropped_clients_in none;
       apart = tt;
       fits = fits_same p k Fine streams (begun events) (history p events) (client_state_begun p k (history p events)) refl (F.fits events);
       fine = F.connections.fine_more EventBegan (history p events) tt tt (F.fine events Sd.sound);
@@ -128,8 +128,8 @@ module _ {Known T S : Type 0} (p : Protocol Known) (k : Kept Known T S) (h : Han
         subst (λ (l : List Fact). KeptAt (streams_of p (event ∷ events)) l (h.finish after.state)) (sym is) (F.finish (streams_of p (event ∷ events)) facts after.state K)
         in
         record {
-          stands = record { holds = L.holds; partings = ([], L.partings); rest = rest; sound = (may, Sd.sound) };
-          all_dropped = L.partings;
+          stands = record { holds = L.holds; dropped_clients = ([], L.dropped_clients); rest = rest; sound = (may, Sd.sound) };
+          all_dropped = L.dropped_clients;
         }
 
     abbrev Comes : Event → Core T S → Type 0
@@ -257,14 +257,14 @@ module _ {Known T S : Type 0} (p : Protocol Known) (k : Kept Known T S) (h : Han
 
       -- what the messages and the end of a piece add
       abbrev cut_facts : Bool → List Fact
-      cut_facts bad = add_all p (told p k h Fine F (delivered_behind p F.delivers messages f.messages) ++ item_if bad ModemFails) (begun events)
+      cut_facts bad = add_all p (told p k h Fine F (delivered_behind p F.delivers messages f.messages) ++ item_if bad ModemIsLost) (begun events)
 
       abbrev stream_after : Bool → Option (List ℕ)
       stream_after bad = if bad then None else Some (bytes ++ piece)
 
       kept_cut : (bad : Bool) → KeptAt (with_stream (stream_after bad)) (cut_facts bad) (lose_if h p.size bad f.rest heard).state
       kept_cut true =
-          subst (λ (l : List Fact). KeptAt (with_stream None) l (h.lose heard)) (sym (add_all-append p (told p k h Fine F (delivered_behind p F.delivers messages f.messages)) (ModemFails ∷ []) (begun events) ∙ once_lost heard_facts))
+          subst (λ (l : List Fact). KeptAt (with_stream None) l (h.lose heard)) (sym (add_all-append p (told p k h Fine F (delivered_behind p F.delivers messages f.messages)) (ModemIsLost ∷ []) (begun events) ∙ once_lost heard_facts))
           (F.lose (record streams { messages = messages ++ f.messages }) heard_facts heard kept_heard)
       kept_cut false =
           subst (λ (l : List Fact). KeptAt (with_stream (Some (bytes ++ piece))) l heard) (sym (add_all-append p (told p k h Fine F (delivered_behind p F.delivers messages f.messages)) [] (begun events) ∙ nothing_added heard_facts))
@@ -280,7 +280,7 @@ module _ {Known T S : Type 0} (p : Protocol Known) (k : Kept Known T S) (h : Han
           let on = goes_on_from_rest p.size bytes piece in
           let facts : history p (ModemPiece piece ∷ events) ≡ p.finish (cut_facts bad) =
           history_piece events piece (Some bytes) is
-          ∙ ap (λ (l : List (List ℕ)). p.finish (add_all p (map (λ m. ModemSays m) (drop (length (p.deliver messages)) (p.deliver l)) ++ item_if (is_bad p.size (bytes ++ piece)) ModemFails) (begun events)))
+          ∙ ap (λ (l : List (List ℕ)). p.finish (add_all p (map (λ m. ModemSays m) (drop (length (p.deliver messages)) (p.deliver l)) ++ item_if (is_bad p.size (bytes ++ piece)) ModemIsLost) (begun events)))
           (ap (λ (g : Cutting). g.messages) (cut-append p.size bytes piece))
           ∙ ap (λ (b : Bool). p.finish (cut_facts b)) on.bad
           in
@@ -378,7 +378,7 @@ stands_open {T = T} p k core table beside rest = record {
     room = ap (λ (t : Table T). t.room) table;
     names = record { known = tt; distinct = tt };
   };
-  partings = ([], ap (λ (t : Table T). partings_in t.dropped) table);
+  dropped_clients = ([], ap (λ (t : Table T). dropped_clients_in t.dropped) table);
   rest = rest ∙ elim p.starts_away as (λ b. [] ≡ rest_in p.size (if b then None else Some [])) [ true ↦ refl | false ↦ refl ];
   sound = tt;
 }

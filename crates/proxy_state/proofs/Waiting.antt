@@ -14,33 +14,33 @@ use Rattle.proxy_history.specs.Noting.{rendering}
 use Rattle.proxy_history.specs.Coming.{queued_for, MayCome}
 use Rattle.proxy_history.specs.Protocol.{Protocol}
 use Rattle.proxy_history.specs.History.{history, text_for}
-use Rattle.proxy_state.specs.State.{Core, Parting, Handlers, partings_in}
-use Rattle.proxy_state.specs.Stands.{Kept, connection_of, parting_of, streams_of, rests_of, IsSuffix, Stands, StandsAfter, CanStep, names_of, waiting_for, is_owed}
+use Rattle.proxy_state.specs.State.{Core, DroppedClient, Handlers, dropped_clients_in}
+use Rattle.proxy_state.specs.Stands.{Kept, connection_of, dropped_client_of, streams_of, rests_of, IsSuffix, Stands, StandsAfter, CanStep, names_of, waiting_for, is_owed}
 use Rattle.proxy_state.specs.Faithful.{IsFaithful}
 use Rattle.proxy_state.specs.Laws.{WaitingAreOfTheHistory, AskingKeepsStanding}
 use Rattle.proxy_state.proofs.Keeping.{found}
 
 module _ {Known : Type 0} (p : Protocol Known) (past : List Fact) where
-  -- a parting is that of its name
-  abbrev IsLeft : Parting → Type 0
-  IsLeft d = d ≡ parting_of p past d.name
+  -- a dropped_client is that of its name
+  abbrev IsLeft : DroppedClient → Type 0
+  IsLeft d = d ≡ dropped_client_of p past d.name
 
-  all_left : (names : List ℕ) → AllByRecursion IsLeft (map (parting_of p past) names)
+  all_left : (names : List ℕ) → AllByRecursion IsLeft (map (dropped_client_of p past) names)
   all_left [] = tt
   all_left (c ∷ names) = (refl, all_left names)
 
-  suffix_left : (front partings : List Parting) → AllByRecursion IsLeft (front ++ partings) → AllByRecursion IsLeft partings
-  suffix_left [] partings all = all
-  suffix_left (d ∷ front) partings all = suffix_left front partings all.1
+  suffix_left : (front dropped_clients : List DroppedClient) → AllByRecursion IsLeft (front ++ dropped_clients) → AllByRecursion IsLeft dropped_clients
+  suffix_left [] dropped_clients all = all
+  suffix_left (d ∷ front) dropped_clients all = suffix_left front dropped_clients all.1
 
-  left_is : (c : ℕ) (partings : List Dropped) → AllByRecursion IsLeft (partings_in partings) → contains c (map (λ d. d.name) partings) ≡ true → left_for c partings ≡ (rendering p.limits p.wording c past).waiting
+  left_is : (c : ℕ) (dropped_clients : List Dropped) → AllByRecursion IsLeft (dropped_clients_in dropped_clients) → contains c (map (λ d. d.name) dropped_clients) ≡ true → left_for c dropped_clients ≡ (rendering p.limits p.wording c past).waiting
   left_is c [] all there = absurd (cc)
-  left_is c (d ∷ partings) all there =
-      let Left : Bool → Type 0 = λ (b : Bool). (if b then left_in d.outbox else left_for c partings) ≡ (rendering p.limits p.wording c past).waiting in
-      let step : (b : Bool) → (c == d.name) ≡ b → (b || contains c (map (λ (d : Dropped). d.name) partings)) ≡ true → Left b =
-      λ b. elim b as (λ b. (c == d.name) ≡ b → (b || contains c (map (λ (d : Dropped). d.name) partings)) ≡ true → Left b) [
-        | true ↦ λ e later. ap (λ (l : Parting). l.waiting) all.0 ∙ ap (λ (x : ℕ). (rendering p.limits p.wording x past).waiting) (sym (eqb-true c d.name e))
-        | false ↦ λ e later. left_is c partings all.1 later
+  left_is c (d ∷ dropped_clients) all there =
+      let Left : Bool → Type 0 = λ (b : Bool). (if b then left_in d.outbox else left_for c dropped_clients) ≡ (rendering p.limits p.wording c past).waiting in
+      let step : (b : Bool) → (c == d.name) ≡ b → (b || contains c (map (λ (d : Dropped). d.name) dropped_clients)) ≡ true → Left b =
+      λ b. elim b as (λ b. (c == d.name) ≡ b → (b || contains c (map (λ (d : Dropped). d.name) dropped_clients)) ≡ true → Left b) [
+        | true ↦ λ e later. ap (λ (l : DroppedClient). l.waiting) all.0 ∙ ap (λ (x : ℕ). (rendering p.limits p.wording x past).waiting) (sym (eqb-true c d.name e))
+        | false ↦ λ e later. left_is c dropped_clients all.1 later
       ]
       in step (c == d.name) refl there
 
@@ -61,8 +61,8 @@ module _ {Known T S : Type 0} (p : Protocol Known) (k : Kept Known T S) (events 
   unfolding connection_of
   waiting_is owed =
       let past : List Fact = history p events in
-      let left : AllByRecursion (IsLeft p past) (partings_in core.state.table.dropped) =
-      suffix_left p past Sd.partings.0 (partings_in core.state.table.dropped) (subst (AllByRecursion (IsLeft p past)) (sym Sd.partings.1) (all_left p past (dropped past)))
+      let left : AllByRecursion (IsLeft p past) (dropped_clients_in core.state.table.dropped) =
+      suffix_left p past Sd.dropped_clients.0 (dropped_clients_in core.state.table.dropped) (subst (AllByRecursion (IsLeft p past)) (sym Sd.dropped_clients.1) (all_left p past (dropped past)))
       in
       let step : (b : Bool) → connection_in c core.state.table.present ≡ cond b (Some it) None → waiting_or others (connection_in c core.state.table.present) ≡ (text_for p c events).waiting =
       λ b. elim b as (λ b. connection_in c core.state.table.present ≡ cond b (Some it) None → waiting_or others (connection_in c core.state.table.present) ≡ (text_for p c events).waiting) [
@@ -132,15 +132,15 @@ module _ {Known T S : Type 0} (p : Protocol Known) (k : Kept Known T S) (events 
     -- where the newest event dropped nobody, nobody is left
     pub none_left : dropped (history p events) ≡ [] → map (λ d. d.name) core.state.table.dropped ≡ []
     none_left none =
-        none_in core.state.table.dropped (suffix_of_none Sd.partings.0 (partings_in core.state.table.dropped) (Sd.partings.1 ∙ ap (map (parting_of p (history p events))) none))
+        none_in core.state.table.dropped (suffix_of_none Sd.dropped_clients.0 (dropped_clients_in core.state.table.dropped) (Sd.dropped_clients.1 ∙ ap (map (dropped_client_of p (history p events))) none))
       where
-        suffix_of_none : (front suffix : List Parting) → front ++ suffix ≡ [] → suffix ≡ []
+        suffix_of_none : (front suffix : List DroppedClient) → front ++ suffix ≡ [] → suffix ≡ []
         suffix_of_none [] suffix is = is
         suffix_of_none (d ∷ front) suffix is = absurd (cc)
 
-        none_in : (partings : List Dropped) → partings_in partings ≡ [] → map (λ (d : Dropped). d.name) partings ≡ []
+        none_in : (dropped_clients : List Dropped) → dropped_clients_in dropped_clients ≡ [] → map (λ (d : Dropped). d.name) dropped_clients ≡ []
         none_in [] is = refl
-        none_in (d ∷ partings) is = absurd (cc)
+        none_in (d ∷ dropped_clients) is = absurd (cc)
 
     -- the place of the first from this place on for which bytes wait
     pub first_is : (from : ℕ) → position has_waiting (drop from core.state.table.present) ≡ position (λ c. nat_lt 0 (length (text_for p c events).waiting)) (drop from (present (history p events)))
@@ -160,16 +160,16 @@ module _ {Known T S : Type 0} (p : Protocol Known) (k : Kept Known T S) (events 
   -- just after an event, the dropped names are all that it dropped
   pub all_named : (core : Core T S) → StandsAfter p k events core → map (λ d. d.name) core.state.table.dropped ≡ dropped (history p events)
   all_named core A =
-      sym (map-map (λ (l : Parting). l.name) (λ (d : Dropped). let l : Parting = record { name = d.name; waiting = left_in d.outbox } in l) core.state.table.dropped)
-      ∙ ap (map (λ (l : Parting). l.name)) A.all_dropped
-      ∙ map-map (λ (l : Parting). l.name) (parting_of p (history p events)) (dropped (history p events))
+      sym (map-map (λ (l : DroppedClient). l.name) (λ (d : Dropped). let l : DroppedClient = record { name = d.name; waiting = left_in d.outbox } in l) core.state.table.dropped)
+      ∙ ap (map (λ (l : DroppedClient). l.name)) A.all_dropped
+      ∙ map-map (λ (l : DroppedClient). l.name) (dropped_client_of p (history p events)) (dropped (history p events))
       ∙ map-id (dropped (history p events))
 
 -- ---- a dropped connection is asked for ----
 
-suffix_next : (names : List Parting) (first : List Dropped) → IsSuffix (partings_in first) names → IsSuffix (partings_in (drop 1 first)) names
+suffix_next : (names : List DroppedClient) (first : List Dropped) → IsSuffix (dropped_clients_in first) names → IsSuffix (dropped_clients_in (drop 1 first)) names
 suffix_next names [] is = is
-suffix_next names (d ∷ others) is = (is.0 ++ record { name = d.name; waiting = left_in d.outbox } ∷ [], append_assoc is.0 (record { name = d.name; waiting = left_in d.outbox } ∷ []) (partings_in others) ∙ is.1)
+suffix_next names (d ∷ others) is = (is.0 ++ record { name = d.name; waiting = left_in d.outbox } ∷ [], append_assoc is.0 (record { name = d.name; waiting = left_in d.outbox } ∷ []) (dropped_clients_in others) ∙ is.1)
 
 pub asking_keeps_standing : (Known T S : Type 0) → AskingKeepsStanding Known T S
 asking_keeps_standing Known T S p k events old new result next Sd =
@@ -182,7 +182,7 @@ asking_keeps_standing Known T S p k events old new result next Sd =
         room = Sd.holds.room;
         names = Sd.holds.names;
       };
-      partings = suffix_next (map (parting_of p (history p events)) (dropped (history p events))) old.state.table.dropped Sd.partings;
+      dropped_clients = suffix_next (map (dropped_client_of p (history p events)) (dropped (history p events))) old.state.table.dropped Sd.dropped_clients;
       rest = Sd.rest;
       sound = Sd.sound;
     })

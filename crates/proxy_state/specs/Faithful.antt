@@ -6,10 +6,10 @@ use Rattle.connections.specs.Table as tables
 use Rattle.connections.specs.Hearing.{Hearing}
 use Rattle.proxy_history.specs.Events.{Event}
 use Rattle.proxy_history.specs.Streams.{modem_stream}
-use Rattle.proxy_history.specs.Facts.{Fact, EventBegan, Admitted, Ended, NotAdmitted, Drained, ModemReturned, ModemDrained, Why}
+use Rattle.proxy_history.specs.Facts.{Fact, EventBegan, Admitted, Ended, NotAdmitted, Taken, ModemReturned, ModemTaken, Why}
 use Rattle.proxy_history.specs.Connections.{present, dropped, contains}
 use Rattle.proxy_history.specs.Modem as modem
-use Rattle.proxy_history.specs.View.{Collected}
+use Rattle.proxy_history.specs.View.{Taking}
 use Rattle.proxy_history.specs.Unanswered as unanswered
 use Rattle.proxy_history.specs.Items.{ModemSays}
 use Rattle.proxy_history.specs.Sound.{MayFollow}
@@ -17,13 +17,13 @@ use Rattle.proxy_history.specs.Protocol.{Protocol}
 use Rattle.proxy_history.specs.History.{known_of, history, add_all}
 use Rattle.proxy_history.specs.Coming.{AreSound}
 use Rattle.proxy_history.specs.Adding.{AllFit}
-use Rattle.proxy_state.specs.State.{State, Handlers, partings_in}
-use Rattle.proxy_state.specs.Stands.{Kept, Streams, HoldsOf, connection_of, parting_of}
+use Rattle.proxy_state.specs.State.{State, Handlers, dropped_clients_in}
+use Rattle.proxy_state.specs.Stands.{Kept, Streams, HoldsOf, connection_of, dropped_client_of}
 
 -- In the midst of an event a state keeps what these facts say. `Fine` is what the protocol knows of its histories.
 pub record Keeps {Known T S : Type 0} (p : Protocol Known) (k : Kept Known T S) (Fine : List Fact → Type 0) (streams : Streams) (past : List Fact) (x : State T S) : Type 0 where
   pub holds : HoldsOf p k streams past x
-  pub partings : partings_in x.table.dropped ≡ map (parting_of p past) (dropped past)
+  pub dropped_clients : dropped_clients_in x.table.dropped ≡ map (dropped_client_of p past) (dropped past)
   -- none that was dropped is there, and all that was due to those who are there found room
   pub apart : AllByRecursion (λ d. contains d (present past) ≡ false) (dropped past)
   pub fits : AllFit p.limits p.wording past
@@ -35,7 +35,7 @@ IsOfConnections EventBegan past = Unit {0}
 IsOfConnections (Admitted c) past = (1 ≤ c) × (contains c (present past) ≡ false)
 IsOfConnections (Ended c NotAdmitted) past = 1 ≤ c
 IsOfConnections (Ended c why) past = Unit {0}
-IsOfConnections (Drained c count) past = Unit {0}
+IsOfConnections (Taken c count) past = Unit {0}
 IsOfConnections _ past = ⊥
 
 -- what is kept beside the connections is the same behind a fact as before it
@@ -64,14 +64,14 @@ pub record FollowsConnections {Known T S : Type 0} (p : Protocol Known) (k : Kep
   pub fine_more : (fact : Fact) (past : List Fact) → MayFollow p.limits fact past → IsOfConnections fact past → Fine past → Fine (fact ∷ past)
   -- ---- what is read off ----
   pub fresh : k.client p.wording.fresh ≡ h.fresh
-  pub collected : (known : Known) (count : ℕ) → k.client (p.wording.step known (Collected count)) ≡ k.client known
+  pub taken_bytes : (known : Known) (count : ℕ) → k.client (p.wording.step known (Taking count)) ≡ k.client known
   pub time : (messages : List (List ℕ)) (past : List Fact) → h.time (k.beside messages past) ≡ modem.now past
   pub away : (messages : List (List ℕ)) (past : List Fact) → h.away (k.beside messages past) ≡ modem.is_away p.starts_away past
   pub modem_queue : (messages : List (List ℕ)) (past : List Fact) → h.modem_queue (k.beside messages past) ≡ modem.modem_queue p.wire past
   -- ---- the facts ----
   pub begun : (past : List Fact) → ChangesNothing k EventBegan past
   pub admitted : (c : ℕ) (past : List Fact) → ChangesNothing k (Admitted c) past
-  pub drained : (c count : ℕ) (past : List Fact) → ChangesNothing k (Drained c count) past
+  pub was_taken : (c count : ℕ) (past : List Fact) → ChangesNothing k (Taken c count) past
   pub refused : (c : ℕ) (past : List Fact) → 1 ≤ c → contains c (present past) ≡ false → Fine past → ChangesNothing k (Ended c NotAdmitted) past
   pub ended : (c : ℕ) (why : Why) (messages : List (List ℕ)) (past : List Fact) → h.give_up c (k.beside messages past) ≡ k.beside messages (Ended c why ∷ past)
 
@@ -94,7 +94,7 @@ pub record IsFaithful {Known T S : Type 0} (p : Protocol Known) (k : Kept Known 
   pub regain : (streams : Streams) (past : List Fact) (x : State T S) → streams.messages ≡ [] → Keeps p k Fine streams past x
       → Keeps p k Fine streams (ModemReturned ∷ past) (record x { beside = h.regain x.beside })
   pub take_modem : (count : ℕ) (streams : Streams) (past : List Fact) (x : State T S) → count ≤ length (h.modem_queue x.beside) → Keeps p k Fine streams past x
-      → Keeps p k Fine streams (ModemDrained count ∷ past) (record x { beside = h.take_modem count x.beside })
+      → Keeps p k Fine streams (ModemTaken count ∷ past) (record x { beside = h.take_modem count x.beside })
   pub tick : (time : ℕ) (streams : Streams) (past : List Fact) (x : State T S) → Keeps p k Fine streams past x
       → Keeps p k Fine streams (p.on_clock (unanswered.tick p.refuse p.order time past)) (h.tick time x)
   pub finish : (streams : Streams) (past : List Fact) (x : State T S) → Keeps p k Fine streams past x → Keeps p k Fine streams (p.finish past) (h.finish x)

@@ -12,7 +12,7 @@ use Rattle.proxy_history.specs.Noting.{rendering}
 use Rattle.proxy_history.specs.Protocol.{Protocol}
 use Rattle.proxy_history.specs.History.{known_of, history}
 use Rattle.proxy_history.specs.Coming.{greatest_name, piece_limit, AreSound}
-use Rattle.proxy_state.specs.State.{State, Core, Parting, partings_in, Handlers}
+use Rattle.proxy_state.specs.State.{State, Core, DroppedClient, dropped_clients_in, Handlers}
 
 -- ---- what of its events a core keeps ----
 
@@ -44,8 +44,8 @@ connection_as room rest c a = record { name = c; client = a.client; rest = rest;
 unfoldable pub connection_of : {Known T S : Type 0} → Protocol Known → Kept Known T S → (rests : ℕ → List ℕ) → List Fact → ℕ → Connection T
 connection_of p k rests past c = connection_as p.limits.outbox (rests c) c (client_state_of p k past c)
 
-abbrev pub parting_of : {Known : Type 0} → Protocol Known → List Fact → ℕ → Parting
-parting_of p past c = record { name = c; waiting = (rendering p.limits p.wording c past).waiting }
+abbrev pub dropped_client_of : {Known : Type 0} → Protocol Known → List Fact → ℕ → DroppedClient
+dropped_client_of p past c = record { name = c; waiting = (rendering p.limits p.wording c past).waiting }
 
 -- ---- streams ----
 
@@ -101,7 +101,7 @@ pub record HoldsOf {Known T S : Type 0} (p : Protocol Known) (k : Kept Known T S
 pub record Stands {Known T S : Type 0} (p : Protocol Known) (k : Kept Known T S) (events : List Event) (core : Core T S) : Type 0 where
   pub holds : HoldsOf p k (streams_of p events) (history p events) core.state
   -- in order of dropping
-  pub partings : IsSuffix (partings_in core.state.table.dropped) (map (parting_of p (history p events)) (dropped (history p events)))
+  pub dropped_clients : IsSuffix (dropped_clients_in core.state.table.dropped) (map (dropped_client_of p (history p events)) (dropped (history p events)))
   pub rest : core.rest ≡ rest_in p.size (modem_stream_of p events)
   -- it met none that may not come
   pub sound : AreSound p events
@@ -109,7 +109,7 @@ pub record Stands {Known T S : Type 0} (p : Protocol Known) (k : Kept Known T S)
 -- just after the newest of these events: all names that it dropped are still to be asked for
 pub record StandsAfter {Known T S : Type 0} (p : Protocol Known) (k : Kept Known T S) (events : List Event) (core : Core T S) : Type 0 where
   pub stands : Stands p k events core
-  pub all_dropped : partings_in core.state.table.dropped ≡ map (parting_of p (history p events)) (dropped (history p events))
+  pub all_dropped : dropped_clients_in core.state.table.dropped ≡ map (dropped_client_of p (history p events)) (dropped (history p events))
 
 -- ---- the bytes that wait ----
 

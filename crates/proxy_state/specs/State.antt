@@ -15,12 +15,12 @@ pub record Core (T S : Type 0) : Type 0 where
   pub rest : List ℕ
 
 -- a connection that was dropped and wasn't asked for yet, and the bytes that wait for it
-pub record Parting : Type 0 where
+pub record DroppedClient : Type 0 where
   pub name : ℕ
   pub waiting : List ℕ
 
-abbrev pub partings_in : List Dropped → List Parting
-partings_in dropped = map (λ d. record { name = d.name; waiting = left_in d.outbox }) dropped
+abbrev pub dropped_clients_in : List Dropped → List DroppedClient
+dropped_clients_in dropped = map (λ d. record { name = d.name; waiting = left_in d.outbox }) dropped
 
 -- ---- what a protocol's core brings ----
 

@@ -10,7 +10,7 @@ use Rattle.proxy_state.specs.State.{State, Core, Handlers}
 
 -- the client's socket took the first so many bytes
 abbrev pub take : {T S : Type 0} → ℕ → ℕ → State T S → State T S
-take c count x = record x { table = tables.collects c count x.table }
+take c count x = record x { table = tables.client_takes c count x.table }
 
 -- ---- the end of a connection; `give_up` says what that changes beside the connections ----
 

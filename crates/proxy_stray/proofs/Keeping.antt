@@ -1,7 +1,7 @@
 -- What is added to histories that are alike leaves such that are alike.
 use Rattle.std.proofs.Common.{◌≡◌, ℕ, ◌&&◌, Bool, true, false, max, nat_lt, if◌then◌else◌, List, [], ◌∷◌, ◌++◌, length, refl, ap, ap₂, subst, ◌∙◌}
 use Rattle.proxy_history.specs.Limits.{Limits}
-use Rattle.proxy_history.specs.Facts.{Fact, Request, NotAdmitted, BadStream, NoRoom, Closed, EventBegan, Admitted, Ended, Drained, Expired, Aborted, Indicated, Stray, ModemLost, ModemReturned, ModemDrained, TimeIs}
+use Rattle.proxy_history.specs.Facts.{Fact, Request, NotAdmitted, BadStream, NoRoom, Leaving, EventBegan, Admitted, Ended, Taken, Expired, Aborted, Indicated, Stray, ModemLost, ModemReturned, ModemTaken, TimeIs}
 use Rattle.proxy_history.specs.Connections.{contains, present, is_present, dropped}
 use Rattle.proxy_history.specs.Requests.{pending, is_pending, has_request}
 use Rattle.proxy_history.specs.Modem.{now}
@@ -11,7 +11,7 @@ use Rattle.proxy_history.specs.Wording.{Wording, text_behind, told_by}
 use Rattle.proxy_history.specs.Noting.{rendering, join, if_present, receivers_of, end_if_overfull, end_overfull, note, if_pending, each_pending}
 use Rattle.proxy_history.specs.Unanswered.{Refusal, Order, abort_all, due, expire, tick}
 use Rattle.proxy_history.specs.Protocol.{Protocol}
-use Rattle.proxy_history.specs.Items.{Item, Joins, Says, Garbles, Leaves, ModemSays, ModemFails, ModemReturns, ClockShows, Takes, ModemTakes}
+use Rattle.proxy_history.specs.Items.{Item, Joins, Says, GoesBad, Leaves, ModemSays, ModemIsLost, ModemReturns, ClockShows, Takes, ModemTakes}
 use Rattle.proxy_history.specs.History.{known_of, add, add_all}
 use Rattle.proxy_stray.specs.Alike.{substance, TellTheSame, Alike}
 use Rattle.proxy_stray.specs.Stray.{TakesNoHeed}
@@ -29,7 +29,7 @@ same_behind fact a b same = ap (λ (l : List Fact). fact ∷ l) same
 hung_up_behind : (fact : Fact) (a b : List Fact) → dropped a ≡ dropped b → dropped (fact ∷ a) ≡ dropped (fact ∷ b)
 unfolding dropped
 hung_up_behind EventBegan a b same = refl
-hung_up_behind (Ended c Closed) a b same = same
+hung_up_behind (Ended c Leaving) a b same = same
 hung_up_behind (Ended c NotAdmitted) a b same = ap (λ (l : List ℕ). l ++ c ∷ []) same
 hung_up_behind (Ended c BadStream) a b same = ap (λ (l : List ℕ). l ++ c ∷ []) same
 hung_up_behind (Ended c NoRoom) a b same = ap (λ (l : List ℕ). l ++ c ∷ []) same
@@ -160,15 +160,15 @@ module _ {Known : Type 0} (p : Protocol Known) (T : TakesNoHeed p) where
   pub adds : (item : Item) (a b : List Fact) → Alike a b → Alike (add p item a) (add p item b)
   adds (Joins c) a b alike = joins p.limits c a b alike
   adds (Says c m) a b alike = if_there a b alike c _ _ (says c m a b alike)
-  adds (Garbles c) a b alike = if_there a b alike c _ _ (behind (Ended c BadStream) a b alike)
-  adds (Leaves c) a b alike = if_there a b alike c _ _ (behind (Ended c Closed) a b alike)
+  adds (GoesBad c) a b alike = if_there a b alike c _ _ (behind (Ended c BadStream) a b alike)
+  adds (Leaves c) a b alike = if_there a b alike c _ _ (behind (Ended c Leaving) a b alike)
   adds (ModemSays m) a b alike = T.modem m a b alike
-  adds ModemFails a b alike =
+  adds ModemIsLost a b alike =
       behind ModemLost _ _ (T.loss (abort_all p.refuse p.order a) (abort_all p.refuse p.order b) (aborts_all p.refuse p.order T.refusal a b alike))
   adds ModemReturns a b alike = behind ModemReturned a b alike
   adds (ClockShows time) a b alike = T.clock (tick p.refuse p.order time a) (tick p.refuse p.order time b) (ticks p.refuse p.order T.refusal time a b alike)
-  adds (Takes c count) a b alike = if_there a b alike c _ _ (behind (Drained c count) a b alike)
-  adds (ModemTakes count) a b alike = behind (ModemDrained count) a b alike
+  adds (Takes c count) a b alike = if_there a b alike c _ _ (behind (Taken c count) a b alike)
+  adds (ModemTakes count) a b alike = behind (ModemTaken count) a b alike
 
   pub adds_all : (items : List Item) (a b : List Fact) → Alike a b → Alike (add_all p items a) (add_all p items b)
   unfolding add_all

@@ -9,7 +9,7 @@ use Rattle.framing.specs.Cutting.{Cutting, behind, cut}
 use Rattle.framing.proofs.Cuts.{cut-append, cut-bad}
 use Rattle.proxy_history.specs.Events.{Event, Joined, Piece, Left, ModemPiece, ModemGone, ModemBack, Now, Took, ModemTook}
 use Rattle.proxy_history.specs.Streams.{is_invalid, is_bad, stream, modem_stream, with_piece}
-use Rattle.proxy_history.specs.Items.{Item, ModemSays, ModemFails, item_if, delivered, delivered_by_piece, modem_items, items_of}
+use Rattle.proxy_history.specs.Items.{Item, ModemSays, ModemIsLost, item_if, delivered, delivered_by_piece, modem_items, items_of}
 use Rattle.proxy_history.specs.Facts.{Fact, EventBegan}
 use Rattle.proxy_history.specs.Connections.{dropped}
 use Rattle.proxy_history.specs.Protocol.{Protocol}
@@ -116,7 +116,7 @@ module _ {Known : Type 0} (p : Protocol Known) (T : TakesNoHeed p) where
         let good : is_bad p.size ((before ++ bytes) ++ more) ≡ false = ap (is_bad p.size) (append_assoc before bytes more) ∙ nothing.1 in
         let none : items_of p all (ModemPiece more) ≡ [] =
         ap (modem_items p more) open_.with_bytes
-        ∙ ap₂ (λ (heard : List (List ℕ)) (bad : Bool). map (λ (m : List ℕ). ModemSays m) heard ++ item_if bad ModemFails) (nothing_with_each before bytes more nothing.0).1 good
+        ∙ ap₂ (λ (heard : List (List ℕ)) (bad : Bool). map (λ (m : List ℕ). ModemSays m) heard ++ item_if bad ModemIsLost) (nothing_with_each before bytes more nothing.0).1 good
         in
         record {
           facts = brings_nothing p T all (ModemPiece more) none ∙ open_.facts;
@@ -209,7 +209,7 @@ module _ {Known : Type 0} (p : Protocol Known) (T : TakesNoHeed p) where
     items_are : items_of p all (ModemPiece last) ≡ heard
     items_are =
         ap (modem_items p last) open_.with_bytes
-        ∙ ap₂ (λ (messages : List (List ℕ)) (bad : Bool). map (λ (m : List ℕ). ModemSays m) messages ++ item_if bad ModemFails) heard_at_last (ap (is_bad p.size) joined ∙ good)
+        ∙ ap₂ (λ (messages : List (List ℕ)) (bad : Bool). map (λ (m : List ℕ). ModemSays m) messages ++ item_if bad ModemIsLost) heard_at_last (ap (is_bad p.size) joined ∙ good)
         ∙ append-nil heard
 
     facts_alike : TellTheSame (history p (ModemPiece last ∷ all)) (history p others)

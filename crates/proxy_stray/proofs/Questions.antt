@@ -1,11 +1,11 @@
 -- What is read off two histories that tell the same is the same.
 use Rattle.std.proofs.Common.{◌≡◌, ℕ, ◌+◌, Bool, not, ◌==◌, ◌&&◌, nat_le, if◌then◌else◌, List, [], ◌∷◌, ◌++◌, length, drop, filter, cond, refl, ap, ap₂, sym, ◌∙◌}
-use Rattle.proxy_history.specs.Facts.{Fact, Request, NotAdmitted, BadStream, NoRoom, Closed, Admitted, Ended, Judged, Drained, Forwarded, Answered, IdHeld, Late, Expired, Aborted, Indicated, Granted, Freed, OpeningEnded, SessionsClosed, Reset, ModemLost, ModemReturned, ModemDrained, TimeIs}
+use Rattle.proxy_history.specs.Facts.{Fact, Request, NotAdmitted, BadStream, NoRoom, Leaving, Admitted, Ended, Judged, Taken, Forwarded, Answered, IdHeld, Late, Expired, Aborted, Indicated, Granted, Freed, OpeningEnded, SessionsClosed, Reset, ModemLost, ModemReturned, ModemTaken, TimeIs}
 use Rattle.proxy_history.specs.Connections.{contains, without, present, message_count}
 use Rattle.proxy_history.specs.Requests.{without_request, in_use, pending, forward_count, of_client, has_share, of_space, numbers_of, last_number, number_after, next_number}
 use Rattle.proxy_history.specs.ClientIds.{Grant, KeptId, is_of, held, kept, kept_since}
-use Rattle.proxy_history.specs.Modem.{now, is_away, to_modem, modem_drained, modem_queue}
-use Rattle.proxy_history.specs.View.{Blank, Entry, Sent, Response, Refused, Indication, OpenedWith, Shut, Collected, End, HeldId, NoAnswer, entry_if, view}
+use Rattle.proxy_history.specs.Modem.{now, is_away, to_modem, modem_taken_count, modem_queue}
+use Rattle.proxy_history.specs.View.{Blank, Entry, Said, Response, Refused, Indication, OpenedWith, Shut, Taking, End, HeldId, NoAnswer, entry_if, view}
 use Rattle.proxy_stray.specs.Alike.{substance, TellTheSame}
 
 -- a question that the substance of a history answers
@@ -119,19 +119,19 @@ to_modem-told wire (ModemLost ∷ past) = refl
 to_modem-told wire (Indicated m [] ∷ past) = to_modem-told wire past
 to_modem-told wire (_ ∷ past) = to_modem-told wire past
 
-pub drained-told : IsTold modem_drained
-unfolding modem_drained substance
-drained-told [] = refl
-drained-told (ModemDrained count ∷ past) = ap (λ (n : ℕ). n + count) (drained-told past)
-drained-told (ModemLost ∷ past) = refl
-drained-told (Indicated m [] ∷ past) = drained-told past
-drained-told (_ ∷ past) = drained-told past
+pub was_taken-told : IsTold modem_taken_count
+unfolding modem_taken_count substance
+was_taken-told [] = refl
+was_taken-told (ModemTaken count ∷ past) = ap (λ (n : ℕ). n + count) (was_taken-told past)
+was_taken-told (ModemLost ∷ past) = refl
+was_taken-told (Indicated m [] ∷ past) = was_taken-told past
+was_taken-told (_ ∷ past) = was_taken-told past
 
 pub view-told : (blank : Blank) (c : ℕ) → IsTold (view blank c)
 unfolding view substance
 view-told blank c [] = refl
 view-told blank c (Admitted d ∷ past) = ap (λ (l : List Entry). if d == c then [] else l) (view-told blank c past)
-view-told blank c (Judged d place m verdict ∷ past) = ap (entry_if (d == c) (Sent m verdict)) (view-told blank c past)
+view-told blank c (Judged d place m verdict ∷ past) = ap (entry_if (d == c) (Said m verdict)) (view-told blank c past)
 view-told blank c (Answered r m ∷ past) = ap (entry_if (r.conn == c) (Response r.place (blank m))) (view-told blank c past)
 view-told blank c (IdHeld r ∷ past) = ap (entry_if (r.conn == c) (Refused r.place HeldId)) (view-told blank c past)
 view-told blank c (Expired r ∷ past) = ap (entry_if (r.conn == c) (Refused r.place NoAnswer)) (view-told blank c past)
@@ -140,10 +140,10 @@ view-told blank c (Indicated m [] ∷ past) = view-told blank c past
 view-told blank c (Indicated m receivers ∷ past) = ap (entry_if (contains c receivers) (Indication m)) (view-told blank c past)
 view-told blank c (OpeningEnded status receivers ∷ past) = ap (entry_if (contains c receivers) (OpenedWith status)) (view-told blank c past)
 view-told blank c (SessionsClosed receivers ∷ past) = ap (entry_if (contains c receivers) Shut) (view-told blank c past)
-view-told blank c (Drained d count ∷ past) = ap (entry_if (d == c) (Collected count)) (view-told blank c past)
+view-told blank c (Taken d count ∷ past) = ap (entry_if (d == c) (Taking count)) (view-told blank c past)
 view-told blank c (Ended d NotAdmitted ∷ past) = ap (λ (l : List Entry). if d == c then End NotAdmitted ∷ [] else l) (view-told blank c past)
 view-told blank c (Ended d BadStream ∷ past) = ap (entry_if (d == c) (End BadStream)) (view-told blank c past)
-view-told blank c (Ended d Closed ∷ past) = ap (entry_if (d == c) (End Closed)) (view-told blank c past)
+view-told blank c (Ended d Leaving ∷ past) = ap (entry_if (d == c) (End Leaving)) (view-told blank c past)
 view-told blank c (Ended d NoRoom ∷ past) = view-told blank c past
 view-told blank c (_ ∷ past) = view-told blank c past
 
@@ -157,7 +157,7 @@ pub share-told : (share c space : ℕ) → IsTold (has_share share c space)
 share-told share c space facts = ap (λ (requests : List Request). nat_le share (length (of_client c space requests))) (pending-told facts)
 
 pub queue-told : (wire : Request → List ℕ) → IsTold (modem_queue wire)
-queue-told wire facts = ap₂ (λ (n : ℕ) (bytes : List ℕ). drop n bytes) (drained-told facts) (to_modem-told wire facts)
+queue-told wire facts = ap₂ (λ (n : ℕ) (bytes : List ℕ). drop n bytes) (was_taken-told facts) (to_modem-told wire facts)
 
 -- a filter by tests that agree
 pub filter_same : {X : Type 0} (f g : X → Bool) (xs : List X) → ((x : X) → f x ≡ g x) → filter f xs ≡ filter g xs

@@ -6,8 +6,8 @@ use Rattle.kit_bytes.specs.declared.span.Span.{Span}
 use Rattle.framing.specs.Framing.{IsMessage, IsPartial, IsBad}
 use Rattle.framing.specs.Cutting.{cut}
 use Rattle.framing.specs.Reading.{Reading, GivesMessage}
-use Rattle.kit_io.specs.Told.{Grows}
-use Rattle.kit_io.proofs.Told.{Grows-none, Grows-append}
+use Rattle.kit_io.specs.Growth.{Grows}
+use Rattle.kit_io.proofs.Growth.{Grows-none, Grows-append}
 use Rattle.file_io.specs.Calls as file
 use Rattle.node_frame.specs.Frame.{size_of}
 use Rattle.pump.specs.declared.stream.Stream.{Stream}

@@ -1,6 +1,6 @@
 -- A pump that begins and goes on.
 use Rattle.std.proofs.Common.{ℕ, List, ◌++◌, Option, Ok, Err, refl}
-use Rattle.kit_io.proofs.Told.{Grows-append}
+use Rattle.kit_io.proofs.Growth.{Grows-append}
 use Rattle.link_io.specs.Target.{Address}
 use Rattle.link_io.specs.Calls as link
 use Rattle.file_io.specs.Calls as file

@@ -5,8 +5,8 @@ use Rattle.std.proofs.lemmas.List.Elements.{All-push}
 use Rattle.std.proofs.lemmas.Slice.{between_to_end}
 use Rattle.std.specs.List.{concat, AllByRecursion}
 use Rattle.kit_bytes.proofs.Lists.{concat-push}
-use Rattle.kit_io.specs.Told.{Grows}
-use Rattle.kit_io.proofs.Told.{Grows-none, Grows-append}
+use Rattle.kit_io.specs.Growth.{Grows}
+use Rattle.kit_io.proofs.Growth.{Grows-none, Grows-append}
 use Rattle.link_io.specs.Calls as link
 use Rattle.file_io.specs.Calls as file
 use Rattle.pump.specs.declared.ending.PumpEnd.{PumpEnd}

@@ -1,7 +1,7 @@
 -- What a pump that writes to a node does once it has begun: the calls that it makes on the link and on the files, the oldest first.
 use Rattle.std.specs.Prelude.{◌≡◌, ℕ, ◌<◌, List, [], ◌∷◌, ◌++◌, length, map, All, Option, Result, Ok, Err}
 use Rattle.std.specs.List.{concat, AllByRecursion}
-use Rattle.kit_io.specs.Told.{Grows}
+use Rattle.kit_io.specs.Growth.{Grows}
 use Rattle.link_io.specs.Calls as link
 use Rattle.file_io.specs.Calls as file
 use Rattle.pump.specs.Writes.{writes_behind, writes_of}

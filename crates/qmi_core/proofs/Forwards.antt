@@ -3,7 +3,7 @@ use Rattle.std.proofs.Common.{◌≡◌, ℕ, Bool, true, false, not, List, leng
 use Rattle.qmux_frame.specs.Reply.{result_reply}
 use Rattle.proxy_history.specs.Facts.{Own, Share, Foreign, Away, Full, Forward, Ready, Waits}
 use Rattle.proxy_history.specs.Decision.{Decision, Replies, Forwards, forwards_under}
-use Rattle.proxy_history.specs.View.{Sent}
+use Rattle.proxy_history.specs.View.{Said}
 use Rattle.proxy_history.specs.ClientIds.{is_other}
 use Rattle.qmi_proxy.specs.OwnReplies.{view_decides, own_error, step}
 use Rattle.outbox.specs.Queue.{Queue}
@@ -26,10 +26,10 @@ module _ (c : ℕ) (m : List ℕ) (client : Client) (outbox : Queue) (side : Mod
 
   -- the client's own view decides
   pub heard_own : (error : ℕ) → true ≡ view_decides client.opened m → error ≡ own_error side.device client.opened m
-      → hear_client c m client outbox side ≡ replied (result_reply m error) (step side.device client.opened (Sent m Own)) client outbox side
+      → hear_client c m client outbox side ≡ replied (result_reply m error) (step side.device client.opened (Said m Own)) client outbox side
   heard_own error own is =
       ap (λ (b : Bool). act_on c m (if b then Replies Own else shared_decision) client outbox side) (sym own)
-      ∙ ap (λ (n : ℕ). replied (result_reply m n) (step side.device client.opened (Sent m Own)) client outbox side) (sym is)
+      ∙ ap (λ (n : ℕ). replied (result_reply m n) (step side.device client.opened (Said m Own)) client outbox side) (sym is)
 
   shared : false ≡ view_decides client.opened m → (decision : Decision) → shared_decision ≡ decision → hear_client c m client outbox side ≡ act_on c m decision client outbox side
   shared own decision is = ap (λ (b : Bool). act_on c m (if b then Replies Own else shared_decision) client outbox side) (sym own) ∙ ap (λ (d : Decision). act_on c m d client outbox side) is

@@ -5,6 +5,7 @@ ghost use Rattle.qmux_frame.specs.Reply.{result_reply};
 use crate::message::Message;
 use crate::side::ModemSide;
 use connections::Hears;
+use kit_bytes::ConnId;
 use outbox::Outbox;
 use qmi_state::Client;
 use qmux_frame::Qmux;
@@ -19,7 +20,7 @@ impl Hears<Qmux, Client> for ModemSide {
 
     fn hear(
         &mut self,
-        name: u64,
+        name: ConnId,
         message: &[u8],
         client: &mut Client,
         outbox: &mut Outbox,

@@ -6,7 +6,7 @@ use crate::telling::{bring, hear_modem, lose, tick};
 use crate::traffic::Traffic;
 use connections::Connections;
 use hub_io::Limits;
-use kit_bytes::Octets;
+use kit_bytes::{ConnId, Octets};
 use proxy_core::{Core, Protocol};
 use qmi_state::Client;
 use qmux_frame::Qmux;
@@ -67,7 +67,7 @@ impl Protocol for QmiHand {
 
     fn join(&mut self, _side: &ModemSide, _name: u64) {}
 
-    fn give_up(&mut self, side: &mut ModemSide, name: u64) {
+    fn give_up(&mut self, side: &mut ModemSide, name: ConnId) {
         side.give_up(name);
     }
 
@@ -83,7 +83,7 @@ impl Protocol for QmiHand {
         &mut self,
         connections: &mut Connections<Qmux, Client>,
         side: &mut ModemSide,
-        name: u64,
+        name: ConnId,
         piece: &[u8],
     ) {
         bring(connections, side, name, piece);

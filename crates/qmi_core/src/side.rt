@@ -3,7 +3,7 @@ ghost use Rattle.qmi_state.specs.Transitions.{give_up};
 ghost use Rattle.qmi_proxy.specs.Clients.{deadline_of};
 
 use crate::traffic::Traffic;
-use kit_bytes::Octets;
+use kit_bytes::{ConnId, Octets};
 use std::marker::Model;
 
 /// What a core keeps beside the clients' connections and the modem's stream.
@@ -40,7 +40,7 @@ impl ModemSide {
 
     /// The connection of this name is gone: it waits for nothing and holds nothing, and its ids are
     /// kept from here on.
-    pub fn give_up(&mut self, name: u64)
+    pub fn give_up(&mut self, name: ConnId)
         ensures { self.new ≡ give_up name self.old }
     {
         self.traffic.give_up(name, self.time);

@@ -16,6 +16,7 @@ use crate::side::ModemSide;
 use crate::traffic::PROXY;
 use connections::Connections;
 use framing::LONGEST_PIECE;
+use kit_bytes::ConnId;
 use qmi_state::{Asked, Client};
 use qmux_frame::{MessageKind, Qmux};
 
@@ -26,7 +27,7 @@ const EVERYBODY: u8 = 255;
 pub fn bring(
     connections: &mut Connections<Qmux, Client>,
     side: &mut ModemSide,
-    name: u64,
+    name: ConnId,
     piece: &[u8],
 )
     requires { length piece.now ≤ LONGEST_PIECE }
@@ -43,7 +44,7 @@ pub fn bring(
 fn tell(
     connections: &mut Connections<Qmux, Client>,
     side: &mut ModemSide,
-    name: u64,
+    name: ConnId,
     head: &[u8],
     rest: &[u8],
 ) -> bool
@@ -59,7 +60,12 @@ fn tell(
 }
 
 // A client gets these bytes, or is dropped where they find no room.
-fn send(connections: &mut Connections<Qmux, Client>, side: &mut ModemSide, name: u64, bytes: &[u8])
+fn send(
+    connections: &mut Connections<Qmux, Client>,
+    side: &mut ModemSide,
+    name: ConnId,
+    bytes: &[u8],
+)
     ensures told { state_of connections.new side.new ≡ tell name bytes.now (state_of connections.old side.old) }
     ensures limit { connections.new.limit ≡ connections.old.limit }
 {
@@ -146,7 +152,7 @@ fn expire_space(
 fn refuse(
     connections: &mut Connections<Qmux, Client>,
     side: &mut ModemSide,
-    name: u64,
+    name: ConnId,
     asked: &Asked,
 )
     ensures told { state_of connections.new side.new ≡ refuses_from (name == 0) name asked.now (state_of connections.old side.old) }
@@ -271,7 +277,7 @@ fn respond(connections: &mut Connections<Qmux, Client>, side: &mut ModemSide, me
 fn answer(
     connections: &mut Connections<Qmux, Client>,
     side: &mut ModemSide,
-    name: u64,
+    name: ConnId,
     asked: &Asked,
     message: &Message<'_>,
 )
@@ -290,7 +296,7 @@ fn answer(
 fn answer_client(
     connections: &mut Connections<Qmux, Client>,
     side: &mut ModemSide,
-    name: u64,
+    name: ConnId,
     asked: &Asked,
     message: &Message<'_>,
 )
@@ -311,7 +317,7 @@ fn answer_client(
 fn answer_allocate(
     connections: &mut Connections<Qmux, Client>,
     side: &mut ModemSide,
-    name: u64,
+    name: ConnId,
     asked: &Asked,
     message: &Message<'_>,
 )
@@ -331,7 +337,7 @@ fn answer_allocate(
 fn deliver(
     connections: &mut Connections<Qmux, Client>,
     side: &mut ModemSide,
-    name: u64,
+    name: ConnId,
     asked: &Asked,
     message: &Message<'_>,
 )

@@ -14,6 +14,7 @@ ghost use Rattle.outbox.specs.Fronts.{IsFrontOf};
 use crate::errors::{DEVICE_IN_USE, INTERNAL, INVALID_CLIENT_ID, SHARE_PASSED};
 use crate::message::{Message, release_message};
 use holders::Holders;
+use kit_bytes::ConnId;
 use number_space::Space;
 use outbox::Outbox;
 use qmi_state::Asked;
@@ -77,7 +78,7 @@ impl Traffic {
         &mut self,
         away: bool,
         deadline: u64,
-        name: u64,
+        name: ConnId,
         message: &Message<'_>,
     ) -> Option<u16>
         ensures refusal { result ≡ refusal_of (shared_of away name message.now self.old) }
@@ -118,7 +119,7 @@ impl Traffic {
     }
 
     // Whether as many requests of the sender wait in the message's space as may.
-    fn has_share(&self, name: u64, message: &Message<'_>) -> bool
+    fn has_share(&self, name: ConnId, message: &Message<'_>) -> bool
         ensures { result ≡ share_of name message.now self.now }
     {
         let waiting = if message.is_control() {
@@ -136,7 +137,7 @@ impl Traffic {
     }
 
     // The sender holds the client id that the message uses: it does already, or nobody does.
-    fn adopt(&mut self, holder: Option<u64>, name: u64, message: &Message<'_>)
+    fn adopt(&mut self, holder: Option<u64>, name: ConnId, message: &Message<'_>)
         requires holder { holder ≡ holder_at message.now self.old }
         requires free { is_other name holder ≡ false }
         requires ordered { IsSome holder → AreInOrder self.old.held }
@@ -167,7 +168,7 @@ impl Traffic {
     }
 
     // Gives the message the next number of its space.
-    fn give(&mut self, name: u64, message: &Message<'_>, deadline: u64) -> Option<u16>
+    fn give(&mut self, name: ConnId, message: &Message<'_>, deadline: u64) -> Option<u16>
         ensures number { result ≡ number_at message.now self.old }
         ensures given { self.new ≡ gives_next deadline name message.now self.old }
         ensures fits { IfSome result (λ number. is_control message.now ≡ true → number ≤ 255) }
@@ -182,21 +183,21 @@ impl Traffic {
     }
 
     /// The connection that holds the client id.
-    pub fn holder(&self, service: u8, client: u8) -> Option<u64>
+    pub fn holder(&self, service: u8, client: u8) -> Option<ConnId>
         ensures { result ≡ holder_in service client self.now.held }
     {
         self.holders.holder(service, client)
     }
 
     /// Whether the connection holds some client id of the service.
-    pub fn holds_any(&self, name: u64, service: u8) -> bool
+    pub fn holds_any(&self, name: ConnId, service: u8) -> bool
         ensures { result ≡ holds_some name service self.now.held }
     {
         self.holders.holds_any(name, service)
     }
 
     /// Grants the client id to the connection, unless another one holds it: then nothing changes.
-    pub fn grant(&mut self, name: u64, service: u8, client: u8) -> bool
+    pub fn grant(&mut self, name: ConnId, service: u8, client: u8) -> bool
         ensures granted { result ≡ not (is_taken name service client self.old.held) }
         ensures grants { self.new ≡ grants_unless (is_taken name service client self.old.held) name service client self.old }
     {
@@ -204,7 +205,7 @@ impl Traffic {
     }
 
     /// The connection gives the client id back.
-    pub fn release(&mut self, name: u64, service: u8, client: u8)
+    pub fn release(&mut self, name: ConnId, service: u8, client: u8)
         ensures { self.new ≡ frees_id name service client self.old }
     {
         self.holders.released(name, service, client);
@@ -274,7 +275,7 @@ impl Traffic {
 
     /// The connection of this name is gone: it waits for nothing and holds nothing, and its ids are
     /// kept since this time.
-    pub fn give_up(&mut self, name: u64, time: u64)
+    pub fn give_up(&mut self, name: ConnId, time: u64)
         ensures { self.new ≡ gives_up name time self.old }
     {
         self.control.orphan(name);
@@ -321,7 +322,7 @@ impl Traffic {
     }
 }
 
-fn is_other(name: u64, holder: Option<u64>) -> bool
+fn is_other(name: ConnId, holder: Option<u64>) -> bool
     ensures { result ≡ is_other name holder }
 {
     match holder {

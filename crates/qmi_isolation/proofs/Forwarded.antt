@@ -13,7 +13,7 @@ use Rattle.proxy_history.specs.Facts.{Fact, Request, Forward, EventBegan, Judged
 use Rattle.proxy_history.specs.Decision.{Decision, Forwards}
 use Rattle.proxy_history.specs.Connections.{is_present, message_count}
 use Rattle.proxy_history.specs.Requests.{in_use, forward_count}
-use Rattle.proxy_history.specs.Modem.{to_modem, modem_drained}
+use Rattle.proxy_history.specs.Modem.{to_modem, modem_taken_count}
 use Rattle.qmi_proxy.specs.Setup.{Setup}
 use Rattle.qmi_proxy.specs.Messages.{uses_id, used_service, used_client}
 use Rattle.qmi_proxy.specs.Clients.{wire, decision_on, request_of, grant_if, judge, hear_client}
@@ -27,14 +27,14 @@ use Rattle.qmi_isolation.specs.Queues.{facts_before_saying, IsQueued}
 -- ---- client ids ----
 
 granted : (b : Bool) (c : ℕ) (m : List ℕ) (past : List Fact) → Adds wire past (grant_if b c m past)
-unfolding in_use to_modem modem_drained forward_count
+unfolding in_use to_modem modem_taken_count forward_count
 granted true c m past = adds_none wire past (Granted c (used_service m) (used_client m) ∷ past) refl refl refl refl
 granted false c m past = same wire past
 
 -- ---- the message that is forwarded ----
 
 module _ (s : Setup) where
-  module _ (c : ℕ) (m : List ℕ) (n : ℕ) (past after : List Fact) (there : is_present c past ≡ true) (decided : decision_on s c m past ≡ Forwards n) (rest : Adds wire (add s (Says c m) past) after) (drained : modem_drained past ≤ length (to_modem wire past)) where
+  module _ (c : ℕ) (m : List ℕ) (n : ℕ) (past after : List Fact) (there : is_present c past ≡ true) (decided : decision_on s c m past ≡ Forwards n) (rest : Adds wire (add s (Says c m) past) after) (was_taken : modem_taken_count past ≤ length (to_modem wire past)) where
     abbrev before : List Fact
     before = Judged c (message_count c past + 1) m Forward ∷ past
 
@@ -64,9 +64,9 @@ module _ (s : Setup) where
     unfolding to_modem
     bytes_then = refl
 
-    drained_then : modem_drained sent ≡ modem_drained past
-    unfolding modem_drained
-    drained_then = refl
+    taken_then : modem_taken_count sent ≡ modem_taken_count past
+    unfolding modem_taken_count
+    taken_then = refl
 
     serial_then : request.serial ≡ forward_count sent
     unfolding forward_count
@@ -79,7 +79,7 @@ module _ (s : Setup) where
       place = counts;
       message = refl;
       number = (forwarded_have_the_next_number s c n m past decided).0;
-      waits = waits_behind wire request past sent after in_use_then bytes_then drained_then serial_then behind drained;
+      waits = waits_behind wire request past sent after in_use_then bytes_then taken_then serial_then behind was_taken;
     }
 
 -- ---- the whole event ----
@@ -93,4 +93,4 @@ forwarded_requests_are_queued s events c piece earlier later m n sound brings th
     regular_items s (map (λ m. Says c m) earlier) (EventBegan ∷ history s events) (each_message (λ item. joins_or_modem_takes item ≡ false) (λ m. Says c m) earlier (λ m. refl))
     (regular_begun s (history s events) (histories_are_regular s events sound))
     in
-    queued s c m n (facts_before_saying s events c earlier) (history s (Piece c piece ∷ events)) there decided (rest_adds (qmi_protocol s) (Asks s) (orderly s) events c earlier piece later m brings) regular.drained
+    queued s c m n (facts_before_saying s events c earlier) (history s (Piece c piece ∷ events)) there decided (rest_adds (qmi_protocol s) (Asks s) (orderly s) events c earlier piece later m brings) regular.was_taken

@@ -14,12 +14,12 @@ use Rattle.qmux_frame.specs.Control.{is_sync}
 use Rattle.proxy_history.specs.Events.{Event, Joined, ModemTook}
 use Rattle.proxy_history.specs.Noting.{join}
 use Rattle.proxy_history.specs.Coming.{AreSound}
-use Rattle.proxy_history.specs.Facts.{Verdict, Own, Share, Forward, Fact, Request, EventBegan, NotAdmitted, BadStream, NoRoom, Closed, Admitted, Ended, Judged, Drained, Forwarded, Answered, IdHeld, Late, Aborted, Indicated, Stray, Granted, Freed, OpeningEnded, Reset, ModemLost, ModemReturned, ModemDrained}
+use Rattle.proxy_history.specs.Facts.{Verdict, Own, Share, Forward, Fact, Request, EventBegan, NotAdmitted, BadStream, NoRoom, Leaving, Admitted, Ended, Judged, Taken, Forwarded, Answered, IdHeld, Late, Aborted, Indicated, Stray, Granted, Freed, OpeningEnded, Reset, ModemLost, ModemReturned, ModemTaken}
 use Rattle.proxy_history.specs.Decision.{Decision, Replies, Forwards}
 use Rattle.proxy_history.specs.Connections.{contains, present, is_present, message_count}
 use Rattle.proxy_history.specs.Requests.{in_use, pending, is_pending, of_client, has_share}
-use Rattle.proxy_history.specs.Items.{Item, Joins, Says, Garbles, Leaves, ModemSays, ModemFails, ModemReturns, ClockShows, Takes, ModemTakes}
-use Rattle.proxy_history.specs.View.{Sent, view, entry_if, sent_count}
+use Rattle.proxy_history.specs.Items.{Item, Joins, Says, GoesBad, Leaves, ModemSays, ModemIsLost, ModemReturns, ClockShows, Takes, ModemTakes}
+use Rattle.proxy_history.specs.View.{Said, view, entry_if, said_count}
 use Rattle.proxy_history.specs.Sound.{IsParty, MayFollow, IsSound}
 use Rattle.proxy_history.specs.Adding.{MayAdd, MayRefuse, Adds, Soundly}
 use Rattle.proxy_history.specs.History as proxy
@@ -74,15 +74,15 @@ module _ (s : Setup) (c : ℕ) (client : c ≢ 0) where
     itself : (c == c) ≡ true
     itself = eq-eqb c c refl
 
-    place_is : sent_count (view_of c past) + 1 ≡ request.place
+    place_is : said_count (view_of c past) + 1 ≡ request.place
     unfolding message_count
     place_is = ap (λ (k : ℕ). k + 1) (sym (counted blank c past there)) ∙ sym (ap (λ (b : Bool). if b then message_count c past + 1 else message_count c past) itself)
 
     -- those that waited have earlier places
-    earlier_place : (q : Request) → Contains (pending past) q → (q.conn == c) ≡ true → q.place ≤ sent_count (view_of c past)
+    earlier_place : (q : Request) → Contains (pending past) q → (q.conn == c) ≡ true → q.place ≤ said_count (view_of c past)
     earlier_place q at own =
         ⊎_elim
-        (λ sent. subst (λ (d : ℕ). q.place ≤ sent_count (view_of d past)) (eqb-true q.conn c own) sent.1)
+        (λ sent. subst (λ (d : ℕ). q.place ≤ said_count (view_of d past)) (eqb-true q.conn c own) sent.1)
         (λ (proxy : q.conn ≡ 0). absurd (let clash : true ≡ false = sym own ∙ other_than q.conn proxy in cc))
         (asked_of_pending past q R at)
 
@@ -108,8 +108,8 @@ module _ (s : Setup) (c : ℕ) (client : c ≢ 0) where
           (Contains-append_cases (pending past) (request ∷ []) r at_r))
           (Contains-append_cases (pending past) (request ∷ []) q at_q);
       fits = λ still space.
-          ap (λ (b : Bool). waiting_places space (entry_if b (Sent m Forward) (view_of c past))) itself
-          ∙ ap (λ (l : List ℕ). if space_of m == space then l ++ (sent_count (view_of c past) + 1) ∷ [] else l) (F.fits there space)
+          ap (λ (b : Bool). waiting_places space (entry_if b (Said m Forward) (view_of c past))) itself
+          ∙ ap (λ (l : List ℕ). if space_of m == space then l ++ (said_count (view_of c past) + 1) ∷ [] else l) (F.fits there space)
           ∙ ap (λ (k : ℕ). if space_of m == space then places_of c space (pending past) ++ k ∷ [] else places_of c space (pending past)) place_is
           ∙ sym (places_more c space (pending past) request (space_of m == space) (ap (λ (b : Bool). b && (space_of m == space)) itself));
     }
@@ -253,11 +253,11 @@ module _ (s : Setup) (c : ℕ) (client : c ≢ 0) where
       by : (b : Bool) → (d == c) ≡ b → Fits (add s (Says d m) past)
       by true own = subst (λ (e : ℕ). Fits (add s (Says e m) past)) (sym (eqb-true d c own)) (said m past R F)
       by false another = by_calm (Says d m) (said_calm d m another) past R.sound F
-  by_item (Garbles d) past other R F = ended_if (is_present d past) (Ended d BadStream) past (λ there. fitting_more c past R.sound F client (Ended d BadStream) there tt) F
-  by_item (Leaves d) past other R F = ended_if (is_present d past) (Ended d Closed) past (λ there. fitting_more c past R.sound F client (Ended d Closed) there tt) F
-  by_item (Takes d count) past other R F = ended_if (is_present d past) (Drained d count) past (λ there. fitting_more c past R.sound F client (Drained d count) there tt) F
+  by_item (GoesBad d) past other R F = ended_if (is_present d past) (Ended d BadStream) past (λ there. fitting_more c past R.sound F client (Ended d BadStream) there tt) F
+  by_item (Leaves d) past other R F = ended_if (is_present d past) (Ended d Leaving) past (λ there. fitting_more c past R.sound F client (Ended d Leaving) there tt) F
+  by_item (Takes d count) past other R F = ended_if (is_present d past) (Taken d count) past (λ there. fitting_more c past R.sound F client (Taken d count) there tt) F
   by_item (ModemSays m) past other R F = heard m past R F (framed_kind m)
-  by_item ModemFails past other R F = lost past R F
+  by_item ModemIsLost past other R F = lost past R F
   by_item ModemReturns past other R F = fitting_more c past R.sound F client ModemReturned tt tt
   by_item (ClockShows time) past other R F = by_calm (ClockShows time) (clock_calm time) past R.sound F
 
@@ -293,7 +293,7 @@ module _ (s : Setup) (c : ℕ) (client : c ≢ 0) where
       joined d (EventBegan ∷ history s events) (new_names (qmi_protocol s) (Asks s) (orderly s) events d sound.0) (tt, R.sound) (begun (history s events) R.sound (histories_fit events sound.1))
   histories_fit (ModemTook count ∷ events) sound =
       let R = histories_are_regular s events sound.1 in
-      fitting_more c (EventBegan ∷ history s events) (tt, R.sound) (begun (history s events) R.sound (histories_fit events sound.1)) client (ModemDrained count) tt tt
+      fitting_more c (EventBegan ∷ history s events) (tt, R.sound) (begun (history s events) R.sound (histories_fit events sound.1)) client (ModemTaken count) tt tt
   histories_fit (event ∷ events) sound = by_event event events refl (histories_are_regular s events sound.1) (histories_fit events sound.1)
 
 -- ---- the laws ----

@@ -3,10 +3,10 @@ use Rattle.std.proofs.Common.{◌≡◌, ◌≢◌, ◌⊎◌, ℕ, Bool, true, 
 use Rattle.std.specs.List.{AllByRecursion}
 use Rattle.std.proofs.lemmas.Bool.{eqb-true, eq-eqb, false_from_ne_true}
 use Rattle.std.proofs.lemmas.List.Elements.{All-contains, Contains-append_cases}
-use Rattle.proxy_history.specs.Facts.{Verdict, Own, Share, Foreign, Away, Full, Forward, Ready, Waits, Fact, Request, NotAdmitted, BadStream, NoRoom, Closed, Admitted, Ended, Judged, Drained, Forwarded, Answered, IdHeld, Late, Expired, Aborted, Indicated, Granted, Freed, OpeningEnded, SessionsClosed, Reset, ModemLost}
+use Rattle.proxy_history.specs.Facts.{Verdict, Own, Share, Foreign, Away, Full, Forward, Ready, Waits, Fact, Request, NotAdmitted, BadStream, NoRoom, Leaving, Admitted, Ended, Judged, Taken, Forwarded, Answered, IdHeld, Late, Expired, Aborted, Indicated, Granted, Freed, OpeningEnded, SessionsClosed, Reset, ModemLost}
 use Rattle.proxy_history.specs.Connections.{contains, present, is_present}
 use Rattle.proxy_history.specs.Requests.{pending, has_request, is_pending, without_request}
-use Rattle.proxy_history.specs.View.{Entry, Sent, Response, Refused, Indication, OpenedWith, Shut, Collected, End, HeldId, NoAnswer, view, entry_if}
+use Rattle.proxy_history.specs.View.{Entry, Said, Response, Refused, Indication, OpenedWith, Shut, Taking, End, HeldId, NoAnswer, view, entry_if}
 use Rattle.proxy_history.specs.Sound.{IsParty, MayFollow, IsSound}
 use Rattle.proxy_history.proofs.Lists.{Contains-filter_from, Contains-nil, Contains-cons_cases}
 use Rattle.proxy_history.proofs.Sound.{in_use_from_pending}
@@ -22,7 +22,7 @@ silent : (space : ℕ) (b : Bool) (entry : Entry) (entries : List Entry) → wai
 silent space true entry entries same = same
 silent space false entry entries same = refl
 
-not_forwarded : (space : ℕ) (m : List ℕ) (verdict : Verdict) (entries : List Entry) → verdict ≢ Forward → waiting_places space (Sent m verdict ∷ entries) ≡ waiting_places space entries
+not_forwarded : (space : ℕ) (m : List ℕ) (verdict : Verdict) (entries : List Entry) → verdict ≢ Forward → waiting_places space (Said m verdict ∷ entries) ≡ waiting_places space entries
 not_forwarded space m Own entries other = refl
 not_forwarded space m Share entries other = refl
 not_forwarded space m Foreign entries other = refl
@@ -178,15 +178,15 @@ module _ (c : ℕ) where
         ap (λ (b : Bool). waiting_places space (if b then End NotAdmitted ∷ [] else view_of c past)) other ∙ F.fits (stayed_was_there c d past there) space ∙ none_ended past d space other
     fits_then client (Ended d BadStream) follows calm there space =
         silent space (d == c) (End BadStream) (view_of c past) refl ∙ F.fits (stayed_was_there c d past there) space ∙ none_ended past d space (stayed past d there)
-    fits_then client (Ended d Closed) follows calm there space =
-        silent space (d == c) (End Closed) (view_of c past) refl ∙ F.fits (stayed_was_there c d past there) space ∙ none_ended past d space (stayed past d there)
+    fits_then client (Ended d Leaving) follows calm there space =
+        silent space (d == c) (End Leaving) (view_of c past) refl ∙ F.fits (stayed_was_there c d past there) space ∙ none_ended past d space (stayed past d there)
     fits_then client (Ended d NoRoom) follows calm there space = F.fits (stayed_was_there c d past there) space ∙ none_ended past d space (stayed past d there)
     fits_then client (Judged d place m verdict) follows calm there space =
         ⊎_elim
-        (λ (other : (d == c) ≡ false). ap (λ (b : Bool). waiting_places space (entry_if b (Sent m verdict) (view_of c past))) other)
-        (λ (unsent : verdict ≢ Forward). silent space (d == c) (Sent m verdict) (view_of c past) (not_forwarded space m verdict (view_of c past) unsent)) calm
+        (λ (other : (d == c) ≡ false). ap (λ (b : Bool). waiting_places space (entry_if b (Said m verdict) (view_of c past))) other)
+        (λ (unsent : verdict ≢ Forward). silent space (d == c) (Said m verdict) (view_of c past) (not_forwarded space m verdict (view_of c past) unsent)) calm
         ∙ F.fits there space
-    fits_then client (Drained d count) follows calm there space = silent space (d == c) (Collected count) (view_of c past) refl ∙ F.fits there space
+    fits_then client (Taken d count) follows calm there space = silent space (d == c) (Taking count) (view_of c past) refl ∙ F.fits there space
     fits_then client (Forwarded r) follows calm there space =
         F.fits there space ∙ sym (places_more c space (pending past) r false (ap (λ (b : Bool). b && (r.space == space)) calm))
     fits_then client (Answered r m) follows calm there space = done r (Response r.place (blank m)) space follows there refl

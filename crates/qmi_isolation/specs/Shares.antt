@@ -6,7 +6,7 @@ use Rattle.proxy_history.specs.Facts.{Own, Share, Forward}
 use Rattle.proxy_history.specs.Decision.{Decision, Replies}
 use Rattle.proxy_history.specs.Connections.{is_present}
 use Rattle.proxy_history.specs.Requests.{pending, of_client}
-use Rattle.proxy_history.specs.View.{Entry, Sent, Response, Refused, sent_count}
+use Rattle.proxy_history.specs.View.{Entry, Said, Response, Refused, said_count}
 use Rattle.proxy_history.specs.Coming.{AreSound}
 use Rattle.qmi_proxy.specs.Setup.{Setup}
 use Rattle.qmi_proxy.specs.Spaces.{space_of}
@@ -23,8 +23,8 @@ without_place place places = filter (λ p. not (place == p)) places
 -- the places of the client's messages in a space that were forwarded, and that no answer and no refusal followed
 abbrev pub waiting_places : (space : ℕ) → List Entry → List ℕ
 waiting_places space [] = []
-waiting_places space (Sent m Forward ∷ entries) =
-    if space_of m == space then waiting_places space entries ++ (sent_count entries + 1) ∷ [] else waiting_places space entries
+waiting_places space (Said m Forward ∷ entries) =
+    if space_of m == space then waiting_places space entries ++ (said_count entries + 1) ∷ [] else waiting_places space entries
 waiting_places space (Response place m ∷ entries) = without_place place (waiting_places space entries)
 waiting_places space (Refused place cause ∷ entries) = without_place place (waiting_places space entries)
 waiting_places space (_ ∷ entries) = waiting_places space entries

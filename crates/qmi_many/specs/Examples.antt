@@ -74,12 +74,12 @@ pub record NamedInOrderOfChoosing : Type 0 where
   pub modem : to_modem devices 1 chooses_later ≡ get_version
 
 -- a stream that begins no message is for device 0, whose proxy drops it
-abbrev pub garbles : List ManyEvent
-garbles = both_open (Joined 3 ∷ Piece 3 (2 ∷ []) ∷ [])
+abbrev pub goes_bad : List ManyEvent
+goes_bad = both_open (Joined 3 ∷ Piece 3 (2 ∷ []) ∷ [])
 
 pub record BadStreamsAreForDeviceZero : Type 0 where
-  pub dropped : (many devices garbles).dropped ≡ record { conn = 3; place = At 0 2 } ∷ []
-  pub left : (many devices garbles).seats ≡ record { conn = 1; place = At 0 1 } ∷ record { conn = 2; place = At 1 1 } ∷ []
+  pub dropped : (many devices goes_bad).dropped ≡ record { conn = 3; place = At 0 2 } ∷ []
+  pub left : (many devices goes_bad).seats ≡ record { conn = 1; place = At 0 1 } ∷ record { conn = 2; place = At 1 1 } ∷ []
 
 -- both use the client id 5 of their device; client 1 goes, and after the time it is released at `a`, and not at `b`
 abbrev pub goes_for_long : List ManyEvent

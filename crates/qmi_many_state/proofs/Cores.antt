@@ -5,7 +5,7 @@ use Rattle.std.proofs.lemmas.List.Quantifiers.{position-Some}
 use Rattle.proxy_history.specs.Facts.{Fact, Request}
 use Rattle.proxy_history.specs.Connections.{dropped}
 use Rattle.proxy_history.specs.History.{history}
-use Rattle.proxy_state.specs.State.{partings_in}
+use Rattle.proxy_state.specs.State.{dropped_clients_in}
 use Rattle.proxy_state.specs.Stands as proxy
 use Rattle.proxy_state.proofs.Waiting.{steps_may_come, may_step}
 use Rattle.qmi_proxy.specs.History.{qmi_protocol}
@@ -55,7 +55,7 @@ module _ (paths : List (List ℕ)) (time_limit : ℕ) (release : Option ℕ) whe
   }
     where
       of_path : (d : ℕ) (core : QmiCore) → core ≡ opened (setup_at paths time_limit release d) → proxy.StandsAfter (qmi_protocol (setup_at paths time_limit release d)) (kept_of (setup_at paths time_limit release d)) [] core
-      of_path d core is = record { stands = stands_open (setup_at paths time_limit release d) core is; all_dropped = ap (λ (c : QmiCore). partings_in c.state.table.dropped) is }
+      of_path d core is = record { stands = stands_open (setup_at paths time_limit release d) core is; all_dropped = ap (λ (c : QmiCore). dropped_clients_in c.state.table.dropped) is }
 
   module _ (some : 0 < length paths) where
     first_or : (choice : Option ℕ) (f : List ℕ → Bool) → position f paths ≡ choice → or_first choice < length paths

@@ -2,7 +2,7 @@
 use Rattle.std.proofs.Common.{◌≡◌, ℕ, true, false, List, ◌∷◌}
 use Rattle.proxy_history.specs.Events.{Event, Joined, Took, joins_or_takes}
 use Rattle.proxy_history.specs.Connections.{is_present}
-use Rattle.proxy_history.specs.Rendering.{empty, collect, Grows}
+use Rattle.proxy_history.specs.Rendering.{empty, take_waiting, Grows}
 use Rattle.proxy_history.proofs.Folds as folds
 use Rattle.qmi_proxy.specs.Setup.{Setup}
 use Rattle.qmi_proxy.specs.History.{qmi_protocol, history, text_for}
@@ -15,7 +15,7 @@ module _ (s : Setup) (client : ℕ) where
   pub joining_starts_with_none : (events : List Event) → text_for s client (Joined client ∷ events) ≡ empty
   joining_starts_with_none events = folds.joining_starts_with_none (qmi_protocol s) (Asks s) (orderly s) client events
 
-  pub taking_takes_the_first : (count : ℕ) (events : List Event) → is_present client (history s events) ≡ true → text_for s client (Took client count ∷ events) ≡ collect count (text_for s client events)
+  pub taking_takes_the_first : (count : ℕ) (events : List Event) → is_present client (history s events) ≡ true → text_for s client (Took client count ∷ events) ≡ take_waiting count (text_for s client events)
   taking_takes_the_first count events there = folds.taking_takes_the_first (qmi_protocol s) (Asks s) (orderly s) client count events there
 
   pub taking_of_the_absent_takes_none : (count : ℕ) (events : List Event) → is_present client (history s events) ≡ false → text_for s client (Took client count ∷ events) ≡ text_for s client events

@@ -8,12 +8,12 @@ use Rattle.std.proofs.lemmas.List.Elements.{All-contains, All-from_recursion}
 use Rattle.kit_bytes.proofs.Lists.{all_weaker, all_passing, all_filter, all_push}
 use Rattle.proxy_history.specs.Events.{Event, Joined, ModemTook}
 use Rattle.proxy_history.specs.Items.{Item}
-use Rattle.proxy_history.specs.Facts.{Fact, Request, EventBegan, NotAdmitted, BadStream, NoRoom, Closed, Admitted, Ended, Judged, Drained, Forwarded, Answered, IdHeld, Late, Expired, Aborted, Indicated, OpeningEnded, SessionsClosed, Reset, ModemLost, ModemDrained, Verdict}
+use Rattle.proxy_history.specs.Facts.{Fact, Request, EventBegan, NotAdmitted, BadStream, NoRoom, Leaving, Admitted, Ended, Judged, Taken, Forwarded, Answered, IdHeld, Late, Expired, Aborted, Indicated, OpeningEnded, SessionsClosed, Reset, ModemLost, ModemTaken, Verdict}
 use Rattle.proxy_history.specs.Connections.{present, dropped, contains}
 use Rattle.proxy_history.specs.Requests.{in_use, pending}
-use Rattle.proxy_history.specs.Modem.{to_modem, modem_drained}
+use Rattle.proxy_history.specs.Modem.{to_modem, modem_taken_count}
 use Rattle.proxy_history.specs.Sound.{MayFollow, begins_anew}
-use Rattle.proxy_history.specs.View.{Entry, Sent, Response, Refused, Indication, OpenedWith, Shut, Collected, End, HeldId, NoAnswer, view, entry_if, sent_at, sent_count}
+use Rattle.proxy_history.specs.View.{Entry, Said, Response, Refused, Indication, OpenedWith, Shut, Taking, End, HeldId, NoAnswer, view, entry_if, said_at, said_count}
 use Rattle.proxy_history.specs.Noting.{join}
 use Rattle.proxy_history.specs.History as proxy
 use Rattle.proxy_history.specs.Coming.{AreSound}
@@ -35,8 +35,8 @@ use Rattle.qmi_proxy.proofs.Walk.{Asks, orderly}
 
 -- the same messages were sent
 record SentSame (later earlier : List Entry) : Type 0 where
-  count : sent_count later ≡ sent_count earlier
-  at : (place : ℕ) → sent_at place later ≡ sent_at place earlier
+  count : said_count later ≡ said_count earlier
+  at : (place : ℕ) → said_at place later ≡ said_at place earlier
 
 same_view : (entries : List Entry) → SentSame entries entries
 same_view entries = record { count = refl; at = λ place. refl }
@@ -59,9 +59,9 @@ unfolding view is_judged
 sent_same c (Admitted d) past old other = not_anew (d == c) [] (view_of c past) old
 sent_same c (Ended d NotAdmitted) past old other = not_anew (d == c) (End NotAdmitted ∷ []) (view_of c past) old
 sent_same c (Ended d BadStream) past old other = entry_same (d == c) (End BadStream) (view_of c past) (record { count = refl; at = λ place. refl })
-sent_same c (Ended d Closed) past old other = entry_same (d == c) (End Closed) (view_of c past) (record { count = refl; at = λ place. refl })
+sent_same c (Ended d Leaving) past old other = entry_same (d == c) (End Leaving) (view_of c past) (record { count = refl; at = λ place. refl })
 sent_same c (Judged d place m verdict) past old other = absurd (cc)
-sent_same c (Drained d count) past old other = entry_same (d == c) (Collected count) (view_of c past) (record { count = refl; at = λ place. refl })
+sent_same c (Taken d count) past old other = entry_same (d == c) (Taking count) (view_of c past) (record { count = refl; at = λ place. refl })
 sent_same c (Answered r m) past old other = entry_same (r.conn == c) (Response r.place (blank m)) (view_of c past) (record { count = refl; at = λ place. refl })
 sent_same c (IdHeld r) past old other = entry_same (r.conn == c) (Refused r.place HeldId) (view_of c past) (record { count = refl; at = λ place. refl })
 sent_same c (Expired r) past old other = entry_same (r.conn == c) (Refused r.place NoAnswer) (view_of c past) (record { count = refl; at = λ place. refl })
@@ -77,14 +77,14 @@ asked_as : (later earlier : List Fact) (r : Request) → contains r.conn (presen
 asked_as later earlier r there same asked = (there, subst (λ (n : ℕ). r.place ≤ n) (sym same.count) asked.1, same.at r.place ∙ asked.2)
 
 -- what was sent before a message is sent at its place still
-sent_before : (place : ℕ) (m : List ℕ) (verdict : Verdict) (entries : List Entry) → place ≤ sent_count entries → sent_at place (Sent m verdict ∷ entries) ≡ sent_at place entries
+sent_before : (place : ℕ) (m : List ℕ) (verdict : Verdict) (entries : List Entry) → place ≤ said_count entries → said_at place (Said m verdict ∷ entries) ≡ said_at place entries
 sent_before place m verdict entries within =
-    let other : (sent_count entries + 1 == place) ≡ false = grind (arith, nat_tests, within) in
-    ap (λ (b : Bool). if b then m else sent_at place entries) other
+    let other : (said_count entries + 1 == place) ≡ false = grind (arith, nat_tests, within) in
+    ap (λ (b : Bool). if b then m else said_at place entries) other
 
 -- the messages that a client had sent when it sent this one
-asked_behind : (there : Bool) (place : ℕ) (message m : List ℕ) (verdict : Verdict) (b : Bool) (entries : List Entry) → (there ≡ true) × (place ≤ sent_count entries) × (sent_at place entries ≡ message)
-    → (there ≡ true) × (place ≤ sent_count (entry_if b (Sent m verdict) entries)) × (sent_at place (entry_if b (Sent m verdict) entries) ≡ message)
+asked_behind : (there : Bool) (place : ℕ) (message m : List ℕ) (verdict : Verdict) (b : Bool) (entries : List Entry) → (there ≡ true) × (place ≤ said_count entries) × (said_at place entries ≡ message)
+    → (there ≡ true) × (place ≤ said_count (entry_if b (Said m verdict) entries)) × (said_at place (entry_if b (Said m verdict) entries) ≡ message)
 asked_behind there place message m verdict true entries asked = (asked.0, let within = asked.1 in omega arith, sent_before place m verdict entries asked.1 ∙ asked.2)
 asked_behind there place message m verdict false entries asked = asked
 
@@ -92,7 +92,7 @@ asked_behind there place message m verdict false entries asked = asked
 abbrev pub IsNew : Fact → List Fact → Type 0
 IsNew (Admitted c) past = (1 ≤ c) × (contains c (present past) ≡ false)
 IsNew (Ended c NotAdmitted) past = 1 ≤ c
-IsNew (ModemDrained count) past = modem_drained past + count ≤ length (to_modem wire past)
+IsNew (ModemTaken count) past = modem_taken_count past + count ≤ length (to_modem wire past)
 IsNew _ past = Unit {0}
 
 named : (fact : Fact) (past : List Fact) → IsNew fact past → IsNamed fact
@@ -122,8 +122,8 @@ still_sent (Ended d BadStream) past r new spared asked =
     let other = not-true (d == r.conn) spared in asked_as (Ended d BadStream ∷ past) past r (contains_other d r.conn (present past) other ∙ asked.0) (sent_same r.conn (Ended d BadStream) past refl refl) asked
 still_sent (Ended d NoRoom) past r new spared asked =
     let other = not-true (d == r.conn) spared in asked_as (Ended d NoRoom ∷ past) past r (contains_other d r.conn (present past) other ∙ asked.0) (sent_same r.conn (Ended d NoRoom) past refl refl) asked
-still_sent (Ended d Closed) past r new spared asked =
-    let other = not-true (d == r.conn) spared in asked_as (Ended d Closed ∷ past) past r (contains_other d r.conn (present past) other ∙ asked.0) (sent_same r.conn (Ended d Closed) past refl refl) asked
+still_sent (Ended d Leaving) past r new spared asked =
+    let other = not-true (d == r.conn) spared in asked_as (Ended d Leaving ∷ past) past r (contains_other d r.conn (present past) other ∙ asked.0) (sent_same r.conn (Ended d Leaving) past refl refl) asked
 still_sent (Judged d place m verdict) past r new spared asked = asked_behind (contains r.conn (present past)) r.place r.message m verdict (d == r.conn) (view_of r.conn past) asked
 still_sent fact past r new spared asked = asked_as (fact ∷ past) past r asked.0 (sent_same r.conn fact past refl refl) asked
 
@@ -163,19 +163,19 @@ asked_more Reset past asked new all = tt
 asked_more ModemLost past asked new all = tt
 asked_more fact past asked new all = all_weaker (IsAsked past) (IsAsked (fact ∷ past)) (λ r held. still_asked fact past r new refl held) (pending past) all
 
-drained_more : (fact : Fact) (past : List Fact) → IsNew fact past → modem_drained past ≤ length (to_modem wire past) → modem_drained (fact ∷ past) ≤ length (to_modem wire (fact ∷ past))
-unfolding to_modem modem_drained
-drained_more (Forwarded r) past new within = let both = length-append (to_modem wire past) (wire r) in omega arith
-drained_more (ModemDrained count) past new within = new
-drained_more ModemLost past new within = omega arith
-drained_more _ past new within = within
+taken_more : (fact : Fact) (past : List Fact) → IsNew fact past → modem_taken_count past ≤ length (to_modem wire past) → modem_taken_count (fact ∷ past) ≤ length (to_modem wire (fact ∷ past))
+unfolding to_modem modem_taken_count
+taken_more (Forwarded r) past new within = let both = length-append (to_modem wire past) (wire r) in omega arith
+taken_more (ModemTaken count) past new within = new
+taken_more ModemLost past new within = omega arith
+taken_more _ past new within = within
 
 pub regular_more : (fact : Fact) (past : List Fact) → MayFollow qmi_limits fact past → IsPut fact past → IsNew fact past → Regular past → Regular (fact ∷ past)
 regular_more fact past follows asked new R = record {
   sound = (follows, R.sound);
   placed = placed_more fact past asked R.placed;
   asked = asked_more fact past asked new R.asked;
-  drained = drained_more fact past new R.drained;
+  was_taken = taken_more fact past new R.was_taken;
   nobody = still_no_client fact past (named fact past new) R.nobody;
   never = still_never_dropped qmi_limits fact past follows (named fact past new) R.nobody R.never;
 }
@@ -198,7 +198,7 @@ put_rightly s _ past asked = tt
 nothing_new : (fact : Fact) (past : List Fact) → lets_in_or_drains fact ≡ false → IsNew fact past
 nothing_new (Admitted c) past other = absurd (cc)
 nothing_new (Ended c NotAdmitted) past other = absurd (cc)
-nothing_new (ModemDrained count) past other = absurd (cc)
+nothing_new (ModemTaken count) past other = absurd (cc)
 nothing_new _ past other = tt
 
 module _ (s : Setup) where
@@ -227,12 +227,12 @@ module _ (s : Setup) where
       by false full = regular_more (Ended c NotAdmitted) past (grind (arith, nat_tests, full)) tt some R
 
   pub histories_are_regular : (events : List Event) → AreSound (qmi_protocol s) events → Regular (history s events)
-  unfolding proxy.history proxy.add_all in_use pending present dropped modem_drained to_modem
-  histories_are_regular [] sound = record { sound = tt; placed = tt; asked = tt; drained = omega arith; nobody = refl; never = refl }
+  unfolding proxy.history proxy.add_all in_use pending present dropped modem_taken_count to_modem
+  histories_are_regular [] sound = record { sound = tt; placed = tt; asked = tt; was_taken = omega arith; nobody = refl; never = refl }
   histories_are_regular (Joined c ∷ events) sound =
       regular_join (EventBegan ∷ history s events) c (let above = sound.0 in omega arith) (new_names (qmi_protocol s) (Asks s) (orderly s) events c sound.0) (regular_begun (history s events) (histories_are_regular events sound.1))
   histories_are_regular (ModemTook count ∷ events) sound =
       let R = histories_are_regular events sound.1 in
-      let left = length-drop (modem_drained (history s events)) (to_modem wire (history s events)) in
-      regular_more (ModemDrained count) (EventBegan ∷ history s events) tt tt (let some = sound.0 in let within = R.drained in omega arith) (regular_begun (history s events) R)
+      let left = length-drop (modem_taken_count (history s events)) (to_modem wire (history s events)) in
+      regular_more (ModemTaken count) (EventBegan ∷ history s events) tt tt (let some = sound.0 in let within = R.was_taken in omega arith) (regular_begun (history s events) R)
   histories_are_regular (event ∷ events) sound = regular_event event events refl (histories_are_regular events sound.1)

@@ -11,16 +11,16 @@ use Rattle.qmux_frame.specs.Reply.{with_number}
 use Rattle.qmux_frame.specs.Kind.{framed_kind}
 use Rattle.qmux_frame.specs.Control.{is_sync}
 use Rattle.qmux_frame.proofs.Framed.{framed_long, numbered_length}
-use Rattle.proxy_history.specs.Items.{Says, ModemSays, ModemFails}
+use Rattle.proxy_history.specs.Items.{Says, ModemSays, ModemIsLost}
 use Rattle.proxy_history.specs.Facts.{Fact, Request, Verdict, Forward, Ended, NoRoom, Aborted, Judged, Forwarded, Answered, IdHeld, Late, Indicated, Stray, Granted, Freed, Reset}
 use Rattle.proxy_history.specs.Decision.{Decision, Replies, Forwards}
 use Rattle.proxy_history.specs.Connections.{present, message_count}
 use Rattle.proxy_history.specs.Requests.{in_use, pending, is_pending, last_number, of_space}
-use Rattle.proxy_history.specs.Modem.{now, to_modem, modem_drained, modem_queue}
+use Rattle.proxy_history.specs.Modem.{now, to_modem, modem_taken_count, modem_queue}
 use Rattle.proxy_history.specs.Wording.{Wording}
 use Rattle.proxy_history.specs.Noting.{receivers_of}
 use Rattle.proxy_history.specs.Noting as noting
-use Rattle.proxy_history.specs.View.{Entry, Sent, entry_if, view, sent_count, sent_at}
+use Rattle.proxy_history.specs.View.{Entry, Said, entry_if, view, said_count, said_at}
 use Rattle.proxy_history.specs.Sound.{IsPresent, IsParty, IsSound, IsFreeFor}
 use Rattle.proxy_history.specs.ClientIds.{KeptId, held, kept, holder_in, is_other}
 use Rattle.proxy_history.proofs.Kept.{kept_are_nobodys}
@@ -84,8 +84,8 @@ module _ (s : Setup) where
     abbrev pub judged_now : List Fact → List Fact
     judged_now past = Judged c (message_count c past + 1) m Forward ∷ past
 
-    newest_at : (b : Bool) (entries : List Entry) (place : ℕ) → b ≡ true → place ≡ sent_count (entry_if b (Sent m Forward) entries) → sent_at place (entry_if b (Sent m Forward) entries) ≡ m
-    newest_at true entries place own is = ap (λ (t : Bool). if t then m else sent_at place entries) (eq-eqb (sent_count entries + 1) place (sym is))
+    newest_at : (b : Bool) (entries : List Entry) (place : ℕ) → b ≡ true → place ≡ said_count (entry_if b (Said m Forward) entries) → said_at place (entry_if b (Said m Forward) entries) ≡ m
+    newest_at true entries place own is = ap (λ (t : Bool). if t then m else said_at place entries) (eq-eqb (said_count entries + 1) place (sym is))
     newest_at false entries place own is = absurd (cc)
 
     -- what the request asks for granted
@@ -102,7 +102,7 @@ module _ (s : Setup) where
         }
 
     finds_room : (n : ℕ) (past : List Fact) → is_framed m ≡ true → has_room (length (modem_queue wire past)) m ≡ true → length (modem_queue wire (judged_now past)) + length (with_number n m) ≤ modem_outbox_limit
-    unfolding to_modem modem_drained
+    unfolding to_modem modem_taken_count
     finds_room n past framed room = let same = numbered_length n m (framed_long m framed) in grind (arith, nat_tests, room, same)
 
     forwards : (n : ℕ) (past : List Fact) → IsPresent c past → CanGo c m n past → AddsOf (MayAdd (Says c m)) (judged_now past) (forward s c m n (judged_now past))
@@ -276,7 +276,7 @@ module _ (s : Setup) where
     modem = λ m past sound. hears m (framed_kind m) past sound;
     refusal = λ why r past may sound. refuses_own why (r.conn == 0) r past (noted qmi_limits wording (May (MayRefuse why)) (λ c before there. (there, tt, tt)) why past may);
     order = only_those;
-    loss = λ past sound. none qmi_limits wording (May (MayAdd ModemFails)) past;
+    loss = λ past sound. none qmi_limits wording (May (MayAdd ModemIsLost)) past;
     clock = λ past sound. releases_due s.release past sound;
     finish = λ past sound. none qmi_limits wording (May MayFinish) past;
   }

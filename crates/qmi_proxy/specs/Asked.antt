@@ -4,7 +4,7 @@ use Rattle.proxy_history.specs.Events.{Event}
 use Rattle.proxy_history.specs.Facts.{Fact, Request}
 use Rattle.proxy_history.specs.Connections.{is_present}
 use Rattle.proxy_history.specs.Modem.{now}
-use Rattle.proxy_history.specs.View.{sent_at, sent_count}
+use Rattle.proxy_history.specs.View.{said_at, said_count}
 use Rattle.proxy_history.specs.Adding.{AreAsked}
 use Rattle.qmi_proxy.specs.Setup.{Setup}
 use Rattle.qmi_proxy.specs.Spaces.{space_of}
@@ -16,8 +16,8 @@ use Rattle.qmi_proxy.specs.History.{qmi_protocol, history}
 -- the newest message of a client that is there
 pub record IsNewestMessage (s : Setup) (r : Request) (past : List Fact) : Type 0 where
   pub sender : is_present r.conn past ≡ true
-  pub place : r.place ≡ sent_count (view_of r.conn past)
-  pub message : sent_at r.place (view_of r.conn past) ≡ r.message
+  pub place : r.place ≡ said_count (view_of r.conn past)
+  pub message : said_at r.place (view_of r.conn past) ≡ r.message
   pub space : r.space ≡ space_of r.message
   pub deadline : r.deadline ≡ deadline_of (now past) s.time_limit
 

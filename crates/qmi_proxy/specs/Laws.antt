@@ -9,7 +9,7 @@ use Rattle.proxy_history.specs.Connections.{present, is_present}
 use Rattle.proxy_history.specs.Requests.{in_use, pending, numbers_in_use}
 use Rattle.proxy_history.specs.ClientIds.{held}
 use Rattle.proxy_history.specs.Modem.{is_away}
-use Rattle.proxy_history.specs.Rendering.{empty, collect, Grows}
+use Rattle.proxy_history.specs.Rendering.{empty, take_waiting, Grows}
 use Rattle.proxy_history.specs.Sound.{IsSound, IsParty, Differ, begins_anew, EndsWithItsEnd}
 use Rattle.qmi_proxy.specs.Setup.{Setup}
 use Rattle.qmi_proxy.specs.Spaces.{limit_of}
@@ -67,7 +67,7 @@ JoiningStartsWithNone = (s : Setup) (c : ℕ) (events : List Event) → text_for
 -- a taking takes the first of those that wait
 abbrev pub TakingTakesTheFirst : Type 0
 TakingTakesTheFirst = (s : Setup) (c count : ℕ) (events : List Event)
-    → is_present c (history s events) ≡ true → text_for s c (Took c count ∷ events) ≡ collect count (text_for s c events)
+    → is_present c (history s events) ≡ true → text_for s c (Took c count ∷ events) ≡ take_waiting count (text_for s c events)
 
 -- a taking of a connection that isn't there takes none
 abbrev pub TakingOfTheAbsentTakesNone : Type 0

@@ -3,7 +3,7 @@
 use Rattle.std.specs.Prelude.{ℕ, Bool, false, not, ◌&&◌, ◌||◌, if◌then◌else◌, List}
 use Rattle.qmux_frame.specs.Control.{is_sync, is_proxy_open}
 use Rattle.proxy_history.specs.Facts.{Verdict, Own}
-use Rattle.proxy_history.specs.View.{Entry, Sent}
+use Rattle.proxy_history.specs.View.{Entry, Said}
 use Rattle.proxy_history.specs.Wording.{told_by}
 use Rattle.qmi_proxy.specs.Errors.{no_error, malformed_message, internal, invalid_client_id}
 use Rattle.qmi_proxy.specs.Messages.{opens, is_malformed, has_bad_id}
@@ -29,7 +29,7 @@ is_opening device m _ = false
 
 -- whether the client has opened the device once it has this entry, from whether it had before
 abbrev pub step : List ℕ → Bool → Entry → Bool
-step device opened (Sent m verdict) = is_opening device m verdict || opened
+step device opened (Said m verdict) = is_opening device m verdict || opened
 step device opened _ = opened
 
 -- the client has opened the device

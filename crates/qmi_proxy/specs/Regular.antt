@@ -5,9 +5,9 @@ use Rattle.proxy_history.specs.Events.{Event}
 use Rattle.proxy_history.specs.Facts.{Fact, Request}
 use Rattle.proxy_history.specs.Connections.{present, dropped, contains}
 use Rattle.proxy_history.specs.Requests.{in_use, pending}
-use Rattle.proxy_history.specs.Modem.{to_modem, modem_drained}
+use Rattle.proxy_history.specs.Modem.{to_modem, modem_taken_count}
 use Rattle.proxy_history.specs.Sound.{IsSound}
-use Rattle.proxy_history.specs.View.{sent_at, sent_count}
+use Rattle.proxy_history.specs.View.{said_at, said_count}
 use Rattle.proxy_history.specs.Coming.{AreSound}
 use Rattle.qmi_proxy.specs.Setup.{Setup}
 use Rattle.qmi_proxy.specs.Spaces.{space_of}
@@ -22,7 +22,7 @@ IsPlaced r = (r.space ≡ space_of r.message) × (r.deadline ≤ 2 ^ 64 - 1)
 
 -- the sender of a request is there, and its message is the sender's of that place
 abbrev pub IsSent : List Fact → Request → Type 0
-IsSent past r = (contains r.conn (present past) ≡ true) × (r.place ≤ sent_count (view_of r.conn past)) × (sent_at r.place (view_of r.conn past) ≡ r.message)
+IsSent past r = (contains r.conn (present past) ≡ true) × (r.place ≤ said_count (view_of r.conn past)) × (said_at r.place (view_of r.conn past) ≡ r.message)
 
 -- so is each request but the proxy's own
 abbrev pub IsAsked : List Fact → Request → Type 0
@@ -32,7 +32,7 @@ pub record Regular (past : List Fact) : Type 0 where
   pub sound : IsSound qmi_limits past
   pub placed : AllByRecursion IsPlaced (in_use past)
   pub asked : AllByRecursion (IsAsked past) (pending past)
-  pub drained : modem_drained past ≤ length (to_modem wire past)
+  pub was_taken : modem_taken_count past ≤ length (to_modem wire past)
   -- no connection has the name of the proxy itself
   pub nobody : contains 0 (present past) ≡ false
   pub never : contains 0 (dropped past) ≡ false

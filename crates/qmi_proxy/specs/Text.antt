@@ -4,7 +4,7 @@ use Rattle.std.specs.Prelude.{ℕ, Bool, false, List, []}
 use Rattle.qmux_frame.specs.Head.{number_of}
 use Rattle.qmux_frame.specs.Reply.{with_number, result_reply}
 use Rattle.proxy_history.specs.Facts.{Own, Share, Foreign, Away, Full, Forward, Ready, Waits, Fact}
-use Rattle.proxy_history.specs.View.{Entry, Sent, Response, Refused, Indication, OpenedWith, Shut, Collected, End, HeldId, NoAnswer, view, sent_at}
+use Rattle.proxy_history.specs.View.{Entry, Said, Response, Refused, Indication, OpenedWith, Shut, Taking, End, HeldId, NoAnswer, view, said_at}
 use Rattle.proxy_history.specs.Noting as noting
 use Rattle.proxy_history.specs.Rendering.{Rendering, EntryText}
 use Rattle.proxy_history.specs.Wording.{Wording, text_behind}
@@ -14,21 +14,21 @@ use Rattle.qmi_proxy.specs.OwnReplies.{own_error, step}
 
 -- the bytes of an entry that follows these entries, from whether they opened the device; no message asks to open the modem
 abbrev pub text_as : List ℕ → Bool → List Entry → Entry → List ℕ
-text_as device opened entries (Sent m Own) = result_reply m (own_error device opened m)
-text_as device opened entries (Sent m Share) = result_reply m share_passed
-text_as device opened entries (Sent m Foreign) = result_reply m invalid_client_id
-text_as device opened entries (Sent m Away) = result_reply m internal
-text_as device opened entries (Sent m Full) = result_reply m device_in_use
-text_as device opened entries (Sent m Forward) = []
-text_as device opened entries (Sent m Ready) = []
-text_as device opened entries (Sent m Waits) = []
-text_as device opened entries (Response place m) = with_number (number_of (sent_at place entries)) m
-text_as device opened entries (Refused place HeldId) = result_reply (sent_at place entries) client_ids_exhausted
-text_as device opened entries (Refused place NoAnswer) = result_reply (sent_at place entries) aborted
+text_as device opened entries (Said m Own) = result_reply m (own_error device opened m)
+text_as device opened entries (Said m Share) = result_reply m share_passed
+text_as device opened entries (Said m Foreign) = result_reply m invalid_client_id
+text_as device opened entries (Said m Away) = result_reply m internal
+text_as device opened entries (Said m Full) = result_reply m device_in_use
+text_as device opened entries (Said m Forward) = []
+text_as device opened entries (Said m Ready) = []
+text_as device opened entries (Said m Waits) = []
+text_as device opened entries (Response place m) = with_number (number_of (said_at place entries)) m
+text_as device opened entries (Refused place HeldId) = result_reply (said_at place entries) client_ids_exhausted
+text_as device opened entries (Refused place NoAnswer) = result_reply (said_at place entries) aborted
 text_as device opened entries (Indication m) = m
 text_as device opened entries (OpenedWith status) = []
 text_as device opened entries Shut = []
-text_as device opened entries (Collected count) = []
+text_as device opened entries (Taking count) = []
 text_as device opened entries (End why) = []
 
 -- a message without its transaction number

@@ -9,10 +9,10 @@ use Rattle.qmux_frame.specs.Frame.{size_of}
 use Rattle.proxy_history.specs.History as proxy
 use Rattle.proxy_history.specs.Events.{Event, Joined, Piece, Left, ModemPiece, ModemGone, ModemBack, Now, Took, ModemTook}
 use Rattle.proxy_history.specs.Streams.{stream, modem_stream, messages_of_piece, is_bad, come_back}
-use Rattle.proxy_history.specs.Items.{Joins, Says, Garbles, Leaves, ModemReturns, ClockShows, Takes, item_if, client_items, modem_items, fails_once, returns_once}
+use Rattle.proxy_history.specs.Items.{Joins, Says, GoesBad, Leaves, ModemReturns, ClockShows, Takes, item_if, client_items, modem_items, is_lost_once, returns_once}
 use Rattle.proxy_history.specs.Facts.{Fact, Admitted, Ended, NotAdmitted, ModemReturned}
 use Rattle.proxy_history.specs.Connections.{present}
-use Rattle.proxy_history.specs.Modem.{now, is_away, to_modem, modem_drained, modem_queue}
+use Rattle.proxy_history.specs.Modem.{now, is_away, to_modem, modem_taken_count, modem_queue}
 use Rattle.proxy_solo.specs.Part as alone_part
 use Rattle.proxy_solo.specs.Solo as alone
 use Rattle.qmi_proxy.specs.Limits.{connection_limit}
@@ -69,13 +69,13 @@ module _ (s : Setup) (c : ℕ) where
       (ap (λ (l : List ℕ). if c == c then [] else l) A.sent) A.whole
 
   piece_own : (bytes : List ℕ) (events solo : List Event) → now (history s events) ≡ now (history s solo) → Fit false c (history s (Piece c bytes ∷ events)) → AreFair (part c (history s (Piece c bytes ∷ events))) → AlikeAt events solo → AlikeAt (Piece c bytes ∷ events) (meet s (Piece c bytes) solo)
-  unfolding AlikeAt proxy.history proxy.add_all alone_part.part stream modem_stream to_modem modem_drained now
+  unfolding AlikeAt proxy.history proxy.add_all alone_part.part stream modem_stream to_modem modem_taken_count now
   piece_own bytes events solo time F fair A =
       let own : List Fact = begun s c solo in
       let G : Fit true c own = begun_fit s c true (history s solo) A.alone in
       let messages : List (List ℕ) = messages_of_piece size_of (stream c events) bytes in
       let bad : Bool = is_bad size_of (stream c events ++ bytes) in
-      let is : history s (Piece c bytes ∷ solo) ≡ add_all s (map (λ m. Says c m) messages ++ item_if bad (Garbles c)) own = ap (λ (l : List ℕ). add_all s (client_items size_of c l bytes) own) A.sent in
+      let is : history s (Piece c bytes ∷ solo) ≡ add_all s (map (λ m. Says c m) messages ++ item_if bad (GoesBad c)) own = ap (λ (l : List ℕ). add_all s (client_items size_of c l bytes) own) A.sent in
       met s c (Piece c bytes) (history s (Piece c bytes ∷ events)) solo (stream c (Piece c bytes ∷ events))
       (piece_both s c messages bad (begun s c events) own (record { same = A.same; fit = begun_fit s c false (history s events) A.fit; alone = G; time = time; room = subst (λ (n : ℕ). n ≤ length (modem_queue wire (history s events))) (sym A.empty) (omega arith) }) fair ∙ ap (part c) (sym is)) F
       (subst (Fit true c) (sym is) (piece_fits s c true c (self c) messages bad own G))
@@ -118,11 +118,11 @@ module _ (s : Setup) (c : ℕ) where
   unfolding AlikeAt proxy.history proxy.add_all alone_part.part stream modem_stream is_away
   goes_alike events solo F A =
       let agree = streams_alike events solo A in
-      let both_none : (o o' : Option (List ℕ)) → bytes_of s c events ≡ o → bytes_of s c solo ≡ o' → is_none o' ≡ is_none o → Alike s c (add_all s (fails_once o) (begun s c events)) (meet s ModemGone solo) (stream c events) =
-      λ o o'. elim o as (λ o. bytes_of s c events ≡ o → bytes_of s c solo ≡ o' → is_none o' ≡ is_none o → Alike s c (add_all s (fails_once o) (begun s c events)) (meet s ModemGone solo) (stream c events)) [
+      let both_none : (o o' : Option (List ℕ)) → bytes_of s c events ≡ o → bytes_of s c solo ≡ o' → is_none o' ≡ is_none o → Alike s c (add_all s (is_lost_once o) (begun s c events)) (meet s ModemGone solo) (stream c events) =
+      λ o o'. elim o as (λ o. bytes_of s c events ≡ o → bytes_of s c solo ≡ o' → is_none o' ≡ is_none o → Alike s c (add_all s (is_lost_once o) (begun s c events)) (meet s ModemGone solo) (stream c events)) [
         | None ↦ elim o' as (λ o'. bytes_of s c events ≡ None → bytes_of s c solo ≡ o' → is_none o' ≡ true → Alike s c (begun s c events) (meet s ModemGone solo) (stream c events)) [
           | None ↦ λ is is' e.
-              let nothing : history s (ModemGone ∷ solo) ≡ begun s c solo = ap (λ (o : Option (List ℕ)). add_all s (fails_once o) (begun s c solo)) is' in
+              let nothing : history s (ModemGone ∷ solo) ≡ begun s c solo = ap (λ (o : Option (List ℕ)). add_all s (is_lost_once o) (begun s c solo)) is' in
               met s c ModemGone (begun s c events) solo (stream c events) (A.same ∙ ap (part c) (sym nothing)) (begun_fit s c false (history s events) A.fit)
               (subst (Fit true c) (sym nothing) (begun_fit s c true (history s solo) A.alone)) A.sent refl
           | Some before ↦ λ is is' e. absurd (let clash : false ≡ true = e in cc)
@@ -176,7 +176,7 @@ module _ (s : Setup) (c : ℕ) where
 
   pub alike_event : (event : Event) (events solo : List Event) → now (history s events) ≡ now (history s solo) → Fit false c (history s (event ∷ events)) → (event ≡ Joined c → AreGeneral (part c (history s events))) → AreFair (part c (history s (event ∷ events)))
       → Alike s c (history s events) solo (stream c events) → Alike s c (history s (event ∷ events)) (meet_event s c events event solo) (stream c (event ∷ events))
-  unfolding AlikeAt proxy.history proxy.add_all alone_part.part alone.hear_all stream to_modem modem_drained now
+  unfolding AlikeAt proxy.history proxy.add_all alone_part.part alone.hear_all stream to_modem modem_taken_count now
   alike_event (Joined d) events solo times F new fair A =
       own_or_other s c d (λ b. Alike s c (history s (Joined d ∷ events)) (meet_if b s (Joined d) solo) (stream c (Joined d ∷ events)))
       (λ e. let is : d ≡ c = eqb-true d c e in

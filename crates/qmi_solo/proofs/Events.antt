@@ -5,10 +5,10 @@ use Rattle.qmux_frame.specs.Frame.{size_of}
 use Rattle.proxy_history.specs.History as proxy
 use Rattle.proxy_history.specs.Events.{Event, Joined, Piece, Left, ModemPiece, ModemGone, ModemBack, Now, Took, ModemTook}
 use Rattle.proxy_history.specs.Streams.{stream, modem_stream, messages_of_piece, is_bad}
-use Rattle.proxy_history.specs.Items.{Joins, Says, Garbles, Leaves, ModemSays, ModemFails, ModemReturns, ClockShows, Takes, ModemTakes, item_if, client_items, modem_items, fails_once, returns_once}
-use Rattle.proxy_history.specs.Facts.{Fact, EventBegan, Admitted, Ended, NotAdmitted, BadStream, Closed, Drained, ModemReturned}
+use Rattle.proxy_history.specs.Items.{Joins, Says, GoesBad, Leaves, ModemSays, ModemIsLost, ModemReturns, ClockShows, Takes, ModemTakes, item_if, client_items, modem_items, is_lost_once, returns_once}
+use Rattle.proxy_history.specs.Facts.{Fact, EventBegan, Admitted, Ended, NotAdmitted, BadStream, Leaving, Taken, ModemReturned}
 use Rattle.proxy_history.specs.Connections.{present, is_present}
-use Rattle.proxy_history.specs.Modem.{to_modem, modem_drained}
+use Rattle.proxy_history.specs.Modem.{to_modem, modem_taken_count}
 use Rattle.proxy_solo.specs.Part as alone_part
 use Rattle.qmi_proxy.specs.Limits.{connection_limit}
 use Rattle.qmi_proxy.specs.Setup.{Setup}
@@ -41,12 +41,12 @@ module _ (s : Setup) (c : ℕ) where
 
   modem_fits : (messages : List (List ℕ)) (bad : Bool) (past : List Fact) → Fit false c past → Fit false c (add_all s (modem_brings s c messages bad) past)
   unfolding proxy.add_all
-  modem_fits [] true past F = fit_add false c s ModemFails past F tt
+  modem_fits [] true past F = fit_add false c s ModemIsLost past F tt
   modem_fits [] false past F = F
   modem_fits (m ∷ messages) bad past F = modem_fits messages bad (add s (ModemSays m) past) (fit_add false c s (ModemSays m) past F tt)
 
   pub fit_event : (event : Event) (events : List Event) → MayCome s event events → (event ≡ Joined c → AreGeneral (part c (history s events))) → Fit false c (history s events) → Fit false c (history s (event ∷ events))
-  unfolding proxy.history proxy.add_all alone_part.part to_modem modem_drained
+  unfolding proxy.history proxy.add_all alone_part.part to_modem modem_taken_count
   fit_event (Joined d) events may new F = fit_add false c s (Joins d) (begun events) (begun_fit false (history s events) F) (tt, λ e. new (ap (λ (x : ℕ). Joined x) (eqb-true d c e)))
   fit_event (Piece d bytes) events may new F = piece_fits s c false d tt (messages_of_piece size_of (stream d events) bytes) (is_bad size_of (stream d events ++ bytes)) (begun events) (begun_fit false (history s events) F)
   fit_event (Left d) events may new F = fit_add false c s (Leaves d) (begun events) (begun_fit false (history s events) F) tt
@@ -56,9 +56,9 @@ module _ (s : Setup) (c : ℕ) where
         | Some before ↦ modem_fits (messages_of_piece size_of before bytes) (is_bad size_of (before ++ bytes)) (begun events) (begun_fit false (history s events) F)
       ]
   fit_event ModemGone events may new F =
-      elim (bytes_of events) as (λ o. Fit false c (add_all s (fails_once o) (begun events))) [
+      elim (bytes_of events) as (λ o. Fit false c (add_all s (is_lost_once o) (begun events))) [
         | None ↦ begun_fit false (history s events) F
-        | Some before ↦ fit_add false c s ModemFails (begun events) (begun_fit false (history s events) F) tt
+        | Some before ↦ fit_add false c s ModemIsLost (begun events) (begun_fit false (history s events) F) tt
       ]
   fit_event ModemBack events may new F =
       elim (bytes_of events) as (λ o. Fit false c (add_all s (returns_once o) (begun events))) [
@@ -71,11 +71,11 @@ module _ (s : Setup) (c : ℕ) where
 
   -- ---- who hasn't joined isn't heard of ----
 
-  absent_piece : (messages : List (List ℕ)) (bad : Bool) (past : List Fact) → is_present c past ≡ false → add_all s (map (λ m. Says c m) messages ++ item_if bad (Garbles c)) past ≡ past
+  absent_piece : (messages : List (List ℕ)) (bad : Bool) (past : List Fact) → is_present c past ≡ false → add_all s (map (λ m. Says c m) messages ++ item_if bad (GoesBad c)) past ≡ past
   unfolding proxy.add_all
   absent_piece [] true past gone = ap (λ (b : Bool). if b then Ended c BadStream ∷ past else past) gone
   absent_piece [] false past gone = refl
-  absent_piece (m ∷ messages) bad past gone = ap (λ (b : Bool). add_all s (map (λ m. Says c m) messages ++ item_if bad (Garbles c)) (if b then hear_client s c m past else past)) gone ∙ absent_piece messages bad past gone
+  absent_piece (m ∷ messages) bad past gone = ap (λ (b : Bool). add_all s (map (λ m. Says c m) messages ++ item_if bad (GoesBad c)) (if b then hear_client s c m past else past)) gone ∙ absent_piece messages bad past gone
 
   pub own_or_other : (d : ℕ) (P : Bool → Type 0) → ((d == c) ≡ true → P true) → ((d == c) ≡ false → P false) → P (d == c)
   own_or_other d P own other =
@@ -97,7 +97,7 @@ module _ (s : Setup) (c : ℕ) where
       (λ e. subst AreGeneral (sym (piece_elsewhere s c d e (messages d) (bad d) (begun events))) general)
   general_event (Left d) events new F general =
       own_or_other d (λ b. AreGeneral (part c (add s (Leaves d) (begun events))))
-      (λ e. subst (λ (x : ℕ). AreGeneral (part c (add s (Leaves x) (begun events)))) (sym (eqb-true d c e)) (subst (λ (b : Bool). AreGeneral (part c (if b then Ended c Closed ∷ begun events else begun events))) (sym (absent s c (history s events) general)) general))
+      (λ e. subst (λ (x : ℕ). AreGeneral (part c (add s (Leaves x) (begun events)))) (sym (eqb-true d c e)) (subst (λ (b : Bool). AreGeneral (part c (if b then Ended c Leaving ∷ begun events else begun events))) (sym (absent s c (history s events) general)) general))
       (λ e. subst AreGeneral (sym (leaves_elsewhere s c d e (begun events))) general)
   general_event (ModemPiece bytes) events new F general =
       elim (bytes_of events) as (λ o. AreGeneral (part c (add_all s (modem_items (qmi_protocol s) bytes o) (begun events)))) [
@@ -105,12 +105,12 @@ module _ (s : Setup) (c : ℕ) where
         | Some before ↦ piece_general s c (messages_of_piece size_of before bytes) (is_bad size_of (before ++ bytes)) (begun events) (begun_fit false (history s events) F) general
       ]
   general_event ModemGone events new F general =
-      elim (bytes_of events) as (λ o. AreGeneral (part c (add_all s (fails_once o) (begun events)))) [ None ↦ general | Some before ↦ general_loses s c (begun events) (begun_fit false (history s events) F) general ]
+      elim (bytes_of events) as (λ o. AreGeneral (part c (add_all s (is_lost_once o) (begun events)))) [ None ↦ general | Some before ↦ general_loses s c (begun events) (begun_fit false (history s events) F) general ]
   general_event ModemBack events new F general = elim (bytes_of events) as (λ o. AreGeneral (part c (add_all s (returns_once o) (begun events)))) [ None ↦ (refl, general) | Some before ↦ general ]
   general_event (Now time) events new F general = general_ticks s c time (begun events) (begun_fit false (history s events) F) general
   general_event (Took d count) events new F general =
       own_or_other d (λ b. AreGeneral (part c (add s (Takes d count) (begun events))))
-      (λ e. subst (λ (x : ℕ). AreGeneral (part c (add s (Takes x count) (begun events)))) (sym (eqb-true d c e)) (subst (λ (b : Bool). AreGeneral (part c (if b then Drained c count ∷ begun events else begun events))) (sym (absent s c (history s events) general)) general))
+      (λ e. subst (λ (x : ℕ). AreGeneral (part c (add s (Takes x count) (begun events)))) (sym (eqb-true d c e)) (subst (λ (b : Bool). AreGeneral (part c (if b then Taken c count ∷ begun events else begun events))) (sym (absent s c (history s events) general)) general))
       (λ e. subst AreGeneral (sym (takes_elsewhere s c d e count (begun events))) general)
   general_event (ModemTook count) events new F general = general
 
@@ -131,19 +131,19 @@ module _ (s : Setup) (c : ℕ) where
       own_or_other d (λ b. AreFair (part c (add_all s (client_items size_of d (stream d events) bytes) (begun events))) → AreFair (part c (begun events)))
       (λ e. subst (λ (x : ℕ). AreFair (part c (add_all s (client_items size_of x (stream x events) bytes) (begun events))) → AreFair (part c (begun events))) (sym (eqb-true d c e)) (fair_piece s c (messages_of_piece size_of (stream c events) bytes) (is_bad size_of (stream c events ++ bytes)) (begun events)))
       (λ e. subst AreFair (piece_elsewhere s c d e (messages_of_piece size_of (stream d events) bytes) (is_bad size_of (stream d events ++ bytes)) (begun events))) fair
-  fair_event (Left d) events F fair = fair_if (is_present d (begun events)) (Ended d Closed ∷ begun events) (begun events) (begun events) (fair_cons (Ended d Closed) (begun events)) (λ f. f) fair
+  fair_event (Left d) events F fair = fair_if (is_present d (begun events)) (Ended d Leaving ∷ begun events) (begun events) (begun events) (fair_cons (Ended d Leaving) (begun events)) (λ f. f) fair
   fair_event (ModemPiece bytes) events F fair =
       elim (bytes_of events) as (λ o. AreFair (part c (add_all s (modem_items (qmi_protocol s) bytes o) (begun events))) → AreFair (part c (begun events))) [
         | None ↦ λ f. f
         | Some before ↦ fair_modem s c (messages_of_piece size_of before bytes) (is_bad size_of (before ++ bytes)) (begun events) (begun_fit false (history s events) F)
       ] fair
   fair_event ModemGone events F fair =
-      elim (bytes_of events) as (λ o. AreFair (part c (add_all s (fails_once o) (begun events))) → AreFair (part c (begun events))) [
+      elim (bytes_of events) as (λ o. AreFair (part c (add_all s (is_lost_once o) (begun events))) → AreFair (part c (begun events))) [
         | None ↦ λ f. f
         | Some before ↦ fair_modem s c [] true (begun events) (begun_fit false (history s events) F)
       ] fair
   fair_event ModemBack events F fair =
       elim (bytes_of events) as (λ o. AreFair (part c (add_all s (returns_once o) (begun events))) → AreFair (part c (begun events))) [ None ↦ fair_cons ModemReturned (begun events) | Some before ↦ λ f. f ] fair
   fair_event (Now time) events F fair = fair_each s.device c true _ _ (subst AreFair (clock-part s c time (begun events) (begun_fit false (history s events) F)).same fair)
-  fair_event (Took d count) events F fair = fair_if (is_present d (begun events)) (Drained d count ∷ begun events) (begun events) (begun events) (fair_cons (Drained d count) (begun events)) (λ f. f) fair
+  fair_event (Took d count) events F fair = fair_if (is_present d (begun events)) (Taken d count ∷ begun events) (begun events) (begun events) (fair_cons (Taken d count) (begun events)) (λ f. f) fair
   fair_event (ModemTook count) events F fair = fair

@@ -6,7 +6,7 @@ use Rattle.qmux_frame.specs.declared.kind.MessageKind.TheVariants as kind
 use Rattle.qmux_frame.specs.Head.{is_control, client_of}
 use Rattle.qmux_frame.specs.Kind.{framed_kind}
 use Rattle.qmux_frame.specs.Control.{is_sync}
-use Rattle.proxy_history.specs.Items.{Item, Joins, Says, Garbles, Leaves, ModemSays, ModemFails, ModemReturns, ClockShows, Takes, ModemTakes}
+use Rattle.proxy_history.specs.Items.{Item, Joins, Says, GoesBad, Leaves, ModemSays, ModemIsLost, ModemReturns, ClockShows, Takes, ModemTakes}
 use Rattle.proxy_history.specs.Facts.{Fact, Request, Verdict, Forward, Admitted, Ended, NotAdmitted, Judged, Forwarded, Answered, IdHeld, Indicated, Stray, Granted, Freed, Reset}
 use Rattle.proxy_history.specs.Decision.{Decision, Replies, Forwards}
 use Rattle.proxy_history.specs.Connections.{present, is_present, message_count}
@@ -149,10 +149,10 @@ module _ (alone : Bool) (c : ℕ) (s : Setup) where
   add_fits : (item : Item) (past : List Fact) → Fit alone c past → MayMeet item past → FitFacts (add s item past)
   add_fits (Joins d) past F may = either (nat_lt (length (present past)) connection_limit) past (Admitted d ∷ past) (Ended d NotAdmitted ∷ past) (may, F.fits) (may.0, F.fits)
   add_fits (Says d m) past F may = either (is_present d past) past _ past (says_fits d m past F may) F.fits
-  add_fits (Garbles d) past F may = either (is_present d past) past _ past (tt, F.fits) F.fits
+  add_fits (GoesBad d) past F may = either (is_present d past) past _ past (tt, F.fits) F.fits
   add_fits (Leaves d) past F may = either (is_present d past) past _ past (tt, F.fits) F.fits
   add_fits (ModemSays m) past F may = hear_fits (framed_kind m) m past F
-  add_fits ModemFails past F may = (loses-part s.device c past F).fit.fits
+  add_fits ModemIsLost past F may = (loses-part s.device c past F).fit.fits
   add_fits ModemReturns past F may = (tt, F.fits)
   add_fits (ClockShows time) past F may = (clock-part s c time past F).fit.fits
   add_fits (Takes d count) past F may = either (is_present d past) past _ past (tt, F.fits) F.fits

@@ -1,8 +1,8 @@
 -- The items of one event: what others do, what the client does, and what the modem says.
 use Rattle.std.proofs.Common.{◌≡◌, ℕ, ◌≤◌, Bool, true, false, ◌==◌, nat_lt, if◌then◌else◌, List, [], ◌∷◌, ◌++◌, length, map, refl, ap, sym, ◌∙◌, subst, Option, Some, None}
 use Rattle.proxy_history.specs.History as proxy
-use Rattle.proxy_history.specs.Items.{Joins, Says, Garbles, Leaves, Takes, item_if}
-use Rattle.proxy_history.specs.Facts.{Fact, Admitted, Ended, NotAdmitted, BadStream, Closed, Drained}
+use Rattle.proxy_history.specs.Items.{Joins, Says, GoesBad, Leaves, Takes, item_if}
+use Rattle.proxy_history.specs.Facts.{Fact, Admitted, Ended, NotAdmitted, BadStream, Leaving, Taken}
 use Rattle.proxy_history.specs.Connections.{present, is_present}
 use Rattle.proxy_history.specs.Sound.{IsSound}
 use Rattle.proxy_history.specs.Requests.{in_use}
@@ -50,28 +50,28 @@ module _ (s : Setup) (c : ℕ) where
 
     pub leaves_elsewhere : (past : List Fact) → part c (add s (Leaves d) past) ≡ part c past
     unfolding alone_part.part
-    leaves_elsewhere past = either (is_present d past) (Ended d Closed ∷ past) past past (skipped (Ended d Closed) past refl) refl
+    leaves_elsewhere past = either (is_present d past) (Ended d Leaving ∷ past) past past (skipped (Ended d Leaving) past refl) refl
 
     pub takes_elsewhere : (count : ℕ) (past : List Fact) → part c (add s (Takes d count) past) ≡ part c past
     unfolding alone_part.part
-    takes_elsewhere count past = either (is_present d past) (Drained d count ∷ past) past past (skipped (Drained d count) past refl) refl
+    takes_elsewhere count past = either (is_present d past) (Taken d count ∷ past) past past (skipped (Taken d count) past refl) refl
 
-    garbles_elsewhere : (past : List Fact) → part c (add s (Garbles d) past) ≡ part c past
+    goes_bad_elsewhere : (past : List Fact) → part c (add s (GoesBad d) past) ≡ part c past
     unfolding alone_part.part
-    garbles_elsewhere past = either (is_present d past) (Ended d BadStream ∷ past) past past (skipped (Ended d BadStream) past refl) refl
+    goes_bad_elsewhere past = either (is_present d past) (Ended d BadStream ∷ past) past past (skipped (Ended d BadStream) past refl) refl
 
-    pub piece_elsewhere : (messages : List (List ℕ)) (bad : Bool) (past : List Fact) → part c (add_all s (map (λ m. Says d m) messages ++ item_if bad (Garbles d)) past) ≡ part c past
+    pub piece_elsewhere : (messages : List (List ℕ)) (bad : Bool) (past : List Fact) → part c (add_all s (map (λ m. Says d m) messages ++ item_if bad (GoesBad d)) past) ≡ part c past
     unfolding proxy.add_all
-    piece_elsewhere [] true past = garbles_elsewhere past
+    piece_elsewhere [] true past = goes_bad_elsewhere past
     piece_elsewhere [] false past = refl
     piece_elsewhere (m ∷ messages) bad past =
         piece_elsewhere messages bad (add s (Says d m) past)
         ∙ either (is_present d past) (hear_client s d m past) past past (says_elsewhere s c d other m (decision_on s d m past) past) refl
 
   -- the messages of a client keep a history of all fit
-  pub piece_fits : (alone : Bool) (d : ℕ) → ComesFrom alone c d → (messages : List (List ℕ)) (bad : Bool) (past : List Fact) → Fit alone c past → Fit alone c (add_all s (map (λ m. Says d m) messages ++ item_if bad (Garbles d)) past)
+  pub piece_fits : (alone : Bool) (d : ℕ) → ComesFrom alone c d → (messages : List (List ℕ)) (bad : Bool) (past : List Fact) → Fit alone c past → Fit alone c (add_all s (map (λ m. Says d m) messages ++ item_if bad (GoesBad d)) past)
   unfolding proxy.add_all
-  piece_fits alone d from [] true past F = fit_add alone c s (Garbles d) past F tt
+  piece_fits alone d from [] true past F = fit_add alone c s (GoesBad d) past F tt
   piece_fits alone d from [] false past F = F
   piece_fits alone d from (m ∷ messages) bad past F = piece_fits alone d from messages bad (add s (Says d m) past) (fit_add alone c s (Says d m) past F from)
 
@@ -99,30 +99,30 @@ module _ (s : Setup) (c : ℕ) where
 
   pub leaves_both : (past own : List Fact) → part c past ≡ part c own → part c (add s (Leaves c) past) ≡ part c (add s (Leaves c) own)
   unfolding alone_part.part
-  leaves_both past own same = both (is_present c past) (is_present c own) past own (Ended c Closed ∷ past) (Ended c Closed ∷ own) (there_alike past own same) same (fact_both (Ended c Closed) past own refl refl same)
+  leaves_both past own same = both (is_present c past) (is_present c own) past own (Ended c Leaving ∷ past) (Ended c Leaving ∷ own) (there_alike past own same) same (fact_both (Ended c Leaving) past own refl refl same)
 
   pub takes_both : (count : ℕ) (past own : List Fact) → part c past ≡ part c own → part c (add s (Takes c count) past) ≡ part c (add s (Takes c count) own)
   unfolding alone_part.part
-  takes_both count past own same = both (is_present c past) (is_present c own) past own (Drained c count ∷ past) (Drained c count ∷ own) (there_alike past own same) same (fact_both (Drained c count) past own refl refl same)
+  takes_both count past own same = both (is_present c past) (is_present c own) past own (Taken c count ∷ past) (Taken c count ∷ own) (there_alike past own same) same (fact_both (Taken c count) past own refl refl same)
 
-  garbles_both : (past own : List Fact) → part c past ≡ part c own → part c (add s (Garbles c) past) ≡ part c (add s (Garbles c) own)
+  goes_bad_both : (past own : List Fact) → part c past ≡ part c own → part c (add s (GoesBad c) past) ≡ part c (add s (GoesBad c) own)
   unfolding alone_part.part
-  garbles_both past own same = both (is_present c past) (is_present c own) past own (Ended c BadStream ∷ past) (Ended c BadStream ∷ own) (there_alike past own same) same (fact_both (Ended c BadStream) past own refl refl same)
+  goes_bad_both past own same = both (is_present c past) (is_present c own) past own (Ended c BadStream ∷ past) (Ended c BadStream ∷ own) (there_alike past own same) same (fact_both (Ended c BadStream) past own refl refl same)
 
   fair_says : (m : List ℕ) (past : List Fact) → AreFair (part c (add s (Says c m) past)) → AreFair (part c past)
   fair_says m past fair = elim (is_present c past) as (λ b. AreFair (part c (if b then hear_client s c m past else past)) → AreFair (part c past)) [ true ↦ fair_said s c m past | false ↦ λ f. f ] fair
 
-  fair_garbles : (past : List Fact) → AreFair (part c (add s (Garbles c) past)) → AreFair (part c past)
+  fair_goes_bad : (past : List Fact) → AreFair (part c (add s (GoesBad c) past)) → AreFair (part c past)
   unfolding alone_part.part
-  fair_garbles past fair =
+  fair_goes_bad past fair =
       elim (is_present c past) as (λ b. AreFair (part c (if b then Ended c BadStream ∷ past else past)) → AreFair (part c past)) [
         | true ↦ λ f. elim (c == c) as (λ b. AreFair (fact_if b (Ended c BadStream) (part c past)) → AreFair (part c past)) [ true ↦ λ g. g.1 | false ↦ λ g. g ] f
         | false ↦ λ f. f
       ] fair
 
-  pub fair_piece : (messages : List (List ℕ)) (bad : Bool) (past : List Fact) → AreFair (part c (add_all s (map (λ m. Says c m) messages ++ item_if bad (Garbles c)) past)) → AreFair (part c past)
+  pub fair_piece : (messages : List (List ℕ)) (bad : Bool) (past : List Fact) → AreFair (part c (add_all s (map (λ m. Says c m) messages ++ item_if bad (GoesBad c)) past)) → AreFair (part c past)
   unfolding proxy.add_all
-  fair_piece [] true past fair = fair_garbles past fair
+  fair_piece [] true past fair = fair_goes_bad past fair
   fair_piece [] false past fair = fair
   fair_piece (m ∷ messages) bad past fair = fair_says m past (fair_piece messages bad (add s (Says c m) past) fair)
 
@@ -157,10 +157,10 @@ module _ (s : Setup) (c : ℕ) where
       room_by false true e is = absurd (cc)
       room_by false false e is = P.room
 
-  pub piece_both : (messages : List (List ℕ)) (bad : Bool) (past own : List Fact) → Pair past own → AreFair (part c (add_all s (map (λ m. Says c m) messages ++ item_if bad (Garbles c)) past))
-      → part c (add_all s (map (λ m. Says c m) messages ++ item_if bad (Garbles c)) past) ≡ part c (add_all s (map (λ m. Says c m) messages ++ item_if bad (Garbles c)) own)
+  pub piece_both : (messages : List (List ℕ)) (bad : Bool) (past own : List Fact) → Pair past own → AreFair (part c (add_all s (map (λ m. Says c m) messages ++ item_if bad (GoesBad c)) past))
+      → part c (add_all s (map (λ m. Says c m) messages ++ item_if bad (GoesBad c)) past) ≡ part c (add_all s (map (λ m. Says c m) messages ++ item_if bad (GoesBad c)) own)
   unfolding proxy.add_all
-  piece_both [] true past own P fair = garbles_both past own P.same
+  piece_both [] true past own P fair = goes_bad_both past own P.same
   piece_both [] false past own P fair = P.same
   piece_both (m ∷ messages) bad past own P fair =
       piece_both messages bad (add s (Says c m) past) (add s (Says c m) own) (says_pair m past own P (fair_piece messages bad (add s (Says c m) past) fair)) fair

@@ -11,7 +11,7 @@ use Rattle.proxy_history.specs.Facts.{Fact, Request}
 use Rattle.proxy_history.specs.Connections.{is_present}
 use Rattle.proxy_history.specs.Requests.{in_use, pending}
 use Rattle.proxy_history.specs.ClientIds.{Grant, held}
-use Rattle.proxy_history.specs.Modem.{is_away, to_modem, modem_drained, modem_queue}
+use Rattle.proxy_history.specs.Modem.{is_away, to_modem, modem_taken_count, modem_queue}
 use Rattle.proxy_history.specs.View.{Entry, view}
 use Rattle.proxy_history.specs.Rendering.{Rendering, render}
 use Rattle.proxy_history.specs.Wording.{told_by}
@@ -65,7 +65,7 @@ module _ (s : Setup) (c : ℕ) (clients : c ≢ 0) where
       }
 
   alike : (events : List Event) → AreSound s events → AreFair (part c (history s events)) → Alike s c (history s events) (solo s c events) (stream c events)
-  unfolding proxy.history alone_part.part alone.solo stream modem_stream to_modem modem_drained cut_from
+  unfolding proxy.history alone_part.part alone.solo stream modem_stream to_modem modem_taken_count cut_from
   alike [] sound fair = record { same = refl; fit = record { client = isnt; sound = tt; fits = tt }; alone = record { client = isnt; sound = tt; fits = tt }; sent = refl; whole = elim s.starts_away as (λ b. rest_in size_of (if b then None else Some []) ≡ []) [ true ↦ refl | false ↦ refl ]; empty = refl }
   alike (event ∷ events) sound fair =
       let K = known events sound.1 in

@@ -7,10 +7,10 @@ use Rattle.qmux_frame.specs.Frame.{size_of}
 use Rattle.proxy_history.specs.History as proxy
 use Rattle.proxy_history.specs.Events.{Event, ModemPiece}
 use Rattle.proxy_history.specs.Streams.{stream, modem_stream, with_piece, messages_of_piece, is_bad}
-use Rattle.proxy_history.specs.Items.{ModemSays, ModemFails, item_if, modem_items}
+use Rattle.proxy_history.specs.Items.{ModemSays, ModemIsLost, item_if, modem_items}
 use Rattle.proxy_history.specs.Facts.{Fact, EventBegan}
 use Rattle.proxy_history.specs.Requests.{in_use}
-use Rattle.proxy_history.specs.Modem.{to_modem, modem_drained, modem_queue}
+use Rattle.proxy_history.specs.Modem.{to_modem, modem_taken_count, modem_queue}
 use Rattle.proxy_solo.specs.Part as alone_part
 use Rattle.proxy_solo.specs.Solo as alone
 use Rattle.qmux_frame.specs.Framing.{size_of-kept, size_of-positive}
@@ -45,7 +45,7 @@ module _ (s : Setup) (c : ℕ) where
   -- the modem takes all that waits
   takes_all : (past : List Fact) (solo : List Event) (bytes : List ℕ) → part c past ≡ part c (history s solo) → Fit false c past → Fit true c (history s solo) → stream c solo ≡ bytes → rest_in size_of (modem_bytes solo) ≡ []
       → (count : ℕ) → length (modem_queue wire (history s solo)) ≡ count → Alike past (take_all count solo) bytes
-  unfolding proxy.history proxy.add_all alone_part.part stream modem_stream to_modem modem_drained
+  unfolding proxy.history proxy.add_all alone_part.part stream modem_stream to_modem modem_taken_count
   takes_all past solo bytes same F G sent whole zero is = record { same = same; fit = F; alone = G; sent = sent; whole = whole; empty = is }
   takes_all past solo bytes same F G sent whole (suc count) is = record {
     same = same;
@@ -53,7 +53,7 @@ module _ (s : Setup) (c : ℕ) where
     alone = record { client = G.client; sound = (tt, (tt, G.sound)); fits = (omega (arith, is), (tt, G.fits)) };
     sent = sent;
     whole = whole;
-    empty = omega (arith, is, length-drop (modem_drained (history s solo)) (to_modem wire (history s solo)), length-drop (modem_drained (history s solo) + suc count) (to_modem wire (history s solo)));
+    empty = omega (arith, is, length-drop (modem_taken_count (history s solo)) (to_modem wire (history s solo)), length-drop (modem_taken_count (history s solo) + suc count) (to_modem wire (history s solo)));
   }
 
   pub met : (event : Event) (past : List Fact) (solo : List Event) (bytes : List ℕ) → part c past ≡ part c (history s (event ∷ solo)) → Fit false c past → Fit true c (history s (event ∷ solo))
@@ -68,8 +68,8 @@ module _ (s : Setup) (c : ℕ) where
   unfolding proxy.history
   piece_history solo before piece messages stream_is messages_are good =
       ap (λ (o : Option (List ℕ)). add_all s (modem_items (qmi_protocol s) piece o) (EventBegan ∷ history s solo)) stream_is
-      ∙ ap (λ (l : List (List ℕ)). add_all s (map (λ m. ModemSays m) l ++ item_if (is_bad size_of (before ++ piece)) ModemFails) (EventBegan ∷ history s solo)) messages_are
-      ∙ ap (λ (b : Bool). add_all s (map (λ m. ModemSays m) messages ++ item_if b ModemFails) (EventBegan ∷ history s solo)) good
+      ∙ ap (λ (l : List (List ℕ)). add_all s (map (λ m. ModemSays m) l ++ item_if (is_bad size_of (before ++ piece)) ModemIsLost) (EventBegan ∷ history s solo)) messages_are
+      ∙ ap (λ (b : Bool). add_all s (map (λ m. ModemSays m) messages ++ item_if b ModemIsLost) (EventBegan ∷ history s solo)) good
 
   piece_stream : (solo : List Event) (before piece : List ℕ) → modem_bytes solo ≡ Some before → is_bad size_of (before ++ piece) ≡ false → modem_bytes (ModemPiece piece ∷ solo) ≡ Some (before ++ piece)
   unfolding modem_stream
@@ -107,7 +107,7 @@ module _ (s : Setup) (c : ℕ) where
 
   first_piece : (first : List Fact) (x : List ℕ) (solo : List Event) (bytes front piece later : List ℕ) → IsMessage size_of x → Begun first solo bytes front → (front ++ piece) ++ later ≡ x → 0 < length later
       → Begun first (meet s (ModemPiece piece) solo) bytes (front ++ piece)
-  unfolding proxy.add_all alone_part.part in_use stream to_modem modem_drained
+  unfolding proxy.add_all alone_part.part in_use stream to_modem modem_taken_count
   first_piece first x solo bytes front piece later message B whole some =
       let goes = pieces.goes_on size_of size_of-kept size_of-positive refl B.before piece front later B.rest (subst (IsMessage size_of) (sym whole) message) some in
       let is : history s (ModemPiece piece ∷ solo) ≡ EventBegan ∷ history s solo = piece_history solo B.before piece [] B.stream_is goes.messages goes.good in

@@ -3,7 +3,7 @@ use Rattle.std.proofs.Common.{◌≡◌, ℕ, Bool, true, false, List, [], ◌�
 use Rattle.qmux_frame.specs.Frame.{size_of}
 use Rattle.proxy_history.specs.Events.{Event, Piece, ModemGone}
 use Rattle.proxy_history.specs.Streams.{stream, modem_stream, messages_of_piece, is_bad}
-use Rattle.proxy_history.specs.Items.{Item, Says, Garbles, item_if, fails_once}
+use Rattle.proxy_history.specs.Items.{Item, Says, GoesBad, item_if, is_lost_once}
 use Rattle.proxy_history.specs.Facts.{Fact, EventBegan}
 use Rattle.proxy_solo.specs.Part as alone_part
 use Rattle.proxy_solo.specs.Solo as alone
@@ -42,7 +42,7 @@ abbrev pub fact_if : Bool → Fact → List Fact → List Fact
 fact_if b fact facts = alone_part.facts_if b (fact ∷ []) facts
 
 module _ (s : Setup) (c : ℕ) where
-  hears_none : (messages : List (List ℕ)) (bad : Bool) (past : List Fact) (solo : List Event) → hear_all s c (map (λ m. Says c m) messages ++ item_if bad (Garbles c)) past solo ≡ solo
+  hears_none : (messages : List (List ℕ)) (bad : Bool) (past : List Fact) (solo : List Event) → hear_all s c (map (λ m. Says c m) messages ++ item_if bad (GoesBad c)) past solo ≡ solo
   unfolding alone.hear_all
   hears_none [] true past solo = refl
   hears_none [] false past solo = refl
@@ -55,4 +55,4 @@ module _ (s : Setup) (c : ℕ) where
   pub hears_no_loss : (events solo : List Event) → hear_all s c (items_of s events ModemGone) (EventBegan ∷ history s events) solo ≡ solo
   unfolding alone.hear_all
   hears_no_loss events solo =
-      elim (modem_stream size_of s.starts_away events) as (λ o. hear_all s c (fails_once o) (EventBegan ∷ history s events) solo ≡ solo) [ None ↦ refl | Some bytes ↦ refl ]
+      elim (modem_stream size_of s.starts_away events) as (λ o. hear_all s c (is_lost_once o) (EventBegan ∷ history s events) solo ≡ solo) [ None ↦ refl | Some bytes ↦ refl ]

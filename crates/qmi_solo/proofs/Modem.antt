@@ -7,7 +7,7 @@ use Rattle.qmux_frame.specs.Kind.{framed_kind}
 use Rattle.proxy_history.specs.History as proxy
 use Rattle.proxy_history.specs.Events.{Event, ModemGone}
 use Rattle.proxy_history.specs.Streams.{stream, modem_stream}
-use Rattle.proxy_history.specs.Items.{Item, ModemSays, ModemFails, item_if, fails_once}
+use Rattle.proxy_history.specs.Items.{Item, ModemSays, ModemIsLost, item_if, is_lost_once}
 use Rattle.proxy_history.specs.Facts.{Fact, EventBegan, ModemLost}
 use Rattle.proxy_history.specs.Modem.{is_away}
 use Rattle.proxy_solo.specs.Part as alone_part
@@ -45,7 +45,7 @@ module _ (s : Setup) (c : ℕ) where
       let some = some_if (modem_bytes s c solo) (away_alike past solo bytes A ∙ there) in
       let own : List Fact = EventBegan ∷ history s solo in
       let G : Fit true c own = record { client = A.alone.client; sound = (tt, A.alone.sound); fits = (tt, A.alone.fits) } in
-      let is : history s (ModemGone ∷ solo) ≡ lose s.device own = ap (λ (o : Option (List ℕ)). add_all s (fails_once o) own) some.1 in
+      let is : history s (ModemGone ∷ solo) ≡ lose s.device own = ap (λ (o : Option (List ℕ)). add_all s (is_lost_once o) own) some.1 in
       let all = loses-part s.device c past A.fit in
       let all_own = loses-part s.device c own G in
       met s c ModemGone (lose s.device past) solo bytes
@@ -73,7 +73,7 @@ module _ (s : Setup) (c : ℕ) where
   -- ---- all that a piece brings ----
 
   abbrev pub modem_brings : List (List ℕ) → Bool → List Item
-  modem_brings messages bad = map (λ m. ModemSays m) messages ++ item_if bad ModemFails
+  modem_brings messages bad = map (λ m. ModemSays m) messages ++ item_if bad ModemIsLost
 
   pub fair_modem : (messages : List (List ℕ)) (bad : Bool) (past : List Fact) → Fit false c past → AreFair (part c (add_all s (modem_brings messages bad) past)) → AreFair (part c past)
   unfolding proxy.add_all

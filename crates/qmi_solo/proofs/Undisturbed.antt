@@ -1,9 +1,9 @@
 -- A view that tells of nobody else is one of a fair history.
 use Rattle.std.proofs.Common.{◌≡◌, ℕ, Bool, true, false, ◌==◌, if◌then◌else◌, List, [], ◌∷◌, refl}
 use Rattle.std.specs.List.{AllByRecursion}
-use Rattle.proxy_history.specs.Facts.{Fact, Verdict, Own, Share, Foreign, Away, Full, Forward, Ready, Waits, NotAdmitted, BadStream, Closed, Admitted, Ended, Judged, Drained, Answered, IdHeld, Expired, Aborted, Indicated, OpeningEnded, SessionsClosed, Freed, Reset, ModemLost, ModemReturned}
+use Rattle.proxy_history.specs.Facts.{Fact, Verdict, Own, Share, Foreign, Away, Full, Forward, Ready, Waits, NotAdmitted, BadStream, Leaving, Admitted, Ended, Judged, Taken, Answered, IdHeld, Expired, Aborted, Indicated, OpeningEnded, SessionsClosed, Freed, Reset, ModemLost, ModemReturned}
 use Rattle.proxy_history.specs.Connections.{contains}
-use Rattle.proxy_history.specs.View.{Entry, Sent, Response, Refused, Indication, OpenedWith, Shut, Collected, End, HeldId, NoAnswer, view, entry_if}
+use Rattle.proxy_history.specs.View.{Entry, Said, Response, Refused, Indication, OpenedWith, Shut, Taking, End, HeldId, NoAnswer, view, entry_if}
 use Rattle.proxy_solo.specs.Part as alone_part
 use Rattle.qmi_proxy.specs.Text.{blank, view_of}
 use Rattle.proxy_solo.specs.Part.{concerns}
@@ -30,7 +30,7 @@ module _ (c : ℕ) where
   general_is_fair (Freed d service client ∷ facts) general = (refl, general_is_fair facts general.1)
   general_is_fair (_ ∷ facts) general = absurd (let clash : false ≡ true = general.0 in cc)
 
-  fair_verdict : (d place : ℕ) (m : List ℕ) (verdict : Verdict) → tells_of_others (Sent m verdict) ≡ false → refuses (Judged d place m verdict) ≡ false
+  fair_verdict : (d place : ℕ) (m : List ℕ) (verdict : Verdict) → tells_of_others (Said m verdict) ≡ false → refuses (Judged d place m verdict) ≡ false
   fair_verdict d place m Own is = refl
   fair_verdict d place m Share is = refl
   fair_verdict d place m Foreign is = is
@@ -62,9 +62,9 @@ module _ (c : ℕ) where
       ]
       in step (d == c) is
   fair_from_view (Ended d BadStream ∷ past) fits is = fair_entry (d == c) (Ended d BadStream) (End BadStream) (part c past) (view_of c past) (λ h. refl) (fair_from_view past fits.1) is
-  fair_from_view (Ended d Closed ∷ past) fits is = fair_entry (d == c) (Ended d Closed) (End Closed) (part c past) (view_of c past) (λ h. refl) (fair_from_view past fits.1) is
-  fair_from_view (Judged d place m verdict ∷ past) fits is = fair_entry (d == c) (Judged d place m verdict) (Sent m verdict) (part c past) (view_of c past) (fair_verdict d place m verdict) (fair_from_view past fits.1) is
-  fair_from_view (Drained d count ∷ past) fits is = fair_entry (d == c) (Drained d count) (Collected count) (part c past) (view_of c past) (λ h. refl) (fair_from_view past fits.1) is
+  fair_from_view (Ended d Leaving ∷ past) fits is = fair_entry (d == c) (Ended d Leaving) (End Leaving) (part c past) (view_of c past) (λ h. refl) (fair_from_view past fits.1) is
+  fair_from_view (Judged d place m verdict ∷ past) fits is = fair_entry (d == c) (Judged d place m verdict) (Said m verdict) (part c past) (view_of c past) (fair_verdict d place m verdict) (fair_from_view past fits.1) is
+  fair_from_view (Taken d count ∷ past) fits is = fair_entry (d == c) (Taken d count) (Taking count) (part c past) (view_of c past) (λ h. refl) (fair_from_view past fits.1) is
   fair_from_view (Answered r m ∷ past) fits is = fair_entry (r.conn == c) (as_known c (Answered r m)) (Response r.place (blank m)) (part c past) (view_of c past) (λ h. refl) (fair_from_view past fits.1) is
   fair_from_view (IdHeld r ∷ past) fits is = fair_entry (r.conn == c) (as_known c (IdHeld r)) (Refused r.place HeldId) (part c past) (view_of c past) (λ h. h) (fair_from_view past fits.1) is
   fair_from_view (Expired r ∷ past) fits is = fair_entry (r.conn == c) (as_known c (Expired r)) (Refused r.place NoAnswer) (part c past) (view_of c past) (λ h. refl) (fair_from_view past fits.1) is

@@ -8,7 +8,7 @@ use Rattle.proxy_history.specs.Facts.{Fact, Request, Answered, IdHeld, Late, Str
 use Rattle.proxy_history.specs.Connections.{present, dropped}
 use Rattle.proxy_history.specs.Requests.{in_use, pending, last_number}
 use Rattle.proxy_history.specs.ClientIds.{Grant, KeptId, holder_in}
-use Rattle.proxy_history.specs.Modem.{now, is_away, to_modem, modem_drained}
+use Rattle.proxy_history.specs.Modem.{now, is_away, to_modem, modem_taken_count}
 use Rattle.proxy_history.specs.Noting.{end_overfull}
 use Rattle.proxy_history.specs.View.{view}
 use Rattle.proxy_history.proofs.SoundLaws.{waiting_are_parties}
@@ -80,7 +80,7 @@ module _ (s : Setup) (streams : Streams) where
     freed_now = ap (freed_traffic (is_control r.message) r.number) (traffic_is s streams past x K)
 
     answered_untold : (m : List ℕ) (waits : Bool) → r.conn ≡ 0 → Kept (freed_if true r (note s.device (Answered r m) past)) (frees_own (row_of (record { request = r; waits = waits })) (with_traffic freed x))
-    unfolding requests_in_use now is_away present dropped last_number ids kept_ids to_modem modem_drained
+    unfolding requests_in_use now is_away present dropped last_number ids kept_ids to_modem modem_taken_count
     answered_untold m waits own =
         kept_own_ended s streams past x r own (Answered r m) freed refl (λ d differs. answered_other s.device past r m d differs) refl refl refl refl
         (freed_now ∙ sym (traffic_freed r placed (Answered r m ∷ past) past (all_apart past r K.fine.sound used) (λ space. refl) refl refl refl refl))
@@ -88,7 +88,7 @@ module _ (s : Setup) (streams : Streams) where
 
     told_answer : (m : List ℕ) → 12 ≤ length m → IsSent past r
         → Kept (end_if s streams r.conn (Answered r m ∷ past)) (tell r.conn (with_number (number_of r.message) m) (with_traffic (freed_traffic (is_control r.message) r.number x.beside.traffic) x))
-    unfolding requests_in_use now is_away present dropped last_number ids kept_ids to_modem modem_drained
+    unfolding requests_in_use now is_away present dropped last_number ids kept_ids to_modem modem_taken_count
     told_answer m long sent =
         keeps_told s streams (Answered r m ∷ past) past x r.conn (with_number (number_of r.message) m) (freed_traffic (is_control r.message) r.number x.beside.traffic)
         (answered_own s.device past r m long sent) (λ d differs. answered_other s.device past r m d differs) refl refl refl refl
@@ -96,7 +96,7 @@ module _ (s : Setup) (streams : Streams) where
         (regular_more (Answered r m) past at tt tt K.fine) sent.0 K
 
     told_held : IsSent past r → Kept (end_if s streams r.conn (IdHeld r ∷ past)) (tell r.conn (result_reply r.message client_ids_exhausted) (with_traffic (freed_traffic (is_control r.message) r.number x.beside.traffic) x))
-    unfolding requests_in_use now is_away present dropped last_number ids kept_ids to_modem modem_drained
+    unfolding requests_in_use now is_away present dropped last_number ids kept_ids to_modem modem_taken_count
     told_held sent =
         keeps_told s streams (IdHeld r ∷ past) past x r.conn (result_reply r.message client_ids_exhausted) (freed_traffic (is_control r.message) r.number x.beside.traffic)
         (held_own s.device past r sent) (λ d differs. held_other s.device past r d differs) refl refl refl refl
@@ -104,18 +104,18 @@ module _ (s : Setup) (streams : Streams) where
         (regular_more (IdHeld r) past at tt tt K.fine) sent.0 K
 
   kept_late : (past : List Fact) (x : QmiState) (r : Request) → Contains (in_use past) r → r.space ≡ space_of r.message → Kept past x → Kept (Late r ∷ past) (with_traffic (freed_traffic (is_control r.message) r.number x.beside.traffic) x)
-  unfolding requests_in_use now is_away present dropped last_number ids kept_ids to_modem modem_drained view
+  unfolding requests_in_use now is_away present dropped last_number ids kept_ids to_modem modem_taken_count view
   kept_late past x r used placed K =
       keeps_quiet s streams (Late r ∷ past) past x (freed_traffic (is_control r.message) r.number x.beside.traffic) (λ d. refl) refl refl refl refl
       (ap (freed_traffic (is_control r.message) r.number) (traffic_is s streams past x K) ∙ sym (traffic_freed r placed (Late r ∷ past) past (all_apart past r K.fine.sound used) (λ space. refl) refl refl refl refl))
       (regular_more (Late r) past used tt tt K.fine) K
 
   pub kept_stray : (past : List Fact) (x : QmiState) → Kept past x → Kept (Stray ∷ past) x
-  unfolding requests_in_use now is_away present dropped last_number ids kept_ids to_modem modem_drained view
+  unfolding requests_in_use now is_away present dropped last_number ids kept_ids to_modem modem_taken_count view
   kept_stray past x K = keeps_quiet s streams (Stray ∷ past) past x x.beside.traffic (λ d. refl) refl refl refl refl (traffic_is s streams past x K) (regular_more Stray past tt tt tt K.fine) K
 
   kept_granted : (past : List Fact) (x : QmiState) (c service client : ℕ) → IsParty c past → IsFreeFor c service client past → Kept past x → Kept (Granted c service client ∷ past) (with_traffic (grants_id c service client x.beside.traffic) x)
-  unfolding requests_in_use now is_away present dropped last_number ids kept_ids to_modem modem_drained view
+  unfolding requests_in_use now is_away present dropped last_number ids kept_ids to_modem modem_taken_count view
   kept_granted past x c service client party free K =
       keeps_quiet s streams (Granted c service client ∷ past) past x (grants_id c service client x.beside.traffic) (λ d. refl) refl refl refl refl
       (ap (grants_id c service client) (traffic_is s streams past x K)) (regular_more (Granted c service client) past (party, free) tt tt K.fine) K

@@ -7,7 +7,7 @@ use Rattle.qmux_frame.specs.Reply.{result_reply, with_number}
 use Rattle.proxy_history.specs.Wording.{told_by}
 use Rattle.proxy_history.specs.Facts.{Fact, Request, Judged, Answered, IdHeld, Expired, Aborted, Indicated, Verdict, Own, Share, Foreign, Away, Full, Forward, Ready, Waits}
 use Rattle.proxy_history.specs.Connections.{contains}
-use Rattle.proxy_history.specs.View.{Entry, Sent, Response, Refused, Indication, HeldId, NoAnswer, view, entry_if, sent_at}
+use Rattle.proxy_history.specs.View.{Entry, Said, Response, Refused, Indication, HeldId, NoAnswer, view, entry_if, said_at}
 use Rattle.proxy_history.specs.Rendering.{render}
 use Rattle.proxy_history.proofs.Rendering.{waiting_within}
 use Rattle.qmi_proxy.specs.Limits.{outbox_limit}
@@ -35,7 +35,7 @@ put_to bytes a = client_states.put_to outbox_limit bytes a
 
 -- a message with its reply
 abbrev pub judged : List ℕ → List ℕ → Verdict → ClientState → ClientState
-judged device m verdict a = record (put_to (reply_as device a.client.opened m verdict) a) { client = record { opened = step device a.client.opened (Sent m verdict) } }
+judged device m verdict a = record (put_to (reply_as device a.client.opened m verdict) a) { client = record { opened = step device a.client.opened (Said m verdict) } }
 
 abbrev pub client_state_of : List ℕ → List Fact → ℕ → ClientState
 client_state_of device past c = record {
@@ -48,11 +48,11 @@ module _ (device : List ℕ) where
   abbrev client_state_from : List Entry → ClientState
   client_state_from entries = record { client = record { opened = is_open device entries }; waiting = (render outbox_limit (text device) entries).waiting; is_over = (render outbox_limit (text device) entries).is_over }
 
-  sent_as : (m : List ℕ) (verdict : Verdict) (entries : List Entry) → client_state_from (Sent m verdict ∷ entries) ≡ record (put_to (text device entries (Sent m verdict)) (client_state_from entries)) { client = record { opened = step device (is_open device entries) (Sent m verdict) } }
+  sent_as : (m : List ℕ) (verdict : Verdict) (entries : List Entry) → client_state_from (Said m verdict ∷ entries) ≡ record (put_to (text device entries (Said m verdict)) (client_state_from entries)) { client = record { opened = step device (is_open device entries) (Said m verdict) } }
   unfolding render told_by
   sent_as m verdict entries = refl
 
-  sent : (m : List ℕ) (verdict : Verdict) (entries : List Entry) → client_state_from (Sent m verdict ∷ entries) ≡ judged device m verdict (client_state_from entries)
+  sent : (m : List ℕ) (verdict : Verdict) (entries : List Entry) → client_state_from (Said m verdict ∷ entries) ≡ judged device m verdict (client_state_from entries)
   sent m Own entries = sent_as m Own entries
   sent m Share entries = sent_as m Share entries
   sent m Foreign entries = sent_as m Foreign entries
@@ -62,15 +62,15 @@ module _ (device : List ℕ) where
   sent m Ready entries = sent_as m Ready entries
   sent m Waits entries = sent_as m Waits entries
 
-  responded : (place : ℕ) (m : List ℕ) (entries : List Entry) → client_state_from (Response place m ∷ entries) ≡ put_to (with_number (number_of (sent_at place entries)) m) (client_state_from entries)
+  responded : (place : ℕ) (m : List ℕ) (entries : List Entry) → client_state_from (Response place m ∷ entries) ≡ put_to (with_number (number_of (said_at place entries)) m) (client_state_from entries)
   unfolding render told_by
   responded place m entries = refl
 
-  refused_held : (place : ℕ) (entries : List Entry) → client_state_from (Refused place HeldId ∷ entries) ≡ put_to (result_reply (sent_at place entries) client_ids_exhausted) (client_state_from entries)
+  refused_held : (place : ℕ) (entries : List Entry) → client_state_from (Refused place HeldId ∷ entries) ≡ put_to (result_reply (said_at place entries) client_ids_exhausted) (client_state_from entries)
   unfolding render told_by
   refused_held place entries = refl
 
-  refused_unanswered : (place : ℕ) (entries : List Entry) → client_state_from (Refused place NoAnswer ∷ entries) ≡ put_to (result_reply (sent_at place entries) aborted) (client_state_from entries)
+  refused_unanswered : (place : ℕ) (entries : List Entry) → client_state_from (Refused place NoAnswer ∷ entries) ≡ put_to (result_reply (said_at place entries) aborted) (client_state_from entries)
   unfolding render told_by
   refused_unanswered place entries = refl
 
@@ -94,11 +94,11 @@ module _ (device : List ℕ) where
 
   pub judged_own : (past : List Fact) (c place : ℕ) (m : List ℕ) (verdict : Verdict) → client_state_of device (Judged c place m verdict ∷ past) c ≡ judged device m verdict (client_state_of device past c)
   unfolding view
-  judged_own past c place m verdict = ap (λ (b : Bool). client_state_from (entry_if b (Sent m verdict) (view_of c past))) (eq-eqb c c refl) ∙ sent m verdict (view_of c past)
+  judged_own past c place m verdict = ap (λ (b : Bool). client_state_from (entry_if b (Said m verdict) (view_of c past))) (eq-eqb c c refl) ∙ sent m verdict (view_of c past)
 
   pub judged_other : (past : List Fact) (c place d : ℕ) (m : List ℕ) (verdict : Verdict) → (c == d) ≡ false → client_state_of device (Judged c place m verdict ∷ past) d ≡ client_state_of device past d
   unfolding view
-  judged_other past c place d m verdict other = ap (λ (b : Bool). client_state_from (entry_if b (Sent m verdict) (view_of d past))) other
+  judged_other past c place d m verdict other = ap (λ (b : Bool). client_state_from (entry_if b (Said m verdict) (view_of d past))) other
 
   pub answered_own : (past : List Fact) (r : Request) (m : List ℕ) → 12 ≤ length m → IsSent past r → client_state_of device (Answered r m ∷ past) r.conn ≡ put_to (with_number (number_of r.message) m) (client_state_of device past r.conn)
   unfolding view

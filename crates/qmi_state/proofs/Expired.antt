@@ -8,7 +8,7 @@ use Rattle.qmux_frame.specs.Reply.{result_reply}
 use Rattle.proxy_history.specs.Facts.{Fact, Request, Expired, Aborted}
 use Rattle.proxy_history.specs.Connections.{present, dropped}
 use Rattle.proxy_history.specs.Requests.{pending, last_number}
-use Rattle.proxy_history.specs.Modem.{now, is_away, to_modem, modem_drained, modem_queue}
+use Rattle.proxy_history.specs.Modem.{now, is_away, to_modem, modem_taken_count, modem_queue}
 use Rattle.proxy_history.specs.Noting.{end_overfull, each_pending}
 use Rattle.proxy_history.specs.Unanswered.{due}
 use Rattle.proxy_history.proofs.Lists.{Contains-cons_cases, Contains-nil}
@@ -98,14 +98,14 @@ module _ (s : Setup) (streams : Streams) where
         ap (silenced_traffic (is_control r.message) r.number) (traffic_is s streams past x K) ∙ sym (traffic_silenced r placed (fact ∷ past) past (all_apart past r K.fine.sound (request_in_use past a at)) last held kept queue over)
 
     told_expired : IsSent past r → Kept (end_if s streams r.conn (Expired r ∷ past)) (tell r.conn (result_reply r.message aborted) (with_traffic (silenced_traffic (is_control r.message) r.number x.beside.traffic) x))
-    unfolding requests_in_use now is_away present dropped last_number ids kept_ids to_modem modem_drained
+    unfolding requests_in_use now is_away present dropped last_number ids kept_ids to_modem modem_taken_count
     told_expired sent =
         keeps_told s streams (Expired r ∷ past) past x r.conn (result_reply r.message aborted) silenced
         (expired_own s.device past r sent) (λ d differs. expired_other s.device past r d differs) refl refl refl refl
         (silenced_is (Expired r) refl (λ space. refl) refl refl refl) (regular_more (Expired r) past is_at tt tt K.fine) sent.0 K
 
     told_aborted : IsSent past r → Kept (end_if s streams r.conn (Aborted r ∷ past)) (tell r.conn (result_reply r.message aborted) (with_traffic (silenced_traffic (is_control r.message) r.number x.beside.traffic) x))
-    unfolding requests_in_use now is_away present dropped last_number ids kept_ids to_modem modem_drained
+    unfolding requests_in_use now is_away present dropped last_number ids kept_ids to_modem modem_taken_count
     told_aborted sent =
         keeps_told s streams (Aborted r ∷ past) past x r.conn (result_reply r.message aborted) silenced
         (aborted_own s.device past r sent) (λ d differs. aborted_other s.device past r d differs) refl refl refl refl
@@ -117,7 +117,7 @@ module _ (s : Setup) (streams : Streams) where
     told_either false sent = told_aborted sent
 
     own_either : (flag : Bool) → r.conn ≡ 0 → Kept (freed_if true r (note s.device (refusal flag r) past)) (frees_own (row_of a) (with_traffic silenced x))
-    unfolding requests_in_use now is_away present dropped last_number ids kept_ids to_modem modem_drained
+    unfolding requests_in_use now is_away present dropped last_number ids kept_ids to_modem modem_taken_count
     own_either true own =
         kept_own_ended s streams past x r own (Expired r) silenced refl (λ d differs. expired_other s.device past r d differs) refl refl refl refl
         (silenced_is (Expired r) refl (λ space. refl) refl refl refl) (regular_more (Expired r) past is_at tt tt K.fine) K a.waits

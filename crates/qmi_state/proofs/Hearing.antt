@@ -11,8 +11,8 @@ use Rattle.proxy_history.specs.Requests.{in_use, pending, of_client, has_share, 
 use Rattle.proxy_history.specs.ClientIds.{held, holder, holder_in, is_other}
 use Rattle.proxy_history.specs.Sound.{IsFreeFor}
 use Rattle.qmi_proxy.proofs.Verdicts.{used_id_is_free, can_go}
-use Rattle.proxy_history.specs.Modem.{now, is_away, to_modem, modem_drained, modem_queue}
-use Rattle.proxy_history.specs.View.{Sent, view, sent_count}
+use Rattle.proxy_history.specs.Modem.{now, is_away, to_modem, modem_taken_count, modem_queue}
+use Rattle.proxy_history.specs.View.{Said, view, said_count}
 use Rattle.proxy_history.specs.Noting.{end_overfull}
 use Rattle.proxy_history.proofs.Sound.{party_from_present}
 use Rattle.proxy_state.specs.Stands.{Streams, connection_of}
@@ -93,7 +93,7 @@ module _ (s : Setup) (streams : Streams) where
     after = Judged c place m Forward ∷ past
 
     kept_judged : Kept after x
-    unfolding present dropped requests_in_use now is_away last_number ids kept_ids to_modem modem_drained
+    unfolding present dropped requests_in_use now is_away last_number ids kept_ids to_modem modem_taken_count
     kept_judged =
         keeps_quiet s streams after past x x.beside.traffic
         (λ d. same d) refl refl refl refl (traffic_is s streams past x K) (regular_more (Judged c place m Forward) past there tt tt K.fine) K
@@ -121,20 +121,20 @@ module _ (s : Setup) (streams : Streams) where
       unfolding present in_use last_number
       regular_sent =
           let own = newest s c m n past there in
-          let at : r.place ≡ sent_count (view_of c after) = own.place in
+          let at : r.place ≡ said_count (view_of c after) = own.place in
           regular_more (Forwarded r) after (record { serial = refl; sender = party_from_present c after there; number = numbered }) (placed, inl (own.sender, omega arith, own.message)) tt kept_judged.fine
 
       traffic_sent : record (with_numbers (is_control m) (gives (row_of (record { request = r; waits = true })) (of_control (is_control m) x.beside.traffic)) x.beside.traffic) { waiting = x.beside.traffic.waiting ++ with_number n m } ≡ traffic_of sent
       traffic_sent =
           ap (λ (d : Traffic). let e : Traffic = record (with_numbers (is_control m) (gives (row_of (record { request = r; waits = true })) (of_control (is_control m) d)) d) { waiting = d.waiting ++ with_number n m } in e) (traffic_is s streams after x kept_judged)
-          ∙ sym (traffic_forwarded r refl after kept_judged.fine.drained)
+          ∙ sym (traffic_forwarded r refl after kept_judged.fine.was_taken)
 
       kept_sent : Kept sent (with_traffic (record (with_numbers (is_control m) (gives (row_of (record { request = r; waits = true })) (of_control (is_control m) x.beside.traffic)) x.beside.traffic) { waiting = x.beside.traffic.waiting ++ with_number n m }) x)
       unfolding present dropped view now is_away
       kept_sent = keeps_quiet s streams sent after x _ (λ d. refl) refl refl refl refl traffic_sent regular_sent kept_judged
 
       kept_granted_if : (b : Bool) (y : QmiState) → (b ≡ true → IsFreeFor c (used_service m) (used_client m) past) → Kept sent y → Kept (grant_if b c m sent) (with_traffic (record y.beside.traffic { held = granted_if b c m y.beside.traffic.held; kept = kept_if b m y.beside.traffic.kept }) y)
-      unfolding present dropped view requests_in_use now is_away last_number ids kept_ids held to_modem modem_drained
+      unfolding present dropped view requests_in_use now is_away last_number ids kept_ids held to_modem modem_taken_count
       kept_granted_if true y free L =
           keeps_quiet s streams (Granted c (used_service m) (used_client m) ∷ sent) sent y _ (λ d. refl) refl refl refl refl
           (ap (grants_id c (used_service m) (used_client m)) (traffic_is s streams sent y L))
@@ -180,11 +180,11 @@ module _ (s : Setup) (streams : Streams) where
       abbrev reply : List ℕ
       reply = reply_as s.device was.client.opened m verdict
 
-      replied_is : Kept (end_if s streams c facts) (settled qmi_handlers c (replied reply (step s.device was.client.opened (Sent m verdict)) it.client it.outbox x.beside) x)
-      unfolding present dropped now is_away requests_in_use last_number ids kept_ids to_modem modem_drained connection_of
+      replied_is : Kept (end_if s streams c facts) (settled qmi_handlers c (replied reply (step s.device was.client.opened (Said m verdict)) it.client it.outbox x.beside) x)
+      unfolding present dropped now is_away requests_in_use last_number ids kept_ids to_modem modem_taken_count connection_of
       replied_is =
           replying.keeps_replied (qmi_protocol s) (kept_of s) qmi_handlers Regular (follows_connections s) streams facts past x c reply
-          (λ found. record { opened = if found then step s.device was.client.opened (Sent m verdict) else was.client.opened }) x.beside
+          (λ found. record { opened = if found then step s.device was.client.opened (Said m verdict) else was.client.opened }) x.beside
           (judged_own s.device past c place m verdict) (λ d differs. judged_other s.device past c place d m verdict differs) refl refl K.holds.beside
           (regular_more (Judged c place m verdict) past there tt tt K.fine) there K
 

@@ -11,7 +11,7 @@ use Rattle.proxy_history.specs.Facts.{Fact, Indicated}
 use Rattle.proxy_history.specs.Connections.{present, dropped, contains}
 use Rattle.proxy_history.specs.Requests.{last_number}
 use Rattle.proxy_history.specs.ClientIds.{held, holder, holder_in, is_holder, holds_some}
-use Rattle.proxy_history.specs.Modem.{now, is_away, to_modem, modem_drained}
+use Rattle.proxy_history.specs.Modem.{now, is_away, to_modem, modem_taken_count}
 use Rattle.proxy_history.specs.Noting.{end_overfull}
 use Rattle.proxy_history.proofs.Lists.{filter-none}
 use Rattle.proxy_state.specs.Stands.{Streams, connection_of}
@@ -47,7 +47,7 @@ module _ (s : Setup) (streams : Streams) where
     told_facts cs past = end_overfull qmi_limits (qmi_wording s.device) cs (Indicated m cs ∷ past)
 
     kept_all : (p : ℕ → Bool) (past : List Fact) (x : QmiState) → Kept past x → Kept (told_facts (filter p (present past)) past) (tell_all m (filter p (present past)) x)
-    unfolding present dropped now is_away requests_in_use last_number ids kept_ids to_modem modem_drained
+    unfolding present dropped now is_away requests_in_use last_number ids kept_ids to_modem modem_taken_count
     kept_all p past x K =
         let cs : List ℕ = filter p (present past) in
         let there : AreThere (present past) cs = chosen_there p (present past) in

@@ -1,9 +1,9 @@
 -- What a core of the QMI proxy keeps in the midst of an event goes on from fact to fact.
 use Rattle.std.proofs.Common.{◌≡◌, ℕ, Bool, true, false, ◌==◌, List, ◌∷◌, refl, ap, sym, ◌∙◌}
-use Rattle.proxy_history.specs.Facts.{Fact, EventBegan, Admitted, Ended, NotAdmitted, Drained}
+use Rattle.proxy_history.specs.Facts.{Fact, EventBegan, Admitted, Ended, NotAdmitted, Taken}
 use Rattle.proxy_history.specs.Connections.{present, dropped, contains}
 use Rattle.proxy_history.specs.Requests.{last_number}
-use Rattle.proxy_history.specs.Modem.{now, is_away, to_modem, modem_drained}
+use Rattle.proxy_history.specs.Modem.{now, is_away, to_modem, modem_taken_count}
 use Rattle.proxy_history.specs.Noting.{end_if_overfull}
 use Rattle.proxy_history.specs.Sound.{MayFollow}
 use Rattle.proxy_state.specs.Stands.{Streams}
@@ -31,7 +31,7 @@ regular_behind EventBegan past follows of R = regular_more EventBegan past tt tt
 regular_behind (Admitted c) past follows of R = regular_more (Admitted c) past follows tt of R
 regular_behind (Ended c NotAdmitted) past follows of R = regular_more (Ended c NotAdmitted) past follows tt of R
 regular_behind (Ended c why) past follows of R = regular_more (Ended c why) past follows tt tt R
-regular_behind (Drained c count) past follows of R = regular_more (Drained c count) past follows tt tt R
+regular_behind (Taken c count) past follows of R = regular_more (Taken c count) past follows tt tt R
 regular_behind _ past follows of R = absurd of
 
 module _ (s : Setup) where
@@ -40,17 +40,17 @@ module _ (s : Setup) where
   side_with past traffic = record (side_of s past) { traffic = traffic }
 
   pub follows_connections : FollowsConnections (qmi_protocol s) (kept_of s) qmi_handlers Regular
-  unfolding now is_away requests_in_use last_number ids kept_ids to_modem modem_drained
+  unfolding now is_away requests_in_use last_number ids kept_ids to_modem modem_taken_count
   follows_connections = record {
     fine_more = regular_behind;
     fresh = refl;
-    collected = λ opened count. refl;
+    taken_bytes = λ opened count. refl;
     time = λ messages past. refl;
     away = λ messages past. refl;
     modem_queue = λ messages past. refl;
     begun = λ past messages. refl;
     admitted = λ c past messages. refl;
-    drained = λ c count past messages. refl;
+    was_taken = λ c count past messages. refl;
     refused = λ c past some absent R messages. ap (side_with past) (traffic_of_stranger past c NotAdmitted some absent R);
     ended = λ c why messages past. ap (side_with past) (sym (traffic_ended past c why));
   }

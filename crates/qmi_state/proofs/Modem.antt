@@ -6,10 +6,10 @@ use Rattle.qmux_frame.specs.declared.kind.MessageKind.TheVariants as kind
 use Rattle.qmux_frame.specs.Head.{is_control, client_of}
 use Rattle.qmux_frame.specs.Kind.{framed_kind}
 use Rattle.qmux_frame.specs.Control.{is_sync}
-use Rattle.proxy_history.specs.Facts.{Fact, Reset, ModemReturned, ModemDrained, TimeIs, ModemLost}
+use Rattle.proxy_history.specs.Facts.{Fact, Reset, ModemReturned, ModemTaken, TimeIs, ModemLost}
 use Rattle.proxy_history.specs.Connections.{present, dropped}
 use Rattle.proxy_history.specs.Requests.{pending, last_number}
-use Rattle.proxy_history.specs.Modem.{is_away, now, to_modem, modem_drained}
+use Rattle.proxy_history.specs.Modem.{is_away, now, to_modem, modem_taken_count}
 use Rattle.proxy_history.specs.View.{view}
 use Rattle.qmi_proxy.specs.Setup.{Setup}
 use Rattle.qmi_proxy.specs.Clients.{wire}
@@ -22,7 +22,7 @@ use Rattle.qmi_state.specs.Core.{ModemSide, QmiState}
 use Rattle.qmi_state.specs.Transitions as state
 use Rattle.qmi_state.specs.Transitions.{with_traffic, aborts, expires, forgets_all, hears_indication, hears_as, hears_modem}
 use Rattle.qmux_frame.proofs.Framed.{framed_long, responses_framed}
-use Rattle.qmi_state.proofs.TrafficSteps.{traffic_reset, traffic_drained}
+use Rattle.qmi_state.proofs.TrafficSteps.{traffic_reset, traffic_taken}
 use Rattle.qmi_proxy.proofs.Regulars.{regular_more}
 use Rattle.qmi_state.proofs.Keeping as keeping
 use Rattle.qmi_state.proofs.Keeping.{traffic_is, keeps_side, keeps_quiet}
@@ -39,7 +39,7 @@ module _ (s : Setup) (streams : Streams) where
   kept_aborted past x K = kept_aborts s streams past x K
 
   kept_reset : (past : List Fact) (x : QmiState) → Kept past x → Kept (Reset ∷ past) (forgets_all x)
-  unfolding requests_in_use now is_away present dropped last_number ids kept_ids to_modem modem_drained view
+  unfolding requests_in_use now is_away present dropped last_number ids kept_ids to_modem modem_taken_count view
   kept_reset past x K = keeps_quiet s streams (Reset ∷ past) past x (forgets x.beside.traffic) (λ d. refl) refl refl refl refl (ap forgets (traffic_is s streams past x K) ∙ sym (traffic_reset past)) (regular_more Reset past tt tt tt K.fine) K
 
   kept_either : (b : Bool) (facts others : List Fact) (x y : QmiState) → Kept facts x → Kept others y → Kept (if b then facts else others) (if b then x else y)
@@ -62,7 +62,7 @@ module _ (s : Setup) (streams : Streams) where
       by_kind None e = kept_stray s streams past x K
 
   pub kept_lost : (past : List Fact) (x : QmiState) → Kept past x → Kept (lose s.device past) (state.lose x)
-  unfolding requests_in_use now is_away present dropped last_number ids kept_ids to_modem modem_drained view
+  unfolding requests_in_use now is_away present dropped last_number ids kept_ids to_modem modem_taken_count view
   kept_lost past x K =
       let A : Kept (abort_all s.device past) (aborts x) = kept_aborted past x K in
       keeps_side s streams (lose s.device past) (abort_all s.device past) (aborts x) (state.lose x).beside (λ d. refl) refl refl
@@ -72,7 +72,7 @@ module _ (s : Setup) (streams : Streams) where
   at_time time x = record x { beside = record x.beside { time = time } }
 
   kept_timed : (past : List Fact) (x : QmiState) (time : ℕ) → now past ≤ time → Kept past x → Kept (TimeIs time ∷ past) (at_time time x)
-  unfolding requests_in_use now is_away present dropped last_number ids kept_ids to_modem modem_drained view
+  unfolding requests_in_use now is_away present dropped last_number ids kept_ids to_modem modem_taken_count view
   kept_timed past x time later K =
       keeps_side s streams (TimeIs time ∷ past) past x (record x.beside { time = time }) (λ d. refl) refl refl
       (ap (λ (b : ModemSide). let c : ModemSide = record b { time = time } in c) K.holds.beside) (regular_more (TimeIs time) past later tt tt K.fine) K
@@ -92,15 +92,15 @@ module _ (s : Setup) (streams : Streams) where
       subst (λ (o : Option ℕ). Kept (release_due s s.release (tick s.device time past)) (state.releases_due o (state.shows time x))) same (kept_released s streams (tick s.device time past) (state.shows time x) shown)
 
   pub kept_returned : (past : List Fact) (x : QmiState) → Kept past x → Kept (ModemReturned ∷ past) (record x { beside = state.regain x.beside })
-  unfolding requests_in_use now is_away present dropped last_number ids kept_ids to_modem modem_drained view
+  unfolding requests_in_use now is_away present dropped last_number ids kept_ids to_modem modem_taken_count view
   kept_returned past x K =
       keeps_side s streams (ModemReturned ∷ past) past x (state.regain x.beside) (λ d. refl) refl refl (ap state.regain K.holds.beside) (regular_more ModemReturned past tt tt tt K.fine) K
 
-  pub kept_modem_drained : (past : List Fact) (x : QmiState) (count : ℕ) → count ≤ length x.beside.traffic.waiting → Kept past x → Kept (ModemDrained count ∷ past) (with_traffic (record x.beside.traffic { waiting = drop count x.beside.traffic.waiting }) x)
-  unfolding requests_in_use now is_away present dropped last_number ids kept_ids to_modem modem_drained view
-  kept_modem_drained past x count within K =
-      let queue : x.beside.traffic.waiting ≡ drop (modem_drained past) (to_modem wire past) = ap (λ (d : Traffic). d.waiting) (traffic_is s streams past x K) in
-      let left : length x.beside.traffic.waiting ≡ length (to_modem wire past) - modem_drained past = ap length queue ∙ length-drop (modem_drained past) (to_modem wire past) in
-      let before : modem_drained past ≤ length (to_modem wire past) = K.fine.drained in
-      keeps_quiet s streams (ModemDrained count ∷ past) past x (record x.beside.traffic { waiting = drop count x.beside.traffic.waiting }) (λ d. refl) refl refl refl refl
-      (ap (λ (d : Traffic). let e : Traffic = record d { waiting = drop count d.waiting } in e) (traffic_is s streams past x K) ∙ sym (traffic_drained past count)) (regular_more (ModemDrained count) past tt tt (omega arith) K.fine) K
+  pub kept_modem_taken : (past : List Fact) (x : QmiState) (count : ℕ) → count ≤ length x.beside.traffic.waiting → Kept past x → Kept (ModemTaken count ∷ past) (with_traffic (record x.beside.traffic { waiting = drop count x.beside.traffic.waiting }) x)
+  unfolding requests_in_use now is_away present dropped last_number ids kept_ids to_modem modem_taken_count view
+  kept_modem_taken past x count within K =
+      let queue : x.beside.traffic.waiting ≡ drop (modem_taken_count past) (to_modem wire past) = ap (λ (d : Traffic). d.waiting) (traffic_is s streams past x K) in
+      let left : length x.beside.traffic.waiting ≡ length (to_modem wire past) - modem_taken_count past = ap length queue ∙ length-drop (modem_taken_count past) (to_modem wire past) in
+      let before : modem_taken_count past ≤ length (to_modem wire past) = K.fine.was_taken in
+      keeps_quiet s streams (ModemTaken count ∷ past) past x (record x.beside.traffic { waiting = drop count x.beside.traffic.waiting }) (λ d. refl) refl refl refl refl
+      (ap (λ (d : Traffic). let e : Traffic = record d { waiting = drop count d.waiting } in e) (traffic_is s streams past x K) ∙ sym (traffic_taken past count)) (regular_more (ModemTaken count) past tt tt (omega arith) K.fine) K

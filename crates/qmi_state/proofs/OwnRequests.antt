@@ -3,7 +3,7 @@ use Rattle.std.proofs.Common.{◌≡◌, ℕ, Bool, true, false, ◌&&◌, ◌==
 use Rattle.proxy_history.specs.Facts.{Fact, Request, Ended, NoRoom, Freed}
 use Rattle.proxy_history.specs.Connections.{present, dropped, contains}
 use Rattle.proxy_history.specs.Requests.{last_number}
-use Rattle.proxy_history.specs.Modem.{now, is_away, to_modem, modem_drained}
+use Rattle.proxy_history.specs.Modem.{now, is_away, to_modem, modem_taken_count}
 use Rattle.proxy_history.specs.Noting.{receivers_of, end_overfull}
 use Rattle.proxy_history.specs.View.{view}
 use Rattle.qmi_proxy.specs.Setup.{Setup}
@@ -30,7 +30,7 @@ module _ (s : Setup) (streams : Streams) where
   Kept past x = keeping.Kept s streams past x
 
   pub kept_given_back : (past : List Fact) (x : QmiState) (c service client : ℕ) → Kept past x → Kept (Freed c service client ∷ past) (with_traffic (frees_id c service client x.beside.traffic) x)
-  unfolding requests_in_use now is_away present dropped last_number ids kept_ids to_modem modem_drained view
+  unfolding requests_in_use now is_away present dropped last_number ids kept_ids to_modem modem_taken_count view
   kept_given_back past x c service client K =
       keeps_quiet s streams (Freed c service client ∷ past) past x (frees_id c service client x.beside.traffic) (λ d. refl) refl refl refl refl
       (ap (frees_id c service client) (traffic_is s streams past x K)) (regular_more (Freed c service client) past tt tt tt K.fine) K

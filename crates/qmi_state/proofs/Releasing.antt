@@ -7,7 +7,7 @@ use Rattle.proxy_history.specs.Facts.{Fact, Request, Forwarded, Granted}
 use Rattle.proxy_history.specs.Connections.{present, dropped}
 use Rattle.proxy_history.specs.Requests.{in_use, last_number, number_after}
 use Rattle.proxy_history.specs.ClientIds.{KeptId, held, kept, holder_in, is_other}
-use Rattle.proxy_history.specs.Modem.{now, is_away, to_modem, modem_drained, modem_queue}
+use Rattle.proxy_history.specs.Modem.{now, is_away, to_modem, modem_taken_count, modem_queue}
 use Rattle.proxy_history.specs.View.{view}
 use Rattle.proxy_history.proofs.Kept.{kept_are_nobodys}
 use Rattle.proxy_history.proofs.Lists.{Contains-cons_cases, Contains-nil}
@@ -130,13 +130,13 @@ module _ (s : Setup) (streams : Streams) where
     kept_sent = keeps_quiet s streams sent past x (traffic_of sent) (λ d. refl) refl refl refl refl refl regular_sent K
 
     kept_held : Kept (history.releases_one s k number past) (with_traffic (grants_id 0 k.service k.client (traffic_of sent)) x)
-    unfolding present dropped view requests_in_use now is_away last_number ids kept_ids held to_modem modem_drained
+    unfolding present dropped view requests_in_use now is_away last_number ids kept_ids held to_modem modem_taken_count
     kept_held =
         keeps_quiet s streams (history.releases_one s k number past) sent (with_traffic (traffic_of sent) x) (grants_id 0 k.service k.client (traffic_of sent)) (λ d. refl) refl refl refl refl refl
         (regular_more (Granted 0 k.service k.client) sent (refl, ap (is_other 0) free) tt tt regular_sent) kept_sent
 
     traffic_released : grants_id 0 k.service k.client (traffic_of sent) ≡ asks_release (deadline_of (now past) s.time_limit) k number (traffic_of past)
-    traffic_released = ap (grants_id 0 k.service k.client) (traffic_forwarded r refl past K.fine.drained)
+    traffic_released = ap (grants_id 0 k.service k.client) (traffic_forwarded r refl past K.fine.was_taken)
 
     pub kept_released_one : Kept (history.releases_one s k number past) (releases_one k number x)
     kept_released_one = subst (λ (d : Traffic). Kept (history.releases_one s k number past) (with_traffic d x)) traffic_released kept_held

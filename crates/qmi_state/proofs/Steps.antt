@@ -21,7 +21,7 @@ use Rattle.qmi_state.specs.Core.{QmiState, QmiCore, kept_of, Stands, StandsAfter
 use Rattle.qmi_state.specs.Transitions.{qmi_handlers, step, hears_modem, regain}
 use Rattle.qmi_state.proofs.Keeping.{follows_connections}
 use Rattle.qmi_state.proofs.Hearing.{keeps_heard}
-use Rattle.qmi_state.proofs.Modem.{kept_heard, kept_lost, kept_ticked, kept_returned, kept_modem_drained}
+use Rattle.qmi_state.proofs.Modem.{kept_heard, kept_lost, kept_ticked, kept_returned, kept_modem_taken}
 
 module _ (s : Setup) where
   abbrev KeptAt : Streams → List Fact → QmiState → Type 0
@@ -50,7 +50,7 @@ module _ (s : Setup) where
         (kept_heard s streams m past x K));
     lose = λ streams past x K. with_messages [] streams _ _ (kept_lost s streams past x K);
     regain = λ streams past x none K. kept_returned s streams past x K;
-    take_modem = λ count streams past x within K. kept_modem_drained s streams past x count within K;
+    take_modem = λ count streams past x within K. kept_modem_taken s streams past x count within K;
     tick = λ time streams past x K. kept_ticked s streams past x time K;
     finish = λ streams past x K. K;
   }

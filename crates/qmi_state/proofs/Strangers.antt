@@ -6,7 +6,7 @@ use Rattle.proxy_history.specs.Facts.{Fact, Why, Ended}
 use Rattle.proxy_history.specs.Connections.{present, contains}
 use Rattle.proxy_history.specs.Requests.{last_number}
 use Rattle.proxy_history.specs.ClientIds.{Grant}
-use Rattle.proxy_history.specs.Modem.{now, to_modem, modem_drained, modem_queue}
+use Rattle.proxy_history.specs.Modem.{now, to_modem, modem_taken_count, modem_queue}
 use Rattle.proxy_history.specs.Sound.{IsParty}
 use Rattle.qmi_proxy.specs.Spaces.{control_space, service_space, limit_of, top_of}
 use Rattle.qmi_proxy.specs.Clients.{wire}
@@ -27,7 +27,7 @@ has_none c [] all = refl
 has_none c (g ∷ grants) all = ap (λ (b : Bool). cond b (g ∷ filter (λ (g : Grant). c == g.conn) grants) (filter (λ (g : Grant). c == g.conn) grants)) all.0 ∙ has_none c grants all.1
 
 pub traffic_of_stranger : (past : List Fact) (c : ℕ) (why : Why) → 1 ≤ c → contains c (present past) ≡ false → Regular past → traffic_of (Ended c why ∷ past) ≡ traffic_of past
-unfolding requests_in_use last_number ids kept_ids to_modem modem_drained
+unfolding requests_in_use last_number ids kept_ids to_modem modem_taken_count
 traffic_of_stranger past c why some absent R =
     let none : requests_in_use (Ended c why ∷ past) ≡ requests_in_use past = requests_of_stranger qmi_limits past c why some absent R.sound in
     let others : AllByRecursion (λ (g : Grant). (c == g.conn) ≡ false) (ids past) =

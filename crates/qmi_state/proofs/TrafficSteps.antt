@@ -3,10 +3,10 @@ use Rattle.std.proofs.Common.{◌≡◌, ℕ, ◌≤◌, Bool, true, false, not,
 use Rattle.std.specs.List.{AllByRecursion}
 use Rattle.std.proofs.lemmas.List.{drop-drop, drop-append-le}
 use Rattle.qmux_frame.specs.Head.{is_control}
-use Rattle.proxy_history.specs.Facts.{Fact, Request, Why, Ended, Forwarded, Granted, Freed, Reset, ModemLost, ModemDrained}
+use Rattle.proxy_history.specs.Facts.{Fact, Request, Why, Ended, Forwarded, Granted, Freed, Reset, ModemLost, ModemTaken}
 use Rattle.proxy_history.specs.Requests.{last_number}
 use Rattle.proxy_history.specs.ClientIds.{Grant, KeptId}
-use Rattle.proxy_history.specs.Modem.{now, to_modem, modem_drained, modem_queue}
+use Rattle.proxy_history.specs.Modem.{now, to_modem, modem_taken_count, modem_queue}
 use Rattle.qmi_proxy.specs.Spaces.{control_space, service_space, space_of, limit_of, top_of}
 use Rattle.qmi_proxy.specs.Clients.{wire}
 use Rattle.number_space.specs.Table.{orphans}
@@ -56,11 +56,11 @@ module _ (r : Request) (placed : r.space ≡ space_of r.message) where
       ap (λ (rows : List Row). let n : Numbers = record { rows = rows; last = if r.space == space then r.number else last_number space past; limit = limit_of space; top = top_of space } in n) (rows_more asked_of space (requests_in_use past) (record { request = r; waits = true }) false is)
       ∙ ap (λ (b : Bool). let n : Numbers = record { rows = rows_of space (requests_in_use past); last = if b then r.number else last_number space past; limit = limit_of space; top = top_of space } in n) is
 
-  pub traffic_forwarded : (past : List Fact) → modem_drained past ≤ length (to_modem wire past)
+  pub traffic_forwarded : (past : List Fact) → modem_taken_count past ≤ length (to_modem wire past)
       → traffic_of (Forwarded r ∷ past) ≡ record (with_numbers (is_control r.message) (gives (row_of (record { request = r; waits = true })) (of_control (is_control r.message) (traffic_of past))) (traffic_of past)) { waiting = (traffic_of past).waiting ++ wire r }
-  unfolding ids kept_ids to_modem modem_drained
-  traffic_forwarded past drained =
-      ap (λ (l : List ℕ). traffic_with (numbers_of control_space (Forwarded r ∷ past)) (numbers_of service_space (Forwarded r ∷ past)) (ids past) (kept_ids past) l) (drop-append-le (modem_drained past) (to_modem wire past) (wire r) drained)
+  unfolding ids kept_ids to_modem modem_taken_count
+  traffic_forwarded past was_taken =
+      ap (λ (l : List ℕ). traffic_with (numbers_of control_space (Forwarded r ∷ past)) (numbers_of service_space (Forwarded r ∷ past)) (ids past) (kept_ids past) l) (drop-append-le (modem_taken_count past) (to_modem wire past) (wire r) was_taken)
       ∙ changed_in (gives (row_of (record { request = r; waits = true }))) (traffic_of past) (ids past) (kept_ids past) ((traffic_of past).waiting ++ wire r) _ _
       (numbers_forwarded past control_space (r.space == control_space) refl) (numbers_forwarded past service_space (r.space == service_space) refl)
 
@@ -97,27 +97,27 @@ module _ (r : Request) (placed : r.space ≡ space_of r.message) where
 -- ---- the other facts ----
 
 pub traffic_ended : (past : List Fact) (c : ℕ) (why : Why) → traffic_of (Ended c why ∷ past) ≡ gives_up c (now past) (traffic_of past)
-unfolding requests_in_use last_number ids kept_ids to_modem modem_drained
+unfolding requests_in_use last_number ids kept_ids to_modem modem_taken_count
 traffic_ended past c why =
     ap (λ (rows : List Row). traffic_with (record { rows = rows; last = last_number control_space past; limit = limit_of control_space; top = top_of control_space }) (numbers_of service_space (Ended c why ∷ past)) (ids (Ended c why ∷ past)) (kept_ids (Ended c why ∷ past)) (modem_queue wire past)) (rows_orphaned asked_of control_space c (requests_in_use past))
     ∙ ap (λ (rows : List Row). traffic_with (orphans c (numbers_of control_space past)) (record { rows = rows; last = last_number service_space past; limit = limit_of service_space; top = top_of service_space }) (ids (Ended c why ∷ past)) (kept_ids (Ended c why ∷ past)) (modem_queue wire past)) (rows_orphaned asked_of service_space c (requests_in_use past))
 
 pub traffic_reset : (past : List Fact) → traffic_of (Reset ∷ past) ≡ forgets (traffic_of past)
-unfolding requests_in_use last_number ids kept_ids to_modem modem_drained
+unfolding requests_in_use last_number ids kept_ids to_modem modem_taken_count
 traffic_reset past = refl
 
 pub traffic_lost : (past : List Fact) → traffic_of (ModemLost ∷ past) ≡ record (forgets (traffic_of past)) { waiting = [] }
-unfolding requests_in_use last_number ids kept_ids to_modem modem_drained
+unfolding requests_in_use last_number ids kept_ids to_modem modem_taken_count
 traffic_lost past = refl
 
 pub traffic_granted : (past : List Fact) (c service client : ℕ) → traffic_of (Granted c service client ∷ past) ≡ grants_id c service client (traffic_of past)
-unfolding requests_in_use last_number ids kept_ids to_modem modem_drained
+unfolding requests_in_use last_number ids kept_ids to_modem modem_taken_count
 traffic_granted past c service client = refl
 
 pub traffic_given_back : (past : List Fact) (c service client : ℕ) → traffic_of (Freed c service client ∷ past) ≡ frees_id c service client (traffic_of past)
-unfolding requests_in_use last_number ids kept_ids to_modem modem_drained
+unfolding requests_in_use last_number ids kept_ids to_modem modem_taken_count
 traffic_given_back past c service client = refl
 
-pub traffic_drained : (past : List Fact) (count : ℕ) → traffic_of (ModemDrained count ∷ past) ≡ record (traffic_of past) { waiting = drop count (traffic_of past).waiting }
-unfolding requests_in_use last_number ids kept_ids to_modem modem_drained
-traffic_drained past count = ap (λ (l : List ℕ). traffic_with (numbers_of control_space past) (numbers_of service_space past) (ids past) (kept_ids past) l) (sym (drop-drop count (modem_drained past) (to_modem wire past)))
+pub traffic_taken : (past : List Fact) (count : ℕ) → traffic_of (ModemTaken count ∷ past) ≡ record (traffic_of past) { waiting = drop count (traffic_of past).waiting }
+unfolding requests_in_use last_number ids kept_ids to_modem modem_taken_count
+traffic_taken past count = ap (λ (l : List ℕ). traffic_with (numbers_of control_space past) (numbers_of service_space past) (ids past) (kept_ids past) l) (sym (drop-drop count (modem_taken_count past) (to_modem wire past)))

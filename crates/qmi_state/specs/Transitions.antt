@@ -13,7 +13,7 @@ use Rattle.qmux_frame.specs.Reply.{result_reply, with_number}
 use Rattle.proxy_history.specs.Events.{Event}
 use Rattle.proxy_history.specs.Facts.{Verdict, Own, Share, Foreign, Away, Full}
 use Rattle.proxy_history.specs.Decision.{Decision, Replies, Forwards}
-use Rattle.proxy_history.specs.View.{Sent}
+use Rattle.proxy_history.specs.View.{Said}
 use Rattle.proxy_history.specs.ClientIds.{Grant, KeptId, holder_in, is_other, holds_some}
 use Rattle.proxy_state.specs.State.{Handlers}
 use Rattle.proxy_state.specs.Step as proxy
@@ -54,7 +54,7 @@ tell_all bytes cs x = telling.tell_each give_up (λ client. bytes) (λ client. c
 
 -- the bytes of the reply, which looks at no earlier entry
 abbrev pub reply_as : List ℕ → Bool → List ℕ → Verdict → List ℕ
-reply_as device opened m verdict = text_as device opened [] (Sent m verdict)
+reply_as device opened m verdict = text_as device opened [] (Said m verdict)
 
 abbrev pub holder_at : List ℕ → Traffic → Option ℕ
 holder_at m traffic = if uses_id m then holder_in (used_service m) (used_client m) traffic.held else None
@@ -100,7 +100,7 @@ act_on name m (Forwards number) client outbox side = record {
   beside = record side { traffic = forwards (deadline_of side.time side.time_limit) name m number side.traffic };
   has_room = true;
 }
-act_on name m (Replies verdict) client outbox side = replied (reply_as side.device client.opened m verdict) (own.step side.device client.opened (Sent m verdict)) client outbox side
+act_on name m (Replies verdict) client outbox side = replied (reply_as side.device client.opened m verdict) (own.step side.device client.opened (Said m verdict)) client outbox side
 
 abbrev pub hear_client : ℕ → List ℕ → Client → Queue → ModemSide → Hearing Client ModemSide
 hear_client name m client outbox side = act_on name m (decision_of side.away name m client.opened side.traffic) client outbox side

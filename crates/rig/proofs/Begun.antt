@@ -3,7 +3,7 @@ use Rattle.std.proofs.Common.{◌≡◌, ℕ, zero, suc, ◌+◌, ◌≤◌, Lis
 use Rattle.std.proofs.lemmas.Bool.{cases_lt}
 use Rattle.proxy_history.specs.Events.{Event}
 use Rattle.core_bench.specs.Runs.{Run}
-use Rattle.rig_stage.specs.Running.{AreTold}
+use Rattle.rig_stage.specs.Running.{AreRecorded}
 use Rattle.rig_stage.proofs.Stopping.{none_more}
 use Rattle.rig_play.specs.Runs.{StopsEarly}
 use Rattle.rig.specs.Begun.{AreFirst, TellsFirst}
@@ -14,7 +14,7 @@ done_are_first later [] = tt
 done_are_first later (run ∷ done) = record { whole = run; later = later; order = refl; within = none_more run.events; same = refl }
 
 -- those that are done were run as they are
-pub tells_done : (later done earlier : List Run) (now : Option (List Run)) → AreTold now (done ++ earlier) → TellsFirst (later ++ done) earlier now
+pub tells_done : (later done earlier : List Run) (now : Option (List Run)) → AreRecorded now (done ++ earlier) → TellsFirst (later ++ done) earlier now
 tells_done later done earlier now told = record { added = done; are_first = done_are_first later done; told = told }
 
 -- the next one was not run, or is cut short
@@ -46,7 +46,7 @@ pub tells_behind : (all done earlier : List Run) (now : Option (List Run)) → T
 tells_behind all done earlier now it = record {
   added = it.added ++ done;
   are_first = first_behind all done it.added it.are_first;
-  told = subst (AreTold now) (sym (append_assoc it.added done earlier)) it.told;
+  told = subst (AreRecorded now) (sym (append_assoc it.added done earlier)) it.told;
 }
 
 -- ---- what is made of the numbers from 1 on ----

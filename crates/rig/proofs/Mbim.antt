@@ -18,10 +18,10 @@ use Rattle.rig_laws_mbim.specs.Law.{IsFair}
 use Rattle.rig_laws_mbim.proofs.Harmless.{undisturbed}
 use Rattle.rig_laws_mbim.proofs.Playing.{rig_stands}
 use Rattle.rig_laws_mbim.proofs.Law.{each_run_is_fair}
-use Rattle.rig_story.specs.Mbim.{mbim_reading}
-use Rattle.rig_story.specs.Laws.{most_turns}
-use Rattle.story_laws_mbim.proofs.Law.{requests_are_counted}
-use Rattle.story_laws_mbim.proofs.Parts.{each_meets_its_part, each_takes_the_same}
+use Rattle.rig_trace.specs.Mbim.{mbim_reading}
+use Rattle.rig_trace.specs.Laws.{most_turns}
+use Rattle.trace_laws_mbim.proofs.Law.{requests_are_counted}
+use Rattle.trace_laws_mbim.proofs.Parts.{each_meets_its_part, each_takes_the_same}
 use Rattle.rig_notes.proofs.Fitting.{TakesWhatWaits}
 use Rattle.rig_notes.proofs.Sound.{takes_what_waits}
 use Rattle.rig.proofs.Coming.{IsLawful}

@@ -10,12 +10,12 @@ use Rattle.rig_runs.specs.Qmi.{setup, qmi_rig}
 use Rattle.rig_runs.specs.Lines.{summary}
 use Rattle.rig_laws.proofs.Lists.{length-range}
 use Rattle.rig_laws.proofs.Law.{each_gets_the_same, nobody_is_disturbed, each_is_let_alone}
-use Rattle.rig_story.specs.Qmi.{qmi_reading}
-use Rattle.rig_story.specs.Laws.{most_turns}
+use Rattle.rig_trace.specs.Qmi.{qmi_reading}
+use Rattle.rig_trace.specs.Laws.{most_turns}
 use Rattle.rig_notes.proofs.Sound.{takes_what_waits}
-use Rattle.story_laws.proofs.Law.{requests_are_counted}
-use Rattle.story_laws.proofs.Mirroring.{here}
-use Rattle.story_laws.proofs.Parts.{each_meets_its_part, each_takes_the_same}
+use Rattle.trace_laws.proofs.Law.{requests_are_counted}
+use Rattle.trace_laws.proofs.Mirroring.{here}
+use Rattle.trace_laws.proofs.Parts.{each_meets_its_part, each_takes_the_same}
 use Rattle.rig.proofs.Coming.{IsLawful}
 
 module _ (clients turns number : ℕ) (some : 1 ≤ clients) (within : clients ≤ 64) (few : turns ≤ most_turns) where

@@ -1,7 +1,7 @@
 -- What a rig has run where memory ran out. Lists of runs and of events have the newest first.
 use Rattle.std.specs.Prelude.{◌≡◌, List, [], ◌∷◌, ◌++◌, Option}
 use Rattle.core_bench.specs.Runs.{Run}
-use Rattle.rig_stage.specs.Running.{AreTold, Extends}
+use Rattle.rig_stage.specs.Running.{AreRecorded, Extends}
 
 -- of all these runs it is the next one behind those that are done, or that one cut short
 pub record IsNext (all done : List Run) (run : Run) : Type 0 where
@@ -20,7 +20,7 @@ AreFirst all (run ∷ done) = IsNext all done run
 pub record TellsFirst (all earlier : List Run) (now : Option (List Run)) : Type 0 where
   pub added : List Run
   pub are_first : AreFirst all added
-  pub told : AreTold now (added ++ earlier)
+  pub told : AreRecorded now (added ++ earlier)
 
 abbrev pub AddsFirst : Option (List Run) → (all : List Run) → Option (List Run) → Type 0
-AddsFirst old all new = (earlier : List Run) → AreTold old earlier → TellsFirst all earlier new
+AddsFirst old all new = (earlier : List Run) → AreRecorded old earlier → TellsFirst all earlier new

@@ -1,6 +1,6 @@
 ghost use Rattle.std.specs.Prelude.{◌≡◌, ◌≤◌, ◌++◌, List, IfOk, OnOk, OnErr};
 ghost use Rattle.core_bench.specs.Runs.{Run};
-ghost use Rattle.rig_stage.specs.Running.{AreTold};
+ghost use Rattle.rig_stage.specs.Running.{AreRecorded};
 ghost use Rattle.rig.specs.Begun.{AddsFirst};
 ghost use Rattle.rig.specs.Lines.{rig_lines, runs_of};
 ghost use Rattle.rig.specs.Playing.{TellsRig};
@@ -31,7 +31,7 @@ pub fn rig_lines<B: Bench>(
     requires few { clients ≤ 64 }
     requires short { turns ≤ 100000 }
     ensures lines { IfOk result (λ lines. lines ≡ rig_lines kind clients turns number) }
-    ensures runs { OnOk result ((earlier : List Run) → AreTold (B.runs bench.old) earlier → AreTold (B.runs bench.new) (runs_of kind clients turns number ++ earlier)) }
+    ensures runs { OnOk result ((earlier : List Run) → AreRecorded (B.runs bench.old) earlier → AreRecorded (B.runs bench.new) (runs_of kind clients turns number ++ earlier)) }
     ensures stops { OnErr result (AddsFirst (B.runs bench.old) (runs_of kind clients turns number) (B.runs bench.new)) }
 {
     match kind {

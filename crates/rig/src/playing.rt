@@ -4,9 +4,10 @@ ghost use Rattle.rig.specs.Stopping.{StopsEach, StopsOne, StopsRig};
 
 use crate::text::Outcome;
 use core_bench::Bench;
+use kit_bytes::ConnId;
 use rig_notes::{Noting, Reading, run_alone};
 use rig_play::{Protocol, open_core, run_clients};
-use rig_story::Met;
+use rig_trace::Met;
 use std::alloc::{AllocError, Global};
 
 /// Runs a core with all clients on a bench, and then with each of them alone.
@@ -27,7 +28,7 @@ pub(crate) fn play<P: Protocol, R: Reading, B: Bench>(
     outcome
 }
 
-// The same on a bench that notes its story.
+// The same on a bench that notes its trace.
 fn play_on<P: Protocol, R: Reading, B: Bench>(
     alloc: Global,
     noting: &mut Noting<R, B>,
@@ -44,8 +45,8 @@ fn play_on<P: Protocol, R: Reading, B: Bench>(
         return Err(AllocError);
     }
     let counts = noting.counts();
-    let story = noting.take_story(alloc);
-    let equal = count_equal::<P, R, B>(alloc, noting, clients, &story)?;
+    let trace = noting.take_trace(alloc);
+    let equal = count_equal::<P, R, B>(alloc, noting, clients, &trace)?;
     Ok(Outcome { counts, equal })
 }
 
@@ -54,14 +55,14 @@ fn count_equal<P: Protocol, R: Reading, B: Bench>(
     alloc: Global,
     noting: &mut Noting<R, B>,
     clients: u8,
-    story: &[Met],
+    trace: &[Met],
 ) -> Result<u8, AllocError>
-    ensures each { IfOk result (RunsEach R.reading P.proxy P.kind story.now clients (B.runs noting.old.bench) (B.runs noting.new.bench)) }
-    ensures stops { OnErr result (StopsEach R.reading P.proxy P.kind story.now clients (B.runs noting.old.bench) (B.runs noting.new.bench)) }
+    ensures each { IfOk result (RunsEach R.reading P.proxy P.kind trace.now clients (B.runs noting.old.bench) (B.runs noting.new.bench)) }
+    ensures stops { OnErr result (StopsEach R.reading P.proxy P.kind trace.now clients (B.runs noting.old.bench) (B.runs noting.new.bench)) }
 {
     let mut equal: u8 = 0;
     for index in 0..clients {
-        if is_equal::<P, R, B>(alloc, noting, u64::from(index) + 1, story)? {
+        if is_equal::<P, R, B>(alloc, noting, u64::from(index) + 1, trace)? {
             equal += 1;
         }
     }
@@ -72,13 +73,13 @@ fn count_equal<P: Protocol, R: Reading, B: Bench>(
 fn is_equal<P: Protocol, R: Reading, B: Bench>(
     alloc: Global,
     noting: &mut Noting<R, B>,
-    conn: u64,
-    story: &[Met],
+    conn: ConnId,
+    trace: &[Met],
 ) -> Result<bool, AllocError>
     requires { 0 < conn }
-    ensures one { IfOk result (RunsOne R.reading P.proxy P.kind story.now conn (B.runs noting.old.bench) (B.runs noting.new.bench)) }
-    ensures stops { OnErr result (StopsOne R.reading P.proxy P.kind story.now conn (B.runs noting.old.bench) (B.runs noting.new.bench)) }
+    ensures one { IfOk result (RunsOne R.reading P.proxy P.kind trace.now conn (B.runs noting.old.bench) (B.runs noting.new.bench)) }
+    ensures stops { OnErr result (StopsOne R.reading P.proxy P.kind trace.now conn (B.runs noting.old.bench) (B.runs noting.new.bench)) }
 {
     open_core::<P, Noting<R, B>>(alloc, noting)?;
-    run_alone(alloc, noting, conn, story)
+    run_alone(alloc, noting, conn, trace)
 }

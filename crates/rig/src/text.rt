@@ -4,7 +4,7 @@ ghost use Rattle.rig.specs.Playing.{summed};
 
 use itoa::Buffer;
 use kit_bytes::Octets;
-use rig_story::Counts;
+use rig_trace::Counts;
 use std::alloc::{AllocError, Global};
 
 /// What a rig came to.

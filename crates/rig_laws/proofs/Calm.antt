@@ -5,11 +5,11 @@ use Rattle.kit_bytes.proofs.Lists.{all_filter, all_push}
 use Rattle.std.proofs.lemmas.Bool.{or_left, or_right}
 use Rattle.std.proofs.lemmas.Bool.Decides.{nat_tests}
 use Rattle.std.proofs.Math.Seq.{drop-append_seam}
-use Rattle.proxy_history.specs.Facts.{Fact, Request, EventBegan, Verdict, Own, Admitted, Judged, Drained, Forwarded, Answered, Late, Expired, Granted, ModemDrained, TimeIs}
+use Rattle.proxy_history.specs.Facts.{Fact, Request, EventBegan, Verdict, Own, Admitted, Judged, Taken, Forwarded, Answered, Late, Expired, Granted, ModemTaken, TimeIs}
 use Rattle.proxy_history.specs.Connections.{present, message_count}
 use Rattle.proxy_history.specs.Requests.{in_use, without_request}
-use Rattle.proxy_history.specs.Modem.{to_modem, modem_drained, modem_queue}
-use Rattle.proxy_history.specs.View.{Entry, Sent, Response, Refused, Collected, NoAnswer, entry_if, view}
+use Rattle.proxy_history.specs.Modem.{to_modem, modem_taken_count, modem_queue}
+use Rattle.proxy_history.specs.View.{Entry, Said, Response, Refused, Taking, NoAnswer, entry_if, view}
 use Rattle.proxy_history.specs.Wording.{told_by}
 use Rattle.qmi_proxy.specs.Setup.{Setup}
 use Rattle.qmi_proxy.specs.Messages.{is_malformed, opens}
@@ -36,39 +36,39 @@ module _ (s : Setup) where
     -- what the modem took, and what waits for it
     pub taken : List ℕ
     pub to_it : to_modem wire past ≡ taken ++ queue
-    pub count : modem_drained past ≡ length taken
+    pub count : modem_taken_count past ≡ length taken
 
   pub queue_is : {joined opened : ℕ} {requests : List Request} {queue : List ℕ} {past : List Fact} → Calm joined opened requests queue past → modem_queue wire past ≡ queue
-  queue_is {queue = queue} {past = past} calm = ap (drop (modem_drained past)) calm.to_it ∙ ap (λ (n : ℕ). drop n (calm.taken ++ queue)) calm.count ∙ drop-append_seam calm.taken queue
+  queue_is {queue = queue} {past = past} calm = ap (drop (modem_taken_count past)) calm.to_it ∙ ap (λ (n : ℕ). drop n (calm.taken ++ queue)) calm.count ∙ drop-append_seam calm.taken queue
 
   -- no more is taken than was there
-  pub taken_within : {joined opened : ℕ} {requests : List Request} {queue : List ℕ} {past : List Fact} → Calm joined opened requests queue past → modem_drained past ≤ length (to_modem wire past)
+  pub taken_within : {joined opened : ℕ} {requests : List Request} {queue : List ℕ} {past : List Fact} → Calm joined opened requests queue past → modem_taken_count past ≤ length (to_modem wire past)
   taken_within {queue = queue} {past = past} calm = let all : length (to_modem wire past) ≡ length (calm.taken ++ queue) = ap length calm.to_it in omega (arith, all, calm.count, length-append calm.taken queue)
 
   -- who has opened the device has it open still
   stays_open : (b : Bool) (entry : Entry) (entries : List Entry) → is_open s.device entries ≡ true → is_open s.device (entry_if b entry entries) ≡ true
   unfolding told_by
   stays_open false entry entries is = is
-  stays_open true (Sent m verdict) entries is = or_right (is_opening s.device m verdict) (is_open s.device entries) is
+  stays_open true (Said m verdict) entries is = or_right (is_opening s.device m verdict) (is_open s.device entries) is
   stays_open true _ entries is = is
 
   module _ {joined opened : ℕ} {requests : List Request} {queue : List ℕ} {past : List Fact} (calm : Calm joined opened requests queue past) where
     -- ---- facts that change nothing of this ----
 
     pub begun : Calm joined opened requests queue (EventBegan ∷ past)
-    unfolding present in_use view message_count to_modem modem_drained
+    unfolding present in_use view message_count to_modem modem_taken_count
     begun = record { there = calm.there; harmless = (tt, calm.harmless); open_ones = calm.open_ones; uses = calm.uses; clients = calm.clients; quiet = calm.quiet; taken = calm.taken; to_it = calm.to_it; count = calm.count }
 
     pub timed : (time : ℕ) → Calm joined opened requests queue (TimeIs time ∷ past)
-    unfolding present in_use view message_count to_modem modem_drained
+    unfolding present in_use view message_count to_modem modem_taken_count
     timed time = record { there = calm.there; harmless = (tt, calm.harmless); open_ones = calm.open_ones; uses = calm.uses; clients = calm.clients; quiet = calm.quiet; taken = calm.taken; to_it = calm.to_it; count = calm.count }
 
-    pub drained : (c count : ℕ) → Calm joined opened requests queue (Drained c count ∷ past)
-    unfolding present in_use view message_count to_modem modem_drained
-    drained d count = record {
+    pub was_taken : (c count : ℕ) → Calm joined opened requests queue (Taken c count ∷ past)
+    unfolding present in_use view message_count to_modem modem_taken_count
+    was_taken d count = record {
       there = calm.there;
       harmless = (tt, calm.harmless);
-      open_ones = λ c low high. stays_open (d == c) (Collected count) (view_of c past) (calm.open_ones c low high);
+      open_ones = λ c low high. stays_open (d == c) (Taking count) (view_of c past) (calm.open_ones c low high);
       uses = calm.uses;
       clients = calm.clients;
       quiet = calm.quiet;
@@ -78,7 +78,7 @@ module _ (s : Setup) where
     }
 
     pub expired : (r : Request) → Calm joined opened requests queue (Expired r ∷ past)
-    unfolding present in_use view message_count to_modem modem_drained
+    unfolding present in_use view message_count to_modem modem_taken_count
     expired r = record {
       there = calm.there;
       harmless = (tt, calm.harmless);
@@ -92,15 +92,15 @@ module _ (s : Setup) where
     }
 
     pub granted : (c service client : ℕ) → client ≡ c → Calm joined opened requests queue (Granted c service client ∷ past)
-    unfolding present in_use view message_count to_modem modem_drained
+    unfolding present in_use view message_count to_modem modem_taken_count
     granted c service client own = record { there = calm.there; harmless = (own, calm.harmless); open_ones = calm.open_ones; uses = calm.uses; clients = calm.clients; quiet = calm.quiet; taken = calm.taken; to_it = calm.to_it; count = calm.count }
 
     pub judged : (c place : ℕ) (m : List ℕ) (verdict : Verdict) → IsHarmless s (Judged c place m verdict) past → 1 ≤ c → c ≤ opened → Calm joined opened requests queue (Judged c place m verdict ∷ past)
-    unfolding present in_use view message_count to_modem modem_drained
+    unfolding present in_use view message_count to_modem modem_taken_count
     judged d place m verdict harmless low high = record {
       there = calm.there;
       harmless = (harmless, calm.harmless);
-      open_ones = λ c low high. stays_open (d == c) (Sent m verdict) (view_of c past) (calm.open_ones c low high);
+      open_ones = λ c low high. stays_open (d == c) (Said m verdict) (view_of c past) (calm.open_ones c low high);
       uses = calm.uses;
       clients = calm.clients;
       quiet = λ none c. absurd (omega (arith, none, low, high));
@@ -112,7 +112,7 @@ module _ (s : Setup) where
     -- ---- requests ----
 
     pub forwarded : (r : Request) → IsClients r → Calm joined opened (requests ++ r ∷ []) (queue ++ wire r) (Forwarded r ∷ past)
-    unfolding present in_use view message_count to_modem modem_drained
+    unfolding present in_use view message_count to_modem modem_taken_count
     forwarded r client = record {
       there = calm.there;
       harmless = (tt, calm.harmless);
@@ -126,7 +126,7 @@ module _ (s : Setup) where
     }
 
     pub answered : (r : Request) (m : List ℕ) → Calm joined opened (without_request r requests) queue (Answered r m ∷ past)
-    unfolding present in_use view message_count to_modem modem_drained
+    unfolding present in_use view message_count to_modem modem_taken_count
     answered r m = record {
       there = calm.there;
       harmless = (tt, calm.harmless);
@@ -140,14 +140,14 @@ module _ (s : Setup) where
     }
 
     pub late : (r : Request) → Calm joined opened (without_request r requests) queue (Late r ∷ past)
-    unfolding present in_use view message_count to_modem modem_drained
+    unfolding present in_use view message_count to_modem modem_taken_count
     late r = record { there = calm.there; harmless = (tt, calm.harmless); open_ones = calm.open_ones; uses = ap (without_request r) calm.uses; clients = all_filter IsClients _ requests calm.clients; quiet = calm.quiet; taken = calm.taken; to_it = calm.to_it; count = calm.count }
 
     -- ---- the modem takes all that waits ----
 
-    pub modem_drained_all : (count : ℕ) → count ≡ length queue → Calm joined opened requests [] (ModemDrained count ∷ past)
-    unfolding present in_use view message_count to_modem modem_drained
-    modem_drained_all count is = record {
+    pub modem_taken_all : (count : ℕ) → count ≡ length queue → Calm joined opened requests [] (ModemTaken count ∷ past)
+    unfolding present in_use view message_count to_modem modem_taken_count
+    modem_taken_all count is = record {
       there = calm.there;
       harmless = (tt, calm.harmless);
       open_ones = calm.open_ones;
@@ -166,7 +166,7 @@ module _ (s : Setup) where
   quiet_still false said none = none
 
   pub admitted : {joined : ℕ} {requests : List Request} {queue : List ℕ} {past : List Fact} → Calm joined 0 requests queue past → Calm (joined + 1) 0 requests queue (Admitted (joined + 1) ∷ past)
-  unfolding present in_use view message_count to_modem modem_drained
+  unfolding present in_use view message_count to_modem modem_taken_count
   admitted {joined} {past = past} calm = record {
     there = ap (λ (l : List ℕ). l ++ (joined + 1) ∷ []) calm.there ∙ range-more 1 joined (joined + 1) (omega arith);
     harmless = (tt, calm.harmless);
@@ -179,7 +179,7 @@ module _ (s : Setup) where
     count = calm.count;
   }
 
-  opened_now : (b : Bool) (m : List ℕ) (entries : List Entry) → is_malformed m ≡ false → opens s.device m ≡ true → (b ≡ false → is_open s.device entries ≡ true) → is_open s.device (entry_if b (Sent m Own) entries) ≡ true
+  opened_now : (b : Bool) (m : List ℕ) (entries : List Entry) → is_malformed m ≡ false → opens s.device m ≡ true → (b ≡ false → is_open s.device entries ≡ true) → is_open s.device (entry_if b (Said m Own) entries) ≡ true
   unfolding told_by
   opened_now true m entries fine opening old =
       or_left (not (is_malformed m) && opens s.device m) (is_open s.device entries) (ap (λ (b : Bool). not b && opens s.device m) fine ∙ opening)
@@ -187,7 +187,7 @@ module _ (s : Setup) where
 
   pub judged_opening : {joined opened : ℕ} {requests : List Request} {queue : List ℕ} {past : List Fact} → Calm joined opened requests queue past → (place : ℕ) (m : List ℕ) → is_malformed m ≡ false → opens s.device m ≡ true
       → Calm joined (opened + 1) requests queue (Judged (opened + 1) place m Own ∷ past)
-  unfolding present in_use view message_count to_modem modem_drained
+  unfolding present in_use view message_count to_modem modem_taken_count
   judged_opening {opened = opened} {past = past} calm place m fine opening = record {
     there = calm.there;
     harmless = ((fine, opening), calm.harmless);

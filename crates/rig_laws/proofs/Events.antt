@@ -10,8 +10,8 @@ use Rattle.qmux_frame.specs.Framing.{size_of-kept, size_of-positive}
 use Rattle.proxy_history.specs.Events.{Event, Joined, Piece, ModemPiece, Now, Took, ModemTook}
 use Rattle.proxy_history.specs.Coming.{piece_limit, greatest_name, queued_for}
 use Rattle.proxy_history.specs.Streams.{stream, modem_stream, with_piece, messages_of_piece, is_bad}
-use Rattle.proxy_history.specs.Items.{Says, Garbles, ModemSays, ModemFails, item_if, modem_items}
-use Rattle.proxy_history.specs.Facts.{Fact, Request, EventBegan, Own, NotAdmitted, Ended, Admitted, Judged, Drained, TimeIs}
+use Rattle.proxy_history.specs.Items.{Says, GoesBad, ModemSays, ModemIsLost, item_if, modem_items}
+use Rattle.proxy_history.specs.Facts.{Fact, Request, EventBegan, Own, NotAdmitted, Ended, Admitted, Judged, Taken, TimeIs}
 use Rattle.proxy_history.specs.Connections.{present, is_present, contains, message_count}
 use Rattle.proxy_history.specs.Requests.{in_use, pending, has_share}
 use Rattle.proxy_history.specs.Modem.{now, modem_queue}
@@ -37,7 +37,7 @@ use Rattle.rig_laws.proofs.Lists.{in_range, length-range}
 use Rattle.rig_laws.proofs.Few.{few_expire, few_wait}
 use Rattle.rig_laws.proofs.Plain.{ArePlain, AtEach, IsHarmlessNow}
 use Rattle.rig_laws.proofs.Harmless.{none_released}
-use Rattle.rig_laws.proofs.Calm.{IsClients, Calm, queue_is, taken_within, begun, timed, drained, modem_drained_all, admitted, judged_opening}
+use Rattle.rig_laws.proofs.Calm.{IsClients, Calm, queue_is, taken_within, begun, timed, was_taken, modem_taken_all, admitted, judged_opening}
 use Rattle.rig_laws.proofs.Room.{AllHaveRoom, fewer, all_expire}
 use Rattle.rig_laws.proofs.Says.{IsRequestOf, IsForwarded, opening_is_answered, request_is_refused, request_is_forwarded}
 use Rattle.rig_laws.proofs.Hears.{Suits, answer_is_heard}
@@ -83,7 +83,7 @@ module _ (s : Setup) where
   taken {joined} {opened} {requests} {queue} {events} c count going within =
       let began : Calm s joined opened requests queue (EventBegan ∷ history s events) = begun s going.calm in
       let calm : Calm s joined opened requests queue (history s (Took c count ∷ events)) =
-      elim (is_present c (EventBegan ∷ history s events)) as (λ b. Calm s joined opened requests queue (if b then Drained c count ∷ EventBegan ∷ history s events else EventBegan ∷ history s events)) [ true ↦ drained s began c count | false ↦ began ] in
+      elim (is_present c (EventBegan ∷ history s events)) as (λ b. Calm s joined opened requests queue (if b then Taken c count ∷ EventBegan ∷ history s events else EventBegan ∷ history s events)) [ true ↦ was_taken s began c count | false ↦ began ] in
       record {
         sound = (within, going.sound);
         names = going.names;
@@ -101,7 +101,7 @@ module _ (s : Setup) where
       → Going joined opened requests [] (ModemTook count ∷ events)
   unfolding proxy.history proxy.add_all stream modem_stream
   modem_taken {joined} {opened} {requests} {queue} {events} count going is =
-      let calm : Calm s joined opened requests [] (history s (ModemTook count ∷ events)) = modem_drained_all s (begun s going.calm) count is in
+      let calm : Calm s joined opened requests [] (history s (ModemTook count ∷ events)) = modem_taken_all s (begun s going.calm) count is in
       record {
         sound = (let waits : length (modem_queue wire (history s events)) ≡ length queue = ap length (queue_is s going.calm) in omega (arith, waits, is), going.sound);
         names = going.names;
@@ -151,8 +151,8 @@ module _ (s : Setup) where
     piece_history there =
         let ends = ends_message size_of size_of-kept size_of-positive refl (stream c events) m [] m (whole c) refl is in
         let began : List Fact = EventBegan ∷ history s events in
-        ap (λ (l : List (List ℕ)). add_all s (map (λ m. Says c m) l ++ item_if (is_bad size_of (stream c events ++ m)) (Garbles c)) began) ends.messages
-        ∙ ap (λ (b : Bool). add_all s (map (λ m. Says c m) (m ∷ []) ++ item_if b (Garbles c)) began) ends.good
+        ap (λ (l : List (List ℕ)). add_all s (map (λ m. Says c m) l ++ item_if (is_bad size_of (stream c events ++ m)) (GoesBad c)) began) ends.messages
+        ∙ ap (λ (b : Bool). add_all s (map (λ m. Says c m) (m ∷ []) ++ item_if b (GoesBad c)) began) ends.good
         ∙ ap (λ (b : Bool). if b then hear_client s c m began else began) there
 
     piece_whole : (d : ℕ) → (cut size_of (stream d (Piece c m ∷ events))).rest ≡ []
@@ -237,8 +237,8 @@ module _ (s : Setup) where
   modem_history events before m stream_is messages_are good =
       let began : List Fact = EventBegan ∷ history s events in
       ap (λ (o : Option (List ℕ)). add_all s (modem_items (qmi_protocol s) m o) began) stream_is
-      ∙ ap (λ (l : List (List ℕ)). add_all s (map (λ m. ModemSays m) l ++ item_if (is_bad size_of (before ++ m)) ModemFails) began) messages_are
-      ∙ ap (λ (b : Bool). add_all s (map (λ m. ModemSays m) (m ∷ []) ++ item_if b ModemFails) began) good
+      ∙ ap (λ (l : List (List ℕ)). add_all s (map (λ m. ModemSays m) l ++ item_if (is_bad size_of (before ++ m)) ModemIsLost) began) messages_are
+      ∙ ap (λ (b : Bool). add_all s (map (λ m. ModemSays m) (m ∷ []) ++ item_if b ModemIsLost) began) good
 
   -- each request in use is of its message's space
   pub placed : (events : List Event) (r : Request) → Contains (in_use (EventBegan ∷ history s events)) r → r.space ≡ space_of r.message

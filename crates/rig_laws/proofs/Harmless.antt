@@ -3,11 +3,11 @@ use Rattle.std.proofs.Common.{◌≡◌, ℕ, Bool, true, false, not, ◌&&◌, 
 use Rattle.std.specs.List.{AllByRecursion}
 use Rattle.std.proofs.lemmas.Bool.{eqb-true, eq-eqb, and_parts, false_from_ne_true}
 use Rattle.kit_bytes.proofs.Lists.{all_filter, all_push}
-use Rattle.proxy_history.specs.Facts.{Fact, Own, Share, Foreign, Away, Full, Forward, Ready, Waits, Admitted, Ended, Judged, Drained, Answered, IdHeld, Expired, Aborted, Indicated, OpeningEnded, SessionsClosed, Granted, Freed, Reset, ModemLost, ModemReturned}
+use Rattle.proxy_history.specs.Facts.{Fact, Own, Share, Foreign, Away, Full, Forward, Ready, Waits, Admitted, Ended, Judged, Taken, Answered, IdHeld, Expired, Aborted, Indicated, OpeningEnded, SessionsClosed, Granted, Freed, Reset, ModemLost, ModemReturned}
 use Rattle.proxy_history.specs.Connections.{contains}
 use Rattle.proxy_history.specs.ClientIds.{Grant, KeptId, is_of, held, kept, holder_in, holder, is_other}
 use Rattle.proxy_history.specs.Modem.{is_away}
-use Rattle.proxy_history.specs.View.{Entry, Sent, Response, Refused, Indication, OpenedWith, Shut, Collected, NoAnswer, entry_if, view}
+use Rattle.proxy_history.specs.View.{Entry, Said, Response, Refused, Indication, OpenedWith, Shut, Taking, NoAnswer, entry_if, view}
 use Rattle.proxy_solo.proofs.Undisturbed.{AreUndisturbed}
 use Rattle.qmux_frame.specs.Control.{is_sync, is_proxy_open}
 use Rattle.qmi_proxy.specs.Setup.{Setup}

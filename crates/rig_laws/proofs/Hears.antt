@@ -16,7 +16,7 @@ use Rattle.proxy_history.specs.Connections.{present}
 use Rattle.proxy_history.specs.Requests.{in_use, is_pending, without_request}
 use Rattle.proxy_history.specs.ClientIds.{holder, is_other}
 use Rattle.proxy_history.specs.Sound.{IsSound, Differ}
-use Rattle.proxy_history.specs.View.{Entry, Response, entry_if, view, sent_at}
+use Rattle.proxy_history.specs.View.{Entry, Response, entry_if, view, said_at}
 use Rattle.proxy_history.specs.Rendering.{Rendering, render, put}
 use Rattle.proxy_history.proofs.SoundLaws.{in_use_differ}
 use Rattle.qmi_proxy.specs.Setup.{Setup}
@@ -48,7 +48,7 @@ module _ (s : Setup) (m : List ℕ) (r : Request) (suits : Suits m r) where
   -- ---- the bytes find room ----
 
   answered_rendering : (b : Bool) (entries : List Entry) → b ≡ true → render outbox_limit (text s.device) (entry_if b (Response r.place (blank m)) entries)
-      ≡ put outbox_limit (with_number (number_of (sent_at r.place entries)) (blank m)) (render outbox_limit (text s.device) entries)
+      ≡ put outbox_limit (with_number (number_of (said_at r.place entries)) (blank m)) (render outbox_limit (text s.device) entries)
   unfolding render
   answered_rendering true entries e = refl
   answered_rendering false entries e = absurd (cc)
@@ -59,7 +59,7 @@ module _ (s : Setup) (m : List ℕ) (r : Request) (suits : Suits m r) where
   answer_fits : (past : List Fact) → HasRoom piece_limit (rendering s.device r.conn past) → (rendering s.device r.conn (Answered r m ∷ past)).is_over ≡ false
   unfolding view
   answer_fits past has =
-      let number : ℕ = number_of (sent_at r.place (view_of r.conn past)) in
+      let number : ℕ = number_of (said_at r.place (view_of r.conn past)) in
       let bytes : List ℕ = with_number number (blank m) in
       subst (λ (o : Rendering). o.is_over ≡ false) (sym (answered_rendering (r.conn == r.conn) (view_of r.conn past) (eq-eqb r.conn r.conn refl)))
       (put_has_room 0 bytes (rendering s.device r.conn past) (less_room (length bytes + 0) piece_limit (rendering s.device r.conn past) (omega (arith, text_length number, suits.short)) has)).fits

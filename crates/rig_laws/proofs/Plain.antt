@@ -8,7 +8,7 @@ use Rattle.proxy_history.specs.Events.{Event, Joined, Piece, ModemPiece, Now, To
 use Rattle.proxy_history.specs.Coming.{piece_limit}
 use Rattle.proxy_history.specs.Facts.{Fact}
 use Rattle.proxy_history.specs.Connections.{is_present, message_count}
-use Rattle.proxy_history.specs.Modem.{to_modem, modem_drained}
+use Rattle.proxy_history.specs.Modem.{to_modem, modem_taken_count}
 use Rattle.qmi_proxy.specs.Setup.{Setup}
 use Rattle.qmi_proxy.specs.Limits.{connection_limit}
 use Rattle.qmi_proxy.specs.Clients.{wire}
@@ -55,4 +55,4 @@ AtEach P (event ∷ events) = P (event ∷ events) × AtEach P events
 -- the facts so far tell nobody of others and refuse nothing, and the modem took no more than was there
 pub record IsHarmlessNow (s : Setup) (events : List Event) : Type 0 where
   pub harmless : AreHarmless s (history s events)
-  pub within : modem_drained (history s events) ≤ length (to_modem wire (history s events))
+  pub within : modem_taken_count (history s events) ≤ length (to_modem wire (history s events))

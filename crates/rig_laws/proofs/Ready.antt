@@ -6,7 +6,7 @@ use Rattle.qmux_frame.specs.Writing.{head_text}
 use Rattle.proxy_history.specs.Streams.{stream, modem_stream}
 use Rattle.proxy_history.specs.Connections.{present, message_count}
 use Rattle.proxy_history.specs.Requests.{in_use}
-use Rattle.proxy_history.specs.Modem.{to_modem, modem_drained}
+use Rattle.proxy_history.specs.Modem.{to_modem, modem_taken_count}
 use Rattle.proxy_history.specs.History as proxy
 use Rattle.qmi_proxy.specs.Spaces.{space_of, top_of}
 use Rattle.sim_modem.specs.Sim.{Answering, answers}
@@ -28,7 +28,7 @@ unfolding head_text
 allocate_top = refl
 
 nothing_yet : Going setup 0 0 [] [] []
-unfolding proxy.history present in_use message_count to_modem modem_drained stream modem_stream cut_from
+unfolding proxy.history present in_use message_count to_modem modem_taken_count stream modem_stream cut_from
 nothing_yet = record {
   sound = tt;
   names = refl;

@@ -6,7 +6,7 @@ use Rattle.qmux_frame.specs.Reply.{result_tlv, result_reply}
 use Rattle.proxy_history.specs.Facts.{Fact, Request, Ended, NoRoom, Expired}
 use Rattle.proxy_history.specs.Connections.{present, is_present}
 use Rattle.proxy_history.specs.Requests.{is_pending}
-use Rattle.proxy_history.specs.View.{Entry, Refused, NoAnswer, entry_if, view, sent_at}
+use Rattle.proxy_history.specs.View.{Entry, Refused, NoAnswer, entry_if, view, said_at}
 use Rattle.proxy_history.specs.Rendering.{Rendering, render, put}
 use Rattle.proxy_history.specs.Noting.{end_overfull, each_pending, receivers_of}
 use Rattle.qmi_proxy.specs.Setup.{Setup}
@@ -84,10 +84,10 @@ module _ (s : Setup) where
   expired_room : (count : ℕ) (r : Request) (past : List Fact) → AllHaveRoom (20 + count) past → AllHaveRoom count (Expired r ∷ past)
   unfolding view present render
   expired_room count r past has c there =
-      let reply : List ℕ = result_reply (sent_at r.place (view_of c past)) aborted in
+      let reply : List ℕ = result_reply (said_at r.place (view_of c past)) aborted in
       subst (HasRoom count) (sym (rendered_if (r.conn == c) (Refused r.place NoAnswer) (view_of c past)))
       (entry_has_room (r.conn == c) count (20 + count) (put outbox_limit reply (rendering s.device c past)) (rendering s.device c past) (omega arith)
-      (λ mine old. put_has_room count reply (rendering s.device c past) (less_room (length reply + count) (20 + count) (rendering s.device c past) (omega (arith, reply_is_short (sent_at r.place (view_of c past)) aborted)) old))
+      (λ mine old. put_has_room count reply (rendering s.device c past) (less_room (length reply + count) (20 + count) (rendering s.device c past) (omega (arith, reply_is_short (said_at r.place (view_of c past)) aborted)) old))
       (has c there))
 
   refused_alone : (count : ℕ) (r : Request) (past : List Fact) → IsClients r → AllHaveRoom (20 + count) past → refuse s.device (Expired r) r past ≡ Expired r ∷ past

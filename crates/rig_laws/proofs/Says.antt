@@ -14,7 +14,7 @@ use Rattle.proxy_history.specs.Requests.{has_share, in_use, last_number, of_spac
 use Rattle.proxy_history.specs.ClientIds.{holder, is_other}
 use Rattle.proxy_history.specs.Modem.{is_away, modem_queue}
 use Rattle.proxy_history.specs.Sound.{IsSound}
-use Rattle.proxy_history.specs.View.{Sent, entry_if, view}
+use Rattle.proxy_history.specs.View.{Said, entry_if, view}
 use Rattle.proxy_history.specs.Rendering.{Rendering, render, put}
 use Rattle.proxy_history.specs.Laws.{IsFirstFree}
 use Rattle.proxy_history.proofs.Numbers.{number_after-free}
@@ -109,10 +109,10 @@ module _ (s : Setup) (c : ℕ) (m : List ℕ) where
 
   -- its reply is a result with this error
   abbrev HasError : Verdict → (error : ℕ) → List Fact → Type 0
-  HasError verdict error past = text s.device (view_of c past) (Sent m verdict) ≡ result_reply m error
+  HasError verdict error past = text s.device (view_of c past) (Said m verdict) ≡ result_reply m error
 
   judged_rendering : (b : Bool) (verdict : Verdict) (error : ℕ) (past : List Fact) → b ≡ true → HasError verdict error past
-      → render outbox_limit (text s.device) (entry_if b (Sent m verdict) (view_of c past)) ≡ put outbox_limit (result_reply m error) (rendering s.device c past)
+      → render outbox_limit (text s.device) (entry_if b (Said m verdict) (view_of c past)) ≡ put outbox_limit (result_reply m error) (rendering s.device c past)
   unfolding render
   judged_rendering true verdict error past e is = ap (λ (reply : List ℕ). put outbox_limit reply (rendering s.device c past)) is
   judged_rendering false verdict error past e is = absurd (cc)

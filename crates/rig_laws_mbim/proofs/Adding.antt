@@ -1,7 +1,7 @@
 -- What each event of a rig adds to its facts. Lists of events and of facts have the newest first.
 use Rattle.std.proofs.Common.{◌≡◌, ℕ, ◌+◌, ◌^◌, ◌<◌, ◌≤◌, max, true, false, ◌==◌, if◌then◌else◌, List, [], ◌∷◌, ◌++◌, length, drop}
 use Rattle.proxy_history.specs.Events.{Event, Joined, Piece, ModemPiece, Now, Took, ModemTook}
-use Rattle.proxy_history.specs.Facts.{Fact, Request, EventBegan, Own, Share, Forward, Ready, Waits, Admitted, Judged, Drained, Forwarded, Answered, Expired, OpeningEnded, ModemDrained, TimeIs}
+use Rattle.proxy_history.specs.Facts.{Fact, Request, EventBegan, Own, Share, Forward, Ready, Waits, Admitted, Judged, Taken, Forwarded, Answered, Expired, OpeningEnded, ModemTaken, TimeIs}
 use Rattle.proxy_history.specs.Connections.{is_present, message_count}
 use Rattle.proxy_history.specs.Requests.{in_use, pending, is_pending, forward_count, deadline_of}
 use Rattle.proxy_history.specs.Modem.{now, modem_queue}
@@ -149,8 +149,8 @@ Adds (Joined c) past after = Joins c past after
 Adds (Piece c m) past after = IsNamed c past × HasSaid c m past after
 Adds (ModemPiece m) past after = HasHeard m past after
 Adds (Now time) past after = Passes time past after
-Adds (Took c count) past after = after ≡ (if is_present c past then Drained c count ∷ began past else began past)
-Adds (ModemTook count) past after = after ≡ ModemDrained count ∷ began past
+Adds (Took c count) past after = after ≡ (if is_present c past then Taken c count ∷ began past else began past)
+Adds (ModemTook count) past after = after ≡ ModemTaken count ∷ began past
 Adds _ past after = ⊥
 
 -- an event behind these

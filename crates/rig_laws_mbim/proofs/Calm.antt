@@ -7,11 +7,11 @@ use Rattle.std.proofs.Math.Seq.{drop-append_seam}
 use Rattle.kit_bytes.specs.declared.services.TheConstants.{BASIC_CONNECT, SMS, USSD, PHONEBOOK, STK}
 use Rattle.kit_bytes.specs.Subscriptions.{Pair, merge, normal_form, ordered_pairs, pairs_with, is_beside_all}
 use Rattle.kit_bytes.specs.Services.{starting_list}
-use Rattle.proxy_history.specs.Facts.{Fact, Request, Verdict, EventBegan, Own, Ready, Waits, Admitted, Judged, Drained, Forwarded, Answered, Late, Expired, OpeningEnded, ModemDrained, TimeIs}
+use Rattle.proxy_history.specs.Facts.{Fact, Request, Verdict, EventBegan, Own, Ready, Waits, Admitted, Judged, Taken, Forwarded, Answered, Late, Expired, OpeningEnded, ModemTaken, TimeIs}
 use Rattle.proxy_history.specs.Connections.{contains, present, message_count}
 use Rattle.proxy_history.specs.Requests.{in_use, pending, without_request}
-use Rattle.proxy_history.specs.Modem.{to_modem, modem_drained, modem_queue}
-use Rattle.proxy_history.specs.View.{Entry, Sent, Response, Refused, OpenedWith, Collected, NoAnswer, entry_if, view}
+use Rattle.proxy_history.specs.Modem.{to_modem, modem_taken_count, modem_queue}
+use Rattle.proxy_history.specs.View.{Entry, Said, Response, Refused, OpenedWith, Taking, NoAnswer, entry_if, view}
 use Rattle.proxy_history.specs.Wording.{told_by}
 use Rattle.mbim_proxy.specs.Known.{Known}
 use Rattle.mbim_proxy.specs.OwnReplies.{OwnReply}
@@ -83,10 +83,10 @@ pub record Calm (w : Progress) (requests : List Request) (queue : List ℕ) (pas
   -- what the modem took, and what waits for it
   pub taken : List ℕ
   pub to_it : to_modem (wire setup) past ≡ taken ++ queue
-  pub count : modem_drained past ≡ length taken
+  pub count : modem_taken_count past ≡ length taken
 
 pub queue_is : {w : Progress} {requests : List Request} {queue : List ℕ} {past : List Fact} → Calm w requests queue past → modem_queue (wire setup) past ≡ queue
-queue_is {queue = queue} {past = past} calm = ap (drop (modem_drained past)) calm.to_it ∙ ap (λ (n : ℕ). drop n (calm.taken ++ queue)) calm.count ∙ drop-append_seam calm.taken queue
+queue_is {queue = queue} {past = past} calm = ap (drop (modem_taken_count past)) calm.to_it ∙ ap (λ (n : ℕ). drop n (calm.taken ++ queue)) calm.count ∙ drop-append_seam calm.taken queue
 
 -- ---- what entries leave as it is ----
 
@@ -127,7 +127,7 @@ module _ {w : Progress} {requests : List Request} {queue : List ℕ} {past : Lis
   -- ---- facts that change nothing of this ----
 
   pub begun : Calm w requests queue (EventBegan ∷ past)
-  unfolding present message_count in_use pending view to_modem modem_drained state last_list
+  unfolding present message_count in_use pending view to_modem modem_taken_count state last_list
   begun = record {
     there = calm.there;
     order = calm.order;
@@ -144,7 +144,7 @@ module _ {w : Progress} {requests : List Request} {queue : List ℕ} {past : Lis
   }
 
   pub timed : (time : ℕ) → Calm w requests queue (TimeIs time ∷ past)
-  unfolding present message_count in_use pending view to_modem modem_drained state last_list
+  unfolding present message_count in_use pending view to_modem modem_taken_count state last_list
   timed time = record {
     there = calm.there;
     order = calm.order;
@@ -160,32 +160,32 @@ module _ {w : Progress} {requests : List Request} {queue : List ℕ} {past : Lis
     count = calm.count;
   }
 
-  pub drained : (c count : ℕ) → Calm w requests queue (Drained c count ∷ past)
-  unfolding present message_count in_use pending view to_modem modem_drained state last_list
-  drained d count = record {
+  pub was_taken : (c count : ℕ) → Calm w requests queue (Taken c count ∷ past)
+  unfolding present message_count in_use pending view to_modem modem_taken_count state last_list
+  was_taken d count = record {
     there = calm.there;
     order = calm.order;
     named = calm.named;
     spoke = calm.spoke;
     harmless = (tt, calm.harmless);
-    knows = λ c. still_if w c (d == c) (Collected count) (view_of c past) (λ known. (refl, refl, refl)) (calm.knows c);
+    knows = λ c. still_if w c (d == c) (Taking count) (view_of c past) (λ known. (refl, refl, refl)) (calm.knows c);
     state_is = calm.state_is;
-    tells = tells_still w.modem w.opened requests past (Drained d count ∷ past) refl refl calm.tells;
+    tells = tells_still w.modem w.opened requests past (Taken d count ∷ past) refl refl calm.tells;
     uses = calm.uses;
     taken = calm.taken;
     to_it = calm.to_it;
     count = calm.count;
   }
 
-  pub judged : (c place : ℕ) (m : List ℕ) (verdict : Verdict) → c ≤ w.opened → IsHarmless (Judged c place m verdict) past → ((known : Known) → SameFlags known (step.step setup known (Sent m verdict))) → Calm w requests queue (Judged c place m verdict ∷ past)
-  unfolding present message_count in_use pending view to_modem modem_drained state last_list
+  pub judged : (c place : ℕ) (m : List ℕ) (verdict : Verdict) → c ≤ w.opened → IsHarmless (Judged c place m verdict) past → ((known : Known) → SameFlags known (step.step setup known (Said m verdict))) → Calm w requests queue (Judged c place m verdict ∷ past)
+  unfolding present message_count in_use pending view to_modem modem_taken_count state last_list
   judged d place m verdict high harmless same = record {
     there = calm.there;
     order = calm.order;
     named = calm.named;
     spoke = λ c. spoke_asking w d (d == c) c (message_count c past) refl high calm.named (calm.spoke c);
     harmless = (harmless, calm.harmless);
-    knows = λ c. still_if w c (d == c) (Sent m verdict) (view_of c past) same (calm.knows c);
+    knows = λ c. still_if w c (d == c) (Said m verdict) (view_of c past) same (calm.knows c);
     state_is = calm.state_is;
     tells = tells_still w.modem w.opened requests past (Judged d place m verdict ∷ past) refl refl calm.tells;
     uses = calm.uses;
@@ -196,9 +196,9 @@ module _ {w : Progress} {requests : List Request} {queue : List ℕ} {past : Lis
 
   -- ---- the modem takes all that waits ----
 
-  pub modem_drained_all : (count : ℕ) → count ≡ length queue → Calm w requests [] (ModemDrained count ∷ past)
-  unfolding present message_count in_use pending view to_modem modem_drained state last_list
-  modem_drained_all count is = record {
+  pub modem_taken_all : (count : ℕ) → count ≡ length queue → Calm w requests [] (ModemTaken count ∷ past)
+  unfolding present message_count in_use pending view to_modem modem_taken_count state last_list
+  modem_taken_all count is = record {
     there = calm.there;
     order = calm.order;
     named = calm.named;
@@ -206,7 +206,7 @@ module _ {w : Progress} {requests : List Request} {queue : List ℕ} {past : Lis
     harmless = (tt, calm.harmless);
     knows = calm.knows;
     state_is = calm.state_is;
-    tells = tells_still w.modem w.opened requests past (ModemDrained count ∷ past) refl refl calm.tells;
+    tells = tells_still w.modem w.opened requests past (ModemTaken count ∷ past) refl refl calm.tells;
     uses = calm.uses;
     taken = calm.taken ++ queue;
     to_it = calm.to_it ∙ sym (append-nil (calm.taken ++ queue));
@@ -223,7 +223,7 @@ knows_answered {w} {past = past} calm r m c = still_if w c (r.conn == c) (Respon
 
 module _ {joined configured opened : ℕ} {requests : List Request} {queue : List ℕ} {past : List Fact} (calm : Calm (ready joined configured opened) requests queue past) where
   pub expired : (r : Request) → Calm (ready joined configured opened) requests queue (Expired r ∷ past)
-  unfolding present message_count in_use pending view to_modem modem_drained state last_list
+  unfolding present message_count in_use pending view to_modem modem_taken_count state last_list
   expired r = record {
     there = calm.there;
     order = calm.order;
@@ -240,7 +240,7 @@ module _ {joined configured opened : ℕ} {requests : List Request} {queue : Lis
   }
 
   pub forwarded : (r : Request) → is_own_open r ≡ false → Calm (ready joined configured opened) (requests ++ r ∷ []) (queue ++ wire setup r) (Forwarded r ∷ past)
-  unfolding present message_count in_use pending view to_modem modem_drained state last_list
+  unfolding present message_count in_use pending view to_modem modem_taken_count state last_list
   forwarded r command = record {
     there = calm.there;
     order = calm.order;
@@ -257,7 +257,7 @@ module _ {joined configured opened : ℕ} {requests : List Request} {queue : Lis
   }
 
   pub answered : (r : Request) (m : List ℕ) → Calm (ready joined configured opened) (without_request r requests) queue (Answered r m ∷ past)
-  unfolding present message_count in_use pending view to_modem modem_drained state last_list
+  unfolding present message_count in_use pending view to_modem modem_taken_count state last_list
   answered r m = record {
     there = calm.there;
     order = calm.order;
@@ -274,7 +274,7 @@ module _ {joined configured opened : ℕ} {requests : List Request} {queue : Lis
   }
 
   pub late : (r : Request) → Calm (ready joined configured opened) (without_request r requests) queue (Late r ∷ past)
-  unfolding present message_count in_use pending view to_modem modem_drained state last_list
+  unfolding present message_count in_use pending view to_modem modem_taken_count state last_list
   late r = record {
     there = calm.there;
     order = calm.order;
@@ -302,7 +302,7 @@ spoke_joined joined true c count spoke = record { nothing = λ less. refl; once 
 spoke_joined joined false c count spoke = record { nothing = spoke.nothing; once = spoke.once; waits = spoke.waits; often = spoke.often }
 
 pub admitted : {joined : ℕ} {requests : List Request} {queue : List ℕ} {past : List Fact} → Calm (shut joined 0) requests queue past → Calm (shut (joined + 1) 0) requests queue (Admitted (joined + 1) ∷ past)
-unfolding present message_count in_use pending view to_modem modem_drained state last_list
+unfolding present message_count in_use pending view to_modem modem_taken_count state last_list
 admitted {joined} {past = past} calm = record {
   there = ap (λ (l : List ℕ). l ++ (joined + 1) ∷ []) calm.there ∙ range-more 1 joined (joined + 1) (omega arith);
   order = omega arith;
@@ -320,7 +320,7 @@ admitted {joined} {past = past} calm = record {
 
 -- ---- a client names the device ----
 
-configured_flags : (known : Known) → IsSteady known → SameFlags (record known { configured = true }) (step.step setup known (Sent configuration Own))
+configured_flags : (known : Known) → IsSteady known → SameFlags (record known { configured = true }) (step.step setup known (Said configuration Own))
 configured_flags known is =
     subst (λ (reply : OwnReply). SameFlags (record known { configured = true }) (with_reply reply (with_message setup configuration known))) (sym (configuration_is_answered known is.begun)) (refl, refl, refl)
 
@@ -328,7 +328,7 @@ abbrev pub one_more_configured : Progress → Progress
 one_more_configured w = record w { configured = w.configured + 1 }
 
 knows_configured : (w : Progress) (b : Bool) (c : ℕ) (entries : List Entry) → (w.configured + 1 == c) ≡ b → IsSteady (known_from setup entries) → Knows w c (known_from setup entries)
-    → Knows (one_more_configured w) c (known_from setup (entry_if b (Sent configuration Own) entries))
+    → Knows (one_more_configured w) c (known_from setup (entry_if b (Said configuration Own) entries))
 unfolding told_by
 knows_configured w true c entries e is knows =
     let known : Known = known_from setup entries in
@@ -355,7 +355,7 @@ spoke_configured w false c count e named spoke = record {
 
 pub judged_configuration : {w : Progress} {requests : List Request} {queue : List ℕ} {past : List Fact} → Calm w requests queue past → (place : ℕ)
     → Calm (one_more_configured w) requests queue (Judged (w.configured + 1) place configuration Own ∷ past)
-unfolding present message_count in_use pending view to_modem modem_drained state last_list
+unfolding present message_count in_use pending view to_modem modem_taken_count state last_list
 judged_configuration {w} {requests} {queue} {past} calm place = record {
   there = calm.there;
   order = calm.order;
@@ -374,7 +374,7 @@ judged_configuration {w} {requests} {queue} {past} calm place = record {
 -- ---- a client finds the modem open ----
 
 knows_opened : (joined configured opened : ℕ) (b : Bool) (c : ℕ) (entries : List Entry) → (opened + 1 == c) ≡ b → Knows (ready joined configured opened) c (known_from setup entries)
-    → Knows (ready joined configured (opened + 1)) c (known_from setup (entry_if b (Sent open_2 Ready) entries))
+    → Knows (ready joined configured (opened + 1)) c (known_from setup (entry_if b (Said open_2 Ready) entries))
 unfolding told_by
 knows_opened joined configured opened true c entries e knows = record { configured = knows.configured; opened = λ low high. refl; waits = knows.waits }
 knows_opened joined configured opened false c entries e knows = record { configured = knows.configured; opened = λ low high. knows.opened low (grind (arith, nat_tests, e)); waits = knows.waits }
@@ -397,7 +397,7 @@ spoke_opened joined configured opened false c count e more spoke = record {
 
 pub judged_ready : {joined configured opened : ℕ} {requests : List Request} {queue : List ℕ} {past : List Fact} → Calm (ready joined configured opened) requests queue past → opened < configured → configured ≤ joined → (place : ℕ)
     → Calm (ready joined configured (opened + 1)) requests queue (Judged (opened + 1) place open_2 Ready ∷ past)
-unfolding present message_count in_use pending view to_modem modem_drained state last_list
+unfolding present message_count in_use pending view to_modem modem_taken_count state last_list
 judged_ready {joined} {configured} {opened} {past = past} calm more within place = record {
   there = calm.there;
   order = omega (arith, more, within);
@@ -415,7 +415,7 @@ judged_ready {joined} {configured} {opened} {past = past} calm more within place
 
 -- ---- the first client has the modem opened ----
 
-knows_waiting : (joined : ℕ) (b : Bool) (c : ℕ) (entries : List Entry) → (1 == c) ≡ b → Knows (shut joined 1) c (known_from setup entries) → Knows (opening joined) c (known_from setup (entry_if b (Sent open_2 Waits) entries))
+knows_waiting : (joined : ℕ) (b : Bool) (c : ℕ) (entries : List Entry) → (1 == c) ≡ b → Knows (shut joined 1) c (known_from setup entries) → Knows (opening joined) c (known_from setup (entry_if b (Said open_2 Waits) entries))
 unfolding told_by
 knows_waiting joined true c entries e knows =
     let same : (c == 1) ≡ true = grind (arith, nat_tests, e) in
@@ -449,7 +449,7 @@ spoke_waiting joined false c count e spoke =
 
 pub asks_to_open : {joined : ℕ} {past : List Fact} → Calm (shut joined 1) [] [] past → (place : ℕ) (r : Request) → is_own_open r ≡ true
     → Calm (opening joined) (r ∷ []) (wire setup r) (Forwarded r ∷ Judged 1 place open_2 Waits ∷ past)
-unfolding present message_count in_use pending view to_modem modem_drained state last_list
+unfolding present message_count in_use pending view to_modem modem_taken_count state last_list
 asks_to_open {joined} {past} calm place r opens = record {
   there = calm.there;
   order = omega arith;
@@ -483,7 +483,7 @@ spoke_told joined c count spoke = record {
 }
 
 pub opening_ended : {joined : ℕ} {past : List Fact} (r : Request) (m : List ℕ) → Calm (opening joined) (r ∷ []) [] past → 1 ≤ joined → Calm (ready joined 1 1) [] [] (OpeningEnded 0 (1 ∷ []) ∷ Answered r m ∷ past)
-unfolding present message_count in_use pending view to_modem modem_drained state last_list
+unfolding present message_count in_use pending view to_modem modem_taken_count state last_list
 opening_ended {joined} {past} r m calm some = record {
   there = calm.there;
   order = some;
@@ -558,7 +558,7 @@ finished {w} {requests} {queue} calm = subst (Calm w requests queue) (sym (finis
 -- ---- before any event ----
 
 pub nobody_yet : Calm (shut 0 0) [] [] []
-unfolding present message_count in_use pending view to_modem modem_drained state last_list told_by
+unfolding present message_count in_use pending view to_modem modem_taken_count state last_list told_by
 nobody_yet = record {
   there = refl;
   order = omega arith;

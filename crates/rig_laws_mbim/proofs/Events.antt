@@ -13,11 +13,11 @@ use Rattle.mbim_frame.specs.Framing.{size_of-kept, size_of-positive}
 use Rattle.proxy_history.specs.Events.{Event, Joined, Piece, ModemPiece, Now, Took, ModemTook}
 use Rattle.proxy_history.specs.Coming.{piece_limit, greatest_name, queued_for, AreSound}
 use Rattle.proxy_history.specs.Streams.{stream, modem_stream, with_piece, messages_of_piece, is_bad}
-use Rattle.proxy_history.specs.Items.{Item, Says, Garbles, ModemSays, ModemFails, item_if, modem_items}
-use Rattle.proxy_history.specs.Facts.{Fact, Request, EventBegan, Own, Share, Forward, Ready, Waits, NotAdmitted, Ended, Admitted, Judged, Drained, Forwarded, Answered, OpeningEnded, TimeIs}
+use Rattle.proxy_history.specs.Items.{Item, Says, GoesBad, ModemSays, ModemIsLost, item_if, modem_items}
+use Rattle.proxy_history.specs.Facts.{Fact, Request, EventBegan, Own, Share, Forward, Ready, Waits, NotAdmitted, Ended, Admitted, Judged, Taken, Forwarded, Answered, OpeningEnded, TimeIs}
 use Rattle.proxy_history.specs.Connections.{present, is_present, contains, message_count}
 use Rattle.proxy_history.specs.Requests.{has_share, in_use, pending, is_pending, forward_count}
-use Rattle.proxy_history.specs.Modem.{now, to_modem, modem_drained, modem_queue}
+use Rattle.proxy_history.specs.Modem.{now, to_modem, modem_taken_count, modem_queue}
 use Rattle.proxy_history.specs.View.{view}
 use Rattle.proxy_history.specs.Unanswered.{due}
 use Rattle.proxy_history.specs.History as proxy
@@ -43,7 +43,7 @@ use Rattle.rig_laws.proofs.Lists.{in_range, length-range}
 use Rattle.rig_laws_mbim.proofs.Few.{few_expire, commands_wait}
 use Rattle.rig_laws_mbim.proofs.Messages.{configuration_is, opening_is, query, cid_for, query_is, answer, answer_body, answer_is, own_open_under, opened, modem_is_opened}
 use Rattle.rig_laws_mbim.proofs.Harmless.{AreHarmless}
-use Rattle.rig_laws_mbim.proofs.Calm.{Calm, Progress, shut, opening, ready, queue_is, begun, timed, drained, modem_drained_all, admitted, judged_configuration, one_more_configured, judged_ready, asks_to_open, finishes, finished}
+use Rattle.rig_laws_mbim.proofs.Calm.{Calm, Progress, shut, opening, ready, queue_is, begun, timed, was_taken, modem_taken_all, admitted, judged_configuration, one_more_configured, judged_ready, asks_to_open, finishes, finished}
 use Rattle.rig_laws_mbim.proofs.Room.{HasRoom, AllHaveRoom, outbox, fewer, all_expire}
 use Rattle.rig_laws_mbim.proofs.Says.{HasNumber, has_number, configuration_is_heard, open_is_heard, first_is_heard, IsForwarded, IsRefused, query_is_refused, query_is_forwarded}
 use Rattle.rig_laws_mbim.proofs.Hears.{Suits, answered_or_late, answer_is_heard, opening_is_heard}
@@ -108,9 +108,9 @@ pub taken : {w : Progress} {requests : List Request} {queue : List ℕ} {events 
 unfolding proxy.history proxy.add_all stream modem_stream present
 taken {w} {requests} {queue} {events} c count going within =
     let calm : Calm w requests queue (began events) = begun going.calm in
-    let facts : List Fact = if is_present c (history setup events) then Drained c count ∷ began events else began events in
+    let facts : List Fact = if is_present c (history setup events) then Taken c count ∷ began events else began events in
     let then_calm : Calm w requests queue facts =
-    elim (is_present c (history setup events)) as (λ b. Calm w requests queue (if b then Drained c count ∷ began events else began events)) [ true ↦ drained calm c count | false ↦ calm ] in
+    elim (is_present c (history setup events)) as (λ b. Calm w requests queue (if b then Taken c count ∷ began events else began events)) [ true ↦ was_taken calm c count | false ↦ calm ] in
     record {
       sound = (within, going.sound);
       names = going.names;
@@ -133,10 +133,10 @@ modem_taken {w} {requests} {queue} {events} count going is = record {
   said = going.said;
   said_is = going.said_is;
   quiet = going.quiet;
-  calm = finished (modem_drained_all (begun going.calm) count is);
+  calm = finished (modem_taken_all (begun going.calm) count is);
   few = going.few;
-  moments = (moment (finishes (modem_drained_all (begun going.calm) count is)) (modem_drained_all (begun going.calm) count is) refl, going.moments);
-  trail = goes (ModemTook count) going tt (omega arith) (record { whole = going.whole; said = going.said; said_is = going.said_is; quiet = going.quiet }) (finished (modem_drained_all (begun going.calm) count is));
+  moments = (moment (finishes (modem_taken_all (begun going.calm) count is)) (modem_taken_all (begun going.calm) count is) refl, going.moments);
+  trail = goes (ModemTook count) going tt (omega arith) (record { whole = going.whole; said = going.said; said_is = going.said_is; quiet = going.quiet }) (finished (modem_taken_all (begun going.calm) count is));
 }
 
 -- ---- a client joins ----
@@ -176,8 +176,8 @@ module _ (events : List Event) (c : ℕ) (m : List ℕ) (whole : (d : ℕ) → (
   piece_history there =
       let ends = ends_message size_of size_of-kept size_of-positive refl (stream c events) m [] m (whole c) refl is in
       let p = mbim_protocol setup in
-      ap (λ (l : List (List ℕ)). finish setup (add_all p (map (λ m. Says c m) l ++ item_if (is_bad size_of (stream c events ++ m)) (Garbles c)) (began events))) ends.messages
-      ∙ ap (λ (b : Bool). finish setup (add_all p (map (λ m. Says c m) (m ∷ []) ++ item_if b (Garbles c)) (began events))) ends.good
+      ap (λ (l : List (List ℕ)). finish setup (add_all p (map (λ m. Says c m) l ++ item_if (is_bad size_of (stream c events ++ m)) (GoesBad c)) (began events))) ends.messages
+      ∙ ap (λ (b : Bool). finish setup (add_all p (map (λ m. Says c m) (m ∷ []) ++ item_if b (GoesBad c)) (began events))) ends.good
       ∙ ap (λ (b : Bool). finish setup (if b then hear_client setup (known_now setup c (began events)) c m (began events) else began events)) there
 
   piece_whole : (d : ℕ) → (cut size_of (stream d (Piece c m ∷ events))).rest ≡ []

@@ -6,9 +6,9 @@ use Rattle.kit_bytes.specs.Services.{starting_list}
 use Rattle.kit_bytes.proofs.Lists.{all_filter}
 use Rattle.mbim_fragments.specs.Assembling.{Assembled, joining_behind, assembled_after}
 use Rattle.mbim_fragments.specs.Assembling as assembling
-use Rattle.proxy_history.specs.Facts.{Fact, Verdict, Own, Share, Foreign, Away, Full, Forward, Ready, Waits, Admitted, Ended, Judged, Drained, Answered, IdHeld, Expired, Aborted, Indicated, OpeningEnded, SessionsClosed, ModemLost, ModemReturned}
+use Rattle.proxy_history.specs.Facts.{Fact, Verdict, Own, Share, Foreign, Away, Full, Forward, Ready, Waits, Admitted, Ended, Judged, Taken, Answered, IdHeld, Expired, Aborted, Indicated, OpeningEnded, SessionsClosed, ModemLost, ModemReturned}
 use Rattle.proxy_history.specs.Connections.{contains}
-use Rattle.proxy_history.specs.View.{Entry, Sent, Response, Refused, OpenedWith, Collected, NoAnswer, entry_if, view}
+use Rattle.proxy_history.specs.View.{Entry, Said, Response, Refused, OpenedWith, Taking, NoAnswer, entry_if, view}
 use Rattle.proxy_history.specs.Wording.{told_by}
 use Rattle.proxy_solo.proofs.Undisturbed.{AreUndisturbed}
 use Rattle.mbim_frame.specs.Numbers.{u32_at}
@@ -90,15 +90,15 @@ pub configuration_is_answered : (known : Known) → known.begun ≡ assembling.f
 configuration_is_answered known begun =
     ap (λ (a : Assembled). reply_to_joining setup known (joining_behind 65536 a configuration)) begun ∙ configuration_is.reply known
 
-steady_configured : (known : Known) → IsSteady known → IsSteady (step.step setup known (Sent configuration Own))
+steady_configured : (known : Known) → IsSteady known → IsSteady (step.step setup known (Said configuration Own))
 steady_configured known steady =
     subst (λ (reply : OwnReply). IsSteady (with_reply reply (with_message setup configuration known))) (sym (configuration_is_answered known steady.begun))
     (record { begun = ap (λ (a : Assembled). assembled_after 65536 a configuration) steady.begun ∙ configuration_is.closed; list = steady.list; fragment = steady.fragment; asks = steady.asks })
 
-steady_ready : (known : Known) → IsSteady known → IsSteady (step.step setup known (Sent open_2 Ready))
+steady_ready : (known : Known) → IsSteady known → IsSteady (step.step setup known (Said open_2 Ready))
 steady_ready known steady = record { begun = steady.begun; list = steady.list; fragment = refl; asks = steady.asks }
 
-steady_waits : (known : Known) → IsSteady known → IsSteady (step.step setup known (Sent open_2 Waits))
+steady_waits : (known : Known) → IsSteady known → IsSteady (step.step setup known (Said open_2 Waits))
 steady_waits known steady = record { begun = steady.begun; list = steady.list; fragment = refl; asks = steady.asks }
 
 steady_message : (m : List ℕ) (known : Known) → IsWhole m → IsSteady known → IsSteady (with_message setup m known)
@@ -112,7 +112,7 @@ steady_message m known whole steady = record {
   asks = steady.asks;
 }
 
-steady_forwarded : (m : List ℕ) (known : Known) → IsWhole m → IsSteady known → IsSteady (step.step setup known (Sent m Forward))
+steady_forwarded : (m : List ℕ) (known : Known) → IsWhole m → IsSteady known → IsSteady (step.step setup known (Said m Forward))
 steady_forwarded m known whole steady =
     let is = steady_message m known whole steady in
     record { begun = is.begun; list = is.list; fragment = is.fragment; asks = ((let short = length-take 16 (command_with setup known m) in omega (arith, short)), steady.asks) }
@@ -136,13 +136,13 @@ steady c [] all = steady_fresh
 steady c (Admitted d ∷ past) all = steady_joining (d == c) (view_of c past) (steady c past all.1)
 steady c (Ended d why ∷ past) all = absurd all.0
 steady c (Judged d place m Own ∷ past) all =
-    subst (λ (x : List ℕ). IsSteady (known_from setup (entry_if (d == c) (Sent x Own) (view_of c past)))) (sym all.0) (steady_if (d == c) (Sent configuration Own) (view_of c past) steady_configured (steady c past all.1))
+    subst (λ (x : List ℕ). IsSteady (known_from setup (entry_if (d == c) (Said x Own) (view_of c past)))) (sym all.0) (steady_if (d == c) (Said configuration Own) (view_of c past) steady_configured (steady c past all.1))
 steady c (Judged d place m Ready ∷ past) all =
-    subst (λ (x : List ℕ). IsSteady (known_from setup (entry_if (d == c) (Sent x Ready) (view_of c past)))) (sym all.0) (steady_if (d == c) (Sent open_2 Ready) (view_of c past) steady_ready (steady c past all.1))
+    subst (λ (x : List ℕ). IsSteady (known_from setup (entry_if (d == c) (Said x Ready) (view_of c past)))) (sym all.0) (steady_if (d == c) (Said open_2 Ready) (view_of c past) steady_ready (steady c past all.1))
 steady c (Judged d place m Waits ∷ past) all =
-    subst (λ (x : List ℕ). IsSteady (known_from setup (entry_if (d == c) (Sent x Waits) (view_of c past)))) (sym all.0) (steady_if (d == c) (Sent open_2 Waits) (view_of c past) steady_waits (steady c past all.1))
-steady c (Judged d place m Forward ∷ past) all = steady_if (d == c) (Sent m Forward) (view_of c past) (λ known is. steady_forwarded m known all.0.0 is) (steady c past all.1)
-steady c (Judged d place m Share ∷ past) all = steady_if (d == c) (Sent m Share) (view_of c past) (λ known is. steady_message m known all.0.0 is) (steady c past all.1)
+    subst (λ (x : List ℕ). IsSteady (known_from setup (entry_if (d == c) (Said x Waits) (view_of c past)))) (sym all.0) (steady_if (d == c) (Said open_2 Waits) (view_of c past) steady_waits (steady c past all.1))
+steady c (Judged d place m Forward ∷ past) all = steady_if (d == c) (Said m Forward) (view_of c past) (λ known is. steady_forwarded m known all.0.0 is) (steady c past all.1)
+steady c (Judged d place m Share ∷ past) all = steady_if (d == c) (Said m Share) (view_of c past) (λ known is. steady_message m known all.0.0 is) (steady c past all.1)
 steady c (Judged d place m Foreign ∷ past) all = absurd all.0
 steady c (Judged d place m Away ∷ past) all = absurd all.0
 steady c (Judged d place m Full ∷ past) all = absurd all.0
@@ -156,8 +156,8 @@ steady c (Indicated m receivers ∷ past) all = absurd all.0
 steady c (OpeningEnded status receivers ∷ past) all =
     steady_if (contains c receivers) (OpenedWith status) (view_of c past) (λ known is. record { begun = is.begun; list = is.list; fragment = is.fragment; asks = is.asks }) (steady c past all.1)
 steady c (SessionsClosed receivers ∷ past) all = absurd all.0
-steady c (Drained d count ∷ past) all =
-    steady_if (d == c) (Collected count) (view_of c past) (λ known is. is) (steady c past all.1)
+steady c (Taken d count ∷ past) all =
+    steady_if (d == c) (Taking count) (view_of c past) (λ known is. is) (steady c past all.1)
 steady c (_ ∷ past) all = steady c past all.1
 
 -- ---- what passes a share is refused ----

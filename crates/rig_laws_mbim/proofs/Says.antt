@@ -17,7 +17,7 @@ use Rattle.proxy_history.specs.Decision.{Decision, Replies, Forwards, forwards_u
 use Rattle.proxy_history.specs.Connections.{present, is_present, message_count}
 use Rattle.proxy_history.specs.Requests.{has_share, in_use, forward_count, last_number, of_space, numbers_of, numbers_in_use, next_number, number_after, following, free_from, deadline_of}
 use Rattle.proxy_history.specs.Modem.{now, modem_queue}
-use Rattle.proxy_history.specs.View.{Entry, Sent, entry_if, view}
+use Rattle.proxy_history.specs.View.{Entry, Said, entry_if, view}
 use Rattle.proxy_history.specs.Rendering.{Rendering, render, put}
 use Rattle.mbim_proxy.specs.Setup.{the_space}
 use Rattle.mbim_proxy.specs.Known.{Known}
@@ -91,15 +91,15 @@ module _ (c : ℕ) (past : List Fact) where
 
   -- ---- a fact about its message alone brings it a short text ----
 
-  judged_alone : (m : List ℕ) (verdict : Verdict) → length (text_as setup known (Sent m verdict)) ≤ 200 → AllHaveRoom 200 past
+  judged_alone : (m : List ℕ) (verdict : Verdict) → length (text_as setup known (Said m verdict)) ≤ 200 → AllHaveRoom 200 past
       → note setup (Judged c (message_count c past + 1) m verdict) past ≡ Judged c (message_count c past + 1) m verdict ∷ past
   unfolding view present render
   judged_alone m verdict short has =
       noted (Judged c (message_count c past + 1) m verdict) past c refl
-      (λ there. subst (λ (r : Rendering). r.is_over ≡ false) (sym (sent_for (c == c) (Sent m verdict) (view_of c past) (eq-eqb c c refl)))
-      (put_has_room 0 (text_as setup known (Sent m verdict)) (bytes_for c past) (less_room (length (text_as setup known (Sent m verdict)) + 0) 200 (bytes_for c past) (omega (arith, short)) (has c there))).fits)
+      (λ there. subst (λ (r : Rendering). r.is_over ≡ false) (sym (sent_for (c == c) (Said m verdict) (view_of c past) (eq-eqb c c refl)))
+      (put_has_room 0 (text_as setup known (Said m verdict)) (bytes_for c past) (less_room (length (text_as setup known (Said m verdict)) + 0) 200 (bytes_for c past) (omega (arith, short)) (has c there))).fits)
 
-  configured_text : IsSteady known → length (text_as setup known (Sent configuration Own)) ≤ 200
+  configured_text : IsSteady known → length (text_as setup known (Said configuration Own)) ≤ 200
   configured_text is =
       subst (λ (reply : OwnReply). length (reply_text known (number_of configuration) reply) ≤ 200) (sym (configuration_is_answered known is.begun))
       (subst (λ (n : ℕ). length (split (kind_number CommandDone) (number_of configuration) n (done_text (record { uuid = uuid_of configuring; cid = cid_of configuring; status = SUCCESS }) [])) ≤ 200) (sym is.fragment) (lit≤ tt))
@@ -191,9 +191,9 @@ module _ (c : ℕ) (past : List Fact) where
     whole : IsWhole m
     whole = let q = query_is choice in record { fragment = q.fragment own; no_open = q.no_open own; closed = q.closed own }
 
-    refused_text : IsSteady known → length (text_as setup known (Sent m Share)) ≤ 200
+    refused_text : IsSteady known → length (text_as setup known (Said m Share)) ≤ 200
     refused_text is =
-        let same : text_as setup known (Sent m Share) ≡ done_to known (number_of m) (body (cid_for choice)) SHARE_PASSED [] = ap (λ (j : Joining). done_to known (number_of m) (whole_body j) SHARE_PASSED []) (joins is.begun) in
+        let same : text_as setup known (Said m Share) ≡ done_to known (number_of m) (body (cid_for choice)) SHARE_PASSED [] = ap (λ (j : Joining). done_to known (number_of m) (whole_body j) SHARE_PASSED []) (joins is.begun) in
         subst (λ (l : List ℕ). length l ≤ 200) (sym same)
         (subst (λ (n : ℕ). length (split (kind_number CommandDone) (number_of m) n (done_text (record { uuid = uuid_of (body (cid_for choice)); cid = cid_of (body (cid_for choice)); status = SHARE_PASSED }) [])) ≤ 200) (sym is.fragment) ((query_is choice).refused (number_of m)))
 

@@ -1,4 +1,4 @@
--- Where it is the same for a client that is alone, what it meets fits it. Lists of events have the newest first, and a story is told in its order.
+-- Where it is the same for a client that is alone, what it meets fits it. Lists of events have the newest first, and a trace is told in its order.
 use Rattle.std.proofs.Common.{◌≡◌, ℕ, zero, suc, ◌≤◌, Bool, true, false, ◌==◌, ◌&&◌, nat_eq, if◌then◌else◌, List, [], ◌∷◌, fold, length, take, Option, Some, None, refl, sym, ap, ◌∙◌, subst, arith}
 use Rattle.std.specs.List.{starts_with}
 use Rattle.std.specs.Cmp.Lexicographic.{pointwise}
@@ -10,10 +10,10 @@ use Rattle.proxy_history.specs.Connections.{contains}
 use Rattle.proxy_history.specs.Proxy.{Proxy}
 use Rattle.hub_io.specs.Record.{taking}
 use Rattle.rig_runs.specs.Stage.{queued_for}
-use Rattle.rig_story.specs.Rows.{Reading}
-use Rattle.rig_story.specs.declared.Met.{Met}
-use Rattle.rig_story.specs.declared.Met.TheVariants.{Came, Said, Heard, Collected, Passed}
-use Rattle.rig_story.specs.Alone.{meets, hears, own_number, meet_met, met_alone, IsShort, IsSame, IsSameAlone}
+use Rattle.rig_trace.specs.Rows.{Reading}
+use Rattle.rig_trace.specs.declared.Met.{Met}
+use Rattle.rig_trace.specs.declared.Met.TheVariants.{Joins, Said, Heard, Takes, ClockShows}
+use Rattle.rig_trace.specs.Alone.{meets, hears, own_number, meet_met, met_alone, IsShort, IsSame, IsSameAlone}
 use Rattle.rig_notes.specs.Alone.{queue_for, is_short, is_fit, is_fit_alone}
 
 -- ---- what is taken ----
@@ -52,15 +52,15 @@ module _ (reading : Reading) (p : Proxy) (c : ℕ) where
   hears_earlier (Some number) m own takes = event_earlier p (ModemPiece (reading.with_number number m)) own (meets_earlier p (ModemPiece (reading.with_number number m)) own takes)
 
   met_earlier : (met : Met) (own : List Event) → TakesWhatWaits p (meet_met reading p c own met) → TakesWhatWaits p own
-  met_earlier (Came d) own takes = met_if_earlier p (d == c) _ own (λ t. event_earlier p (Joined c) own (meets_earlier p (Joined c) own t)) takes
+  met_earlier (Joins d) own takes = met_if_earlier p (d == c) _ own (λ t. event_earlier p (Joined c) own (meets_earlier p (Joined c) own t)) takes
   met_earlier (Said d m) own takes = met_if_earlier p (d == c) _ own (λ t. event_earlier p (Piece c m) own (meets_earlier p (Piece c m) own t)) takes
   met_earlier (Heard d place m) own takes = met_if_earlier p (d == c) _ own (hears_earlier (own_number reading p c place own) m own) takes
-  met_earlier (Collected d bytes) own takes = met_if_earlier p (d == c) _ own (λ t. event_earlier p (Took c (length bytes)) own (meets_earlier p (Took c (length bytes)) own t)) takes
-  met_earlier (Passed time) own takes = event_earlier p (Now time) own (meets_earlier p (Now time) own takes)
+  met_earlier (Takes d bytes) own takes = met_if_earlier p (d == c) _ own (λ t. event_earlier p (Took c (length bytes)) own (meets_earlier p (Took c (length bytes)) own t)) takes
+  met_earlier (ClockShows time) own takes = event_earlier p (Now time) own (meets_earlier p (Now time) own takes)
 
-  all_earlier : (story : List Met) (own : List Event) → TakesWhatWaits p (fold (meet_met reading p c) own story) → TakesWhatWaits p own
+  all_earlier : (trace : List Met) (own : List Event) → TakesWhatWaits p (fold (meet_met reading p c) own trace) → TakesWhatWaits p own
   all_earlier [] own takes = takes
-  all_earlier (met ∷ story) own takes = met_earlier met own (all_earlier story (meet_met reading p c own met) takes)
+  all_earlier (met ∷ trace) own takes = met_earlier met own (all_earlier trace (meet_met reading p c own met) takes)
 
 -- ---- what fits ----
 
@@ -97,21 +97,21 @@ module _ (reading : Reading) (p : Proxy) (c : ℕ) where
   short_fits (Some number) m short = le-leb _ _ short
 
   same_fits : (met : Met) (own : List Event) → IsSame reading p c own met → TakesWhatWaits p (meet_met reading p c own met) → is_fit reading p c (length own == 0) own met ≡ true
-  same_fits (Came d) own same takes = fits_if d (length own == 0) (λ mine. eq-eqb _ _ (ap length (same mine)))
+  same_fits (Joins d) own same takes = fits_if d (length own == 0) (λ mine. eq-eqb _ _ (ap length (same mine)))
   same_fits (Said d m) own same takes = fits_if d _ (λ mine. le-leb _ _ (same mine))
   same_fits (Heard d place m) own same takes = fits_if d _ (λ mine. short_fits (own_number reading p c place own) m (same mine))
-  same_fits (Collected d bytes) own same takes = fits_if d _ (λ mine.
+  same_fits (Takes d bytes) own same takes = fits_if d _ (λ mine.
       let it : (if d == c then meets p (Took c (length bytes)) own else own) ≡ meets p (Took c (length bytes)) own = ap (λ b. if b then meets p (Took c (length bytes)) own else own) (eq-eqb d c mine) in
       takes_first p c own bytes (same mine) (meets_earlier p (Took c (length bytes)) own (subst (TakesWhatWaits p) it takes)).0)
-  same_fits (Passed time) own same takes = refl
+  same_fits (ClockShows time) own same takes = refl
 
-  all_fit : (story : List Met) (own : List Event) → IsSameAlone reading p c own story → TakesWhatWaits p (fold (meet_met reading p c) own story) → is_fit_alone reading p c own story ≡ true
+  all_fit : (trace : List Met) (own : List Event) → IsSameAlone reading p c own trace → TakesWhatWaits p (fold (meet_met reading p c) own trace) → is_fit_alone reading p c own trace ≡ true
   unfolding IsSameAlone is_fit_alone
   all_fit [] own same takes = none_left p c own same
-  all_fit (met ∷ story) own same takes =
+  all_fit (met ∷ trace) own same takes =
       let later : List Event = meet_met reading p c own met in
-      ap (λ b. b && is_fit_alone reading p c later story) (same_fits met own same.0 (all_earlier reading p c story later takes)) ∙ all_fit story later same.1 takes
+      ap (λ b. b && is_fit_alone reading p c later trace) (same_fits met own same.0 (all_earlier reading p c trace later takes)) ∙ all_fit trace later same.1 takes
 
--- the whole story
-pub same_alone_fits : (reading : Reading) (p : Proxy) (c : ℕ) (story : List Met) → IsSameAlone reading p c [] story → TakesWhatWaits p (met_alone reading p c story) → is_fit_alone reading p c [] story ≡ true
-same_alone_fits reading p c story same takes = all_fit reading p c story [] same takes
+-- the whole trace
+pub same_alone_fits : (reading : Reading) (p : Proxy) (c : ℕ) (trace : List Met) → IsSameAlone reading p c [] trace → TakesWhatWaits p (met_alone reading p c trace) → is_fit_alone reading p c [] trace ≡ true
+same_alone_fits reading p c trace same takes = all_fit reading p c trace [] same takes

@@ -1,4 +1,4 @@
--- What a client meets alone, and what runs then. Lists of runs and of events have the newest first, and a story is told in its order.
+-- What a client meets alone, and what runs then. Lists of runs and of events have the newest first, and a trace is told in its order.
 use Rattle.std.proofs.Common.{◌≡◌, ℕ, zero, suc, ◌+◌, ◌<◌, Bool, true, false, ◌==◌, ◌&&◌, nat_eq, nat_le, if◌then◌else◌, List, [], ◌∷◌, fold, get_or, drop, length, Option, Some, None, refl, sym, ap, ◌∙◌, subst}
 use Rattle.std.specs.List.{starts_with}
 use Rattle.std.proofs.Math.Dec.{eqb-suc-zero}
@@ -13,10 +13,10 @@ use Rattle.proxy_serving.specs.Face.{Face}
 use Rattle.proxy_serving.specs.Cores.{Shows}
 use Rattle.core_bench.specs.Runs.{Run}
 use Rattle.rig_stage.specs.Running.{Runs, Moves}
-use Rattle.rig_story.specs.Rows.{Reading, Ledger, number_at}
-use Rattle.rig_story.specs.declared.Met.{Met}
-use Rattle.rig_story.specs.declared.Met.TheVariants.{Came, Said, Heard, Collected, Passed}
-use Rattle.rig_story.specs.Alone.{meets, hears, own_number, meet_met, met_alone}
+use Rattle.rig_trace.specs.Rows.{Reading, Ledger, number_at}
+use Rattle.rig_trace.specs.declared.Met.{Met}
+use Rattle.rig_trace.specs.declared.Met.TheVariants.{Joins, Said, Heard, Takes, ClockShows}
+use Rattle.rig_trace.specs.Alone.{meets, hears, own_number, meet_met, met_alone}
 use Rattle.rig_notes.specs.declared.noting.Noting.{Noting}
 use Rattle.rig_notes.specs.Noting.{Keeps}
 use Rattle.rig_notes.specs.Alone.{is_met, queue_for, is_short, is_fit, is_fit_alone, GoesOn}
@@ -61,18 +61,18 @@ other_is test mine other is = ap (λ t. if t then mine else other) is
 
 module _ (reading : Reading) (p : Proxy) (c : ℕ) (fresh : Bool) (own : List Event) where
   unmet : (met : Met) → is_met c met ≡ false → meet_met reading p c own met ≡ own
-  unmet (Came d) other = other_is (d == c) _ own other
+  unmet (Joins d) other = other_is (d == c) _ own other
   unmet (Said d m) other = other_is (d == c) _ own other
   unmet (Heard d place m) other = other_is (d == c) _ own other
-  unmet (Collected d bytes) other = other_is (d == c) _ own other
-  unmet (Passed time) other = absurd (false≢true (sym other))
+  unmet (Takes d bytes) other = other_is (d == c) _ own other
+  unmet (ClockShows time) other = absurd (false≢true (sym other))
 
   unmet_fits : (met : Met) → is_met c met ≡ false → is_fit reading p c fresh own met ≡ true
-  unmet_fits (Came d) other = other_is (d == c) _ true other
+  unmet_fits (Joins d) other = other_is (d == c) _ true other
   unmet_fits (Said d m) other = other_is (d == c) _ true other
   unmet_fits (Heard d place m) other = other_is (d == c) _ true other
-  unmet_fits (Collected d bytes) other = other_is (d == c) _ true other
-  unmet_fits (Passed time) other = refl
+  unmet_fits (Takes d bytes) other = other_is (d == c) _ true other
+  unmet_fits (ClockShows time) other = refl
 
   some_heard : (number : Option ℕ) (m : List ℕ) → is_short reading number m ≡ true → (length (hears reading p number m own) == 0) ≡ false
   some_heard None m short = absurd (false≢true short)
@@ -82,19 +82,19 @@ module _ (reading : Reading) (p : Proxy) (c : ℕ) (fresh : Bool) (own : List Ev
   met_some test met is some = ap (λ (events : List Event). length events == 0) (mine_is test met own is) ∙ some
 
   something_met : (met : Met) → is_met c met ≡ true → is_fit reading p c fresh own met ≡ true → (length (meet_met reading p c own met) == 0) ≡ false
-  something_met (Came d) mine fit = met_some (d == c) _ mine (some_met p (Joined c) own)
+  something_met (Joins d) mine fit = met_some (d == c) _ mine (some_met p (Joined c) own)
   something_met (Said d m) mine fit = met_some (d == c) _ mine (some_met p (Piece c m) own)
   something_met (Heard d place m) mine fit =
       let number : Option ℕ = own_number reading p c place own in
       met_some (d == c) _ mine (some_heard number m (sym (mine_is (d == c) (is_short reading number m) true mine) ∙ fit))
-  something_met (Collected d bytes) mine fit = met_some (d == c) _ mine (some_met p (Took c (length bytes)) own)
-  something_met (Passed time) mine fit = some_met p (Now time) own
+  something_met (Takes d bytes) mine fit = met_some (d == c) _ mine (some_met p (Took c (length bytes)) own)
+  something_met (ClockShows time) mine fit = some_met p (Now time) own
 
 module _ {B : Type 0} {keeps : Proxy → List Event → B → Type 0} {tells : B → Option (List Run)} (reading : Reading) (c : ℕ) (fresh : Bool) {old new : B} {same : Bool} where
-  pub came_goes_on : (d : ℕ) → is_met c (Came d) ≡ true → GoesOn keeps tells (λ p own. fresh) (λ p own. meets p (Joined c) own) old new same
-      → GoesOn keeps tells (λ p own. is_fit reading p c fresh own (Came d)) (λ p own. meet_met reading p c own (Came d)) old new same
+  pub came_goes_on : (d : ℕ) → is_met c (Joins d) ≡ true → GoesOn keeps tells (λ p own. fresh) (λ p own. meets p (Joined c) own) old new same
+      → GoesOn keeps tells (λ p own. is_fit reading p c fresh own (Joins d)) (λ p own. meet_met reading p c own (Joins d)) old new same
   came_goes_on d mine one =
-      goes_on_as (λ p own. is_fit reading p c fresh own (Came d)) (λ p own. meet_met reading p c own (Came d)) (λ p own kept. sym (mine_is (d == c) fresh true mine))
+      goes_on_as (λ p own. is_fit reading p c fresh own (Joins d)) (λ p own. meet_met reading p c own (Joins d)) (λ p own kept. sym (mine_is (d == c) fresh true mine))
       (λ p own kept. sym (mine_is (d == c) (meets p (Joined c) own) own mine)) one
 
   pub said_goes_on : (d : ℕ) (m : List ℕ) → is_met c (Said d m) ≡ true → GoesOn keeps tells (λ p own. nat_le (length m) piece_limit) (λ p own. meets p (Piece c m) own) old new same
@@ -111,11 +111,11 @@ module _ {B : Type 0} {keeps : Proxy → List Event → B → Type 0} {tells : B
       (λ p own kept. sym (mine_is (d == c) (is_short reading (own_number reading p c place own) m) true mine))
       (λ p own kept. sym (mine_is (d == c) (hears reading p (own_number reading p c place own) m own) own mine)) one
 
-  pub collected_goes_on : (d : ℕ) (bytes : List ℕ) → is_met c (Collected d bytes) ≡ true
+  pub collected_goes_on : (d : ℕ) (bytes : List ℕ) → is_met c (Takes d bytes) ≡ true
       → GoesOn keeps tells (λ p own. starts_with nat_eq (queue_for p c own) bytes) (λ p own. meets p (Took c (length bytes)) own) old new same
-      → GoesOn keeps tells (λ p own. is_fit reading p c fresh own (Collected d bytes)) (λ p own. meet_met reading p c own (Collected d bytes)) old new same
+      → GoesOn keeps tells (λ p own. is_fit reading p c fresh own (Takes d bytes)) (λ p own. meet_met reading p c own (Takes d bytes)) old new same
   collected_goes_on d bytes mine one =
-      goes_on_as (λ p own. is_fit reading p c fresh own (Collected d bytes)) (λ p own. meet_met reading p c own (Collected d bytes))
+      goes_on_as (λ p own. is_fit reading p c fresh own (Takes d bytes)) (λ p own. meet_met reading p c own (Takes d bytes))
       (λ p own kept. sym (mine_is (d == c) (starts_with nat_eq (queue_for p c own) bytes) true mine))
       (λ p own kept. sym (mine_is (d == c) (meets p (Took c (length bytes)) own) own mine)) one
 
@@ -141,15 +141,15 @@ module _ {R B : Type 0} {keeps : Proxy → List Event → B → Type 0} {tells :
       → GoesOn (Keeps reading keeps) tells (λ p own. is_short reading (own_number reading p c place own) m) (λ p own. hears reading p (own_number reading p c place own) m own) old new false
   not_asked none = refused (λ p own kept. sym (ap (λ n. is_short reading n m) (number_is reading c place old ok None none p own kept)))
 
--- ---- a story, met by met ----
+-- ---- a trace, met by met ----
 
--- of the story the client met its part but for what is left, and that fitted it
-pub record HasMet {B : Type 0} (keeps : Proxy → List Event → B → Type 0) (tells : B → Option (List Run)) (reading : Reading) (c : ℕ) (story rest : List Met) (fresh : Bool)
+-- of the trace the client met its part but for what is left, and that fitted it
+pub record HasMet {B : Type 0} (keeps : Proxy → List Event → B → Type 0) (tells : B → Option (List Run)) (reading : Reading) (c : ℕ) (trace rest : List Met) (fresh : Bool)
     (p : Proxy) (opened : Run) (earlier : List Run) (bench : B) : Type 0 where
   pub own : List Event
   pub runs : Runs keeps tells p opened earlier own bench
-  pub fits : is_fit_alone reading p c own rest ≡ is_fit_alone reading p c [] story
-  pub whole : fold (meet_met reading p c) own rest ≡ met_alone reading p c story
+  pub fits : is_fit_alone reading p c own rest ≡ is_fit_alone reading p c [] trace
+  pub whole : fold (meet_met reading p c) own rest ≡ met_alone reading p c trace
   pub unmet : fresh ≡ (length own == 0)
 
 -- what is met fits it, or not
@@ -163,19 +163,19 @@ unfolding is_fit_alone
 fits_last reading p c own = refl
 
 -- this is the next
-pub next_is : (story : List Met) (place : ℕ) (found met : Met) → place < length story → met ≡ get_or story place found → drop place story ≡ met ∷ drop (place + 1) story
-next_is story place found met within is = drop_more story place found within ∙ ap (λ m. m ∷ drop (place + 1) story) (sym is)
+pub next_is : (trace : List Met) (place : ℕ) (found met : Met) → place < length trace → met ≡ get_or trace place found → drop place trace ≡ met ∷ drop (place + 1) trace
+next_is trace place found met within is = drop_more trace place found within ∙ ap (λ m. m ∷ drop (place + 1) trace) (sym is)
 
-module _ {B : Type 0} {keeps : Proxy → List Event → B → Type 0} {tells : B → Option (List Run)} (reading : Reading) (c : ℕ) (story : List Met) (p : Proxy) (opened : Run) (earlier : List Run) where
-  pub nothing_met : (bench : B) → Runs keeps tells p opened earlier [] bench → HasMet keeps tells reading c story story true p opened earlier bench
+module _ {B : Type 0} {keeps : Proxy → List Event → B → Type 0} {tells : B → Option (List Run)} (reading : Reading) (c : ℕ) (trace : List Met) (p : Proxy) (opened : Run) (earlier : List Run) where
+  pub nothing_met : (bench : B) → Runs keeps tells p opened earlier [] bench → HasMet keeps tells reading c trace trace true p opened earlier bench
   nothing_met bench runs = record { own = []; runs = runs; fits = refl; whole = refl; unmet = sym (eq-eqb 0 0 refl) }
 
   -- this is the next that is met
-  pub goes_to : (rest : List Met) (met : Met) (more : List Met) (fresh : Bool) (bench : B) → rest ≡ met ∷ more → HasMet keeps tells reading c story rest fresh p opened earlier bench → HasMet keeps tells reading c story (met ∷ more) fresh p opened earlier bench
-  goes_to rest met more fresh bench is has = subst (λ left. HasMet keeps tells reading c story left fresh p opened earlier bench) is has
+  pub goes_to : (rest : List Met) (met : Met) (more : List Met) (fresh : Bool) (bench : B) → rest ≡ met ∷ more → HasMet keeps tells reading c trace rest fresh p opened earlier bench → HasMet keeps tells reading c trace (met ∷ more) fresh p opened earlier bench
+  goes_to rest met more fresh bench is has = subst (λ left. HasMet keeps tells reading c trace left fresh p opened earlier bench) is has
 
   -- it is another client's
-  pub meets_none : (met : Met) (more : List Met) (fresh : Bool) (bench : B) → is_met c met ≡ false → HasMet keeps tells reading c story (met ∷ more) fresh p opened earlier bench → HasMet keeps tells reading c story more fresh p opened earlier bench
+  pub meets_none : (met : Met) (more : List Met) (fresh : Bool) (bench : B) → is_met c met ≡ false → HasMet keeps tells reading c trace (met ∷ more) fresh p opened earlier bench → HasMet keeps tells reading c trace more fresh p opened earlier bench
   meets_none met more fresh bench other has =
       let same : meet_met reading p c has.own met ≡ has.own = unmet reading p c fresh has.own met other in
       record {
@@ -190,9 +190,9 @@ module _ {B : Type 0} {keeps : Proxy → List Event → B → Type 0} {tells : B
 
   module _ (met : Met) (more : List Met) (fresh : Bool) (old new : B) (same : Bool) (mine : is_met c met ≡ true)
       (goes : GoesOn keeps tells (λ p own. is_fit reading p c fresh own met) (λ p own. meet_met reading p c own met) old new same)
-      (has : HasMet keeps tells reading c story (met ∷ more) fresh p opened earlier old) where
+      (has : HasMet keeps tells reading c trace (met ∷ more) fresh p opened earlier old) where
     -- it is the client's, and fits it
-    pub meets_one : same ≡ true → HasMet keeps tells reading c story more false p opened earlier new
+    pub meets_one : same ≡ true → HasMet keeps tells reading c trace more false p opened earlier new
     meets_one is =
         let fit : is_fit reading p c fresh has.own met ≡ true = sym (goes.told p has.own has.runs.kept) ∙ is in
         record {
@@ -204,7 +204,7 @@ module _ {B : Type 0} {keeps : Proxy → List Event → B → Type 0} {tells : B
         }
 
     -- it doesn't
-    pub unfit : same ≡ false → same ≡ is_fit_alone reading p c [] story
+    pub unfit : same ≡ false → same ≡ is_fit_alone reading p c [] trace
     unfit is = is ∙ sym (fits_first reading p c has.own met more fresh false has.unmet (sym (goes.told p has.own has.runs.kept) ∙ is)) ∙ has.fits
 
 -- ---- what waits for the client ----
@@ -218,12 +218,12 @@ queue_is p past face c shows nobody =
     ] in step (contains c (p.present past)) refl
 
 -- what is left in the end
-module _ {B : Type 0} {keeps : Proxy → List Event → B → Type 0} {tells : B → Option (List Run)} (reading : Reading) (c : ℕ) (story : List Met) (fresh : Bool) (p : Proxy) (opened : Run) (earlier : List Run) (bench : B) (rest : List Met)
-    (is : rest ≡ []) (has : HasMet keeps tells reading c story rest fresh p opened earlier bench) where
-  pub fits_in_the_end : (face : Face) → Shows p has.own face → (contains c face.present ≡ false → face.queue c ≡ []) → (length (face.queue c) == 0) ≡ is_fit_alone reading p c [] story
+module _ {B : Type 0} {keeps : Proxy → List Event → B → Type 0} {tells : B → Option (List Run)} (reading : Reading) (c : ℕ) (trace : List Met) (fresh : Bool) (p : Proxy) (opened : Run) (earlier : List Run) (bench : B) (rest : List Met)
+    (is : rest ≡ []) (has : HasMet keeps tells reading c trace rest fresh p opened earlier bench) where
+  pub fits_in_the_end : (face : Face) → Shows p has.own face → (contains c face.present ≡ false → face.queue c ≡ []) → (length (face.queue c) == 0) ≡ is_fit_alone reading p c [] trace
   fits_in_the_end face shows nobody =
       ap (λ (queue : List ℕ). length queue == 0) (queue_is p has.own face c shows nobody)
       ∙ sym (fits_last reading p c has.own) ∙ sym (ap (is_fit_alone reading p c has.own) is) ∙ has.fits
 
-  pub all_met : Runs keeps tells p opened earlier (met_alone reading p c story) bench
+  pub all_met : Runs keeps tells p opened earlier (met_alone reading p c trace) bench
   all_met = subst (λ events. Runs keeps tells p opened earlier events bench) (sym (ap (fold (meet_met reading p c) has.own) is) ∙ has.whole) has.runs

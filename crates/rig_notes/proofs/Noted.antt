@@ -8,11 +8,11 @@ use Rattle.hub_io.specs.declared.Event.TheVariants as hub
 use Rattle.hub_io.specs.declared.Event.{Event as HubEvent}
 use Rattle.proxy_serving.specs.Face.{Face}
 use Rattle.proxy_serving.specs.Cores.{Shows}
-use Rattle.rig_story.specs.declared.Row.{Row}
-use Rattle.rig_story.specs.declared.Counts.{Counts}
-use Rattle.rig_story.specs.Rows.{Reading, Ledger, without_row, one_answered, has_answered, follow, asked_by, ledger_of}
-use Rattle.rig_story.specs.Story.{met_by, taken_by, story_of}
-use Rattle.rig_story.specs.declared.Met.TheVariants.{Collected}
+use Rattle.rig_trace.specs.declared.Row.{Row}
+use Rattle.rig_trace.specs.declared.Counts.{Counts}
+use Rattle.rig_trace.specs.Rows.{Reading, Ledger, without_row, one_answered, has_answered, follow, asked_by, ledger_of}
+use Rattle.rig_trace.specs.Trace.{met_by, taken_by, trace_of}
+use Rattle.rig_trace.specs.declared.Met.TheVariants.{Takes}
 use Rattle.rig_notes.specs.Notes.{Noted, nothing, NotesEvent, AreNoted}
 
 -- ---- the ledger ----
@@ -28,32 +28,32 @@ is_answered old row found rows counts is fewer counted =
 -- ---- an event more ----
 
 pub nothing_noted : (reading : Reading) (p : Proxy) (noted : Noted) → noted ≡ nothing → AreNoted reading p [] noted
-unfolding ledger_of story_of
-nothing_noted reading p noted none = record { ledger = λ ok. ap (λ (n : Noted). n.ledger) none; story = λ ok. ap (λ (n : Noted). n.story) none }
+unfolding ledger_of trace_of
+nothing_noted reading p noted none = record { ledger = λ ok. ap (λ (n : Noted). n.ledger) none; trace = λ ok. ap (λ (n : Noted). n.trace) none }
 
 module _ (reading : Reading) (p : Proxy) (past : List Event) {old new : Noted} (noted : AreNoted reading p past old) where
   pub notes_event : (event : Event) (asked taken : List ℕ) → NotesEvent reading event asked taken old new → asked ≡ asked_by p event past → taken ≡ taken_by p event past → AreNoted reading p (event ∷ past) new
-  unfolding ledger_of story_of
+  unfolding ledger_of trace_of
   notes_event event asked taken notes new_bytes taken_bytes = record {
     ledger = λ ok.
         ap (λ (n : Noted). n.ledger) (notes ok) ∙ ap (follow reading event asked) (noted.ledger (sym (ap (λ (n : Noted). n.failed) (notes ok)) ∙ ok))
         ∙ ap (λ bytes. follow reading event bytes (ledger_of reading p past)) new_bytes;
-    story = λ ok.
+    trace = λ ok.
         let before : old.failed ≡ false = sym (ap (λ (n : Noted). n.failed) (notes ok)) ∙ ok in
-        ap (λ (n : Noted). n.story) (notes ok) ∙ ap (λ story. story ++ met_by reading event asked taken old.ledger) (noted.story before)
-        ∙ ap (λ ledger. story_of reading p past ++ met_by reading event asked taken ledger) (noted.ledger before)
-        ∙ ap (λ bytes. story_of reading p past ++ met_by reading event bytes taken (ledger_of reading p past)) new_bytes
-        ∙ ap (λ bytes. story_of reading p past ++ met_by reading event (asked_by p event past) bytes (ledger_of reading p past)) taken_bytes;
+        ap (λ (n : Noted). n.trace) (notes ok) ∙ ap (λ trace. trace ++ met_by reading event asked taken old.ledger) (noted.trace before)
+        ∙ ap (λ ledger. trace_of reading p past ++ met_by reading event asked taken ledger) (noted.ledger before)
+        ∙ ap (λ bytes. trace_of reading p past ++ met_by reading event bytes taken (ledger_of reading p past)) new_bytes
+        ∙ ap (λ bytes. trace_of reading p past ++ met_by reading event (asked_by p event past) bytes (ledger_of reading p past)) taken_bytes;
   }
 
   -- a client's taking; what is new for the modem then makes no difference
   pub notes_taking : (c count : ℕ) (asked taken : List ℕ) → NotesEvent reading (Took c count) asked taken old new → taken ≡ take count (p.waiting c past) → AreNoted reading p (Took c count ∷ past) new
-  unfolding ledger_of story_of
+  unfolding ledger_of trace_of
   notes_taking c count asked taken notes bytes = record {
     ledger = λ ok. ap (λ (n : Noted). n.ledger) (notes ok) ∙ noted.ledger (sym (ap (λ (n : Noted). n.failed) (notes ok)) ∙ ok);
-    story = λ ok.
-        ap (λ (n : Noted). n.story) (notes ok) ∙ ap (λ story. story ++ Collected c taken ∷ []) (noted.story (sym (ap (λ (n : Noted). n.failed) (notes ok)) ∙ ok))
-        ∙ ap (λ (b : List ℕ). story_of reading p past ++ Collected c b ∷ []) bytes;
+    trace = λ ok.
+        ap (λ (n : Noted). n.trace) (notes ok) ∙ ap (λ trace. trace ++ Takes c taken ∷ []) (noted.trace (sym (ap (λ (n : Noted). n.failed) (notes ok)) ∙ ok))
+        ∙ ap (λ (b : List ℕ). trace_of reading p past ++ Takes c b ∷ []) bytes;
   }
 
 -- ---- what waits when it comes ----

@@ -1,14 +1,14 @@
--- A client's run alone that is cut short. Lists of runs and of events have the newest first, and a story is told in its order.
+-- A client's run alone that is cut short. Lists of runs and of events have the newest first, and a trace is told in its order.
 use Rattle.std.proofs.Common.{ℕ, Bool, true, false, ◌==◌, if◌then◌else◌, List, [], ◌∷◌, fold, length, Option, Some, None, subst}
 use Rattle.proxy_history.specs.Events.{Event, Joined, Piece, ModemPiece, Now, Took, ModemTook}
 use Rattle.proxy_history.specs.Proxy.{Proxy}
 use Rattle.core_bench.specs.Runs.{Run}
 use Rattle.rig_stage.specs.Running.{Extends, IsCutShort}
 use Rattle.rig_stage.proofs.Stopping.{none_more, one_more, more_then, taking_more}
-use Rattle.rig_story.specs.Rows.{Reading}
-use Rattle.rig_story.specs.declared.Met.{Met}
-use Rattle.rig_story.specs.declared.Met.TheVariants.{Came, Said, Heard, Collected, Passed}
-use Rattle.rig_story.specs.Alone.{meets, hears, own_number, meet_met, met_alone}
+use Rattle.rig_trace.specs.Rows.{Reading}
+use Rattle.rig_trace.specs.declared.Met.{Met}
+use Rattle.rig_trace.specs.declared.Met.TheVariants.{Joins, Said, Heard, Takes, ClockShows}
+use Rattle.rig_trace.specs.Alone.{meets, hears, own_number, meet_met, met_alone}
 use Rattle.rig_notes.proofs.Meeting.{HasMet}
 
 meets_more : (p : Proxy) (event : Event) (own : List Event) → Extends own (meets p event own)
@@ -24,21 +24,21 @@ module _ (reading : Reading) (p : Proxy) (c : ℕ) where
   hears_more (Some number) m own = meets_more p (ModemPiece (reading.with_number number m)) own
 
   met_more : (met : Met) (own : List Event) → Extends own (meet_met reading p c own met)
-  met_more (Came d) own = met_if_more (d == c) (meets p (Joined c) own) own (meets_more p (Joined c) own)
+  met_more (Joins d) own = met_if_more (d == c) (meets p (Joined c) own) own (meets_more p (Joined c) own)
   met_more (Said d m) own = met_if_more (d == c) (meets p (Piece c m) own) own (meets_more p (Piece c m) own)
   met_more (Heard d place m) own = met_if_more (d == c) (hears reading p (own_number reading p c place own) m own) own (hears_more (own_number reading p c place own) m own)
-  met_more (Collected d bytes) own = met_if_more (d == c) (meets p (Took c (length bytes)) own) own (meets_more p (Took c (length bytes)) own)
-  met_more (Passed time) own = meets_more p (Now time) own
+  met_more (Takes d bytes) own = met_if_more (d == c) (meets p (Took c (length bytes)) own) own (meets_more p (Took c (length bytes)) own)
+  met_more (ClockShows time) own = meets_more p (Now time) own
 
-  story_more : (story : List Met) (own : List Event) → Extends own (fold (meet_met reading p c) own story)
-  story_more [] own = none_more own
-  story_more (met ∷ story) own = more_then (met_more met own) (story_more story (meet_met reading p c own met))
+  trace_more : (trace : List Met) (own : List Event) → Extends own (fold (meet_met reading p c) own trace)
+  trace_more [] own = none_more own
+  trace_more (met ∷ trace) own = more_then (met_more met own) (trace_more trace (meet_met reading p c own met))
 
 -- the client met its part but for what is left
-pub stops_short : {B : Type 0} {keeps : Proxy → List Event → B → Type 0} {tells : B → Option (List Run)} (reading : Reading) (c : ℕ) (story rest : List Met) (fresh : Bool) (p : Proxy) (opened : Run) (earlier : List Run) (bench : B)
-    → HasMet keeps tells reading c story rest fresh p opened earlier bench → IsCutShort opened earlier (met_alone reading p c story) (tells bench)
-stops_short reading c story rest fresh p opened earlier bench has = record {
+pub stops_short : {B : Type 0} {keeps : Proxy → List Event → B → Type 0} {tells : B → Option (List Run)} (reading : Reading) (c : ℕ) (trace rest : List Met) (fresh : Bool) (p : Proxy) (opened : Run) (earlier : List Run) (bench : B)
+    → HasMet keeps tells reading c trace rest fresh p opened earlier bench → IsCutShort opened earlier (met_alone reading p c trace) (tells bench)
+stops_short reading c trace rest fresh p opened earlier bench has = record {
   met = has.own;
-  within = subst (λ all. Extends has.own all) has.whole (story_more reading p c rest has.own);
+  within = subst (λ all. Extends has.own all) has.whole (trace_more reading p c rest has.own);
   told = has.runs.told;
 }

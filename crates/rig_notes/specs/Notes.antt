@@ -1,30 +1,30 @@
--- What is noted of a proxy: the ledger and the story of its events. Lists of events have the newest first, and a story is told in its order.
+-- What is noted of a proxy: the ledger and the trace of its events. Lists of events have the newest first, and a trace is told in its order.
 use Rattle.std.specs.Prelude.{◌≡◌, ℕ, Bool, false, List, [], ◌∷◌, ◌++◌}
 use Rattle.proxy_history.specs.Events.{Event}
 use Rattle.proxy_history.specs.Proxy.{Proxy}
-use Rattle.rig_story.specs.Rows.{Reading, Ledger, empty, follow, ledger_of}
-use Rattle.rig_story.specs.Story.{met_by, story_of}
-use Rattle.rig_story.specs.declared.Met.{Met}
+use Rattle.rig_trace.specs.Rows.{Reading, Ledger, empty, follow, ledger_of}
+use Rattle.rig_trace.specs.Trace.{met_by, trace_of}
+use Rattle.rig_trace.specs.declared.Met.{Met}
 
 pub record Noted : Type 0 where
   pub ledger : Ledger
-  pub story : List Met
+  pub trace : List Met
   -- something couldn't be noted, so that it isn't known what was left out
   pub failed : Bool
 
 -- nothing was noted
 abbrev pub nothing : Noted
-nothing = record { ledger = empty; story = []; failed = false }
+nothing = record { ledger = empty; trace = []; failed = false }
 
--- the story goes on
+-- the trace goes on
 abbrev pub told : Met → Noted → Noted
-told met noted = record noted { story = noted.story ++ met ∷ [] }
+told met noted = record noted { trace = noted.trace ++ met ∷ [] }
 
 -- an event came, these bytes were new in the modem's queue then, and a client took these
 abbrev pub with_event : Reading → Event → (asked taken : List ℕ) → Noted → Noted
 with_event reading event asked taken noted = record {
   ledger = follow reading event asked noted.ledger;
-  story = noted.story ++ met_by reading event asked taken noted.ledger;
+  trace = noted.trace ++ met_by reading event asked taken noted.ledger;
   failed = noted.failed;
 }
 
@@ -35,4 +35,4 @@ NotesEvent reading event asked taken old new = new.failed ≡ false → new ≡ 
 -- just these events were noted, unless something couldn't be noted
 pub record AreNoted (reading : Reading) (p : Proxy) (past : List Event) (noted : Noted) : Type 0 where
   pub ledger : noted.failed ≡ false → noted.ledger ≡ ledger_of reading p past
-  pub story : noted.failed ≡ false → noted.story ≡ story_of reading p past
+  pub trace : noted.failed ≡ false → noted.trace ≡ trace_of reading p past

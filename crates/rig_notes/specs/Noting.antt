@@ -2,7 +2,7 @@
 use Rattle.std.specs.Prelude.{List}
 use Rattle.proxy_history.specs.Events.{Event}
 use Rattle.proxy_history.specs.Proxy.{Proxy}
-use Rattle.rig_story.specs.Rows.{Reading}
+use Rattle.rig_trace.specs.Rows.{Reading}
 use Rattle.rig_notes.specs.Notes.{AreNoted}
 use Rattle.rig_notes.specs.declared.noting.Noting.{Noting}
 

@@ -5,7 +5,7 @@ ghost use Rattle.proxy_history.specs.Events as history;
 ghost use Rattle.proxy_serving.specs.Face.{MayCome};
 ghost use Rattle.rig_stage.specs.Ready.{IsReady};
 ghost use Rattle.rig_stage.specs.Running.{Moves};
-ghost use Rattle.rig_story.specs.Alone.{meets, hears, own_number, meet_met};
+ghost use Rattle.rig_trace.specs.Alone.{meets, hears, own_number, meet_met};
 ghost use Rattle.rig_notes.specs.Noting.{Keeps};
 ghost use Rattle.rig_notes.specs.Alone.{is_met, is_short, is_fit, queue_for, GoesOn, RunsAlone, StopsAlone};
 
@@ -14,30 +14,31 @@ use crate::{Noting, Reading, SHORTEST};
 use core_bench::Bench;
 use framing::LONGEST_PIECE;
 use hub_io::Event;
+use kit_bytes::ConnId;
 use rig_stage::{count_waiting, meet, modem_takes};
-use rig_story::Met;
+use rig_trace::Met;
 use std::alloc::{AllocError, Global};
 
-/// Runs the part of a story that a client meets, alone on a core that was just opened, and says
+/// Runs the part of a trace that a client meets, alone on a core that was just opened, and says
 /// whether it is the same alone: whether the client comes once, speaks in one piece, has asked for what
 /// it hears, takes bytes that wait for it just then, and in the end leaves none.
 ///
 /// It fails where memory runs out, where what was run couldn't be noted, and where an answer of the
-/// story has no whole head or its number doesn't fit.
+/// trace has no whole head or its number doesn't fit.
 pub fn run_alone<R: Reading, B: Bench>(
     alloc: Global,
     bench: &mut Noting<R, B>,
-    conn: u64,
-    story: &[Met],
+    conn: ConnId,
+    trace: &[Met],
 ) -> Result<bool, AllocError>
     requires ready { IsReady (B.is_held bench.old.bench) (B.face bench.old.bench) }
     requires new { (B.face bench.old.bench).greatest < conn }
     ensures ready { OnOk result (IsReady (B.is_held bench.new.bench) (B.face bench.new.bench)) }
-    ensures same { IfOk result (RunsAlone (Keeps R.reading B.keeps) (λ s. B.runs s.bench) R.reading conn story.now bench.old bench.new) }
-    ensures stops { OnErr result (StopsAlone (Keeps R.reading B.keeps) (λ s. B.runs s.bench) R.reading conn story.now bench.old bench.new) }
+    ensures same { IfOk result (RunsAlone (Keeps R.reading B.keeps) (λ s. B.runs s.bench) R.reading conn trace.now bench.old bench.new) }
+    ensures stops { OnErr result (StopsAlone (Keeps R.reading B.keeps) (λ s. B.runs s.bench) R.reading conn trace.now bench.old bench.new) }
 {
     let mut fresh = true;
-    for met in story {
+    for met in trace {
         if is_met(conn, met) {
             if !meet_own(alloc, bench, conn, met, fresh)? {
                 return Ok(false);
@@ -49,15 +50,15 @@ pub fn run_alone<R: Reading, B: Bench>(
 }
 
 // Whether the client meets something where this is met.
-fn is_met(conn: u64, met: &Met) -> bool
+fn is_met(conn: ConnId, met: &Met) -> bool
     ensures { result ≡ is_met conn met.now }
 {
     match met {
-        Met::Came(other) => *other == conn,
+        Met::Joins(other) => *other == conn,
         Met::Said(other, _) => *other == conn,
         Met::Heard(other, _, _) => *other == conn,
-        Met::Collected(other, _) => *other == conn,
-        Met::Passed(_) => true,
+        Met::Takes(other, _) => *other == conn,
+        Met::ClockShows(_) => true,
     }
 }
 
@@ -65,7 +66,7 @@ fn is_met(conn: u64, met: &Met) -> bool
 fn meet_own<R: Reading, B: Bench>(
     alloc: Global,
     bench: &mut Noting<R, B>,
-    conn: u64,
+    conn: ConnId,
     met: &Met,
     fresh: bool,
 ) -> Result<bool, AllocError>
@@ -77,11 +78,11 @@ fn meet_own<R: Reading, B: Bench>(
     ensures err { OnErr result (bench.new ≡ bench.old) }
 {
     match met {
-        Met::Came(_) => Ok(come(bench, conn, fresh)),
+        Met::Joins(_) => Ok(come(bench, conn, fresh)),
         Met::Said(_, message) => Ok(say(bench, conn, message.as_slice())),
         Met::Heard(_, place, message) => hear(alloc, bench, conn, *place, message.as_slice()),
-        Met::Collected(_, bytes) => Ok(collect(bench, conn, bytes.as_slice())),
-        Met::Passed(time) => {
+        Met::Takes(_, bytes) => Ok(collect(bench, conn, bytes.as_slice())),
+        Met::ClockShows(time) => {
             meets(bench, Event::Now(*time));
             Ok(true)
         }
@@ -89,7 +90,7 @@ fn meet_own<R: Reading, B: Bench>(
 }
 
 // The client joins, if nothing was met before.
-fn come<B: Bench>(bench: &mut B, conn: u64, fresh: bool) -> bool
+fn come<B: Bench>(bench: &mut B, conn: ConnId, fresh: bool) -> bool
     requires ready { IsReady (B.is_held bench.old) (B.face bench.old) }
     requires new { fresh ≡ true → (B.face bench.old).greatest < conn }
     ensures ready { IsReady (B.is_held bench.new) (B.face bench.new) }
@@ -103,7 +104,7 @@ fn come<B: Bench>(bench: &mut B, conn: u64, fresh: bool) -> bool
 }
 
 // The client says a message, if it is one piece.
-fn say<B: Bench>(bench: &mut B, conn: u64, message: &[u8]) -> bool
+fn say<B: Bench>(bench: &mut B, conn: ConnId, message: &[u8]) -> bool
     requires { IsReady (B.is_held bench.old) (B.face bench.old) }
     ensures ready { IsReady (B.is_held bench.new) (B.face bench.new) }
     ensures same { GoesOn B.keeps B.runs (λ p own. nat_le (length message.now) LONGEST_PIECE) (λ p own. meets p (history.Piece conn message.now) own) bench.old bench.new result }
@@ -120,7 +121,7 @@ fn say<B: Bench>(bench: &mut B, conn: u64, message: &[u8]) -> bool
 fn hear<R: Reading, B: Bench>(
     alloc: Global,
     bench: &mut Noting<R, B>,
-    conn: u64,
+    conn: ConnId,
     place: u64,
     message: &[u8],
 ) -> Result<bool, AllocError>
@@ -153,7 +154,7 @@ fn answer_comes<B: Bench>(bench: &mut B, answer: &[u8]) -> bool
 }
 
 // The client takes bytes, if these wait for it.
-fn collect<B: Bench>(bench: &mut B, conn: u64, bytes: &[u8]) -> bool
+fn collect<B: Bench>(bench: &mut B, conn: ConnId, bytes: &[u8]) -> bool
     requires { IsReady (B.is_held bench.old) (B.face bench.old) }
     ensures ready { IsReady (B.is_held bench.new) (B.face bench.new) }
     ensures same { GoesOn B.keeps B.runs (λ p own. starts_with nat_eq (queue_for p conn own) bytes.now) (λ p own. meets p (history.Took conn (length bytes.now)) own) bench.old bench.new result }
@@ -166,7 +167,7 @@ fn collect<B: Bench>(bench: &mut B, conn: u64, bytes: &[u8]) -> bool
 }
 
 // Whether what waits for the client begins with these bytes.
-fn waits<B: Bench>(bench: &B, conn: u64, bytes: &[u8]) -> bool
+fn waits<B: Bench>(bench: &B, conn: ConnId, bytes: &[u8]) -> bool
     requires { B.is_held bench.now ≡ true }
     ensures waits { result ≡ starts_with nat_eq ((B.face bench.now).queue conn) bytes.now }
     ensures within { result ≡ true → length bytes.now ≤ length ((B.face bench.now).queue conn) }
@@ -176,7 +177,7 @@ fn waits<B: Bench>(bench: &B, conn: u64, bytes: &[u8]) -> bool
 }
 
 // Whether nothing waits for the client.
-fn nothing_waits<B: Bench>(bench: &B, conn: u64) -> bool
+fn nothing_waits<B: Bench>(bench: &B, conn: ConnId) -> bool
     requires { B.is_held bench.now ≡ true }
     ensures { result ≡ (length ((B.face bench.now).queue conn) == 0) }
 {

@@ -1,7 +1,7 @@
 ghost use Rattle.std.specs.Prelude.{◌≡◌, ◌+◌, length, filter, IfOk, if◌then◌else◌};
-ghost use Rattle.rig_story.specs.Rows.{expires, one_answered, one_forwarded, one_refused};
+ghost use Rattle.rig_trace.specs.Rows.{expires, one_answered, one_forwarded, one_refused};
 
-use rig_story::{Counts, Row};
+use rig_trace::{Counts, Row};
 use std::alloc::AllocError;
 
 /// One more. It fails where that is too much.

@@ -1,9 +1,10 @@
 ghost use Rattle.std.specs.Prelude.{◌≡◌, ◌+◌, ◌∷◌, ◌++◌, [], OnOk, IfOk};
-ghost use Rattle.rig_story.specs.Rows.{empty, first_with, has_answered, has_passed, has_said, is_same_key, more_said, number_at, one_forwarded, one_refused, row_for, said_by};
+ghost use Rattle.rig_trace.specs.Rows.{empty, first_with, has_answered, has_passed, has_said, is_same_key, more_said, number_at, one_forwarded, one_refused, row_for, said_by};
 
 use crate::counting::{expired, next, one_answered, one_forwarded, one_refused};
 use crate::{Reading, SHORTEST};
-use rig_story::{Counts, Key, Row};
+use kit_bytes::ConnId;
+use rig_trace::{Counts, Key, Row};
 use std::alloc::{AllocError, Global};
 use std::marker::{Model, PhantomData};
 
@@ -29,7 +30,7 @@ pub(crate) struct Ledger<R: Reading> {
 }
 
 impl<R: Reading> Model for Ledger<R> {
-    ghost use Rattle.rig_story.specs.Rows.{Ledger};
+    ghost use Rattle.rig_trace.specs.Rows.{Ledger};
 
     ghost Value = { Ledger };
 
@@ -65,7 +66,7 @@ impl<R: Reading> Ledger<R> {
     }
 
     /// The number of the request that the client made by its message from this place.
-    pub fn number_at(&self, conn: u64, place: u64) -> Option<u32>
+    pub fn number_at(&self, conn: ConnId, place: u64) -> Option<u32>
         ensures { result ≡ number_at conn place self.now.rows }
     {
         let mut rest: &[Row] = &self.rows;
@@ -80,7 +81,7 @@ impl<R: Reading> Ledger<R> {
 
     /// A client said a message, and then these bytes were new in the modem's queue. Gives the
     /// message's place among the client's, counted from 1.
-    pub fn say(&mut self, conn: u64, message: &[u8], asked: &[u8]) -> Result<u64, AllocError>
+    pub fn say(&mut self, conn: ConnId, message: &[u8], asked: &[u8]) -> Result<u64, AllocError>
         ensures place { IfOk result (λ place. place ≡ said_by conn self.old + 1) }
         ensures said { OnOk result (self.new ≡ has_said R.reading conn message.now asked.now self.old) }
     {
@@ -121,7 +122,7 @@ impl<R: Reading> Ledger<R> {
     }
 
     // One more message of a client, and its place.
-    fn count(&mut self, conn: u64) -> Result<u64, AllocError>
+    fn count(&mut self, conn: ConnId) -> Result<u64, AllocError>
         ensures place { IfOk result (λ place. place ≡ said_by conn self.old + 1) }
         ensures counted { OnOk result (self.new ≡ record self.old { said = more_said conn self.old }) }
     {
@@ -145,7 +146,7 @@ impl<R: Reading> Ledger<R> {
     }
 
     // A client's message from this place made the proxy ask these bytes.
-    fn ask(&mut self, conn: u64, place: u64, asked: &[u8]) -> Result<(), AllocError>
+    fn ask(&mut self, conn: ConnId, place: u64, asked: &[u8]) -> Result<(), AllocError>
         ensures { OnOk result (self.new ≡ record self.old {
           rows = self.old.rows ++ record (row_for R.reading conn asked.now self.old) { place = place } ∷ [];
           asked = self.old.asked + 1;

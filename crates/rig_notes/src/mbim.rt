@@ -4,7 +4,7 @@ ghost use Rattle.mbim_frame.specs.Fragment.{body_of};
 ghost use Rattle.mbim_frame.specs.Head.{is_kind};
 ghost use Rattle.mbim_frame.specs.declared.kind.MessageKind.TheVariants as kinds;
 ghost use Rattle.mbim_services.specs.Table.{proxy_control};
-ghost use Rattle.rig_story.specs.Mbim.{key_of};
+ghost use Rattle.rig_trace.specs.Mbim.{key_of};
 
 use crate::Reading;
 use crate::slices::{behind, front};
@@ -12,7 +12,7 @@ use kit_bytes::Octets;
 use mbim_frame::status::SUCCESS;
 use mbim_frame::{MHead, MessageKind, open_done, set_number};
 use mbim_services::Service;
-use rig_story::Key;
+use rig_trace::Key;
 use std::alloc::{AllocError, Global};
 
 /// How the messages of MBIM are read.
@@ -20,7 +20,7 @@ use std::alloc::{AllocError, Global};
 pub struct MbimReading;
 
 impl Reading for MbimReading {
-    ghost use Rattle.rig_story.specs.Mbim.{mbim_reading};
+    ghost use Rattle.rig_trace.specs.Mbim.{mbim_reading};
 
     ghost reading = { mbim_reading };
 

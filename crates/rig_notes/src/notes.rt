@@ -7,19 +7,19 @@ use crate::ledger::Ledger;
 use crate::slices::behind;
 use crate::{Reading, SHORTEST};
 use hub_io::Event;
-use kit_bytes::Octets;
+use kit_bytes::{ConnId, Octets};
 use rig_stage::joined;
-use rig_story::{Counts, Met};
+use rig_trace::{Counts, Met};
 use std::alloc::{AllocError, Global};
 use std::marker::Model;
 
-/// The ledger and the story of what a proxy met.
+/// The ledger and the trace of what a proxy met.
 #[derive(Drop)]
 pub(crate) struct Notes<R: Reading> {
     alloc: Global,
     ledger: Ledger<R>,
     // in its order
-    story: Vec<Met>,
+    trace: Vec<Met>,
     failed: bool,
 }
 
@@ -28,7 +28,7 @@ impl<R: Reading> Model for Notes<R> {
 
     ghost Value = { Noted };
 
-    ghost view = { λ s. record { ledger = s.ledger; story = s.story.items; failed = s.failed } };
+    ghost view = { λ s. record { ledger = s.ledger; trace = s.trace.items; failed = s.failed } };
 }
 
 impl<R: Reading> Notes<R> {
@@ -39,7 +39,7 @@ impl<R: Reading> Notes<R> {
         Notes {
             alloc,
             ledger: Ledger::new(alloc),
-            story: Vec::new(alloc),
+            trace: Vec::new(alloc),
             failed: false,
         }
     }
@@ -65,11 +65,11 @@ impl<R: Reading> Notes<R> {
         &self.ledger
     }
 
-    /// Gives the story.
-    pub fn into_story(self) -> Vec<Met>
-        ensures { result.items ≡ self.story }
+    /// Gives the trace.
+    pub fn into_trace(self) -> Vec<Met>
+        ensures { result.items ≡ self.trace }
     {
-        self.story
+        self.trace
     }
 
     /// Notes an event: these bytes were new in the modem's queue then, and a client took these.
@@ -82,7 +82,7 @@ impl<R: Reading> Notes<R> {
     }
 
     /// Notes that a client takes so many of the bytes of these two parts.
-    pub(crate) fn note_taking(&mut self, conn: u64, count: usize, first: &[u8], second: &[u8])
+    pub(crate) fn note_taking(&mut self, conn: ConnId, count: usize, first: &[u8], second: &[u8])
         requires { count ≤ length (first.now ++ second.now) }
         ensures { NotesEvent R.reading (history.Took conn count) [] (take count (first.now ++ second.now)) self.old self.new }
     {
@@ -107,12 +107,12 @@ impl<R: Reading> Notes<R> {
         ensures { OnOk result (self.new ≡ with_event R.reading (event_of event.entry) asked.now taken.now self.old) }
     {
         match event {
-            Event::Joined(conn) => self.tell(Met::Came(conn)),
+            Event::Joined(conn) => self.tell(Met::Joins(conn)),
             Event::Piece(conn, message) => self.note_message(conn, message, asked),
             Event::ModemPiece(message) => self.note_answer(message),
             Event::Took(conn, _) => {
                 let bytes = Octets::from_slice(self.alloc, taken)?;
-                self.tell(Met::Collected(conn, bytes))
+                self.tell(Met::Takes(conn, bytes))
             }
             Event::Now(time) => self.note_time(time),
             Event::Left(_) | Event::ModemGone | Event::ModemBack | Event::ModemTook(_) => Ok(()),
@@ -120,7 +120,7 @@ impl<R: Reading> Notes<R> {
     }
 
     // A client's message.
-    fn note_message(&mut self, conn: u64, message: &[u8], asked: &[u8]) -> Result<(), AllocError>
+    fn note_message(&mut self, conn: ConnId, message: &[u8], asked: &[u8]) -> Result<(), AllocError>
         ensures { OnOk result ((taken : List ℕ) → self.new ≡ with_event R.reading (history.Piece conn message.now) asked.now taken self.old) }
     {
         if message.len() < SHORTEST {
@@ -156,15 +156,15 @@ impl<R: Reading> Notes<R> {
         ensures { OnOk result ((asked taken : List ℕ) → self.new ≡ with_event R.reading (history.Now time) asked taken self.old) }
     {
         self.ledger.pass(time)?;
-        self.tell(Met::Passed(time))?;
+        self.tell(Met::ClockShows(time))?;
         Ok(())
     }
 
-    // The story goes on.
+    // The trace goes on.
     fn tell(&mut self, met: Met) -> Result<(), AllocError>
         ensures { OnOk result (self.new ≡ told met self.old) }
     {
-        self.story.push(met)?;
+        self.trace.push(met)?;
         Ok(())
     }
 }

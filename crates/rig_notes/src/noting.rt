@@ -2,8 +2,8 @@ ghost use Rattle.std.specs.Prelude.{◌≡◌, ◌≤◌, [], false, true, List,
 ghost use Rattle.proxy_history.specs.Events as history;
 ghost use Rattle.proxy_history.specs.Proxy.{Proxy};
 ghost use Rattle.hub_io.specs.Events.{event_of};
-ghost use Rattle.rig_story.specs.Rows.{number_at, ledger_of};
-ghost use Rattle.rig_story.specs.Story.{story_of};
+ghost use Rattle.rig_trace.specs.Rows.{number_at, ledger_of};
+ghost use Rattle.rig_trace.specs.Trace.{trace_of};
 ghost use Rattle.rig_notes.specs.Notes.{nothing, NotesEvent};
 ghost use Rattle.rig_notes.specs.Noting.{Keeps};
 
@@ -11,9 +11,9 @@ use crate::Reading;
 use crate::notes::Notes;
 use core_bench::Bench;
 use hub_io::{Event, Limits};
-use kit_bytes::Kind;
+use kit_bytes::{ConnId, Kind};
 use rig_stage::count_modem_waiting;
-use rig_story::{Counts, Met};
+use rig_trace::{Counts, Met};
 use std::alloc::{AllocError, Global};
 use std::mem::replace;
 
@@ -46,7 +46,7 @@ impl<R: Reading, B: Bench> Noting<R, B> {
         self.bench
     }
 
-    /// Whether something couldn't be noted since a core was opened or the story was taken.
+    /// Whether something couldn't be noted since a core was opened or the trace was taken.
     pub fn has_failed(&self) -> bool
         ensures { result ≡ self.now.notes.failed }
     {
@@ -62,26 +62,26 @@ impl<R: Reading, B: Bench> Noting<R, B> {
     }
 
     /// The number of the request that the client made by its message from this place.
-    pub fn number_at(&self, conn: u64, place: u64) -> Option<u32>
+    pub fn number_at(&self, conn: ConnId, place: u64) -> Option<u32>
         ensures { result ≡ number_at conn place self.now.notes.ledger.rows }
     {
         self.notes.ledger().number_at(conn, place)
     }
 
-    /// Gives the story, and begins new notes.
-    pub fn take_story(&mut self, alloc: Global) -> Vec<Met>
-        ensures story { result.items ≡ self.old.notes.story }
-        ensures noted { (p : Proxy) (past : List history.Event) → Keeps R.reading B.keeps p past self.old → self.old.notes.failed ≡ false → result.items ≡ story_of R.reading p past }
+    /// Gives the trace, and begins new notes.
+    pub fn take_trace(&mut self, alloc: Global) -> Vec<Met>
+        ensures trace { result.items ≡ self.old.notes.trace }
+        ensures noted { (p : Proxy) (past : List history.Event) → Keeps R.reading B.keeps p past self.old → self.old.notes.failed ≡ false → result.items ≡ trace_of R.reading p past }
         ensures bench { self.new.bench ≡ self.old.bench }
         ensures notes { self.new.notes ≡ nothing }
     {
         let notes = replace(&mut self.notes, Notes::new(alloc));
-        notes.into_story()
+        notes.into_trace()
     }
 }
 
 // Notes that a client takes so many of the bytes that wait for it.
-fn note_taking<R: Reading, B: Bench>(bench: &B, notes: &mut Notes<R>, conn: u64, count: usize)
+fn note_taking<R: Reading, B: Bench>(bench: &B, notes: &mut Notes<R>, conn: ConnId, count: usize)
     requires held { B.is_held bench.now ≡ true }
     requires within { count ≤ length ((B.face bench.now).queue conn) }
     ensures { NotesEvent R.reading (history.Took conn count) [] (take count ((B.face bench.now).queue conn)) notes.old notes.new }
@@ -131,7 +131,7 @@ impl<R: Reading, B: Bench> Bench for Noting<R, B> {
         note_met(&self.bench, &mut self.notes, event, before);
     }
 
-    fn queued(&self, conn: u64) -> &[u8] {
+    fn queued(&self, conn: ConnId) -> &[u8] {
         self.bench.queued(conn)
     }
 
@@ -139,7 +139,7 @@ impl<R: Reading, B: Bench> Bench for Noting<R, B> {
         self.bench.queued_modem()
     }
 
-    fn parts(&self, conn: u64) -> (&[u8], &[u8]) {
+    fn parts(&self, conn: ConnId) -> (&[u8], &[u8]) {
         self.bench.parts(conn)
     }
 
@@ -147,7 +147,7 @@ impl<R: Reading, B: Bench> Bench for Noting<R, B> {
         self.bench.modem_parts()
     }
 
-    fn next_dropped(&mut self) -> Option<u64> {
+    fn next_dropped(&mut self) -> Option<ConnId> {
         self.bench.next_dropped()
     }
 

@@ -1,11 +1,11 @@
 ghost use Rattle.std.specs.Prelude.{◌≡◌, ◌≤◌, length, IfOk};
-ghost use Rattle.rig_story.specs.Qmi.{key_of};
+ghost use Rattle.rig_trace.specs.Qmi.{key_of};
 
 use crate::Reading;
 use kit_bytes::Octets;
 use qmux_frame::control::PROXY_OPEN;
 use qmux_frame::{Head, set_number};
-use rig_story::Key;
+use rig_trace::Key;
 use std::alloc::{AllocError, Global};
 
 /// How the messages of QMI are read.
@@ -13,7 +13,7 @@ use std::alloc::{AllocError, Global};
 pub struct QmiReading;
 
 impl Reading for QmiReading {
-    ghost use Rattle.rig_story.specs.Qmi.{qmi_reading};
+    ghost use Rattle.rig_trace.specs.Qmi.{qmi_reading};
 
     ghost reading = { qmi_reading };
 

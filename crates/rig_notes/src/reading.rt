@@ -1,8 +1,8 @@
 ghost use Rattle.std.specs.Prelude.{◌≡◌, ◌≤◌, length, IfOk};
-ghost use Rattle.rig_story.specs.Rows as rows;
+ghost use Rattle.rig_trace.specs.Rows as rows;
 
 use kit_bytes::Octets;
-use rig_story::Key;
+use rig_trace::Key;
 use std::alloc::{AllocError, Global};
 
 /// How many bytes a message has at least, of either protocol.

@@ -4,7 +4,7 @@ use Rattle.kit_bytes.specs.declared.kind.Kind.{Kind}
 use Rattle.proxy_history.specs.Events.{Event}
 use Rattle.core_bench.specs.Runs.{Run}
 use Rattle.rig_runs.specs.Rig.{device, time_limit}
-use Rattle.rig_stage.specs.Running.{AreTold, IsCutShort}
+use Rattle.rig_stage.specs.Running.{AreRecorded, IsCutShort}
 
 -- a core of the rig's proxy of this kind met these events
 abbrev pub run_of : Kind → List Event → Run
@@ -12,4 +12,4 @@ run_of kind events = record { kind = kind; limits = record { time = time_limit; 
 
 -- behind the earlier runs there is none, or one that is cut short on the way to all these events
 abbrev pub StopsEarly : (opened : Run) (earlier : List Run) (all : List Event) → Option (List Run) → Type 0
-StopsEarly opened earlier all now = AreTold now earlier ⊎ IsCutShort opened earlier all now
+StopsEarly opened earlier all now = AreRecorded now earlier ⊎ IsCutShort opened earlier all now

@@ -7,6 +7,7 @@ ghost use Rattle.rig_play.specs.Play.{script_of};
 
 use crate::Protocol;
 use core_bench::Bench;
+use kit_bytes::ConnId;
 use rig_stage::Stage;
 use sim_modem::Sim;
 use std::alloc::{AllocError, Global};
@@ -58,7 +59,7 @@ fn open_device<P: Protocol, B: Bench>(
     alloc: Global,
     stage: &mut Stage<P::Modem>,
     bench: &mut B,
-    conn: u64,
+    conn: ConnId,
 ) -> Result<(), AllocError>
     requires { IsReady (B.is_held bench.old) (B.face bench.old) }
     ensures ready { OnOk result (StaysReady (B.is_held bench.new) (B.face bench.old) (B.face bench.new)) }

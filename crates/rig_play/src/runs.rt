@@ -1,7 +1,7 @@
 ghost use Rattle.std.specs.Prelude.{◌≡◌, ◌<◌, [], List, OnOk, OnErr};
 ghost use Rattle.core_bench.specs.Runs.{Run};
 ghost use Rattle.rig_stage.specs.Ready.{IsReady};
-ghost use Rattle.rig_stage.specs.Running.{AreTold, Runs};
+ghost use Rattle.rig_stage.specs.Running.{AreRecorded, Runs};
 ghost use Rattle.rig_play.specs.Runs.{run_of, StopsEarly};
 
 use crate::players::play_all;
@@ -17,7 +17,7 @@ const TIME_LIMIT: u64 = 30_000;
 pub fn open_core<P: Protocol, B: Bench>(alloc: Global, bench: &mut B) -> Result<(), AllocError>
     ensures ready { OnOk result (IsReady (B.is_held bench.new) (B.face bench.new)) }
     ensures new { OnOk result ((B.face bench.new).greatest ≡ 0) }
-    ensures runs { OnOk result ((earlier : List Run) → AreTold (B.runs bench.old) earlier → Runs B.keeps B.runs P.proxy (run_of P.kind []) earlier [] bench.new) }
+    ensures runs { OnOk result ((earlier : List Run) → AreRecorded (B.runs bench.old) earlier → Runs B.keeps B.runs P.proxy (run_of P.kind []) earlier [] bench.new) }
     ensures err { OnErr result (bench.new ≡ bench.old) }
 {
     let limits = Limits {
@@ -40,8 +40,8 @@ pub fn run_clients<P: Protocol, B: Bench>(
 ) -> Result<(), AllocError>
     requires { 0 < clients }
     ensures ready { OnOk result (IsReady (B.is_held bench.new) (B.face bench.new)) }
-    ensures runs { OnOk result ((earlier : List Run) → AreTold (B.runs bench.old) earlier → Runs B.keeps B.runs P.proxy (run_of P.kind []) earlier (P.events clients turns number) bench.new) }
-    ensures stops { OnErr result ((earlier : List Run) → AreTold (B.runs bench.old) earlier → StopsEarly (run_of P.kind []) earlier (P.events clients turns number) (B.runs bench.new)) }
+    ensures runs { OnOk result ((earlier : List Run) → AreRecorded (B.runs bench.old) earlier → Runs B.keeps B.runs P.proxy (run_of P.kind []) earlier (P.events clients turns number) bench.new) }
+    ensures stops { OnErr result ((earlier : List Run) → AreRecorded (B.runs bench.old) earlier → StopsEarly (run_of P.kind []) earlier (P.events clients turns number) (B.runs bench.new)) }
 {
     open_core::<P, B>(alloc, bench)?;
     play_all::<P, B>(alloc, bench, clients, turns, number)

@@ -1,4 +1,4 @@
--- Small rigs for QMI, byte for byte. A story is told in its order; lists of events have the newest first.
+-- Small rigs for QMI, byte for byte. A trace is told in its order; lists of events have the newest first.
 -- Source of the bytes: a model of the rig in another language, which was written from the rules alone.
 use Rattle.std.specs.Prelude.{◌≡◌, ℕ, List, [], ◌∷◌, ◌++◌, reverse, codes}
 use Rattle.kit_bytes.specs.Hex.{hex}

@@ -9,10 +9,10 @@ use Rattle.proxy_serving.specs.Face.{Face}
 use Rattle.proxy_serving.specs.Cores.{Shows}
 use Rattle.core_bench.specs.Runs.{Run, AddsEvent, with_event}
 use Rattle.rig_runs.specs.Stage.{clients_take, modem_takes, queued_for}
-use Rattle.rig_stage.specs.Running.{AreTold, Runs, Moves}
+use Rattle.rig_stage.specs.Running.{AreRecorded, Runs, Moves}
 
 told_after : (event : Event) (opened : Run) (earlier : List Run) (past : List Event) (old new : Option (List Run)) → AddsEvent old event new
-    → AreTold old (record opened { events = past } ∷ earlier) → AreTold new (record opened { events = event ∷ past } ∷ earlier)
+    → AreRecorded old (record opened { events = past } ∷ earlier) → AreRecorded new (record opened { events = event ∷ past } ∷ earlier)
 told_after event opened earlier past old None adds told = tt
 told_after event opened earlier past None (Some new) adds told = absurd adds
 told_after event opened earlier past (Some old) (Some new) adds told = adds ∙ ap (with_event event) told
@@ -24,7 +24,7 @@ module _ {B : Type 0} {keeps : Proxy → List Event → B → Type 0} {tells : B
 
   -- nothing happened that a run tells
   pub met_none : {old new : B} → ((p : Proxy) (past : List Event) → keeps p past old → keeps p past new) → tells new ≡ tells old → Moves keeps tells (λ p past. past) old new
-  met_none kept same = record { runs = λ p opened earlier past r. record { kept = kept p past r.kept; told = subst (λ t. AreTold t (record opened { events = past } ∷ earlier)) (sym same) r.told } }
+  met_none kept same = record { runs = λ p opened earlier past r. record { kept = kept p past r.kept; told = subst (λ t. AreRecorded t (record opened { events = past } ∷ earlier)) (sym same) r.told } }
 
   pub stays : (bench : B) → Moves keeps tells (λ p past. past) bench bench
   stays bench = record { runs = λ p opened earlier past r. r }

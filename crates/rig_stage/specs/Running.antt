@@ -5,14 +5,14 @@ use Rattle.proxy_history.specs.Proxy.{Proxy}
 use Rattle.core_bench.specs.Runs.{Run}
 
 -- where a bench tells its runs, they are these
-abbrev pub AreTold : Option (List Run) → List Run → Type 0
-AreTold None runs = Unit {0}
-AreTold (Some told) runs = told ≡ runs
+abbrev pub AreRecorded : Option (List Run) → List Run → Type 0
+AreRecorded None runs = Unit {0}
+AreRecorded (Some told) runs = told ≡ runs
 
 -- the core keeps what a proxy has to keep of these events, and the newest run of the bench, which was opened like this behind the earlier ones, met them
 pub record Runs {B : Type 0} (keeps : Proxy → List Event → B → Type 0) (tells : B → Option (List Run)) (p : Proxy) (opened : Run) (earlier : List Run) (past : List Event) (bench : B) : Type 0 where
   pub kept : keeps p past bench
-  pub told : AreTold (tells bench) (record opened { events = past } ∷ earlier)
+  pub told : AreRecorded (tells bench) (record opened { events = past } ∷ earlier)
 
 -- what ran goes on from some events to these
 pub record Moves {B : Type 0} (keeps : Proxy → List Event → B → Type 0) (tells : B → Option (List Run)) (goes_on : Proxy → List Event → List Event) (old new : B) : Type 0 where
@@ -29,4 +29,4 @@ pub record Extends (old new : List Event) : Type 0 where
 pub record IsCutShort (opened : Run) (earlier : List Run) (all : List Event) (now : Option (List Run)) : Type 0 where
   pub met : List Event
   pub within : Extends met all
-  pub told : AreTold now (record opened { events = met } ∷ earlier)
+  pub told : AreRecorded now (record opened { events = met } ∷ earlier)

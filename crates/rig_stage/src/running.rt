@@ -12,6 +12,7 @@ ghost use Rattle.rig_stage.specs.Running.{Moves};
 
 use core_bench::Bench;
 use hub_io::Event;
+use kit_bytes::ConnId;
 
 /// The core meets an event, and whom it drops is asked for.
 pub fn meet<B: Bench>(bench: &mut B, event: Event<'_>)
@@ -35,7 +36,7 @@ fn hang_up<B: Bench>(bench: &mut B)
 }
 
 /// A client takes all that waits for it, if it is there.
-pub(crate) fn client_takes<B: Bench>(bench: &mut B, conn: u64)
+pub(crate) fn client_takes<B: Bench>(bench: &mut B, conn: ConnId)
     requires { IsReady (B.is_held bench.old) (B.face bench.old) }
     ensures ready { StaysReady (B.is_held bench.new) (B.face bench.old) (B.face bench.new) }
     ensures met { Moves B.keeps B.runs (λ p past. taking (λ count. history.Took conn count) (queued_for p conn past) past) bench.old bench.new }
@@ -72,7 +73,7 @@ pub fn modem_takes<B: Bench>(bench: &mut B)
 }
 
 /// How many bytes wait for a client.
-pub fn count_waiting<B: Bench>(bench: &B, conn: u64) -> usize
+pub fn count_waiting<B: Bench>(bench: &B, conn: ConnId) -> usize
     requires { B.is_held bench.now ≡ true }
     ensures { result ≡ length ((B.face bench.now).queue conn) }
 {

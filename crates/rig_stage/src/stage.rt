@@ -15,7 +15,7 @@ use crate::running::{clients_take, meet, modem_takes};
 use core_bench::Bench;
 use framing::LONGEST_PIECE;
 use hub_io::Event;
-use kit_bytes::Octets;
+use kit_bytes::{ConnId, Octets};
 use sim_modem::Sim;
 use std::alloc::{AllocError, Global};
 use std::collections::VecDeque;
@@ -74,7 +74,7 @@ impl<S: Sim> Stage<S> {
     }
 
     /// A client joins.
-    pub fn join<B: Bench>(&mut self, bench: &mut B, conn: u64) -> Result<(), AllocError>
+    pub fn join<B: Bench>(&mut self, bench: &mut B, conn: ConnId) -> Result<(), AllocError>
         requires ready { IsReady (B.is_held bench.old) (B.face bench.old) }
         requires new { (B.face bench.old).greatest < conn }
         ensures ready { OnOk result (IsReady (B.is_held bench.new) (B.face bench.new)) }
@@ -91,7 +91,7 @@ impl<S: Sim> Stage<S> {
     pub fn say<B: Bench>(
         &mut self,
         bench: &mut B,
-        conn: u64,
+        conn: ConnId,
         message: &[u8],
     ) -> Result<(), AllocError>
         requires ready { IsReady (B.is_held bench.old) (B.face bench.old) }

@@ -7,7 +7,7 @@ use Rattle.proxy_history.specs.Connections.{contains, without}
 use Rattle.hub_io.specs.declared.settings.Until.{Until}
 use Rattle.proxy_serving.specs.Serving.{IsFront, taken_by, is_blocked, hang_ups, turns_in}
 use Rattle.many_history.specs.Events.{ManyEvent, Took, Left, ModemTook, ModemGone, ModemBack}
-use Rattle.many_io.specs.Record.{ManyCall, Told, ToldRoom, ToldModemRoom, ToldStop, NextFailed, Sent, SendFailed, HungUp, SentModem, SendModemFailed, Reopened, ReopenFailed, events, unnamed_calls}
+use Rattle.many_io.specs.Record.{ManyCall, Told, ToldRoom, ToldModemRoom, ToldStop, NextFailed, Sent, SendFailed, HungUp, SentModem, SendModemFailed, Reopened, ReopenFailed, events, calls_without_device}
 use Rattle.many_serving.specs.Proxy.{ManyProxy}
 use Rattle.many_serving.specs.Serving.{Serves, AllIsOffered, AllIsDone, due_hang_ups, is_modem_blocked, reopenings, due_reopenings}
 use Rattle.many_serving.specs.Ends.{GoesOn, NeverOver, emptied_at}
@@ -27,26 +27,26 @@ module _ {C : Type 0} {keeps : ManyProxy → List ManyEvent → C → Type 0} {f
   stands_for core past later is stands = let P : List ManyEvent → Type 0 = λ l. Stands keeps face p l core in subst P (sym is) stands
 
   -- all that was due to be hung up was
-  none_due : (face server.core).dropped ≡ [] → hang_ups (unnamed_calls calls) ≡ due_hang_ups p calls
-  none_due before = ap (λ (l : List ℕ). reverse l ++ hang_ups (unnamed_calls calls)) (sym before) ∙ going.hangs_up
+  none_due : (face server.core).dropped ≡ [] → hang_ups (calls_without_device calls) ≡ due_hang_ups p calls
+  none_due before = ap (λ (l : List ℕ). reverse l ++ hang_ups (calls_without_device calls)) (sym before) ∙ going.hangs_up
 
   -- the core is as it was: it stands for the same events, and as many are still to be hung up
   same_stands : (now : Server C) → now.core ≡ server.core → Stands keeps face p (events calls) now.core
   same_stands now core = subst (Stands keeps face p (events calls)) (sym core) going.stands
 
-  same_due : (now : Server C) → now.core ≡ server.core → reverse (face now.core).dropped ++ hang_ups (unnamed_calls calls) ≡ due_hang_ups p calls
-  same_due now core = ap (λ (k : C). reverse (face k).dropped ++ hang_ups (unnamed_calls calls)) core ∙ going.hangs_up
+  same_due : (now : Server C) → now.core ≡ server.core → reverse (face now.core).dropped ++ hang_ups (calls_without_device calls) ≡ due_hang_ups p calls
+  same_due now core = ap (λ (k : C). reverse (face k).dropped ++ hang_ups (calls_without_device calls)) core ∙ going.hangs_up
 
   -- the core dropped these, and all that it dropped before were hung up
-  due_behind : (now : Server C) (dropped : List ℕ) → (face server.core).dropped ≡ [] → (face now.core).dropped ≡ dropped → reverse (face now.core).dropped ++ hang_ups (unnamed_calls calls) ≡ reverse dropped ++ due_hang_ups p calls
-  due_behind now dropped before after = ap (λ (l : List ℕ). reverse l ++ hang_ups (unnamed_calls calls)) after ∙ ap (λ (l : List ℕ). reverse dropped ++ l) (none_due before)
+  due_behind : (now : Server C) (dropped : List ℕ) → (face server.core).dropped ≡ [] → (face now.core).dropped ≡ dropped → reverse (face now.core).dropped ++ hang_ups (calls_without_device calls) ≡ reverse dropped ++ due_hang_ups p calls
+  due_behind now dropped before after = ap (λ (l : List ℕ). reverse l ++ hang_ups (calls_without_device calls)) after ∙ ap (λ (l : List ℕ). reverse dropped ++ l) (none_due before)
 
   -- all was done before the hub is asked for what comes next
   pub all_done : IsInTime p calls → AllIsOffered p calls → (face server.core).dropped ≡ [] → AllIsDone p calls
   all_done in_time offered none = record { offered = offered; hung_up = none_due none; reopened = in_time }
 
   -- the next dropped connection is hung up
-  pub serving-hung_up : (c : ℕ) (now : Server C) → (face server.core).dropped ≡ c ∷ (face now.core).dropped → Stands keeps face p (events calls) now.core → AreBlocked (unnamed_calls calls) now.blocked → now.modems ≡ server.modems → now.emptied ≡ server.emptied
+  pub serving-hung_up : (c : ℕ) (now : Server C) → (face server.core).dropped ≡ c ∷ (face now.core).dropped → Stands keeps face p (events calls) now.core → AreBlocked (calls_without_device calls) now.blocked → now.modems ≡ server.modems → now.emptied ≡ server.emptied
       → IsServing keeps face p turns now (HungUp c ∷ calls)
   unfolding hang_ups due_hang_ups is_blocked turns_in taken_by events is_modem_blocked reopenings due_reopenings
   serving-hung_up c now left stands blocked modem emptied = record {
@@ -55,8 +55,8 @@ module _ {C : Type 0} {keeps : ManyProxy → List ManyEvent → C → Type 0} {f
     takes = going.takes;
     does_all = going.does_all;
     hangs_up =
-        sym (append_assoc (reverse (face now.core).dropped) (c ∷ []) (hang_ups (unnamed_calls calls)))
-        ∙ ap (λ (l : List ℕ). l ++ hang_ups (unnamed_calls calls)) (sym (reverse-append (c ∷ []) (face now.core).dropped) ∙ ap reverse (sym left))
+        sym (append_assoc (reverse (face now.core).dropped) (c ∷ []) (hang_ups (calls_without_device calls)))
+        ∙ ap (λ (l : List ℕ). l ++ hang_ups (calls_without_device calls)) (sym (reverse-append (c ∷ []) (face now.core).dropped) ∙ ap reverse (sym left))
         ∙ going.hangs_up;
     reopens = going.reopens;
     no_opening = (tt, going.no_opening);
@@ -81,8 +81,8 @@ module _ {C : Type 0} {keeps : ManyProxy → List ManyEvent → C → Type 0} {f
     no_opening = (tt, going.no_opening);
     no_end = (tt, going.no_end);
     counted = going.counted;
-    blocked = all_remembered (λ d. is_blocked d (unnamed_calls (Sent c bytes 0 ∷ calls)) ≡ true) c server.blocked now.blocked blocked (blocked-sent_none c bytes (unnamed_calls calls))
-        (all_weaker _ _ (λ d is. blocked-sent_none_on c d bytes (unnamed_calls calls) is) server.blocked going.blocked);
+    blocked = all_remembered (λ d. is_blocked d (calls_without_device (Sent c bytes 0 ∷ calls)) ≡ true) c server.blocked now.blocked blocked (blocked-sent_none c bytes (calls_without_device calls))
+        (all_weaker _ _ (λ d is. blocked-sent_none_on c d bytes (calls_without_device calls) is) server.blocked going.blocked);
     modems = subst (AreModemsBlocked (Sent c bytes 0 ∷ calls)) (sym modem) going.modems;
     emptied = emptied ∙ going.emptied ∙ ap (emptied_at p) (sym (events-sent_none c bytes calls));
   }
@@ -102,14 +102,14 @@ module _ {C : Type 0} {keeps : ManyProxy → List ManyEvent → C → Type 0} {f
     no_opening = (tt, going.no_opening);
     no_end = (tt, going.no_end);
     counted = going.counted;
-    blocked = subst (AreBlocked (unnamed_calls (Sent c bytes taken ∷ calls))) (sym blocked) (blocked_others c bytes taken (unnamed_calls calls) server.blocked (differs_from_all c server.blocked free) going.blocked);
+    blocked = subst (AreBlocked (calls_without_device (Sent c bytes taken ∷ calls))) (sym blocked) (blocked_others c bytes taken (calls_without_device calls) server.blocked (differs_from_all c server.blocked free) going.blocked);
     modems = subst (AreModemsBlocked (Sent c bytes taken ∷ calls)) (sym modem) going.modems;
     emptied = emptied ∙ ap (emptied_at p) (sym (events-sent c bytes taken calls some));
   }
 
   -- a sending failed, and its connection was hung up
   pub serving-failed : (c : ℕ) (bytes : List ℕ) (now : Server C) → IsFront bytes (p.waiting c (events calls)) → (face server.core).dropped ≡ [] → (face now.core).dropped ≡ []
-      → Stands keeps face p (Left c ∷ events calls) now.core → AreBlocked (unnamed_calls calls) now.blocked → now.modems ≡ server.modems → now.emptied ≡ emptied_at p (Left c ∷ events calls)
+      → Stands keeps face p (Left c ∷ events calls) now.core → AreBlocked (calls_without_device calls) now.blocked → now.modems ≡ server.modems → now.emptied ≡ emptied_at p (Left c ∷ events calls)
       → IsServing keeps face p turns now (HungUp c ∷ SendFailed c bytes ∷ calls)
   unfolding hang_ups due_hang_ups is_blocked events turns_in taken_by is_modem_blocked reopenings due_reopenings
   serving-failed c bytes now front before after stands blocked modem emptied = record {
@@ -117,7 +117,7 @@ module _ {C : Type 0} {keeps : ManyProxy → List ManyEvent → C → Type 0} {f
     sends = (front, going.sends);
     takes = takes-failed going.stands.shows.lawful c bytes calls stands.shows.rise going.takes;
     does_all = going.does_all;
-    hangs_up = ap (λ (l : List ℕ). reverse l ++ c ∷ hang_ups (unnamed_calls calls)) after ∙ ap (λ (l : List ℕ). c ∷ l) (none_due before);
+    hangs_up = ap (λ (l : List ℕ). reverse l ++ c ∷ hang_ups (calls_without_device calls)) after ∙ ap (λ (l : List ℕ). c ∷ l) (none_due before);
     reopens = going.reopens;
     no_opening = (tt, (tt, going.no_opening));
     no_end = (tt, (tt, going.no_end));
@@ -142,7 +142,7 @@ module _ {C : Type 0} {keeps : ManyProxy → List ManyEvent → C → Type 0} {f
     no_opening = (tt, going.no_opening);
     no_end = (tt, going.no_end);
     counted = ap (λ (n : ℕ). n + 1) going.counted;
-    blocked = subst (AreBlocked (unnamed_calls (Told event ∷ calls))) (sym blocked) going.blocked;
+    blocked = subst (AreBlocked (calls_without_device (Told event ∷ calls))) (sym blocked) going.blocked;
     modems = subst (AreModemsBlocked (Told event ∷ calls)) (sym modem) going.modems;
     emptied = emptied;
   }
@@ -161,7 +161,7 @@ module _ {C : Type 0} {keeps : ManyProxy → List ManyEvent → C → Type 0} {f
     no_opening = (tt, going.no_opening);
     no_end = (tt, going.no_end);
     counted = ap (λ (n : ℕ). n + 1) going.counted;
-    blocked = subst (AreBlocked (unnamed_calls (ToldRoom c ∷ calls))) (sym blocked) (blocked_but c (unnamed_calls calls) server.blocked going.blocked);
+    blocked = subst (AreBlocked (calls_without_device (ToldRoom c ∷ calls))) (sym blocked) (blocked_but c (calls_without_device calls) server.blocked going.blocked);
     modems = subst (AreModemsBlocked (ToldRoom c ∷ calls)) (sym modem) going.modems;
     emptied = emptied ∙ going.emptied;
   }
@@ -180,7 +180,7 @@ module _ {C : Type 0} {keeps : ManyProxy → List ManyEvent → C → Type 0} {f
     no_opening = (tt, going.no_opening);
     no_end = (tt, going.no_end);
     counted = ap (λ (n : ℕ). n + 1) going.counted;
-    blocked = subst (AreBlocked (unnamed_calls (ToldModemRoom d ∷ calls))) (sym blocked) going.blocked;
+    blocked = subst (AreBlocked (calls_without_device (ToldModemRoom d ∷ calls))) (sym blocked) going.blocked;
     modems = subst (AreModemsBlocked (ToldModemRoom d ∷ calls)) (sym modems) (all_without _ _ d server.modems (λ e other is. modem_blocked-room_other d e calls other ∙ is) going.modems);
     emptied = emptied ∙ going.emptied;
   }
@@ -201,7 +201,7 @@ module _ {C : Type 0} {keeps : ManyProxy → List ManyEvent → C → Type 0} {f
     no_opening = (tt, going.no_opening);
     no_end = (tt, going.no_end);
     counted = going.counted;
-    blocked = subst (AreBlocked (unnamed_calls (SentModem d bytes 0 ∷ calls))) (sym blocked) going.blocked;
+    blocked = subst (AreBlocked (calls_without_device (SentModem d bytes 0 ∷ calls))) (sym blocked) going.blocked;
     modems = all_remembered (λ e. is_modem_blocked e (SentModem d bytes 0 ∷ calls) ≡ true) d server.modems now.modems modems (modem_blocked-sent_none d bytes calls)
         (all_weaker _ _ (λ e is. modem_blocked-sent_none_on d e bytes calls is) server.modems going.modems);
     emptied = emptied ∙ going.emptied;
@@ -222,7 +222,7 @@ module _ {C : Type 0} {keeps : ManyProxy → List ManyEvent → C → Type 0} {f
     no_opening = (tt, going.no_opening);
     no_end = (tt, going.no_end);
     counted = going.counted;
-    blocked = subst (AreBlocked (unnamed_calls (SentModem d bytes taken ∷ calls))) (sym blocked) going.blocked;
+    blocked = subst (AreBlocked (calls_without_device (SentModem d bytes taken ∷ calls))) (sym blocked) going.blocked;
     modems = subst (AreModemsBlocked (SentModem d bytes taken ∷ calls)) (sym modems) (modems_blocked_others d bytes taken calls server.modems (differs_from_all d server.modems free) going.modems);
     emptied = emptied ∙ ap (emptied_at p) (sym (events-sent_modem d bytes taken calls some));
   }
@@ -242,7 +242,7 @@ module _ {C : Type 0} {keeps : ManyProxy → List ManyEvent → C → Type 0} {f
     no_opening = (tt, going.no_opening);
     no_end = (tt, going.no_end);
     counted = going.counted;
-    blocked = subst (AreBlocked (unnamed_calls (SendModemFailed d bytes ∷ calls))) (sym blocked) going.blocked;
+    blocked = subst (AreBlocked (calls_without_device (SendModemFailed d bytes ∷ calls))) (sym blocked) going.blocked;
     modems = subst (AreModemsBlocked (SendModemFailed d bytes ∷ calls)) (sym modems) going.modems;
     emptied = emptied;
   }
@@ -275,7 +275,7 @@ module _ {C : Type 0} {keeps : ManyProxy → List ManyEvent → C → Type 0} {f
     no_opening = (tt, going.no_opening);
     no_end = (tt, going.no_end);
     counted = going.counted;
-    blocked = subst (AreBlocked (unnamed_calls (Reopened d ∷ calls))) (sym blocked) going.blocked;
+    blocked = subst (AreBlocked (calls_without_device (Reopened d ∷ calls))) (sym blocked) going.blocked;
     modems = subst (AreModemsBlocked (Reopened d ∷ calls)) (sym modems) (all_without _ _ d server.modems (λ e other is. modem_blocked-reopened_other d e calls other ∙ is) going.modems);
     emptied = emptied;
   }

@@ -6,7 +6,7 @@ use Rattle.std.specs.List.{AllByRecursion, list_any}
 use Rattle.proxy_history.specs.Connections.{contains, without}
 use Rattle.hub_io.specs.Record.{Call, ToldRoom, Sent}
 use Rattle.proxy_serving.specs.Serving.{is_blocked}
-use Rattle.many_io.specs.Record.{ManyCall, ToldModemRoom, SentModem, Reopened, events, unnamed_calls}
+use Rattle.many_io.specs.Record.{ManyCall, ToldModemRoom, SentModem, Reopened, events, calls_without_device}
 use Rattle.many_serving.specs.Proxy.{ManyProxy}
 use Rattle.many_serving.specs.Serving.{IsOffered, is_modem_blocked}
 use Rattle.serving_loop.specs.Server.{remembering}
@@ -138,6 +138,6 @@ modems_blocked_others d bytes taken calls devices differ all = both_on devices (
 -- ---- what was offered stays offered ----
 
 -- where neither what waits nor whether the socket takes nothing has changed
-pub offered_as : (p : ManyProxy) (d : ℕ) (before after : List ManyCall) → p.waiting d (events after) ≡ p.waiting d (events before) → is_blocked d (unnamed_calls after) ≡ is_blocked d (unnamed_calls before) → IsOffered p before d → IsOffered p after d
+pub offered_as : (p : ManyProxy) (d : ℕ) (before after : List ManyCall) → p.waiting d (events after) ≡ p.waiting d (events before) → is_blocked d (calls_without_device after) ≡ is_blocked d (calls_without_device before) → IsOffered p before d → IsOffered p after d
 offered_as p d before after waiting blocked (inl none) = inl (waiting ∙ none)
 offered_as p d before after waiting blocked (inr is) = inr (blocked ∙ is)

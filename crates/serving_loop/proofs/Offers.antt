@@ -5,7 +5,7 @@ use Rattle.std.specs.List.{AllByRecursion, IsDistinct}
 use Rattle.proxy_history.specs.Connections.{without}
 use Rattle.proxy_serving.specs.Serving.{is_blocked}
 use Rattle.many_history.specs.Events.{ManyEvent, Took, Left, ModemTook}
-use Rattle.many_io.specs.Record.{ManyCall, Sent, SendFailed, HungUp, SentModem, events, unnamed_calls}
+use Rattle.many_io.specs.Record.{ManyCall, Sent, SendFailed, HungUp, SentModem, events, calls_without_device}
 use Rattle.many_serving.specs.Proxy.{ManyProxy}
 use Rattle.many_serving.specs.Lawful.{IsLawful}
 use Rattle.many_serving.specs.Serving.{IsOffered, IsModemOffered}
@@ -44,11 +44,11 @@ events-hung_up c calls = refl
 module _ {p : ManyProxy} (lawful : IsLawful p) where
   pub offered-sent_none : (c d : ℕ) (bytes : List ℕ) (calls : List ManyCall) → (c == d) ≡ false → IsOffered p calls d → IsOffered p (Sent c bytes 0 ∷ calls) d
   offered-sent_none c d bytes calls other = offered_as p d calls (Sent c bytes 0 ∷ calls)
-      (ap (λ (l : List ManyEvent). p.waiting d l) (events-sent_none c bytes calls)) (blocked-sent_other c d bytes 0 (unnamed_calls calls) other)
+      (ap (λ (l : List ManyEvent). p.waiting d l) (events-sent_none c bytes calls)) (blocked-sent_other c d bytes 0 (calls_without_device calls) other)
 
   pub offered-sent : (c d : ℕ) (bytes : List ℕ) (taken : ℕ) (calls : List ManyCall) → (taken == 0) ≡ false → (c == d) ≡ false → IsOffered p calls d → IsOffered p (Sent c bytes taken ∷ calls) d
   offered-sent c d bytes taken calls some other = offered_as p d calls (Sent c bytes taken ∷ calls)
-      (ap (λ (l : List ManyEvent). p.waiting d l) (events-sent c bytes taken calls some) ∙ lawful.took_other c taken d (events calls) other) (blocked-sent_other c d bytes taken (unnamed_calls calls) other)
+      (ap (λ (l : List ManyEvent). p.waiting d l) (events-sent c bytes taken calls some) ∙ lawful.took_other c taken d (events calls) other) (blocked-sent_other c d bytes taken (calls_without_device calls) other)
 
   pub offered-send_failed : (c d : ℕ) (bytes : List ℕ) (calls : List ManyCall) → (c == d) ≡ false → IsOffered p calls d → IsOffered p (SendFailed c bytes ∷ calls) d
   unfolding is_blocked

@@ -8,7 +8,7 @@ use Rattle.proxy_history.specs.Connections.{contains, without}
 use Rattle.hub_io.specs.declared.settings.Until.{Until}
 use Rattle.proxy_serving.specs.Serving.{IsFront, is_blocked}
 use Rattle.many_history.specs.Events.{ManyEvent, Took, Left}
-use Rattle.many_io.specs.Record.{ManyCall, Sent, SendFailed, HungUp, events, unnamed_calls}
+use Rattle.many_io.specs.Record.{ManyCall, Sent, SendFailed, HungUp, events, calls_without_device}
 use Rattle.many_serving.specs.Proxy.{ManyProxy}
 use Rattle.many_serving.specs.Serving.{IsOffered, reopenings, due_reopenings}
 use Rattle.many_serving.specs.Ends.{NeverOver}
@@ -63,7 +63,7 @@ module _ {C : Type 0} {keeps : ManyProxy → List ManyEvent → C → Type 0} {f
   }
 
   pub at-blocked : contains c server.blocked ≡ true → HasOffered keeps face p until turns (count + 1) server calls
-  at-blocked among = offered_here (inr (is_among (λ d. is_blocked d (unnamed_calls calls) ≡ true) c server.blocked at.serving.blocked among))
+  at-blocked among = offered_here (inr (is_among (λ d. is_blocked d (calls_without_device calls) ≡ true) c server.blocked at.serving.blocked among))
 
   pub at-empty : (face server.core).queue c ≡ [] → HasOffered keeps face p until turns (count + 1) server calls
   at-empty none = offered_here (inl (sym queue ∙ none))
@@ -85,7 +85,7 @@ module _ {C : Type 0} {keeps : ManyProxy → List ManyEvent → C → Type 0} {f
     offered =
         all_joined (IsOffered p (Sent c bytes 0 ∷ calls)) at.done (c ∷ [])
         (both_on at.done (λ d other is. offered-sent_none at.serving.stands.shows.lawful c d bytes calls other is) differ at.offered)
-        (inr (blocked-sent_none c bytes (unnamed_calls calls)), tt);
+        (inr (blocked-sent_none c bytes (calls_without_device calls)), tt);
   }
 
   pub at-sent : (bytes : List ℕ) (taken : ℕ) (now : Server C) → (taken == 0) ≡ false → taken ≤ length bytes → 0 < length bytes → IsFrontOf bytes ((face server.core).queue c) → contains c server.blocked ≡ false → (face server.core).dropped ≡ []
@@ -106,7 +106,7 @@ module _ {C : Type 0} {keeps : ManyProxy → List ManyEvent → C → Type 0} {f
   }
 
   pub at-failed : (bytes : List ℕ) (now : Server C) → 0 < length bytes → IsFrontOf bytes ((face server.core).queue c) → (face server.core).dropped ≡ []
-      → StandsAfter keeps face p (Left c ∷ events calls) now.core → AreBlocked (unnamed_calls calls) now.blocked → now.modems ≡ server.modems → now.emptied ≡ emptied_after (face server.core) server.emptied (face now.core)
+      → StandsAfter keeps face p (Left c ∷ events calls) now.core → AreBlocked (calls_without_device calls) now.blocked → now.modems ≡ server.modems → now.emptied ≡ emptied_after (face server.core) server.emptied (face now.core)
       → HasOffered keeps face p until turns count now (HungUp c ∷ SendFailed c bytes ∷ calls)
   unfolding reopenings due_reopenings
   at-failed bytes now waits lent none after blocked modems emptied = record {

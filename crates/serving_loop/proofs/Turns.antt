@@ -9,7 +9,7 @@ use Rattle.hub_io.specs.declared.settings.ServeEnd.TheVariants as end
 use Rattle.hub_io.specs.declared.settings.Until.{Until}
 use Rattle.proxy_serving.specs.Serving.{is_blocked, hang_ups, turns_in}
 use Rattle.many_history.specs.Events.{ManyEvent, Joined, Piece, Left, ModemPiece, ModemGone, ModemBack, Now, Took, ModemTook}
-use Rattle.many_io.specs.Record.{ManyCall, Told, ToldRoom, ToldModemRoom, ToldStop, NextFailed, events, unnamed_calls}
+use Rattle.many_io.specs.Record.{ManyCall, Told, ToldRoom, ToldModemRoom, ToldStop, NextFailed, events, calls_without_device}
 use Rattle.many_serving.specs.Proxy.{ManyProxy}
 use Rattle.many_serving.specs.Serving.{Serves, IsOffered, is_modem_blocked, due_hang_ups, reopenings, due_reopenings}
 use Rattle.many_serving.specs.Ends.{NeverOver, IsGoingOn, IsEmptied, IsLost, is_idle, is_lost, are_away, emptied_at, hanging_up, EndsWith, EndsAtClock, EndsSpent, EndsFor, RanOut}
@@ -160,7 +160,7 @@ module _ {C : Type 0} {keeps : ManyProxy → List ManyEvent → C → Type 0} {f
   pub told-unmet : {lacks : ManyEvent → Type 0} → (face server.core).dropped ≡ [] → lacks event → RanOut lacks p until (turns + 1) told
   unfolding turns_in
   told-unmet none lacking =
-      let Counted : List ManyCall → Type 0 = λ calls. turns_in (unnamed_calls calls) ≤ turns + 1 in
+      let Counted : List ManyCall → Type 0 = λ calls. turns_in (calls_without_device calls) ≤ turns + 1 in
       inr (record {
         event = event;
         lacking = lacking;
@@ -247,10 +247,10 @@ module _ {C : Type 0} {keeps : ManyProxy → List ManyEvent → C → Type 0} {f
       subst P (sym has.whole) (none_offered (serving-modem_room has.ready.serving d now has.ready.in_time has.ready.offered none core blocked modems emptied) has.ready.awake (λ d within. refl))
 
   -- the last call, after which the serving ends
-  told-last : (call : ManyCall) → (face server.core).dropped ≡ [] → (has : HasTold keeps face p until turns server call told) → Serves p (call ∷ has.earlier) → turns_in (unnamed_calls (call ∷ has.earlier)) ≤ turns + 1 → EndsWith p until (turns + 1) call told
+  told-last : (call : ManyCall) → (face server.core).dropped ≡ [] → (has : HasTold keeps face p until turns server call told) → Serves p (call ∷ has.earlier) → turns_in (calls_without_device (call ∷ has.earlier)) ≤ turns + 1 → EndsWith p until (turns + 1) call told
   told-last call none has served counted =
       let All : List ManyCall → Type 0 = Serves p in
-      let Counted : List ManyCall → Type 0 = λ calls. turns_in (unnamed_calls calls) ≤ turns + 1 in
+      let Counted : List ManyCall → Type 0 = λ calls. turns_in (calls_without_device calls) ≤ turns + 1 in
       record {
         earlier = has.earlier;
         whole = has.whole;

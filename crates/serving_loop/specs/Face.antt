@@ -5,7 +5,7 @@ use Rattle.proxy_history.specs.Events as history
 use Rattle.proxy_history.specs.Coming.{piece_limit}
 use Rattle.proxy_serving.specs.Face as one
 use Rattle.many_history.specs.Events.{ManyEvent, Joined, Piece, Took, ModemPiece, ModemGone, ModemBack, ModemTook}
-use Rattle.many_io.specs.Record.{unnamed}
+use Rattle.many_io.specs.Record.{without_device}
 use Rattle.many_serving.specs.Proxy.{ManyProxy}
 
 pub record ManyFace : Type 0 where
@@ -47,11 +47,11 @@ pub record CanMeet (event : ManyEvent) (face : ManyFace) : Type 0 where
 
 -- the greatest name so far, once an event was met
 abbrev pub greatest_after : ManyEvent → ℕ → ℕ
-greatest_after event known = history.greatest_after (unnamed event) known
+greatest_after event known = history.greatest_after (without_device event) known
 
 -- it brings something in: a client, bytes or the time
 abbrev pub BringsIn : ManyEvent → Type 0
-BringsIn event = one.BringsIn (unnamed event)
+BringsIn event = one.BringsIn (without_device event)
 
 -- ---- what a core tells ----
 

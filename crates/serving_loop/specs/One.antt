@@ -5,7 +5,7 @@ use Rattle.proxy_history.specs.Proxy.{Proxy}
 use Rattle.proxy_serving.specs.Face.{Face}
 use Rattle.many_history.specs.Events.{ManyEvent}
 use Rattle.many_history.specs.Coming.{NamesRise, greatest_conn}
-use Rattle.many_io.specs.Record.{unnamed}
+use Rattle.many_io.specs.Record.{without_device}
 use Rattle.many_serving.specs.Proxy.{ManyProxy}
 use Rattle.many_serving.specs.One.{only_of}
 use Rattle.serving_loop.specs.Face.{ManyFace}
@@ -27,6 +27,6 @@ only_face face = record {
 pub record KeepsAsOne {C : Type 0} (keeps : Proxy → List Event → C → Type 0) (face : C → Face) (p : ManyProxy) (past : List ManyEvent) (core : C) : Type 0 where
   pub proxy : Proxy
   pub same : p ≡ only_of proxy
-  pub kept : keeps proxy (map unnamed past) core
+  pub kept : keeps proxy (map without_device past) core
   pub rise : NamesRise past
   pub known : greatest_conn past ≤ (face core).greatest

@@ -8,27 +8,27 @@ use Rattle.hub_io.specs.declared.settings.ServeEnd.TheVariants as end
 use Rattle.hub_io.specs.declared.settings.Until.{Until}
 use Rattle.proxy_serving.specs.Serving.{is_blocked, hang_ups, IsNoOpening, turns_in, IsNoEnd}
 use Rattle.many_history.specs.Events.{ManyEvent, Joined, Piece, Left, ModemPiece, ModemGone, Now}
-use Rattle.many_io.specs.Record.{ManyCall, Told, ToldRoom, ToldModemRoom, ToldStop, NextFailed, events, unnamed_calls}
+use Rattle.many_io.specs.Record.{ManyCall, Told, ToldRoom, ToldModemRoom, ToldStop, NextFailed, events, calls_without_device}
 use Rattle.many_io.specs.Events.{event_of}
 use Rattle.many_serving.specs.Proxy.{ManyProxy}
 use Rattle.many_serving.specs.Serving.{SendsWhatWaits, TakesTheFirst, DoesAllBeforeEachNext, AllIsOffered, IsOffered, IsModemOffered, is_modem_blocked, due_hang_ups, reopenings, due_reopenings}
 use Rattle.many_serving.specs.Ends.{emptied_at, NeverOver, IsEmptied, IsLost, hanging_up, RanOut, EndsWith, EndsAtClock, EndsFor}
 use Rattle.serving_loop.specs.Face.{ManyFace, greatest_after}
 use Rattle.serving_loop.specs.Cores.{Stands}
-use Rattle.serving_loop.specs.declared.next.Next.{Next}
-use Rattle.serving_loop.specs.declared.next.Next.TheVariants as next
+use Rattle.serving_loop.specs.declared.told_event.ToldEvent.{ToldEvent}
+use Rattle.serving_loop.specs.declared.told_event.ToldEvent.TheVariants as next
 use Rattle.serving_loop.specs.declared.server.Server.{Server}
 
 -- ---- what the hub tells next ----
 
 -- the call that told it
-abbrev pub call_of : Next → ManyCall
+abbrev pub call_of : ToldEvent → ManyCall
 call_of (next.Event event) = Told (event_of event)
 call_of (next.Room conn) = ToldRoom conn
 call_of (next.ModemRoom device) = ToldModemRoom device
 call_of next.Stop = ToldStop
 
--- an event that a hub of so many devices may tell where it told names up to this one so far
+-- an event that a hub of so many devices may tell where it recorded names up to this one so far
 abbrev pub MayBeTold : (devices known : ℕ) → ManyEvent → Type 0
 MayBeTold devices known (Joined c) = known < c
 MayBeTold devices known (Piece c bytes) = length bytes ≤ piece_limit
@@ -39,9 +39,9 @@ MayBeTold devices known (Now time) = Unit {0}
 MayBeTold devices known _ = ⊥
 
 -- it may be told, and the names told so far go up to this one afterwards
-abbrev pub TellsNext : (devices before : ℕ) → Next → ℕ → Type 0
-TellsNext devices before (next.Event event) after = MayBeTold devices before (event_of event) × (after ≡ greatest_after (event_of event) before)
-TellsNext devices before _ after = after ≡ before
+abbrev pub TellsEvent : (devices before : ℕ) → ToldEvent → ℕ → Type 0
+TellsEvent devices before (next.Event event) after = MayBeTold devices before (event_of event) × (after ≡ greatest_after (event_of event) before)
+TellsEvent devices before _ after = after ≡ before
 
 -- ---- what an offering comes to ----
 
@@ -88,12 +88,12 @@ module _ {C : Type 0} (keeps : ManyProxy → List ManyEvent → C → Type 0) (f
     pub sends : SendsWhatWaits p calls
     pub takes : TakesTheFirst p calls
     pub does_all : DoesAllBeforeEachNext p calls
-    pub hangs_up : reverse (face server.core).dropped ++ hang_ups (unnamed_calls calls) ≡ due_hang_ups p calls
+    pub hangs_up : reverse (face server.core).dropped ++ hang_ups (calls_without_device calls) ≡ due_hang_ups p calls
     pub reopens : (d : ℕ) → d < p.devices → reopenings d calls ≤ due_reopenings p d calls
-    pub no_opening : AllByRecursion IsNoOpening (unnamed_calls calls)
-    pub no_end : AllByRecursion IsNoEnd (unnamed_calls calls)
-    pub counted : turns_in (unnamed_calls calls) ≡ turns
-    pub blocked : AllByRecursion (λ c. is_blocked c (unnamed_calls calls) ≡ true) server.blocked
+    pub no_opening : AllByRecursion IsNoOpening (calls_without_device calls)
+    pub no_end : AllByRecursion IsNoEnd (calls_without_device calls)
+    pub counted : turns_in (calls_without_device calls) ≡ turns
+    pub blocked : AllByRecursion (λ c. is_blocked c (calls_without_device calls) ≡ true) server.blocked
     pub modems : AllByRecursion (λ d. is_modem_blocked d calls ≡ true) server.modems
     pub emptied : server.emptied ≡ emptied_at p (events calls)
 

@@ -4,6 +4,7 @@ ghost use Rattle.proxy_history.specs.Connections.{without};
 ghost use Rattle.serving_loop.specs.Server.{remembering};
 
 use arrayvec::ArrayVec;
+use kit_bytes::ConnId;
 use std::marker::Model;
 
 /// So many are remembered at most.
@@ -13,7 +14,7 @@ pub const MOST_BLOCKED: usize = 64;
 /// their devices: all of them, unless they are more than are remembered. This takes no memory.
 #[derive(Debug, Drop)]
 pub struct Blocked {
-    names: ArrayVec<u64, MOST_BLOCKED>,
+    names: ArrayVec<ConnId, MOST_BLOCKED>,
 }
 
 impl Model for Blocked {
@@ -35,21 +36,21 @@ impl Blocked {
     }
 
     /// Whether this one is among them.
-    pub fn contains(&self, name: u64) -> bool
+    pub fn contains(&self, name: ConnId) -> bool
         ensures { result ≡ list_any (λ other. name == other) self.now }
     {
         self.names.iter().any(|other| name == *other)
     }
 
     /// Adds one. One too many isn't remembered, and so is offered again what waits for it.
-    pub fn add(&mut self, name: u64)
+    pub fn add(&mut self, name: ConnId)
         ensures { self.new ≡ remembering name self.old }
     {
         let _ = self.names.try_push(name);
     }
 
     /// Takes one out.
-    pub fn remove(&mut self, name: u64)
+    pub fn remove(&mut self, name: ConnId)
         ensures { self.new ≡ without name self.old }
     {
         self.names.retain(|other| name != *other);

@@ -4,11 +4,11 @@
 
 mod blocked;
 mod many_core;
-mod next;
 mod offer;
 mod one;
 mod server;
 mod serving;
+mod told_event;
 
 pub use blocked::Blocked;
 pub use many_core::ManyProxyCore;

@@ -6,6 +6,7 @@ ghost use Rattle.many_serving.specs.Proxy.{ManyProxy};
 ghost use Rattle.serving_loop.specs.Face.{ManyFace, CanMeet, BringsIn, NextDropped, first_waiting, greatest_after};
 ghost use Rattle.serving_loop.specs.Cores.{Shows};
 
+use kit_bytes::ConnId;
 use many_io::ManyEvent;
 use std::alloc::AllocError;
 
@@ -37,7 +38,7 @@ pub trait ManyProxyCore: Drop {
         ensures { result ≡ (face self.now).devices };
 
     /// The first of the bytes that wait for a connection that is there; none only where none wait.
-    fn queued(&self, conn: u64) -> &[u8]
+    fn queued(&self, conn: ConnId) -> &[u8]
         ensures { IsFrontOf result.now ((face self.now).queue conn) };
 
     /// The first of the bytes that wait for the modem of a device; none only where none wait.
@@ -46,7 +47,7 @@ pub trait ManyProxyCore: Drop {
         ensures { IsFrontOf result.now ((face self.now).modem_queue device) };
 
     /// The next connection to hang up, each once.
-    fn next_dropped(&mut self) -> Option<u64>
+    fn next_dropped(&mut self) -> Option<ConnId>
         ensures next { NextDropped face self.old self.new result }
         ensures keeps { (p : ManyProxy) (past : List history.ManyEvent) → keeps p past self.old → keeps p past self.new };
 
@@ -59,7 +60,7 @@ pub trait ManyProxyCore: Drop {
         ensures fits { IfSome result (λ place. place < usize.MAX) };
 
     /// The connection of this place in the order of joining.
-    fn conn_at(&self, index: usize) -> u64
+    fn conn_at(&self, index: usize) -> ConnId
         requires { index < length (face self.now).present }
         ensures { slice_get (face self.now).present index ≡ Some result };
 

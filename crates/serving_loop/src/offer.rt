@@ -11,6 +11,7 @@ ghost use Rattle.serving_loop.specs.Progress.{IsServing, HasOffered, OffersModem
 use crate::many_core::ManyProxyCore;
 use crate::server::Server;
 use hub_io::Until;
+use kit_bytes::ConnId;
 use kit_io::Failed;
 use many_io::{ManyEvent, ManyHub};
 
@@ -40,7 +41,7 @@ pub fn hang_up_dropped<C: ManyProxyCore, H: ManyHub>(hub: &mut H, server: &mut S
 fn offer<C: ManyProxyCore, H: ManyHub>(
     hub: &mut H,
     server: &mut Server<C>,
-    conn: u64,
+    conn: ConnId,
     place: usize,
 ) -> usize
     requires known { IsKnown C.keeps server.old.core }

@@ -5,20 +5,21 @@ ghost use Rattle.hub_io.specs.Events.{event_of as one_event_of};
 ghost use Rattle.hub_io.specs.Record.{Since};
 ghost use Rattle.proxy_serving.specs.Ends.{EndsFor};
 ghost use Rattle.many_io.specs.Events.{event_of};
-ghost use Rattle.many_io.specs.Record.{unnamed};
+ghost use Rattle.many_io.specs.Record.{without_device};
 ghost use Rattle.serving_loop.specs.One.{only_face, KeepsAsOne};
 ghost use Rattle.serving_loop.specs.Shows.{shows_as_one};
 
 use crate::many_core::ManyProxyCore;
 use crate::serving::serve_devices;
 use hub_io::{Event, Hub, ServeEnd, Until};
+use kit_bytes::ConnId;
 use many_io::ManyEvent;
 use proxy_serving::ProxyCore;
 use std::alloc::AllocError;
 
 // An event of a proxy of one device.
 fn of_the_only(event: ManyEvent<'_>) -> Event<'_>
-    ensures { one_event_of result ≡ unnamed (event_of event.entry) }
+    ensures { one_event_of result ≡ without_device (event_of event.entry) }
 {
     match event {
         ManyEvent::Joined(conn) => Event::Joined(conn),
@@ -39,7 +40,7 @@ impl<C: ProxyCore> ManyProxyCore for C {
 
     ghost keeps = { λ p past core. KeepsAsOne C.ProxyCore.keeps C.ProxyCore.face p past core };
 
-    ghost lacks_memory = { λ event. C.ProxyCore.lacks_memory (unnamed event) };
+    ghost lacks_memory = { λ event. C.ProxyCore.lacks_memory (without_device event) };
 
     fn step(&mut self, event: ManyEvent<'_>) -> Result<(), AllocError> {
         match ProxyCore::step(self, of_the_only(event)) {
@@ -52,7 +53,7 @@ impl<C: ProxyCore> ManyProxyCore for C {
         1
     }
 
-    fn queued(&self, conn: u64) -> &[u8] {
+    fn queued(&self, conn: ConnId) -> &[u8] {
         ProxyCore::queued(self, conn)
     }
 
@@ -60,7 +61,7 @@ impl<C: ProxyCore> ManyProxyCore for C {
         ProxyCore::queued_modem(self)
     }
 
-    fn next_dropped(&mut self) -> Option<u64> {
+    fn next_dropped(&mut self) -> Option<ConnId> {
         ProxyCore::next_dropped(self)
     }
 
@@ -68,7 +69,7 @@ impl<C: ProxyCore> ManyProxyCore for C {
         ProxyCore::waiting_from(self, from)
     }
 
-    fn conn_at(&self, index: usize) -> u64 {
+    fn conn_at(&self, index: usize) -> ConnId {
         ProxyCore::conn_at(self, index)
     }
 

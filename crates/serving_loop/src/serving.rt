@@ -9,12 +9,12 @@ ghost use Rattle.serving_loop.specs.Carrying.{Carries};
 ghost use Rattle.serving_loop.specs.Cores.{IsKnown};
 ghost use Rattle.serving_loop.specs.Face.{greatest_after};
 ghost use Rattle.serving_loop.specs.Server.{is_clock, misses_modem};
-ghost use Rattle.serving_loop.specs.Progress.{IsReady, HasTold, MayReopen, HasOffered, MayBeTold, TellsNext, call_of, AfterMeeting, AfterTurn, IsHubFault, EndsServing};
+ghost use Rattle.serving_loop.specs.Progress.{IsReady, HasTold, MayReopen, HasOffered, MayBeTold, TellsEvent, call_of, AfterMeeting, AfterTurn, IsHubFault, EndsServing};
 
 use crate::many_core::ManyProxyCore;
-use crate::next::Next;
 use crate::offer::{hang_up_dropped, offer_all};
 use crate::server::Server;
+use crate::told_event::ToldEvent;
 use hub_io::{NEXT_ROOM, ServeEnd, Until};
 use kit_io::Failed;
 use many_io::{ManyEvent, ManyHub};
@@ -140,12 +140,12 @@ fn meet_next<C: ManyProxyCore, H: ManyHub>(
     hub: &mut H,
     server: &mut Server<C>,
     until: Until,
-    next: Next<'_>,
+    next: ToldEvent<'_>,
 ) -> Result<Option<ServeEnd>, AllocError>
     requires known { IsKnown C.keeps server.old.core }
     requires asked { (C.face server.old.core).dropped ≡ [] }
     requires hub { H.devices hub.old ≡ (C.face server.old.core).devices }
-    requires told { (before : ℕ) × ((C.face server.old.core).greatest ≤ before) × TellsNext (H.devices hub.old) before next (H.greatest hub.old) }
+    requires told { (before : ℕ) × ((C.face server.old.core).greatest ≤ before) × TellsEvent (H.devices hub.old) before next (H.greatest hub.old) }
     ensures carries { (p : ManyProxy) (turns : ℕ) →
         Carries (H.calls hub.old) (HasTold C.keeps C.face p until turns server.old (call_of next.entry)) (H.calls hub.new) (AfterMeeting C.keeps C.face C.lacks_memory result p until turns server.new) }
     ensures known { OnOk result (IsKnown C.keeps server.new.core) }
@@ -158,16 +158,16 @@ fn meet_next<C: ManyProxyCore, H: ManyHub>(
     ensures lost { result ≡ Ok (Some ServeEnd.Lost) → until.lost ≡ true }
 {
     match next {
-        Next::Event(event) => meet_event(hub, server, until, event),
-        Next::Room(conn) => {
+        ToldEvent::Event(event) => meet_event(hub, server, until, event),
+        ToldEvent::Room(conn) => {
             server.blocked.remove(conn);
             Ok(None)
         }
-        Next::ModemRoom(device) => {
+        ToldEvent::ModemRoom(device) => {
             server.modems.remove(device as u64);
             Ok(None)
         }
-        Next::Stop => Ok(Some(ServeEnd::Stopped)),
+        ToldEvent::Stop => Ok(Some(ServeEnd::Stopped)),
     }
 }
 
@@ -199,7 +199,7 @@ fn turn<C: ManyProxyCore, H: ManyHub>(
         Ok(told) => told,
         Err(Failed) => return Ok(Some(ServeEnd::HubFault)),
     };
-    let next = Next::read(told, buffer);
+    let next = ToldEvent::read(told, buffer);
     if let Some(end) = meet_next(hub, server, until, next)? {
         return Ok(Some(end));
     }

@@ -2,7 +2,7 @@
 use Rattle.std.proofs.Common.{◌≡◌, inl, inr, ℕ, List, [], ◌++◌, Option, Result, Ok, Err, refl, sym, subst}
 use Rattle.std.specs.Prelude.{IfOk}
 use Rattle.std.proofs.lemmas.List.{append-nil}
-use Rattle.kit_io.proofs.Told.{Grows-none, Grows-append}
+use Rattle.kit_io.proofs.Growth.{Grows-none, Grows-append}
 use Rattle.framing.specs.declared.framing.Size.{Size}
 use Rattle.framing.specs.Reading.{Reading}
 use Rattle.link_io.specs.Calls.{Call}

@@ -1,7 +1,7 @@
 -- Rules that aren't read.
 use Rattle.std.proofs.Common.{◌≡◌, ℕ, List, [], Option, Result, Ok, Err, inl, inr, refl, sym, subst}
 use Rattle.kit_bytes.specs.declared.Kind.{Kind}
-use Rattle.kit_io.proofs.Told.{Grows-none}
+use Rattle.kit_io.proofs.Growth.{Grows-none}
 use Rattle.hub_io.proofs.Record.{since-starts}
 use Rattle.modem_rules.specs.Answers.{Gives}
 use Rattle.modem_rules.specs.Rules.{Rules, rules_view}

@@ -7,7 +7,7 @@ ghost use Rattle.sim_serving.specs.Hearing.{Answers, cut_of, goes_on, is_good, t
 
 use crate::replies::Replies;
 use framing::{Cutter, LONGEST_PIECE};
-use kit_bytes::Cut;
+use kit_bytes::{ConnId, Cut};
 use served_sim::ServedSim;
 use std::alloc::{AllocError, Global};
 use std::marker::Model;
@@ -15,7 +15,7 @@ use std::marker::Model;
 /// A client that is there.
 #[derive(Drop)]
 pub struct Client<S: ServedSim> {
-    name: u64,
+    name: ConnId,
     stream: Cutter<S::Framing>,
     replies: Replies,
 }
@@ -33,7 +33,7 @@ impl<S: ServedSim> Model for Client<S> {
 
 impl<S: ServedSim> Client<S> {
     /// One that has joined under this name.
-    pub fn open(alloc: Global, name: u64) -> Result<Self, AllocError>
+    pub fn open(alloc: Global, name: ConnId) -> Result<Self, AllocError>
         ensures { IfOk result (λ client. client ≡ record { name = name; rest = []; replies = no_replies }) }
     {
         Ok(Client {
@@ -43,7 +43,7 @@ impl<S: ServedSim> Client<S> {
         })
     }
 
-    pub fn name(&self) -> u64
+    pub fn name(&self) -> ConnId
         ensures { result ≡ self.now.name }
     {
         self.name

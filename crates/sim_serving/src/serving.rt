@@ -11,6 +11,7 @@ ghost use Rattle.sim_serving.specs.Shows.{shows_of};
 
 use crate::sim_core::SimCore;
 use hub_io::{Event, Hub, ServeEnd, Until};
+use kit_bytes::ConnId;
 use proxy_serving::ProxyCore;
 use served_sim::{Plain, ServedSim};
 use serving_loop::serve;
@@ -29,7 +30,7 @@ impl<S: ServedSim> ProxyCore for SimCore<S> {
         Ok(())
     }
 
-    fn queued(&self, conn: u64) -> &[u8] {
+    fn queued(&self, conn: ConnId) -> &[u8] {
         SimCore::queued(self, conn)
     }
 
@@ -37,7 +38,7 @@ impl<S: ServedSim> ProxyCore for SimCore<S> {
         &[]
     }
 
-    fn parts(&self, conn: u64) -> (&[u8], &[u8]) {
+    fn parts(&self, conn: ConnId) -> (&[u8], &[u8]) {
         (SimCore::queued(self, conn), &[])
     }
 
@@ -45,7 +46,7 @@ impl<S: ServedSim> ProxyCore for SimCore<S> {
         (&[], &[])
     }
 
-    fn next_dropped(&mut self) -> Option<u64> {
+    fn next_dropped(&mut self) -> Option<ConnId> {
         SimCore::next_dropped(self)
     }
 
@@ -53,7 +54,7 @@ impl<S: ServedSim> ProxyCore for SimCore<S> {
         SimCore::waiting_from(self, from)
     }
 
-    fn conn_at(&self, index: usize) -> u64 {
+    fn conn_at(&self, index: usize) -> ConnId {
         self.name_at(index)
     }
 

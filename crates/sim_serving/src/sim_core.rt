@@ -11,6 +11,7 @@ ghost use Rattle.sim_serving.specs.Hearing.{Brings, Ticks, changed, gone, ticks_
 use crate::client::Client;
 use framing::LONGEST_PIECE;
 use hub_io::Event;
+use kit_bytes::ConnId;
 use served_sim::ServedSim;
 use std::alloc::{AllocError, Global};
 use std::marker::Model;
@@ -24,7 +25,7 @@ pub struct SimCore<S: ServedSim> {
     // in order of joining
     clients: Vec<Client<S>>,
     // whose stream went bad or whom the modem hung up, until it is asked for
-    dropped: Option<u64>,
+    dropped: Option<ConnId>,
     // the greatest name of a client so far
     greatest: u64,
 }
@@ -89,7 +90,7 @@ impl<S: ServedSim> SimCore<S> {
     }
 
     // A client connected: it is there behind the others.
-    fn join(&mut self, name: u64) -> Result<(), AllocError>
+    fn join(&mut self, name: ConnId) -> Result<(), AllocError>
         ensures { OnOk result (self.new ≡ record self.old { clients = self.old.clients ++ record { name = name; rest = []; replies = no_replies } ∷ []; greatest = name }) }
     {
         self.clients.push(Client::open(self.alloc, name)?)?;
@@ -99,7 +100,7 @@ impl<S: ServedSim> SimCore<S> {
 
     // The next piece of a client's stream: the modem is asked what it makes whole, and the client is
     // dropped where the stream goes bad or the modem hangs up.
-    fn bring(&mut self, name: u64, piece: &[u8]) -> Result<(), AllocError>
+    fn bring(&mut self, name: ConnId, piece: &[u8]) -> Result<(), AllocError>
         requires { length piece.now ≤ LONGEST_PIECE }
         ensures brought { OnOk result ((ticks : ℕ) (conduct : Conduct) (before : List (List ℕ)) → S.keeps ticks conduct before self.old.sim →
             Brings S.Framing.size S.keeps ticks conduct before (named name self.old.clients) piece.now self.old self.new) }
@@ -118,7 +119,7 @@ impl<S: ServedSim> SimCore<S> {
     }
 
     // A client is gone.
-    fn leave(&mut self, name: u64)
+    fn leave(&mut self, name: ConnId)
         ensures { self.new ≡ record self.old { clients = gone name self.old.clients } }
     {
         if let Some(place) = place_of(&self.clients, name) {
@@ -127,7 +128,7 @@ impl<S: ServedSim> SimCore<S> {
     }
 
     // The socket of a client took the first so many of the bytes that waited for it.
-    fn take(&mut self, name: u64, count: usize)
+    fn take(&mut self, name: ConnId, count: usize)
         requires { count ≤ length (waiting_for name self.old.clients) }
         ensures { self.new ≡ record self.old { clients = changed name (took count) self.old.clients } }
     {
@@ -151,7 +152,7 @@ impl<S: ServedSim> SimCore<S> {
     }
 
     /// The bytes that wait for a client; none where it isn't there.
-    pub fn queued(&self, name: u64) -> &[u8]
+    pub fn queued(&self, name: ConnId) -> &[u8]
         ensures { result.now ≡ waiting_for name self.now.clients }
     {
         match place_of(&self.clients, name) {
@@ -164,7 +165,7 @@ impl<S: ServedSim> SimCore<S> {
     }
 
     /// The client that is to be hung up, once.
-    pub fn next_dropped(&mut self) -> Option<u64>
+    pub fn next_dropped(&mut self) -> Option<ConnId>
         ensures next { result ≡ self.old.dropped }
         ensures asked { self.new ≡ record self.old { dropped = None } }
     {
@@ -192,7 +193,7 @@ impl<S: ServedSim> SimCore<S> {
     }
 
     /// The name of the client of this place.
-    pub fn name_at(&self, place: usize) -> u64
+    pub fn name_at(&self, place: usize) -> ConnId
         requires { place < length self.now.clients }
         ensures { slice_get (names_of self.now.clients) place ≡ Some result }
     {
@@ -202,7 +203,7 @@ impl<S: ServedSim> SimCore<S> {
 }
 
 // Where the client of this name stands.
-fn place_of<S: ServedSim>(clients: &[Client<S>], name: u64) -> Option<usize>
+fn place_of<S: ServedSim>(clients: &[Client<S>], name: ConnId) -> Option<usize>
     ensures place { result ≡ position (λ k. name == k.name) clients.now }
     ensures within { IfSome result (λ place. place < length clients.now) }
 {

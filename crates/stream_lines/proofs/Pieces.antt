@@ -6,8 +6,8 @@ use Rattle.framing.specs.declared.framing.Size.TheVariants.{Unknown, Known, Inva
 use Rattle.framing.specs.Framing.{IsShort, IsBad, is_invalid}
 use Rattle.framing.specs.Cutting.{Cutting, cut, behind}
 use Rattle.framing.specs.Reading.{Reading}
-use Rattle.kit_io.specs.Told.{Grows, GrowsByFront}
-use Rattle.kit_io.proofs.Told.{Grows-none}
+use Rattle.kit_io.specs.Growth.{Grows, GrowsByFront}
+use Rattle.kit_io.proofs.Growth.{Grows-none}
 use Rattle.framing.proofs.Cuts.{cut-append, cut-whole}
 use Rattle.stream_lines.specs.Lines.{Showing, lines_behind, lines_by, place_behind, rest_place}
 use Rattle.stream_lines.specs.Pieces.{Stands, ShowsAll, Adds, ShowsPiece}

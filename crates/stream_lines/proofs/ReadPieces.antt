@@ -4,8 +4,8 @@ use Rattle.std.proofs.lemmas.List.{append-nil, map_push}
 use Rattle.std.proofs.lemmas.List.Elements.{All-push}
 use Rattle.std.specs.List.{concat}
 use Rattle.kit_bytes.proofs.Lists.{concat-push}
-use Rattle.kit_io.specs.Told.{Grows}
-use Rattle.kit_io.proofs.Told.{Grows-none, Grows-append}
+use Rattle.kit_io.specs.Growth.{Grows}
+use Rattle.kit_io.proofs.Growth.{Grows-none, Grows-append}
 use Rattle.file_io.specs.Calls.{Call, Gave}
 use Rattle.framing.specs.declared.framing.Size.{Size}
 use Rattle.framing.specs.Framing.{IsPartial}

@@ -1,7 +1,7 @@
 -- What is done to the files, and what is taken of the lines, where a captured stream is shown.
 use Rattle.std.specs.Prelude.{◌≡◌, ℕ, ◌<◌, ◌==◌, true, false, if◌then◌else◌, List, [], ◌∷◌, ◌++◌, length, map, All, Option}
 use Rattle.std.specs.List.{concat}
-use Rattle.kit_io.specs.Told.{Grows}
+use Rattle.kit_io.specs.Growth.{Grows}
 use Rattle.file_io.specs.declared.files.Side.TheVariants.{Read}
 use Rattle.file_io.specs.Calls.{Call, Opened, Gave, ReadFailed, Closed}
 use Rattle.framing.specs.declared.framing.Size.{Size}

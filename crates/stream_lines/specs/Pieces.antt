@@ -4,7 +4,7 @@ use Rattle.framing.specs.declared.framing.Size.{Size}
 use Rattle.framing.specs.Framing.{IsBad}
 use Rattle.framing.specs.Cutting.{cut}
 use Rattle.framing.specs.Reading.{Reading}
-use Rattle.kit_io.specs.Told.{Grows, GrowsByFront}
+use Rattle.kit_io.specs.Growth.{Grows, GrowsByFront}
 use Rattle.stream_lines.specs.Lines.{Showing, lines_behind, lines_by, place_behind, rest_place}
 use Rattle.stream_lines.specs.declared.end.DissectEnd.{DissectEnd}
 use Rattle.stream_lines.specs.declared.end.DissectEnd.TheVariants.{Broken, WriteFault, OutOfMemory}

@@ -7,13 +7,14 @@ ghost use Rattle.subscriptions.specs.Counts.{AreRecounted, count_of, times_in, t
 use crate::client_list::{ClientList, LONGEST_CLIENT_LIST};
 use crate::counts::Counts;
 use crate::pair_list::{LONGEST_LIST, PairList};
+use kit_bytes::ConnId;
 use std::marker::Model;
 use uuid::Uuid;
 
 /// A client that is there.
 #[derive(Drop)]
 pub struct Client {
-    conn: u64,
+    conn: ConnId,
     shown: bool,
     list: ClientList,
 }
@@ -28,7 +29,7 @@ impl Model for Client {
 
 impl Client {
     /// A client that joined: it has the starting list, and isn't shown.
-    pub fn new(conn: u64) -> Self
+    pub fn new(conn: ConnId) -> Self
         ensures { result ≡ newcomer conn }
     {
         Client {
@@ -38,7 +39,7 @@ impl Client {
         }
     }
 
-    pub fn is_of(&self, conn: u64) -> bool
+    pub fn is_of(&self, conn: ConnId) -> bool
         ensures { result ≡ is_of conn self.now }
     {
         conn == self.conn

@@ -7,6 +7,7 @@ use crate::client::Client;
 use crate::client_list::{ClientList, LONGEST_CLIENT_LIST};
 use crate::counts::Counts;
 use crate::pair_list::PairList;
+use kit_bytes::ConnId;
 use std::alloc::{AllocError, Global};
 use std::marker::Model;
 use thiserror::Error;
@@ -65,7 +66,7 @@ impl Subscriptions {
     }
 
     /// A client joins with the starting list, and isn't shown.
-    pub fn joined(&mut self, conn: u64)
+    pub fn joined(&mut self, conn: ConnId)
         requires { length self.old < CLIENT_LIMIT }
         ensures { self.new ≡ joins conn self.old }
     {
@@ -74,7 +75,7 @@ impl Subscriptions {
     }
 
     /// Whether the client's list counts in the merge from now on.
-    pub fn show(&mut self, conn: u64, shown: bool)
+    pub fn show(&mut self, conn: ConnId, shown: bool)
         ensures { self.new ≡ shows conn shown self.old }
     {
         if let Some(place) = find(&self.clients, conn) {
@@ -85,7 +86,7 @@ impl Subscriptions {
     }
 
     /// The client is gone.
-    pub fn leave(&mut self, conn: u64)
+    pub fn leave(&mut self, conn: ConnId)
         ensures { self.new ≡ leaves conn self.old }
     {
         uncount(&self.clients, conn, &mut self.counts);
@@ -94,7 +95,7 @@ impl Subscriptions {
     }
 
     /// Gives the client this list, unless it has more than 30 pairs: then nothing changes.
-    pub fn set(&mut self, conn: u64, list: &PairList) -> Result<(), TooMany>
+    pub fn set(&mut self, conn: ConnId, list: &PairList) -> Result<(), TooMany>
         ensures too_many { is_err result ≡ is_too_long list.now }
         ensures set { self.new ≡ sets conn list.now self.old }
     {
@@ -111,7 +112,7 @@ impl Subscriptions {
 
     /// The client subscribes to this list from now on, which counts in the merge or doesn't. Says
     /// whether that is new.
-    pub fn update(&mut self, conn: u64, shown: bool, list: &ClientList) -> bool
+    pub fn update(&mut self, conn: ConnId, shown: bool, list: &ClientList) -> bool
         ensures updated { self.new ≡ updates conn shown list.now self.old }
         ensures same { result ≡ false → self.new ≡ self.old }
         ensures other { result ≡ true → ¬ (self.new ≡ self.old) }
@@ -128,7 +129,7 @@ impl Subscriptions {
     }
 
     /// Whether the client subscribes to the CID of the service of this UUID.
-    pub fn wants(&self, conn: u64, uuid: Uuid, cid: u32) -> bool
+    pub fn wants(&self, conn: ConnId, uuid: Uuid, cid: u32) -> bool
         ensures { result ≡ wants (list_of conn self.now) uuid cid }
     {
         match find(&self.clients, conn) {
@@ -141,7 +142,7 @@ impl Subscriptions {
     }
 
     /// Writes the client's list into this one: none for a client that isn't there.
-    pub fn list(&self, conn: u64, into: &mut PairList)
+    pub fn list(&self, conn: ConnId, into: &mut PairList)
         ensures { into.new ≡ list_of conn self.now }
     {
         match find(&self.clients, conn) {
@@ -169,7 +170,7 @@ impl Subscriptions {
 }
 
 // Takes back that the list of this connection was counted.
-fn uncount(clients: &[Client], conn: u64, counts: &mut Counts)
+fn uncount(clients: &[Client], conn: ConnId, counts: &mut Counts)
     requires { CountShown clients.now counts.old }
     ensures { CountShown (leaves conn clients.now) counts.new }
 {
@@ -181,7 +182,7 @@ fn uncount(clients: &[Client], conn: u64, counts: &mut Counts)
 }
 
 // The place of a client.
-fn find(clients: &[Client], conn: u64) -> Option<usize>
+fn find(clients: &[Client], conn: ConnId) -> Option<usize>
     ensures { result ≡ position (is_of conn) clients.now }
 {
     clients.iter().position(|client| client.is_of(conn))

@@ -1,8 +1,8 @@
 -- A session's parts, one behind another.
 use Rattle.std.proofs.Common.{◌≡◌, inl, ℕ, Bool, true, false, List, [], ◌++◌, Option, Result, Ok, Err, refl, sym, subst}
 use Rattle.std.proofs.lemmas.List.{append-nil}
-use Rattle.kit_io.specs.Told.{Grows}
-use Rattle.kit_io.proofs.Told.{Grows-none, Grows-append}
+use Rattle.kit_io.specs.Growth.{Grows}
+use Rattle.kit_io.proofs.Growth.{Grows-none, Grows-append}
 use Rattle.framing.specs.declared.framing.Size.{Size}
 use Rattle.framing.specs.Reading.{Reading}
 use Rattle.qmux_frame.specs.Frame.{size_of}

@@ -1,7 +1,7 @@
 -- An answer is told.
 use Rattle.std.proofs.Common.{◌≡◌, ℕ, ◌==◌, true, false, List, [], ◌++◌, Option, Ok, Err, refl}
-use Rattle.kit_io.specs.Told.{Grows, GrowsByFront}
-use Rattle.kit_io.proofs.Told.{Grows-none, Grows-append}
+use Rattle.kit_io.specs.Growth.{Grows, GrowsByFront}
+use Rattle.kit_io.proofs.Growth.{Grows-none, Grows-append}
 use Rattle.framing.specs.Reading.{Reading}
 use Rattle.qmux_frame.specs.Frame.{size_of}
 use Rattle.link_io.specs.Calls.{Call}

@@ -1,6 +1,6 @@
 -- What the code's calls do, as what the session has heard.
 use Rattle.std.specs.Prelude.{ℕ, List, Option, Result, IfOk}
-use Rattle.kit_io.specs.Told.{Grows}
+use Rattle.kit_io.specs.Growth.{Grows}
 use Rattle.framing.specs.Reading.{Reading}
 use Rattle.qmux_frame.specs.Frame.{size_of}
 use Rattle.link_io.specs.Calls.{Call}

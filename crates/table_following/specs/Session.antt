@@ -1,6 +1,6 @@
 -- A session for a request by tables, behind whose answer the indications for its client are shown: which calls it makes, and what is taken of its text.
 use Rattle.std.specs.Prelude.{◌≡◌, ℕ, ◌==◌, Bool, true, false, List, [], ◌++◌, Option, Result, Ok, Err}
-use Rattle.kit_io.specs.Told.{Grows}
+use Rattle.kit_io.specs.Growth.{Grows}
 use Rattle.qmux_frame.specs.Frame.{size_of}
 use Rattle.link_io.specs.Calls.{Call}
 use Rattle.link_session.specs.declared.fault.SessionFault.{SessionFault}

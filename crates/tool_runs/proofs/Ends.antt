@@ -1,8 +1,8 @@
 -- What a command's end tells of.
 use Rattle.std.proofs.Common.{◌≡◌, ℕ, ◌≤◌, List, [], ◌∷◌, ◌++◌, Option, Result, Ok, Err, is_ok, refl, arith}
 use Rattle.kit_io.specs.Causes.{Rose, HasCause}
-use Rattle.kit_io.specs.Told.{Grows}
-use Rattle.kit_io.proofs.Told.{Grows-append}
+use Rattle.kit_io.specs.Growth.{Grows}
+use Rattle.kit_io.proofs.Growth.{Grows-append}
 use Rattle.link_io.specs.Calls.{Call, Closed}
 use Rattle.link_session.specs.declared.fault.SessionFault.{SessionFault}
 use Rattle.link_session.specs.Asking.{Makes}

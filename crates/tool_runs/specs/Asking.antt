@@ -1,12 +1,12 @@
 -- What a command that asks a modem does to its link and its children, and what it prints.
 use Rattle.std.specs.Prelude.{◌≡◌, ℕ, Bool, List, [], ◌∷◌, ◌++◌, true, false, Option, Some, None, Result, Ok, Err}
-use Rattle.kit_io.specs.Told.{Grows, GrowsByFront}
+use Rattle.kit_io.specs.Growth.{Grows, GrowsByFront}
 use Rattle.link_io.specs.Calls.{Call, Closed}
 use Rattle.child_io.specs.Calls as child
-use Rattle.modem_ways.specs.Ways.{Path}
-use Rattle.modem_ways.specs.Reaching.{Reaches, StartsAndStops}
-use Rattle.modem_ways.specs.declared.reaching.ReachFault.{ReachFault}
-use Rattle.modem_ways.specs.declared.reaching.ReachFault.TheVariants as reach
+use Rattle.modem_routes.specs.Routes.{Path}
+use Rattle.modem_routes.specs.Reaching.{Reaches, StartsAndStops}
+use Rattle.modem_routes.specs.declared.reaching.ReachFault.{ReachFault}
+use Rattle.modem_routes.specs.declared.reaching.ReachFault.TheVariants as reach
 use Rattle.link_session.specs.declared.fault.SessionFault.{SessionFault}
 use Rattle.link_session.specs.declared.fault.SessionFault.TheVariants as fault
 use Rattle.sms_print.specs.Printed.{decoded_text}

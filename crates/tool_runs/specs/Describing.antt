@@ -2,7 +2,7 @@
 use Rattle.std.specs.Prelude.{◌≡◌, ℕ, ◌/◌, ◌%◌, Bool, List, [], ◌++◌, length, Option, Some, None, Result, Ok, Err, codes, decimal, if◌then◌else◌}
 use Rattle.std.specs.List.{flat_map}
 use Rattle.std.specs.Str.{encode_utf8_all}
-use Rattle.kit_io.specs.Told.{Grows, GrowsByFront}
+use Rattle.kit_io.specs.Growth.{Grows, GrowsByFront}
 use Rattle.file_io.specs.Calls.{Call}
 use Rattle.file_io.specs.Reading.{GrowsByFile}
 use Rattle.file_io.specs.declared.reading.FileFault.{FileFault}

@@ -1,8 +1,8 @@
 ghost use Rattle.std.specs.Prelude.{◌≡◌, ◌≤◌, [], Err, IfOk};
 ghost use Rattle.kit_io.specs.Causes.{Rose};
 ghost use Rattle.kit_io.specs.Counts.{together};
-ghost use Rattle.modem_ways.specs.Reaching.{LinkFails, ReachesBy};
-ghost use Rattle.modem_ways.specs.Ways.{path_in};
+ghost use Rattle.modem_routes.specs.Reaching.{LinkFails, ReachesBy};
+ghost use Rattle.modem_routes.specs.Routes.{path_in};
 ghost use Rattle.tool_runs.specs.Asking.{AsksModem, asked_of, Comes, Prints, PrintsText, shown, Visits};
 
 use crate::run_end::RunEnd;
@@ -11,41 +11,41 @@ use child_io::{Kids, Spawner};
 use kit_bytes::Octets;
 use kit_io::{Sink, WriteFault, write_all_to};
 use link_io::Link;
-use modem_ways::{Way, reach};
+use modem_routes::{Route, reach};
 use sms_print::{Decoding, push_decoded};
 use std::alloc::{AllocError, Global};
 
-/// Goes the way to a modem, has the session of a plan with it, prints its end, and stops whatever
+/// Goes the route to a modem, has the session of a plan with it, prints its end, and stops whatever
 /// was started.
 pub fn ask<S: Session, O: Sink, L: Link, P: Spawner>(
     alloc: Global,
-    way: &Way,
+    route: &Route,
     plan: &S,
     decoding: Decoding,
     out: &mut O,
     link: &mut L,
     spawner: &mut P,
 ) -> RunEnd
-    ensures asks { AsksModem (path_in way.now) (asked_of S.session S.refused (shown decoding S.printed S.bodies) plan.now)
+    ensures asks { AsksModem (path_in route.now) (asked_of S.session S.refused (shown decoding S.printed S.bodies) plan.now)
         (record { link = L.calls link.old; spawner = P.calls spawner.old; out = O.taken out.old; made = together (L.made link.old) (O.made out.old) })
         (record { link = L.calls link.new; spawner = P.calls spawner.new; out = O.taken out.new; made = together (L.made link.new) (O.made out.new) })
         result }
     // It doesn't give up by itself.
-    ensures link_fault { result ≡ RunEnd.LinkFault → LinkFails (path_in way.now) L.faults L.open_faults link.old link.new }
+    ensures link_fault { result ≡ RunEnd.LinkFault → LinkFails (path_in route.now) L.faults L.open_faults link.old link.new }
     ensures start_fault { result ≡ RunEnd.StartFault → Rose (P.faults spawner.old) (P.faults spawner.new) }
     ensures write_fault { result ≡ RunEnd.WriteFault → Rose (O.faults out.old) (O.faults out.new) }
 {
     let mut kids = Kids::none();
-    let end = ask_on_the_way(alloc, way, plan, decoding, out, link, spawner, &mut kids);
+    let end = ask_on_route(alloc, route, plan, decoding, out, link, spawner, &mut kids);
     let made = link.made().saturating_add(out.made());
     let stopped = kids.stop_all(spawner, made).is_ok();
     end.with_stops(stopped)
 }
 
 // The same, but that the children are kept.
-fn ask_on_the_way<S: Session, O: Sink, L: Link, P: Spawner>(
+fn ask_on_route<S: Session, O: Sink, L: Link, P: Spawner>(
     alloc: Global,
-    way: &Way,
+    route: &Route,
     plan: &S,
     decoding: Decoding,
     out: &mut O,
@@ -54,14 +54,14 @@ fn ask_on_the_way<S: Session, O: Sink, L: Link, P: Spawner>(
     kids: &mut Kids,
 ) -> RunEnd
     requires { kids.old ≡ [] }
-    ensures comes { ReachesBy (Comes (path_in way.now) (asked_of S.session S.refused (shown decoding S.printed S.bodies) plan.now) (O.taken out.old) result (O.taken out.new)) (L.calls link.old) (P.calls spawner.old) kids.new (L.calls link.new) (P.calls spawner.new) }
-    ensures link_fault { result ≡ RunEnd.LinkFault → LinkFails (path_in way.now) L.faults L.open_faults link.old link.new }
+    ensures comes { ReachesBy (Comes (path_in route.now) (asked_of S.session S.refused (shown decoding S.printed S.bodies) plan.now) (O.taken out.old) result (O.taken out.new)) (L.calls link.old) (P.calls spawner.old) kids.new (L.calls link.new) (P.calls spawner.new) }
+    ensures link_fault { result ≡ RunEnd.LinkFault → LinkFails (path_in route.now) L.faults L.open_faults link.old link.new }
     ensures start_fault { result ≡ RunEnd.StartFault → Rose (P.faults spawner.old) (P.faults spawner.new) }
     ensures write_fault { result ≡ RunEnd.WriteFault → Rose (O.faults out.old) (O.faults out.new) }
 
     ensures later_starts { P.faults spawner.old ≤ P.faults spawner.new }
 {
-    match reach(way, link, spawner, kids) {
+    match reach(route, link, spawner, kids) {
         Ok(()) => visit(alloc, plan, decoding, out, link),
         Err(fault) => RunEnd::from(fault),
     }

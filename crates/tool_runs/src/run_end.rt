@@ -3,7 +3,7 @@ ghost use Rattle.std.specs.Prelude.{◌≡◌};
 use file_io::FileFault;
 use link_session::SessionFault;
 use message_tables::TableFault;
-use modem_ways::ReachFault;
+use modem_routes::ReachFault;
 use named_messages::NamedFault;
 
 /// How a command ended.

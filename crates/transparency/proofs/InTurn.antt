@@ -2,7 +2,7 @@
 use Rattle.std.proofs.Common.{◌≡◌, ℕ, List, [], ◌∷◌, ◌++◌, Option, refl, sym, ◌∙◌, ap, subst, append_assoc, map, reverse}
 use Rattle.std.proofs.lemmas.List.{append-nil, map-append, reverse-append}
 use Rattle.core_bench.specs.Runs.{Run}
-use Rattle.rig_stage.specs.Running.{AreTold}
+use Rattle.rig_stage.specs.Running.{AreRecorded}
 use Rattle.transparency.specs.Trial.{Trial}
 use Rattle.transparency.specs.Lines.{Adds, AreLines, IsLine, Named, Shown, runs_for}
 
@@ -30,5 +30,5 @@ pub goes_on : {R : Type 0} (trial : Trial R) (requests : List (Named R)) (named 
 goes_on trial requests named lines more old mid new shown one =
     subst (λ (l : List ℕ). Shown trial (requests ++ named ∷ []) l old new) (sym one.lines_are) (record {
       lines_are = one_more (IsLine trial) requests named lines one.line shown.lines_are one.is_line;
-      ran = λ earlier told. subst (λ (l : List Run). AreTold new (l ++ earlier)) (sym (run_last trial requests named)) (one.ran (runs_for trial requests ++ earlier) (shown.ran earlier told));
+      ran = λ earlier told. subst (λ (l : List Run). AreRecorded new (l ++ earlier)) (sym (run_last trial requests named)) (one.ran (runs_for trial requests ++ earlier) (shown.ran earlier told));
     })

@@ -5,7 +5,7 @@ use Rattle.std.proofs.lemmas.Str.{chars-encodes}
 use Rattle.kit_bytes.specs.declared.kind.Kind.TheVariants.{Mbim}
 use Rattle.mbim_frame.specs.Frame.{size_of}
 use Rattle.core_bench.specs.Runs.{Run}
-use Rattle.rig_stage.specs.Running.{AreTold}
+use Rattle.rig_stage.specs.Running.{AreRecorded}
 use Rattle.link_session.specs.Peer.{Finish}
 use Rattle.mbim_session.specs.declared.plan.MbimPlan.{MbimPlan}
 use Rattle.mbim_session.specs.declared.plan.MbimEnd.{MbimEnd}
@@ -59,9 +59,9 @@ module _ (profile : Profile) (plan : MbimPlan) where
   abbrev met_by : (path device : List ℕ) (texts : List (List ℕ)) → Run
   met_by path device texts = record (opened Mbim path) { events = (relayed (behind device) (reverse texts)).events }
 
-  pub runs_so : (tells : Option (List Run)) (earlier : List Run) (device : List ℕ) (texts : List (List ℕ)) → IsInRange (configuration plan) → AreTold tells (played device texts ∷ earlier)
-      → device ≡ encode_utf8_all plan.device → texts ≡ (through_run profile plan).talk.texts → AreTold tells (run_of profile plan ∷ earlier)
+  pub runs_so : (tells : Option (List Run)) (earlier : List Run) (device : List ℕ) (texts : List (List ℕ)) → IsInRange (configuration plan) → AreRecorded tells (played device texts ∷ earlier)
+      → device ≡ encode_utf8_all plan.device → texts ≡ (through_run profile plan).talk.texts → AreRecorded tells (run_of profile plan ∷ earlier)
   runs_so tells earlier device texts range told is are =
-      subst (λ (d : List ℕ). AreTold tells (met_by (encode_utf8_all plan.device) d (through_run profile plan).talk.texts ∷ earlier)) (chars-encodes plan.device range.0)
-      (subst (λ (d : List ℕ). AreTold tells (played d (through_run profile plan).talk.texts ∷ earlier)) is
-      (subst (λ (l : List (List ℕ)). AreTold tells (played device l ∷ earlier)) are told))
+      subst (λ (d : List ℕ). AreRecorded tells (met_by (encode_utf8_all plan.device) d (through_run profile plan).talk.texts ∷ earlier)) (chars-encodes plan.device range.0)
+      (subst (λ (d : List ℕ). AreRecorded tells (played d (through_run profile plan).talk.texts ∷ earlier)) is
+      (subst (λ (l : List (List ℕ)). AreRecorded tells (played device l ∷ earlier)) are told))

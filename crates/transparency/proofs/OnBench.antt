@@ -11,19 +11,19 @@ use Rattle.proxy_serving.specs.Face.{Face}
 use Rattle.proxy_serving.specs.Cores.{Shows}
 use Rattle.core_bench.specs.Runs.{Run, AddsRun}
 use Rattle.rig_runs.specs.Stage.{modem_takes, queued_for}
-use Rattle.rig_stage.specs.Running.{AreTold, Runs, Moves}
+use Rattle.rig_stage.specs.Running.{AreRecorded, Runs, Moves}
 use Rattle.lone_client.specs.Relay.{Answering, Cast, Stage, ask, asked_then, fetched, hear_each, heard, reply, requests_in, said, sent_for, taking, waiting}
 use Rattle.transparency.specs.Asking.{Hears}
 use Rattle.transparency.specs.Relaying.{IsRelayed, Relays}
 
 -- a core was opened on a bench
-pub told_opened : (run : Run) (earlier : List Run) (old new : Option (List Run)) → AddsRun old run new → AreTold old earlier → AreTold new (run ∷ earlier)
+pub told_opened : (run : Run) (earlier : List Run) (old new : Option (List Run)) → AddsRun old run new → AreRecorded old earlier → AreRecorded new (run ∷ earlier)
 told_opened run earlier old None adds told = tt
 told_opened run earlier None (Some new) adds told = absurd adds
 told_opened run earlier (Some old) (Some new) adds told = adds ∙ ap (λ runs. run ∷ runs) told
 
 -- what a bench tells, if it tells anything
-pub told_of : (told : Option (List Run)) → (earlier : List Run) × AreTold told earlier
+pub told_of : (told : Option (List Run)) → (earlier : List Run) × AreRecorded told earlier
 told_of None = ([], tt)
 told_of (Some runs) = (runs, refl)
 

@@ -4,7 +4,7 @@ use Rattle.std.specs.Str.{encode_utf8_all}
 use Rattle.kit_bytes.specs.declared.kind.Kind.TheVariants.{Qmi}
 use Rattle.qmux_frame.specs.Frame.{size_of}
 use Rattle.core_bench.specs.Runs.{Run}
-use Rattle.rig_stage.specs.Running.{AreTold}
+use Rattle.rig_stage.specs.Running.{AreRecorded}
 use Rattle.device_core.specs.declared.plan.QmiPlan.{QmiPlan}
 use Rattle.modem_profile.specs.Profile.{Profile}
 use Rattle.modem_profile.specs.Limits.{IsWithin}
@@ -30,8 +30,8 @@ module _ (profile : Profile) (plan : QmiPlan) where
   abbrev played : (device : List ℕ) (texts : List (List ℕ)) → Run
   played device texts = record (opened Qmi device) { events = (relayed (cast_of Qmi device size_of (answers (machine profile))) (reverse texts)).events }
 
-  pub runs_so : (tells : Option (List Run)) (earlier : List Run) (device : List ℕ) (texts : List (List ℕ)) → AreTold tells (played device texts ∷ earlier)
-      → device ≡ encode_utf8_all plan.device → texts ≡ (through_run profile plan).talk.texts → AreTold tells (run_of profile plan ∷ earlier)
+  pub runs_so : (tells : Option (List Run)) (earlier : List Run) (device : List ℕ) (texts : List (List ℕ)) → AreRecorded tells (played device texts ∷ earlier)
+      → device ≡ encode_utf8_all plan.device → texts ≡ (through_run profile plan).talk.texts → AreRecorded tells (run_of profile plan ∷ earlier)
   runs_so tells earlier device texts told is are =
-      subst (λ (d : List ℕ). AreTold tells (played d (through_run profile plan).talk.texts ∷ earlier)) is
-      (subst (λ (l : List (List ℕ)). AreTold tells (played device l ∷ earlier)) are told)
+      subst (λ (d : List ℕ). AreRecorded tells (played d (through_run profile plan).talk.texts ∷ earlier)) is
+      (subst (λ (l : List (List ℕ)). AreRecorded tells (played device l ∷ earlier)) are told)

@@ -1,7 +1,7 @@
 -- What is printed of requests that are run twice, and what is run on a bench for them. Lists of runs have the newest first.
 use Rattle.std.specs.Prelude.{◌≡◌, ℕ, List, [], ◌∷◌, ◌++◌, Option, codes, decimal, map, reverse}
 use Rattle.core_bench.specs.Runs.{Run}
-use Rattle.rig_stage.specs.Running.{AreTold}
+use Rattle.rig_stage.specs.Running.{AreRecorded}
 use Rattle.printed_ends.specs.declared.printed.Printed.{Printed}
 use Rattle.transparency.specs.declared.lines.NamedRequest.{NamedRequest}
 use Rattle.transparency.specs.Trial.{Trial}
@@ -58,7 +58,7 @@ runs_for trial requests = reverse (map (λ named. trial.run_of named.asked) requ
 
 -- where a bench tells its runs, it ran each
 abbrev pub AreRun : {R : Type 0} → Trial R → List (Named R) → (old new : Option (List Run)) → Type 0
-AreRun trial requests old new = (earlier : List Run) → AreTold old earlier → AreTold new (runs_for trial requests ++ earlier)
+AreRun trial requests old new = (earlier : List Run) → AreRecorded old earlier → AreRecorded new (runs_for trial requests ++ earlier)
 
 -- these are the lines of the requests, and each was run
 pub record Shown {R : Type 0} (trial : Trial R) (requests : List (Named R)) (lines : List ℕ) (old new : Option (List Run)) : Type 0 where
@@ -70,4 +70,4 @@ pub record Adds {R : Type 0} (trial : Trial R) (named : Named R) (lines_old line
   pub line : List ℕ
   pub is_line : IsLine trial named line
   pub lines_are : lines_new ≡ lines_old ++ line
-  pub ran : (earlier : List Run) → AreTold old earlier → AreTold new (trial.run_of named.asked ∷ earlier)
+  pub ran : (earlier : List Run) → AreRecorded old earlier → AreRecorded new (trial.run_of named.asked ∷ earlier)

@@ -3,7 +3,7 @@ ghost use Rattle.std.specs.Str.{encode_utf8_all};
 ghost use Rattle.kit_bytes.specs.declared.kind.Kind.TheVariants.{Mbim};
 ghost use Rattle.mbim_frame.specs.Frame.{size_of};
 ghost use Rattle.core_bench.specs.Runs.{Run};
-ghost use Rattle.rig_stage.specs.Running.{AreTold};
+ghost use Rattle.rig_stage.specs.Running.{AreRecorded};
 ghost use Rattle.modem_profile.specs.Limits.{IsWithin};
 ghost use Rattle.mbim_session.specs.Peer.{session_at};
 ghost use Rattle.lone_client.specs.Relay.{through};
@@ -38,7 +38,7 @@ pub fn mbim_twice<B: Bench>(
     ensures direct { IfOk result (λ twice. Prints (direct_run profile.now plan).end twice.direct) }
     ensures through { IfOk result (λ twice. Prints (through_run profile.now plan).end twice.through) }
     ensures same { IfOk result (λ twice. IsCommand plan.request → twice.direct ≡ twice.through) }
-    ensures runs { OnOk result ((earlier : List Run) → AreTold (B.runs bench.old) earlier → AreTold (B.runs bench.new) (run_of profile.now plan ∷ earlier)) }
+    ensures runs { OnOk result ((earlier : List Run) → AreRecorded (B.runs bench.old) earlier → AreRecorded (B.runs bench.new) (run_of profile.now plan ∷ earlier)) }
 {
     let mut plan = plan;
     let twice = run_twice(alloc, bench, profile, &mut plan);
@@ -56,7 +56,7 @@ fn run_twice<B: Bench>(
     ensures direct { IfOk result (λ twice. Prints (direct_run profile.now plan.old).end twice.direct) }
     ensures through { IfOk result (λ twice. Prints (through_run profile.now plan.old).end twice.through) }
     ensures same { IfOk result (λ twice. IsCommand plan.old.request → twice.direct ≡ twice.through) }
-    ensures runs { OnOk result ((earlier : List Run) → AreTold (B.runs bench.old) earlier → AreTold (B.runs bench.new) (run_of profile.now plan.old ∷ earlier)) }
+    ensures runs { OnOk result ((earlier : List Run) → AreRecorded (B.runs bench.old) earlier → AreRecorded (B.runs bench.new) (run_of profile.now plan.old ∷ earlier)) }
 {
     plan_in_range(plan);
     plan.proxied = false;

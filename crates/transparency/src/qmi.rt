@@ -3,7 +3,7 @@ ghost use Rattle.std.specs.Str.{encode_utf8_all};
 ghost use Rattle.kit_bytes.specs.declared.kind.Kind.TheVariants.{Qmi};
 ghost use Rattle.qmux_frame.specs.Frame.{size_of};
 ghost use Rattle.core_bench.specs.Runs.{Run};
-ghost use Rattle.rig_stage.specs.Running.{AreTold};
+ghost use Rattle.rig_stage.specs.Running.{AreRecorded};
 ghost use Rattle.modem_profile.specs.Limits.{IsWithin};
 ghost use Rattle.sim_modem.specs.Sim.{answers};
 ghost use Rattle.sim_qmi.specs.Modem.{machine};
@@ -40,7 +40,7 @@ pub fn qmi_twice<B: Bench>(
     ensures direct { IfOk result (λ twice. Prints (direct_run profile.now plan).end twice.direct) }
     ensures through { IfOk result (λ twice. Prints (through_run profile.now plan).end twice.through) }
     ensures same { IfOk result (λ twice. IsTold profile.now plan → twice.direct ≡ twice.through) }
-    ensures runs { OnOk result ((earlier : List Run) → AreTold (B.runs bench.old) earlier → AreTold (B.runs bench.new) (run_of profile.now plan ∷ earlier)) }
+    ensures runs { OnOk result ((earlier : List Run) → AreRecorded (B.runs bench.old) earlier → AreRecorded (B.runs bench.new) (run_of profile.now plan ∷ earlier)) }
 {
     let mut plan = plan;
     let twice = run_twice(alloc, bench, profile, &mut plan);
@@ -58,7 +58,7 @@ fn run_twice<B: Bench>(
     ensures direct { IfOk result (λ twice. Prints (direct_run profile.now plan.old).end twice.direct) }
     ensures through { IfOk result (λ twice. Prints (through_run profile.now plan.old).end twice.through) }
     ensures same { IfOk result (λ twice. IsTold profile.now plan.old → twice.direct ≡ twice.through) }
-    ensures runs { OnOk result ((earlier : List Run) → AreTold (B.runs bench.old) earlier → AreTold (B.runs bench.new) (run_of profile.now plan.old ∷ earlier)) }
+    ensures runs { OnOk result ((earlier : List Run) → AreRecorded (B.runs bench.old) earlier → AreRecorded (B.runs bench.new) (run_of profile.now plan.old ∷ earlier)) }
 {
     have_room(alloc, plan)?;
     plan.proxied = false;

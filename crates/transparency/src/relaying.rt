@@ -4,7 +4,7 @@ ghost use Rattle.core_bench.specs.Runs.{Run, proxy_for};
 ghost use Rattle.hub_io.specs.Record.{taking};
 ghost use Rattle.rig_runs.specs.Stage.{queued_for};
 ghost use Rattle.rig_stage.specs.Ready.{IsReady, StaysReady};
-ghost use Rattle.rig_stage.specs.Running.{AreTold, Moves, Runs};
+ghost use Rattle.rig_stage.specs.Running.{AreRecorded, Moves, Runs};
 ghost use Rattle.lone_client.specs.Relay.{hear_each, relayed};
 ghost use Rattle.transparency.specs.Peers.{cast_of, opened};
 ghost use Rattle.transparency.specs.Relaying.{Relays};
@@ -34,7 +34,7 @@ pub(crate) fn begin<B: Bench>(
     device: &str,
 ) -> Result<(), AllocError>
     ensures ready { OnOk result (IsReady (B.is_held bench.new) (B.face bench.new)) }
-    ensures runs { OnOk result ((earlier : List Run) → AreTold (B.runs bench.old) earlier
+    ensures runs { OnOk result ((earlier : List Run) → AreRecorded (B.runs bench.old) earlier
         → Runs B.keeps B.runs (proxy_for kind (opened kind device.now).limits device.now) (opened kind device.now) earlier (history.Joined 1 ∷ []) bench.new) }
 {
     let limits = Limits {
@@ -113,7 +113,7 @@ pub fn play<S: Simulated, B: Bench>(
     device: &str,
     texts: &[Octets],
 ) -> Result<(), AllocError>
-    ensures runs { OnOk result ((earlier : List Run) → AreTold (B.runs bench.old) earlier
+    ensures runs { OnOk result ((earlier : List Run) → AreRecorded (B.runs bench.old) earlier
         → Runs B.keeps B.runs (cast_of S.kind device.now S.Framing.size (S.answering profile.now)).proxy (opened S.kind device.now) earlier
         (relayed (cast_of S.kind device.now S.Framing.size (S.answering profile.now)) (reverse texts.now)).events bench.new) }
 {

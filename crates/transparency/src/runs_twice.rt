@@ -1,6 +1,6 @@
 ghost use Rattle.std.specs.Prelude.{◌≡◌, ◌∷◌, List, IfOk, OnOk};
 ghost use Rattle.core_bench.specs.Runs.{Run};
-ghost use Rattle.rig_stage.specs.Running.{AreTold};
+ghost use Rattle.rig_stage.specs.Running.{AreRecorded};
 ghost use Rattle.modem_profile.specs.Profile.{default_profile};
 ghost use Rattle.rig_runs.specs.Rig.{device};
 ghost use Rattle.transparency.specs.Trial.{Trial};
@@ -34,7 +34,7 @@ pub trait RunsTwice: Sized + Drop {
         ensures somewhere { IfOk result (λ twice. trial.PrintsSomewhere self twice.through) }
         ensures elsewhere { IfOk result (λ twice. twice.direct ≡ twice.through → trial.PrintsElsewhere self twice.through) }
         ensures same { IfOk result (λ twice. trial.IsCommand self → twice.direct ≡ twice.through) }
-        ensures runs { OnOk result ((earlier : List Run) → AreTold (B.runs bench.old) earlier → AreTold (B.runs bench.new) (trial.run_of self ∷ earlier)) };
+        ensures runs { OnOk result ((earlier : List Run) → AreRecorded (B.runs bench.old) earlier → AreRecorded (B.runs bench.new) (trial.run_of self ∷ earlier)) };
 }
 
 /// The path of the device.

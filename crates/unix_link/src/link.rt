@@ -1,7 +1,7 @@
 ghost use Rattle.std.specs.Prelude.{◌≡◌, ◌≤◌, true, false, [], ◌∷◌, None, is_ok, length, IfOk, OnOk, IsSome};
 ghost use Rattle.kit_io.specs.Causes.{HasCause};
 ghost use Rattle.kit_io.specs.Counts.{one_more};
-ghost use Rattle.kit_io.specs.Told.{Grows};
+ghost use Rattle.kit_io.specs.Growth.{Grows};
 ghost use Rattle.link_io.specs.Calls.{Opened, Paired, Closed, Sends};
 ghost use Rattle.link_io.specs.Target.{address_of};
 ghost use Rattle.unix_link.specs.Reached.{IsReached};

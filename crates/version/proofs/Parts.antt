@@ -1,7 +1,7 @@
 -- Texts that are printed one after another, up to a write that failed.
 use Rattle.std.proofs.Common.{List, ◌++◌, Option, sym, ◌∙◌, ap, append_assoc}
-use Rattle.kit_io.specs.Told.{Grows, GrowsByFront}
-use Rattle.kit_io.proofs.Told.{Grows-append}
+use Rattle.kit_io.specs.Growth.{Grows, GrowsByFront}
+use Rattle.kit_io.proofs.Growth.{Grows-append}
 
 -- the first of them failed
 pub front-first : {A : Type 0} {old new : Option (List A)} {first : List A} (more : List A) → GrowsByFront old first new → GrowsByFront old (first ++ more) new

@@ -1,6 +1,6 @@
 ghost use Rattle.std.specs.Prelude.{OnOk};
 ghost use Rattle.kit_io.specs.Causes.{HasCause};
-ghost use Rattle.kit_io.specs.Told.{Grows, GrowsByFront};
+ghost use Rattle.kit_io.specs.Growth.{Grows, GrowsByFront};
 ghost use Rattle.version.specs.Line.{version_line};
 
 use kit_io::{Sink, WriteFault, write_all_to};

@@ -1,7 +1,7 @@
 -- What a call on a watched link adds to its notes.
 use Rattle.std.specs.Prelude.{ℕ, List, [], ◌∷◌, true, false, Option, Result, Ok, Err}
 use Rattle.kit_io.specs.Record.{Noted}
-use Rattle.kit_io.specs.Told.{Grows}
+use Rattle.kit_io.specs.Growth.{Grows}
 use Rattle.link_io.specs.Calls.{Call, Sent}
 use Rattle.watched_link.specs.declared.note.LinkNote.{LinkNote}
 use Rattle.watched_link.specs.Notes.{Called, Said, events_told}

@@ -40,7 +40,7 @@ impl Model for Notes {
 impl Notes {
     ghost use Rattle.std.specs.Prelude.{length, None};
     ghost use Rattle.kit_io.specs.Record.{Notes as NotesOne, note_at};
-    ghost use Rattle.kit_io.specs.Told.{Grows};
+    ghost use Rattle.kit_io.specs.Growth.{Grows};
     ghost use Rattle.link_io.specs.Made.{call_as};
     ghost use Rattle.watched_link.specs.Notes.{Called, Said, events_told};
 
@@ -94,7 +94,7 @@ impl Notes {
     }
 
     /// Notes a call.
-    #[tactic(auto, using(kit_io::proofs::Told::growing))]
+    #[tactic(auto, using(kit_io::proofs::Growth::growing))]
     pub(crate) fn call(&mut self, made: Made, bytes: &[u8])
         ensures { Grows (events_told self.old.told) (Called (call_as made bytes.now) ∷ []) (events_told self.new.told) }
     {
@@ -102,7 +102,7 @@ impl Notes {
     }
 
     /// Notes what the system says of it.
-    #[tactic(auto, using(kit_io::proofs::Told::growing))]
+    #[tactic(auto, using(kit_io::proofs::Growth::growing))]
     pub(crate) fn said(&mut self, words: &[u8])
         ensures { Grows (events_told self.old.told) (Said words.now ∷ []) (events_told self.new.told) }
     {

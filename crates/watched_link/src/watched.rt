@@ -1,7 +1,7 @@
 ghost use Rattle.std.specs.Prelude.{◌≡◌, ◌≤◌, ◌∷◌, [], Some, true, length, is_ok, IfOk};
 ghost use Rattle.kit_io.specs.Causes.{HasCause};
 ghost use Rattle.kit_io.specs.Counts.{one_more};
-ghost use Rattle.kit_io.specs.Told.{Grows};
+ghost use Rattle.kit_io.specs.Growth.{Grows};
 ghost use Rattle.link_io.specs.Calls.{Opened, Paired, Closed, take_call, Sends, EndsForGood};
 ghost use Rattle.link_io.specs.Made.{call_as};
 ghost use Rattle.link_io.specs.Target.{address_of, IsWithin};
@@ -44,7 +44,7 @@ impl<L: Complain> Watched<L> {
     }
 
     // Notes a call that failed, and what the system says of it.
-    #[tactic(auto, using(kit_io::proofs::Told::growing))]
+    #[tactic(auto, using(kit_io::proofs::Growth::growing))]
     fn note_failed(&mut self, made: Made, bytes: &[u8])
         ensures notes { NotesFailure self.old.notes.told (call_as made bytes.now) self.new.notes.told }
         ensures link { self.new.link ≡ self.old.link }

@@ -1,5 +1,5 @@
 use Rattle.std.proofs.Common.{[], List, refl, ap, sym}
-use Rattle.kit_io.proofs.Told.{Grows-none}
+use Rattle.kit_io.proofs.Growth.{Grows-none}
 use Rattle.message_tables.specs.declared.message.Message.{Message}
 use Rattle.message_tables.specs.View.{messages_in}
 use Rattle.stream_lines.specs.Capture.{no_room}

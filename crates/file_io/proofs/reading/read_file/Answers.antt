@@ -1,5 +1,5 @@
 use Rattle.std.proofs.Common.{refl}
-use Rattle.kit_io.proofs.Told.{Grows-append}
+use Rattle.kit_io.proofs.Growth.{Grows-append}
 use Rattle.file_io.specs.Reading.{opened}
 use Rattle.file_io.proofs.reading.read_file.Goals as goal
 

@@ -1,8 +1,8 @@
 use Rattle.std.proofs.Common.{◌≡◌, ◌<◌, Bool, true, false, List, [], ◌∷◌, length, map, refl, sym, ap, ◌∙◌, subst, arith}
-use Rattle.kit_io.proofs.Told.{Grows-none}
+use Rattle.kit_io.proofs.Growth.{Grows-none}
 use Rattle.link_io.specs.Target.{address_of}
-use Rattle.modem_ways.specs.Ways.{PumpWords, words_in}
-use Rattle.modem_ways.specs.declared.way.Pumps.{Pumps}
+use Rattle.modem_routes.specs.Routes.{PumpWords, words_in}
+use Rattle.modem_routes.specs.declared.route.Pumps.{Pumps}
 use Rattle.many_io.specs.Record.{Opened, Paired}
 use Rattle.many_runs.specs.Running.{at_once, paired, not_opened, no_pump, not_paired, StartsEach}
 use Rattle.many_runs.proofs.Opened.{one_more, opened_once, no_nodes, some_nodes}

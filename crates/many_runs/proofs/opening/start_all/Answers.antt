@@ -1,7 +1,7 @@
 use Rattle.std.proofs.Common.{◌≡◌, ◌+◌, true, false, List, take, drop, map, sym, subst, arith}
 use Rattle.std.proofs.lemmas.Result.{err_from_is_err_and}
-use Rattle.modem_ways.specs.Reaching.{StartsBy}
-use Rattle.modem_ways.specs.Ways.{PumpWords, words_in}
+use Rattle.modem_routes.specs.Reaching.{StartsBy}
+use Rattle.modem_routes.specs.Routes.{PumpWords, words_in}
 use Rattle.many_runs.specs.Running.{StartsEach}
 use Rattle.many_runs.proofs.Starts.{next_started, cut_short, pumps_next, pumps_cut}
 use Rattle.many_runs.proofs.opening.start_all.Goals as goal

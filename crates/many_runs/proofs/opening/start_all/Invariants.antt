@@ -1,6 +1,6 @@
 use Rattle.std.proofs.Common.{◌≤◌, ◌*◌, true, map, take, length}
-use Rattle.modem_ways.specs.Reaching.{StartsBy}
-use Rattle.modem_ways.specs.Ways.{words_in}
+use Rattle.modem_routes.specs.Reaching.{StartsBy}
+use Rattle.modem_routes.specs.Routes.{words_in}
 use Rattle.many_runs.specs.Running.{StartsEach}
 use Rattle.many_runs.proofs.opening.start_all.Given as goal
 

@@ -1,5 +1,5 @@
 use Rattle.std.proofs.Common.{rules}
-use Rattle.modem_ways.proofs.Stopping.{each_is_stopped}
+use Rattle.modem_routes.proofs.Stopping.{each_is_stopped}
 use Rattle.many_runs.proofs.running.run_devices.Goals as goal
 
 pub returns-clause-serves : goal.returns-clause-serves

@@ -2,11 +2,11 @@ use Rattle.std.proofs.Common.{◌≡◌, ◌≤◌, ℕ, List, [], true, length,
 use Rattle.std.proofs.lemmas.List.{length-map}
 use Rattle.std.proofs.lemmas.List.Elements.{All-nil}
 use Rattle.std.specs.Str.{encode_utf8_all}
-use Rattle.kit_io.proofs.Told.{Grows-none}
+use Rattle.kit_io.proofs.Growth.{Grows-none}
 use Rattle.hub_io.proofs.Record.{since-starts}
 use Rattle.link_io.specs.Target.{Address}
 use Rattle.many_io.specs.Record.{ManyCall}
-use Rattle.modem_ways.specs.Ways.{PumpWords}
+use Rattle.modem_routes.specs.Routes.{PumpWords}
 use Rattle.many_runs.specs.Places.{address_in, places_of, pumps_among}
 use Rattle.many_runs.specs.Running.{asked_by, no_memory, ServesPlaces}
 use Rattle.many_runs.proofs.Places.{as_many_targets, few_are_nodes}

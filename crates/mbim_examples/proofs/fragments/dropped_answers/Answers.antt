@@ -3,7 +3,7 @@ use Rattle.framing.specs.Cutting.{cut_from}
 use Rattle.proxy_history.specs.Streams.{stream, modem_stream}
 use Rattle.proxy_history.specs.Connections.{present, message_count}
 use Rattle.proxy_history.specs.Requests.{in_use, pending, forward_count, last_number, free_from}
-use Rattle.proxy_history.specs.Modem.{now, to_modem, modem_drained}
+use Rattle.proxy_history.specs.Modem.{now, to_modem, modem_taken_count}
 use Rattle.proxy_history.specs.View.{view}
 use Rattle.proxy_history.specs.Rendering.{render}
 use Rattle.proxy_history.specs.Wording.{told_by}
@@ -15,7 +15,7 @@ use Rattle.mbim_proxy.specs.Lists.{askers, last_list}
 use Rattle.mbim_examples.proofs.fragments.dropped_answers.Goals as goal
 
 pub returns : goal.returns
-unfolding cut_from stream modem_stream present message_count in_use pending forward_count last_number free_from now to_modem modem_drained view render told_by end_overfull each_pending add_all history heard_from state askers last_list
+unfolding cut_from stream modem_stream present message_count in_use pending forward_count last_number free_from now to_modem modem_taken_count view render told_by end_overfull each_pending add_all history heard_from state askers last_list
 returns c = record {
   client = refl;
   twice = refl;

@@ -14,5 +14,5 @@ returns g c =
     let plan = c.args.plan.now in
     subst (λ who. IsHeld Prints (session_at (a.peer who) plan) c.in_ok-held.held) c.to-link.ensures.answerer
     (is_held (Session plan) (λ peer. session_at peer plan) EndsWith (λ peer calls end. sessions_end_as_at_peers peer plan calls end) a.peer a.named g.met.A.Answerer.named_behind g.met.A.Answerer.naming end_text refusal_of
-    c.to-link.result c.qmi_session-end.new.link c.to-link.ensures.told c.qmi_session-end.ensures.session c.in_ok-held.ensures.told c.in_ok-printed.ensures.by_peer
+    c.to-link.result c.qmi_session-end.new.link c.to-link.ensures.recorded c.qmi_session-end.ensures.session c.in_ok-held.ensures.told c.in_ok-printed.ensures.by_peer
     (subst (IsOf c.qmi_session-end.result) (sym c.in_ok-held.ensures.printed) c.in_ok-printed.ensures.printed))

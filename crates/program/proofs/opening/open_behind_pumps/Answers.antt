@@ -1,5 +1,5 @@
 use Rattle.std.proofs.Common.{true, false, Some, [], ◌∷◌, refl}
-use Rattle.kit_io.proofs.Told.{Grows-none}
+use Rattle.kit_io.proofs.Growth.{Grows-none}
 use Rattle.hub_io.specs.Record.{Opened, Paired}
 use Rattle.link_io.specs.Target.{address_of}
 use Rattle.program.specs.Serving.{paired, no_bridge, no_pump, not_paired}

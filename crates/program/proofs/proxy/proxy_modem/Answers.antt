@@ -1,6 +1,6 @@
 use Rattle.std.proofs.Common.{subst}
 use Rattle.std.specs.Str.{encode_utf8_all}
-use Rattle.modem_ways.specs.Ways.{place_of}
+use Rattle.modem_routes.specs.Routes.{place_of}
 use Rattle.program.specs.Serving.{Asked, ServesProxy}
 use Rattle.program.proofs.proxy.proxy_modem.Goals as goal
 

@@ -1,6 +1,6 @@
 use Rattle.std.proofs.Common.{◌≡◌, subst, ap, ap₂, ◌∙◌}
 use Rattle.std.specs.Str.{encode_utf8_all}
-use Rattle.modem_ways.specs.Ways.{Place, place_of, place_in}
+use Rattle.modem_routes.specs.Routes.{Place, place_of, place_in}
 use Rattle.program.specs.Serving.{ServesProxy, asked_with}
 use Rattle.program.proofs.proxy.serve.Goals as goal
 

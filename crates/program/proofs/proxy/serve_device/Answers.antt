@@ -1,5 +1,5 @@
 use Rattle.std.proofs.Common.{Bool, ◌∙◌, ap, sym, rules}
-use Rattle.modem_ways.proofs.Stopping.{each_is_stopped}
+use Rattle.modem_routes.proofs.Stopping.{each_is_stopped}
 use Rattle.program.specs.Status.{with_stops}
 use Rattle.program.proofs.Ends.{start_fault_comes}
 use Rattle.program.proofs.proxy.serve_device.Goals as goal

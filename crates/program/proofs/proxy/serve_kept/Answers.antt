@@ -3,7 +3,7 @@ use Rattle.std.specs.Str.{encode_utf8_all}
 use Rattle.hub_io.specs.Record.{Call}
 use Rattle.hub_io.proofs.Record.{since-joins}
 use Rattle.proxy_serving.specs.Ends.{EndsSo}
-use Rattle.modem_ways.specs.Ways.{place_in}
+use Rattle.modem_routes.specs.Routes.{place_in}
 use Rattle.program.specs.Serving.{EndsServing, Opens, OpensHub, asked_with, not_opened, proxy_for, served}
 use Rattle.program.proofs.proxy.serve_kept.Goals as goal
 

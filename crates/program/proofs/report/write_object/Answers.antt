@@ -1,4 +1,4 @@
-use Rattle.kit_io.proofs.Told.{Grows-append}
+use Rattle.kit_io.proofs.Growth.{Grows-append}
 use Rattle.program.specs.Status.{object_line}
 use Rattle.program.proofs.report.write_object.Goals as goal
 

@@ -1,5 +1,5 @@
 use Rattle.std.proofs.Common.{refl}
-use Rattle.kit_io.proofs.Told.{Grows-none}
+use Rattle.kit_io.proofs.Growth.{Grows-none}
 use Rattle.program.specs.Rigging.{no_memory}
 use Rattle.program.proofs.rigging.print_rig.Goals as goal
 

@@ -1,5 +1,5 @@
 use Rattle.std.proofs.Common.{rules, refl}
-use Rattle.kit_io.specs.Told.{Grows, GrowsByFront}
+use Rattle.kit_io.specs.Growth.{Grows, GrowsByFront}
 use Rattle.program.specs.Rigging.{shown, not_shown}
 use Rattle.program.proofs.rigging.print_transparency.Goals as goal
 

@@ -7,4 +7,4 @@ pub returns-clause-own : goal.returns-clause-own
 returns-clause-own g c = subst IsOfKeeping (sym c.from.ensures) (is_of_keeping _)
 
 pub returns-clause-start_fault : goal.returns-clause-start_fault
-returns-clause-start_fault g c = λ e. c.keep_simulator.ensures.start_fault (keeping_fault_is _ (sym c.from.ensures ∙ e))
+returns-clause-start_fault g c = λ e. c.supervise_simulator.ensures.start_fault (keeping_fault_is _ (sym c.from.ensures ∙ e))

@@ -1,4 +1,4 @@
-use Rattle.kit_io.proofs.Told.{Grows-none}
+use Rattle.kit_io.proofs.Growth.{Grows-none}
 use Rattle.program.specs.Tables.{asked, asks_once, follows, not_asked}
 use Rattle.program.proofs.tables.ask_by_tables.Goals as goal
 

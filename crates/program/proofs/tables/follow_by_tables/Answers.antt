@@ -1,4 +1,4 @@
-use Rattle.kit_io.proofs.Told.{Grows-none}
+use Rattle.kit_io.proofs.Growth.{Grows-none}
 use Rattle.program.specs.Tables.{followed, is_told, not_followed, not_told}
 use Rattle.program.proofs.tables.follow_by_tables.Goals as goal
 

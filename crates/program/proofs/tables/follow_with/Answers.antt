@@ -1,12 +1,12 @@
 use Rattle.std.proofs.Common.{◌≡◌, ap, ◌∙◌, inl, inr, refl, subst}
 use Rattle.kit_io.specs.Counts.{together}
-use Rattle.kit_io.proofs.Told.{Grows-none}
-use Rattle.modem_ways.specs.Ways.{Path}
+use Rattle.kit_io.proofs.Growth.{Grows-none}
+use Rattle.modem_routes.specs.Routes.{Path}
 use Rattle.table_requests.specs.Plan.{Plan}
 use Rattle.table_following.specs.Plan as following
 use Rattle.tool_runs.specs.Asking as asking
 use Rattle.program.specs.Tables.{follow_plan}
-use Rattle.program.specs.Ways.{Follows, way_to}
+use Rattle.program.specs.Routes.{Follows, route_to}
 use Rattle.program.proofs.tables.follow_with.Goals as goal
 
 -- the plan is what the words and the file say
@@ -16,7 +16,7 @@ returns-clause-follows g c =
     let after : asking.Told = record { link = g.L.Link.calls c.follow_on-status.new.link; spawner = g.P.Spawner.calls c.follow_on-status.new.spawner; out = g.O.Sink.taken c.follow_on-status.new.out; made = together (g.L.Link.made c.follow_on-status.new.link) (g.O.Sink.made c.follow_on-status.new.out) } in
     let plan_with : Plan → following.Plan = λ p. record { request = p; indications = c.args.told.items; turns = c.args.turns } in
     let plan_is : c.new-plan.result ≡ follow_plan c.args.task c.args.asked c.args.told.items c.args.turns = c.new-plan.ensures ∙ ap plan_with c.plan_of-settings.ensures.plan in
-    subst (λ (p : following.Plan). Follows (way_to c.args.task.device c.args.task.link) p before after c.follow_on-status.result) plan_is
+    subst (λ (p : following.Plan). Follows (route_to c.args.task.device c.args.task.link) p before after c.follow_on-status.result) plan_is
     (subst (λ (path : Path). Follows path c.new-plan.result before after c.follow_on-status.result) c.in-Ok.ensures (inl c.follow_on-status.ensures.follows))
 
 pub returns-clause-link_fault : goal.returns-clause-link_fault

@@ -1,8 +1,8 @@
 use Rattle.std.proofs.Common.{inl, inr, refl}
-use Rattle.kit_io.proofs.Told.{Grows-none}
+use Rattle.kit_io.proofs.Growth.{Grows-none}
 use Rattle.program.proofs.tool.ask_device.Goals as goal
 
--- the modem on the way of the words was asked
+-- the modem on the route of the words was asked
 pub returns-clause-asks : goal.returns-clause-asks
 returns-clause-asks g c = rw (← c.in-Ok.ensures) (inl c.ask_modem.ensures.asks)
 

@@ -5,7 +5,7 @@ use Rattle.proxy_history.specs.Connections.{present, dropped, message_count}
 use Rattle.proxy_history.specs.Requests.{in_use, pending, forward_count, last_number, free_from}
 use Rattle.proxy_history.specs.ClientIds.{held, kept}
 use Rattle.qmi_proxy.specs.Releases.{first_due, releases}
-use Rattle.proxy_history.specs.Modem.{now, is_away, to_modem, modem_drained}
+use Rattle.proxy_history.specs.Modem.{now, is_away, to_modem, modem_taken_count}
 use Rattle.proxy_history.specs.View.{view}
 use Rattle.proxy_history.specs.Rendering.{render}
 use Rattle.proxy_history.specs.Wording.{told_by}
@@ -14,5 +14,5 @@ use Rattle.proxy_history.specs.History.{add_all, history}
 use Rattle.proxy_examples.proofs.kept.an_adopted_id_is_not_released.Goals as goal
 
 pub returns : goal.returns
-unfolding cut_from stream modem_stream present dropped message_count in_use pending forward_count last_number free_from held kept first_due releases now is_away to_modem modem_drained view render end_overfull each_pending told_by add_all history
+unfolding cut_from stream modem_stream present dropped message_count in_use pending forward_count last_number free_from held kept first_due releases now is_away to_modem modem_taken_count view render end_overfull each_pending told_by add_all history
 returns c = record { modem = refl; kept = refl }

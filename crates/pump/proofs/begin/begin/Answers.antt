@@ -1,5 +1,5 @@
 use Rattle.std.proofs.Common.{not, true, false, [], ◌∷◌, refl, ap, ◌∙◌}
-use Rattle.kit_io.proofs.Told.{Grows-append}
+use Rattle.kit_io.proofs.Growth.{Grows-append}
 use Rattle.link_io.specs.Calls as link
 use Rattle.link_io.specs.Target.{address_of}
 use Rattle.file_io.specs.Calls as file

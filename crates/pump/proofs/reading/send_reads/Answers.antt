@@ -1,5 +1,5 @@
 use Rattle.std.proofs.Common.{◌≤◌, false, [], ◌∷◌, length, take, refl, ap, arith, rules}
-use Rattle.kit_io.proofs.Told.{Grows-none}
+use Rattle.kit_io.proofs.Growth.{Grows-none}
 use Rattle.link_io.specs.Calls as link
 use Rattle.file_io.specs.Calls as file
 use Rattle.pump.specs.Reading.{found_end, read_failed, send_failed, turns_spent}

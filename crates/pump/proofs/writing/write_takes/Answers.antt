@@ -1,5 +1,5 @@
 use Rattle.std.proofs.Common.{◌≡◌, [], ◌∷◌, length, take, refl, arith, rules}
-use Rattle.kit_io.proofs.Told.{Grows-none}
+use Rattle.kit_io.proofs.Growth.{Grows-none}
 use Rattle.link_io.specs.Calls as link
 use Rattle.pump.specs.Writing.{taken, found_end, take_failed, write_failed, turns_spent}
 use Rattle.pump.proofs.Sending.{some_taken}

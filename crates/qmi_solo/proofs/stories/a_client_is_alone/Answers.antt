@@ -6,7 +6,7 @@ use Rattle.proxy_history.specs.Streams.{stream, modem_stream}
 use Rattle.proxy_history.specs.Connections.{present, dropped, message_count}
 use Rattle.proxy_history.specs.Requests.{in_use, pending, forward_count, last_number, free_from}
 use Rattle.proxy_history.specs.ClientIds.{held}
-use Rattle.proxy_history.specs.Modem.{now, is_away, to_modem, modem_drained}
+use Rattle.proxy_history.specs.Modem.{now, is_away, to_modem, modem_taken_count}
 use Rattle.proxy_history.specs.View.{view}
 use Rattle.proxy_history.specs.Rendering.{render}
 use Rattle.proxy_history.specs.Noting.{end_overfull, each_pending}
@@ -15,5 +15,5 @@ use Rattle.proxy_solo.specs.Solo as alone
 use Rattle.qmi_solo.proofs.stories.a_client_is_alone.Goals as goal
 
 pub returns : goal.returns
-unfolding cut_from stream modem_stream present dropped message_count in_use pending forward_count last_number free_from held now is_away to_modem modem_drained view render end_overfull each_pending told_by proxy.add_all proxy.history alone.pieces_of alone.meet_pieces alone.hear_all alone.meet_parts alone.solo
+unfolding cut_from stream modem_stream present dropped message_count in_use pending forward_count last_number free_from held now is_away to_modem modem_taken_count view render end_overfull each_pending told_by proxy.add_all proxy.history alone.pieces_of alone.meet_pieces alone.hear_all alone.meet_parts alone.solo
 returns c = record { met = refl; beside = refl; alone = refl }

@@ -18,11 +18,11 @@ loop-index-preserved g c =
       | then-branch w ↦ (let t = w.if-branch.true in let e = w.equal-is in cc)
       | else-branch w ↦ (let t = w.if-branch.false in let e = w.equal-is in cc)
     ] in
-    let Each : ℕ → Type 0 = λ equal. RunsEach g.R.Reading.reading g.P.Protocol.proxy g.P.Protocol.kind c.args.story.now (c.loop-index.index + 1) (g.B.Bench.runs c.args.noting.now.bench) (g.B.Bench.runs c.is_equal.new.noting.bench) equal in
+    let Each : ℕ → Type 0 = λ equal. RunsEach g.R.Reading.reading g.P.Protocol.proxy g.P.Protocol.kind c.args.trace.now (c.loop-index.index + 1) (g.B.Bench.runs c.args.noting.now.bench) (g.B.Bench.runs c.is_equal.new.noting.bench) equal in
     record {
       few = subst (λ (equal : ℕ). equal ≤ c.loop-index.index + 1) (sym now) (few_then c.loop-index.equal c.loop-index.index same before.few);
       each = subst Each (sym now)
-          (one_more_runs g.R.Reading.reading g.P.Protocol.proxy g.P.Protocol.kind c.args.story.now c.loop-index.index c.loop-index.equal (c.from.result + 1) same
+          (one_more_runs g.R.Reading.reading g.P.Protocol.proxy g.P.Protocol.kind c.args.trace.now c.loop-index.index c.loop-index.equal (c.from.result + 1) same
           (g.B.Bench.runs c.args.noting.now.bench) (g.B.Bench.runs c.loop-index.noting.bench) (g.B.Bench.runs c.is_equal.new.noting.bench) (omega (arith, c.from.ensures)) before.each c.in_ok-is_equal.ensures.one);
     }
 
@@ -30,5 +30,5 @@ pub returns-in_err-is_equal-clause-stops : goal.returns-in_err-is_equal-clause-s
 returns-in_err-is_equal-clause-stops g c =
     let within : c.loop-index.index < c.args.clients = search rules in
     also_on_err c.from_residual.result
-    (each_stops g.R.Reading.reading g.P.Protocol.proxy g.P.Protocol.kind c.args.story.now c.loop-index.index (c.from.result + 1) c.args.clients (omega (arith, c.from.ensures)) (omega (arith, c.from.ensures, within))
+    (each_stops g.R.Reading.reading g.P.Protocol.proxy g.P.Protocol.kind c.args.trace.now c.loop-index.index (c.from.result + 1) c.args.clients (omega (arith, c.from.ensures)) (omega (arith, c.from.ensures, within))
     (g.B.Bench.runs c.args.noting.now.bench) (g.B.Bench.runs c.loop-index.noting.bench) (g.B.Bench.runs c.is_equal.new.noting.bench) c.loop-index.equal c.loop-index.invariant.each c.in_err-is_equal.ensures.stops)

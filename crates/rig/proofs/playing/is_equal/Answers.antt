@@ -1,5 +1,5 @@
 use Rattle.std.proofs.Common.{[], sym, subst, inl, inr}
-use Rattle.rig_stage.specs.Running.{AreTold}
+use Rattle.rig_stage.specs.Running.{AreRecorded}
 use Rattle.rig_stage.proofs.Stopping.{on_err, also_on_err}
 use Rattle.rig_play.specs.Runs.{run_of}
 use Rattle.rig_notes.specs.Noting.{Keeps}
@@ -10,7 +10,7 @@ use Rattle.rig.proofs.playing.is_equal.Goals as goal
 pub returns-clause-one : goal.returns-clause-one
 returns-clause-one g c =
     if_ok c.run_alone.result
-    (λ same. runs_one g.R.Reading.reading g.P.Protocol.proxy g.P.Protocol.kind c.args.story.now (Keeps g.R.Reading.reading g.B.Bench.keeps) (λ s. g.B.Bench.runs s.bench) c.args.conn (g.B.Bench.runs c.args.noting.now.bench) c.open_core.new.bench c.run_alone.new.bench
+    (λ same. runs_one g.R.Reading.reading g.P.Protocol.proxy g.P.Protocol.kind c.args.trace.now (Keeps g.R.Reading.reading g.B.Bench.keeps) (λ s. g.B.Bench.runs s.bench) c.args.conn (g.B.Bench.runs c.args.noting.now.bench) c.open_core.new.bench c.run_alone.new.bench
     same c.in_ok-open_core.ensures.runs) c.run_alone.ensures.same
 
 pub returns-in_err-open_core-clause-stops : goal.returns-in_err-open_core-clause-stops
@@ -18,7 +18,7 @@ returns-in_err-open_core-clause-stops g c =
     also_on_err c.from_residual.result
     (record {
       runs = λ earlier told.
-          let Told : Noting g.row.R.Denot g.row.B.Denot → Type 0 = λ noting. AreTold (g.B.Bench.runs noting.bench) earlier in
+          let Told : Noting g.row.R.Denot g.row.B.Denot → Type 0 = λ noting. AreRecorded (g.B.Bench.runs noting.bench) earlier in
           inl (subst Told (sym c.in_err-open_core.ensures.err) told);
     })
 

@@ -1,6 +1,6 @@
 use Rattle.std.proofs.Common.{◌≡◌, false, List, [], ◌∷◌, sym, ◌∙◌, subst}
 use Rattle.proxy_history.specs.Events.{Event}
-use Rattle.rig_stage.specs.Running.{AreTold}
+use Rattle.rig_stage.specs.Running.{AreRecorded}
 use Rattle.rig_stage.proofs.Stopping.{also_on_err}
 use Rattle.rig_play.specs.Runs.{run_of}
 use Rattle.rig.specs.Playing.{AddsRuns}
@@ -14,11 +14,11 @@ returns-clause-plays g c =
     let some = has_earlier (g.B.Bench.runs c.args.noting.now.bench) in
     let kept = (c.in_ok-run_clients.ensures.runs some.earlier some.are_told).kept in
     let went_well : c.run_clients.new.bench.notes.failed ≡ false = sym c.has_failed.ensures ∙ c.if-has_failed.false in
-    plays_rig g.R.Reading.reading g.P.Protocol.proxy g.P.Protocol.kind c.args.clients events c.deref.result.now (g.B.Bench.runs c.args.noting.now.bench) (g.B.Bench.runs c.take_story-story.new.self.bench) (g.B.Bench.runs c.count_equal.new.noting.bench)
+    plays_rig g.R.Reading.reading g.P.Protocol.proxy g.P.Protocol.kind c.args.clients events c.deref.result.now (g.B.Bench.runs c.args.noting.now.bench) (g.B.Bench.runs c.take_trace-trace.new.self.bench) (g.B.Bench.runs c.count_equal.new.noting.bench)
     c.counts-counts.result c.in_ok-equal.equal
     (λ earlier are_told.
-    subst (λ (b : g.row.B.Denot). AreTold (g.B.Bench.runs b) (run_of g.P.Protocol.kind events ∷ earlier)) (sym c.take_story-story.ensures.bench) (c.in_ok-run_clients.ensures.runs earlier are_told).told)
-    (c.deref.ensures.value ∙ c.take_story-story.ensures.noted g.P.Protocol.proxy events kept went_well)
+    subst (λ (b : g.row.B.Denot). AreRecorded (g.B.Bench.runs b) (run_of g.P.Protocol.kind events ∷ earlier)) (sym c.take_trace-trace.ensures.bench) (c.in_ok-run_clients.ensures.runs earlier are_told).told)
+    (c.deref.ensures.value ∙ c.take_trace-trace.ensures.noted g.P.Protocol.proxy events kept went_well)
     (c.counts-counts.ensures.noted g.P.Protocol.proxy events kept went_well)
     c.in_ok-equal.ensures.each
 
@@ -38,12 +38,12 @@ pub returns-in_err-equal-clause-stops : goal.returns-in_err-equal-clause-stops
 returns-in_err-equal-clause-stops g c =
     let p = g.P.Protocol in
     let events : List Event = p.events c.args.clients c.args.turns c.args.number in
-    let ran : AddsRuns (g.B.Bench.runs c.args.noting.now.bench) (run_of p.kind events ∷ []) (g.B.Bench.runs c.take_story-story.new.self.bench) =
+    let ran : AddsRuns (g.B.Bench.runs c.args.noting.now.bench) (run_of p.kind events ∷ []) (g.B.Bench.runs c.take_trace-trace.new.self.bench) =
     λ earlier told.
-    let Told : g.row.B.Denot → Type 0 = λ bench. AreTold (g.B.Bench.runs bench) (run_of p.kind events ∷ earlier) in
-    subst Told (sym c.take_story-story.ensures.bench) (c.in_ok-run_clients.ensures.runs earlier told).told
+    let Told : g.row.B.Denot → Type 0 = λ bench. AreRecorded (g.B.Bench.runs bench) (run_of p.kind events ∷ earlier) in
+    subst Told (sym c.take_trace-trace.ensures.bench) (c.in_ok-run_clients.ensures.runs earlier told).told
     in
     also_on_err c.from_residual-in_err-equal.result
-    (later_stop g.R.Reading.reading p.proxy p.kind c.args.clients events c.deref.result.now (g.B.Bench.runs c.args.noting.now.bench) (g.B.Bench.runs c.take_story-story.new.self.bench) (g.B.Bench.runs c.count_equal.new.noting.bench) ran
-    (λ earlier told. c.deref.ensures.value ∙ c.take_story-story.ensures.noted p.proxy events (c.in_ok-run_clients.ensures.runs earlier told).kept (sym c.has_failed.ensures ∙ c.if-has_failed.false))
+    (later_stop g.R.Reading.reading p.proxy p.kind c.args.clients events c.deref.result.now (g.B.Bench.runs c.args.noting.now.bench) (g.B.Bench.runs c.take_trace-trace.new.self.bench) (g.B.Bench.runs c.count_equal.new.noting.bench) ran
+    (λ earlier told. c.deref.ensures.value ∙ c.take_trace-trace.ensures.noted p.proxy events (c.in_ok-run_clients.ensures.runs earlier told).kept (sym c.has_failed.ensures ∙ c.if-has_failed.false))
     c.in_err-equal.ensures.stops)

@@ -1,5 +1,5 @@
 use Rattle.std.proofs.Common.{◌≡◌, Some, sym, ◌∙◌}
-use Rattle.rig_story.specs.Rows.{number_at}
+use Rattle.rig_trace.specs.Rows.{number_at}
 use Rattle.rig_notes.proofs.Meeting.{answers_as, not_asked}
 use Rattle.rig_notes.proofs.alone.hear.Goals as goal
 

@@ -1,14 +1,14 @@
 use Rattle.std.proofs.Common.{◌≡◌, true, refl, subst}
 use Rattle.std.proofs.lemmas.Result.{IfOk-weaker}
-use Rattle.rig_story.specs.declared.Met.{Met}
+use Rattle.rig_trace.specs.declared.Met.{Met}
 use Rattle.rig_notes.specs.Alone.{is_met}
 use Rattle.rig_notes.proofs.Meeting.{comes, came_goes_on, said_goes_on, heard_goes_on, collected_goes_on}
 use Rattle.rig_notes.proofs.alone.meet_own.Goals as goal
 
-pub returns-in-Came-clause-same : goal.returns-in-Came-clause-same
-returns-in-Came-clause-same g c =
+pub returns-in-Joins-clause-same : goal.returns-in-Joins-clause-same
+returns-in-Joins-clause-same g c =
     let Mine : Met → Type 0 = λ met. is_met c.args.conn met ≡ true in
-    rw c.in-Came.is (came_goes_on g.R.Reading.reading c.args.conn c.args.fresh c.in-Came.field-0 (subst Mine c.in-Came.is c.requires.own) c.come.ensures.same)
+    rw c.in-Joins.is (came_goes_on g.R.Reading.reading c.args.conn c.args.fresh c.in-Joins.field-0 (subst Mine c.in-Joins.is c.requires.own) c.come.ensures.same)
 
 pub returns-in-Said-clause-same : goal.returns-in-Said-clause-same
 returns-in-Said-clause-same g c =
@@ -21,11 +21,11 @@ returns-in-Heard-clause-same g c =
     rw (c.in-Heard.is, ← c.as_slice-in-Heard.ensures)
     (IfOk-weaker c.hear.result _ _ (λ same it. heard_goes_on g.R.Reading.reading c.args.conn c.args.fresh c.in-Heard.field-0 c.in-Heard.place c.as_slice-in-Heard.result.now (subst Mine c.in-Heard.is c.requires.own) it) c.hear.ensures.same)
 
-pub returns-in-Collected-clause-same : goal.returns-in-Collected-clause-same
-returns-in-Collected-clause-same g c =
+pub returns-in-Takes-clause-same : goal.returns-in-Takes-clause-same
+returns-in-Takes-clause-same g c =
     let Mine : Met → Type 0 = λ met. is_met c.args.conn met ≡ true in
-    rw (c.in-Collected.is, ← c.as_slice-in-Collected.ensures)
-    (collected_goes_on g.R.Reading.reading c.args.conn c.args.fresh c.in-Collected.field-0 c.as_slice-in-Collected.result.now (subst Mine c.in-Collected.is c.requires.own) c.collect.ensures.same)
+    rw (c.in-Takes.is, ← c.as_slice-in-Takes.ensures)
+    (collected_goes_on g.R.Reading.reading c.args.conn c.args.fresh c.in-Takes.field-0 c.as_slice-in-Takes.result.now (subst Mine c.in-Takes.is c.requires.own) c.collect.ensures.same)
 
-pub returns-in-Passed-clause-same : goal.returns-in-Passed-clause-same
-returns-in-Passed-clause-same g c = rw c.in-Passed.is (comes (λ p own kept. refl) c.meets.ensures.met)
+pub returns-in-ClockShows-clause-same : goal.returns-in-ClockShows-clause-same
+returns-in-ClockShows-clause-same g c = rw c.in-ClockShows.is (comes (λ p own kept. refl) c.meets.ensures.met)

@@ -1,5 +1,5 @@
 use Rattle.std.proofs.Common.{◌≡◌, ◌+◌, length, filter}
-use Rattle.rig_story.specs.Rows.{expires}
+use Rattle.rig_trace.specs.Rows.{expires}
 use Rattle.rig_notes.proofs.counting.expired.Given as goal
 
 -- those of the rows that are left come to those so far

@@ -1,5 +1,5 @@
 use Rattle.std.proofs.Common.{◌≡◌, length}
-use Rattle.rig_story.specs.Rows.{first_with}
+use Rattle.rig_trace.specs.Rows.{first_with}
 use Rattle.rig_notes.proofs.ledger.first_with.Given as goal
 
 -- none of those so far has it

@@ -1,5 +1,5 @@
 use Rattle.std.proofs.Common.{[], sym, subst, inl, inr}
-use Rattle.rig_stage.specs.Running.{AreTold, Runs, IsCutShort}
+use Rattle.rig_stage.specs.Running.{AreRecorded, Runs, IsCutShort}
 use Rattle.rig_stage.proofs.Acting.{on_ok}
 use Rattle.rig_stage.proofs.Stopping.{on_err, also_on_err}
 use Rattle.rig_play.specs.Runs.{run_of}
@@ -15,7 +15,7 @@ returns-clause-runs g c =
     c.play_all.ensures.runs
 
 pub returns-in_err-open_core-clause-stops : goal.returns-in_err-open_core-clause-stops
-returns-in_err-open_core-clause-stops g c = also_on_err c.from_residual.result (λ earlier told. inl (subst (λ bench. AreTold (g.B.Bench.runs bench) earlier) (sym c.in_err-open_core.ensures.err) told))
+returns-in_err-open_core-clause-stops g c = also_on_err c.from_residual.result (λ earlier told. inl (subst (λ bench. AreRecorded (g.B.Bench.runs bench) earlier) (sym c.in_err-open_core.ensures.err) told))
 
 pub returns-clause-stops : goal.returns-clause-stops
 returns-clause-stops g c =

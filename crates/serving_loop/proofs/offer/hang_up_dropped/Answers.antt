@@ -1,5 +1,5 @@
 use Rattle.std.proofs.Common.{List, length, refl, ap, sym, subst, ◌∙◌, arith, [], ◌∷◌}
-use Rattle.many_io.specs.Record.{ManyCall, events, unnamed_calls, HungUp}
+use Rattle.many_io.specs.Record.{ManyCall, events, calls_without_device, HungUp}
 use Rattle.hub_io.proofs.Record.{since-starts, since-grows}
 use Rattle.serving_loop.proofs.Carrying.{Carries-none, Carries-call, Carries-then}
 use Rattle.serving_loop.proofs.Offering.{AreBlocked, still_without}
@@ -24,7 +24,7 @@ loop-dropped-preserved g c =
           (Carries-call _ _ _ _ _ c.hang_up.ensures.calls (λ calls going.
           let kept = c.in-Some.ensures.keeps p (events calls) going.stands.kept in
           serving-hung_up going c.in-Some.dropped now next.dropped (record { kept = kept; shows = g.met.C.ManyProxyCore.shows p (events calls) c.next_dropped.new.self kept })
-          (subst (AreBlocked (unnamed_calls calls)) (sym c.remove.ensures) (still_without _ c.in-Some.dropped c.loop-dropped.server.blocked going.blocked)) refl refl));
+          (subst (AreBlocked (calls_without_device calls)) (sym c.remove.ensures) (still_without _ c.in-Some.dropped c.loop-dropped.server.blocked going.blocked)) refl refl));
       only = since-grows _ _ _ _ AreHangUps AreHangUps (λ calls hung. (c.in-Some.dropped ∷ hung.0, ap (λ (l : List ManyCall). HungUp c.in-Some.dropped ∷ l) hung.1)) i.only c.hang_up.ensures.calls;
       known = record { proxy = i.known.proxy; past = i.known.past; kept = c.in-Some.ensures.keeps i.known.proxy i.known.past i.known.kept };
       away = same-then i.devices i.away next.away;

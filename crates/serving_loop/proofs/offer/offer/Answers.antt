@@ -1,7 +1,7 @@
 use Rattle.std.proofs.Common.{◌≡◌, ℕ, ◌+◌, ◌<◌, false, ◌==◌, List, [], ◌∷◌, length, refl, ap, sym, subst, ◌∙◌, arith, rules}
 use Rattle.std.proofs.lemmas.List.{nil_from_length}
 use Rattle.proxy_history.specs.Connections.{contains, without}
-use Rattle.many_io.specs.Record.{ManyCall, Sent, SendFailed, HungUp, events, unnamed_calls}
+use Rattle.many_io.specs.Record.{ManyCall, Sent, SendFailed, HungUp, events, calls_without_device}
 use Rattle.serving_loop.proofs.Carrying.{Carries-none, Carries-call, Carries-then}
 use Rattle.serving_loop.proofs.Offering.{AreBlocked, contains-any, still_without}
 use Rattle.serving_loop.specs.Progress.{IsAt, HasOffered}
@@ -81,7 +81,7 @@ returns-in-Err-clause-carries g c = λ p until turns.
     subst Gone (sym failed.1)
     (at-failed at bytes now some c.queued-queue.ensures no_names
     (c.note-in-Err.ensures.stands p (events failed.0) at.serving.stands)
-    (subst (AreBlocked (unnamed_calls failed.0)) (sym blocked) (still_without _ c.args.conn c.loop-conn.server.blocked at.serving.blocked))
+    (subst (AreBlocked (calls_without_device failed.0)) (sym blocked) (still_without _ c.args.conn c.loop-conn.server.blocked at.serving.blocked))
     c.note-in-Err.ensures.modems
     c.note-in-Err.ensures.emptied)))
 

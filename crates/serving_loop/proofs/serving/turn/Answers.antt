@@ -1,7 +1,7 @@
 use Rattle.std.proofs.Common.{ℕ, Some, None, ◌+◌, refl, sym, subst}
 use Rattle.std.proofs.lemmas.Result.{err_from_is_err_and}
 use Rattle.serving_loop.proofs.Carrying.{Carries-call, Carries-then}
-use Rattle.serving_loop.specs.Progress.{call_of, TellsNext}
+use Rattle.serving_loop.specs.Progress.{call_of, TellsEvent}
 use Rattle.serving_loop.proofs.Turns.{told-failed, tells, meets}
 use Rattle.serving_loop.proofs.serving.turn.Goals as goal
 
@@ -34,4 +34,4 @@ meet_next-requires-clause-told g c =
     let before = g.H.ManyHub.greatest c.args.hub.now in
     let after = g.H.ManyHub.greatest c.next.new.self in
     let told = c.in-Ok.ensures in
-    (before, c.requires.greatest, subst (λ (n : ℕ). TellsNext n before c.read-next.result after) (sym told.devices) (c.read-next.ensures.names _ before after told.device told.names))
+    (before, c.requires.greatest, subst (λ (n : ℕ). TellsEvent n before c.read-next.result after) (sym told.devices) (c.read-next.ensures.names _ before after told.device told.names))

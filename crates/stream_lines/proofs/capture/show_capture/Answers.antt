@@ -1,5 +1,5 @@
 use Rattle.std.proofs.Common.{[], ◌∷◌, false, refl, ap}
-use Rattle.kit_io.proofs.Told.{Grows-none, Grows-append}
+use Rattle.kit_io.proofs.Growth.{Grows-none, Grows-append}
 use Rattle.file_io.specs.declared.files.Side.TheVariants.{Read}
 use Rattle.file_io.specs.Calls.{Opened}
 use Rattle.stream_lines.specs.Capture.{no_room, not_opened, opened}

@@ -1,6 +1,6 @@
 use Rattle.std.proofs.Common.{◌≡◌, ◌≤◌, [], ◌∷◌, length, take, refl, ap, arith, rules}
 use Rattle.std.proofs.lemmas.List.{length-take-le}
-use Rattle.kit_io.proofs.Told.{Grows-none}
+use Rattle.kit_io.proofs.Growth.{Grows-none}
 use Rattle.file_io.specs.Calls.{Gave, ReadFailed}
 use Rattle.stream_lines.specs.Capture.{found_end, read_failed, turns_spent}
 use Rattle.stream_lines.proofs.ReadPieces.{HasShown-none, HasShown-more, HasShown-ends, HasShown-last, end_is}

@@ -1,16 +1,16 @@
 use Rattle.std.proofs.Common.{Bool, ◌∙◌, ap, sym, rules}
-use Rattle.modem_ways.proofs.Stopping.{each_is_stopped}
+use Rattle.modem_routes.proofs.Stopping.{each_is_stopped}
 use Rattle.tool_runs.specs.Asking.{with_stops}
 use Rattle.tool_runs.proofs.Ends.{start_fault_comes}
 use Rattle.tool_runs.proofs.asking.ask.Goals as goal
 
 pub returns-clause-asks : goal.returns-clause-asks
 returns-clause-asks g c =
-    let came = c.ask_on_the_way-end.ensures.comes in
+    let came = c.ask_on_route-end.ensures.comes in
     record {
       on_link = came.on_link;
       starts = came.starts;
-      ends = c.ask_on_the_way-end.result;
+      ends = c.ask_on_route-end.result;
       comes = came.are;
       link_grows = came.link_grows;
       stopped = c.is_ok-stopped.result;
@@ -20,6 +20,6 @@ returns-clause-asks g c =
 
 pub returns-clause-start_fault : goal.returns-clause-start_fault
 returns-clause-start_fault g c = λ e.
-    let way = c.ask_on_the_way-end in
-    let ends = ap (λ (stopped : Bool). with_stops stopped way.result) (sym c.is_ok-stopped.ensures.value) ∙ sym c.with_stops.ensures ∙ e in
-    start_fault_comes c.stop_all.result way.result way.ensures.later_starts way.ensures.start_fault c.stop_all.ensures.cause ends
+    let route = c.ask_on_route-end in
+    let ends = ap (λ (stopped : Bool). with_stops stopped route.result) (sym c.is_ok-stopped.ensures.value) ∙ sym c.with_stops.ensures ∙ e in
+    start_fault_comes c.stop_all.result route.result route.ensures.later_starts route.ensures.start_fault c.stop_all.ensures.cause ends

@@ -1,5 +1,5 @@
 use Rattle.std.proofs.Common.{Ok, Err}
-use Rattle.kit_io.proofs.Told.{Grows-none}
+use Rattle.kit_io.proofs.Growth.{Grows-none}
 use Rattle.tool_runs.proofs.Ends.{visited_so}
 use Rattle.tool_runs.proofs.asking.visit.Goals as goal
 

@@ -1,6 +1,6 @@
 use Rattle.std.specs.Prelude.{codes}
 use Rattle.std.proofs.Common.{◌++◌}
-use Rattle.kit_io.proofs.Told.{Grows-append}
+use Rattle.kit_io.proofs.Growth.{Grows-append}
 use Rattle.version.specs.declared.line.TheConstants.{VERSION}
 use Rattle.version.specs.Line.{version_line}
 use Rattle.version.proofs.Parts.{front-first, front-later}

@@ -1,5 +1,5 @@
 use Rattle.std.proofs.Common.{sym, take-append-drop}
-use Rattle.kit_io.proofs.Told.{Grows-map}
+use Rattle.kit_io.proofs.Growth.{Grows-map}
 use Rattle.link_io.specs.Made.{call_of}
 use Rattle.link_io.proofs.memory.MemLinkLink.send.Goals as goal
 

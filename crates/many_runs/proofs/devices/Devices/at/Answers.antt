@@ -1,7 +1,7 @@
 use Rattle.std.proofs.Common.{◌≡◌, ◌+◌, ◌++◌, ◌∷◌, ℕ, List, [], length, map, take, sym, ap, ap₂, ◌∙◌, subst, arith}
 use Rattle.std.proofs.lemmas.List.{length-map, length-take, map_push, take_more}
 use Rattle.std.specs.Str.{encode_utf8_all}
-use Rattle.modem_ways.specs.Ways.{Place, place_in, place_of}
+use Rattle.modem_routes.specs.Routes.{Place, place_in, place_of}
 use Rattle.many_runs.specs.Places.{bridge_at, places_of, StandFor, HaveAlso}
 use Rattle.many_runs.proofs.Places.{stand_for_next}
 use Rattle.many_runs.proofs.devices.Devices.at.Goals as goal

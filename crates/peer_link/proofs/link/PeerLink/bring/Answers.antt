@@ -31,8 +31,8 @@ invariant_of-self-2 g c =
           (subst (λ (p : List ℕ). At (before ++ calls.Took p ∷ [])) (sym piece) (took_goes (c.self.invariant.1 tells) end order)),
     )
 
-pub returns-clause-told : goal.returns-clause-told
-returns-clause-told g c =
+pub returns-clause-recorded : goal.returns-clause-recorded
+returns-clause-recorded g c =
     let count : ℕ = c.min-count.result in
     let piece : List ℕ = c.in_ok-piece.piece in
     let copy : List ℕ = c.copy_from_slice.new.self in
@@ -42,4 +42,4 @@ returns-clause-told g c =
     let behind : List ℕ = drop count c.args.buffer.now in
     let front : piece ≡ take count (copy ++ behind) = sym copied ∙ sym (take_at copy behind count long) in
     let are = kept_are made (Took piece) c.push-2.new.self.items c.in_ok-push-2.ensures.items in
-    told_as c.self.inside.tells (map call_of made) (map call_of c.push-2.new.self.items) (calls.Took piece) (calls.Took (take count (copy ++ behind))) (ap (λ v. v.told) c.self.view_is) (ap (λ (p : List ℕ). calls.Took p) front) are
+    told_as c.self.inside.tells (map call_of made) (map call_of c.push-2.new.self.items) (calls.Took piece) (calls.Took (take count (copy ++ behind))) (ap (λ v. v.recorded) c.self.view_is) (ap (λ (p : List ℕ). calls.Took p) front) are

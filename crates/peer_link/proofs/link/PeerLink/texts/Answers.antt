@@ -30,4 +30,4 @@ returns g c = λ calls is.
     sym (append-nil texts)
     ∙ ap (λ (l : List Made). texts ++ texts_in (map call_of l)) (sym (drop_of_length-le made all))
     ∙ c.loop-made.invariant
-    ∙ ap texts_in (told_are c.self.inside.tells (map call_of made) calls (ap (λ v. v.told) c.self.view_is ∙ is))
+    ∙ ap texts_in (told_are c.self.inside.tells (map call_of made) calls (ap (λ v. v.recorded) c.self.view_is ∙ is))

@@ -3,7 +3,7 @@ use Rattle.outbox.specs.Queue.{Queue}
 use Rattle.connections.specs.Hearing.{Hearing}
 use Rattle.qmux_frame.specs.Reply.{result_reply}
 use Rattle.proxy_history.specs.Facts.{Own}
-use Rattle.proxy_history.specs.View.{Sent}
+use Rattle.proxy_history.specs.View.{Said}
 use Rattle.qmi_proxy.specs.Clients.{deadline_of}
 use Rattle.qmi_proxy.specs.OwnReplies.{view_decides, own_error, is_opening, step}
 use Rattle.qmi_state.specs.Traffic.{Traffic}
@@ -27,7 +27,7 @@ returns-in-Some c =
     let opens : c.is_opening-opens.result ≡ is_opening side.device m Own =
     c.is_opening-opens.ensures ∙ ap (λ (d : List ℕ). is_opening d c.read-message.result Own) c.as_slice-in-Some.ensures ∙ ap (λ (l : List ℕ). is_opening side.device l Own) read in
     let heard = heard_own c.args.name m client outbox side error own is in
-    let made : replied (result_reply c.read-message.result error) (c.is_opening-opens.result || client.opened) client outbox side ≡ replied (result_reply m error) (step side.device client.opened (Sent m Own)) client outbox side =
+    let made : replied (result_reply c.read-message.result error) (c.is_opening-opens.result || client.opened) client outbox side ≡ replied (result_reply m error) (step side.device client.opened (Said m Own)) client outbox side =
     ap (λ (l : List ℕ). replied (result_reply l error) (c.is_opening-opens.result || client.opened) client outbox side) read ∙ ap (λ (b : Bool). replied (result_reply m error) (b || client.opened) client outbox side) opens in
     let all = made ∙ sym heard ∙ ap (λ (s : ModemSide). hear_client c.args.name m client outbox s) c.self.view_is in
     record {

@@ -1,7 +1,7 @@
 use Rattle.std.proofs.Common.{◌≡◌, ◌==◌, not, List, filter, Some, rules}
 use Rattle.std.proofs.lemmas.Fn.{filter_same}
-use Rattle.rig_story.specs.declared.Row.{Row}
-use Rattle.rig_story.specs.Rows.{Ledger, first_with}
+use Rattle.rig_trace.specs.declared.Row.{Row}
+use Rattle.rig_trace.specs.Rows.{Ledger, first_with}
 use Rattle.rig_notes.proofs.Noted.{is_answered}
 use Rattle.rig_notes.proofs.ledger.Ledger.answer.Goals as goal
 

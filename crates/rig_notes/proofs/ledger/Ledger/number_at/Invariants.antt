@@ -1,5 +1,5 @@
 use Rattle.std.proofs.Common.{◌≡◌, length}
-use Rattle.rig_story.specs.Rows.{number_at}
+use Rattle.rig_trace.specs.Rows.{number_at}
 use Rattle.rig_notes.proofs.ledger.Ledger.number_at.Given as goal
 
 -- it isn't among those so far

@@ -1,5 +1,5 @@
 use Rattle.std.proofs.Common.{◌≡◌, ◌∙◌, ◌∷◌, ◌⊎◌, inl, inr, false, ap, refl, sym, subst, lit<}
-use Rattle.rig_stage.specs.Running.{AreTold}
+use Rattle.rig_stage.specs.Running.{AreRecorded}
 use Rattle.device_core.specs.declared.plan.QmiPlan.{QmiPlan}
 use Rattle.modem_profile.specs.Profile.{Profile, default_profile}
 use Rattle.printed_ends.specs.declared.printed.Printed.{Printed}
@@ -67,4 +67,4 @@ returns-clause-same g c = λ command.
 pub returns-clause-runs : goal.returns-clause-runs
 returns-clause-runs g c = λ earlier before.
     let plan = planned c.args.self c.in_ok-plan.ensures c.in_ok-carried.ensures.plan in
-    held (λ profile plan. AreTold (g.B.Bench.runs c.qmi_twice.new.bench) (run_of profile plan ∷ earlier)) c.requires plan (c.in_ok-twice.ensures.runs earlier before)
+    held (λ profile plan. AreRecorded (g.B.Bench.runs c.qmi_twice.new.bench) (run_of profile plan ∷ earlier)) c.requires plan (c.in_ok-twice.ensures.runs earlier before)

@@ -1,4 +1,4 @@
-use Rattle.kit_io.proofs.Told.{Grows-append}
+use Rattle.kit_io.proofs.Growth.{Grows-append}
 use Rattle.watched_link.proofs.watched.Watched.note_failed.Goals as goal
 
 pub returns-clause-notes : goal.returns-clause-notes

@@ -1,0 +1,85 @@
+ghost use Rattle.std.specs.Prelude.{◌≡◌, codes, IfOk};
+ghost use Rattle.modem_routes.specs.Routes.{Direct, ByProxy, is_node, path_in, place_in, place_of, proxy_words, pumps_of, words_in};
+ghost use Rattle.link_io.specs.Target.{AtSocket};
+
+use crate::words::{proxy_words, pump_words};
+use kit_bytes::{Kind, Text};
+use link_io::Target;
+use std::alloc::{AllocError, Global};
+
+/// The words with which the pumps of a node are started.
+#[derive(Debug, Drop)]
+pub struct Pumps {
+    pub(crate) reads: Vec<String>,
+    pub(crate) writes: Vec<String>,
+}
+
+/// Where a device is.
+#[derive(Debug, Drop)]
+pub enum Device {
+    /// At a socket.
+    AtOnce(Target),
+    /// Behind pumps that meet at a bridge.
+    BehindPumps(Target, Pumps),
+}
+
+/// How a modem is reached.
+#[derive(Debug, Drop)]
+pub enum Route {
+    Direct(Device),
+    /// At the socket of a proxy, which is started with these words where none is there.
+    ByProxy(Target, Vec<String>),
+}
+
+// Whether the path is that of a device node.
+#[tactic(auto, unfolding(crate::specs::Routes::is_node))]
+fn is_node(path: &str) -> bool
+    ensures { result ≡ is_node path.now }
+{
+    path.starts_with("/dev/")
+}
+
+fn pumps_of(alloc: Global, node: &str, bridge: &str) -> Result<Pumps, AllocError>
+    ensures { IfOk result (λ pumps. words_in pumps ≡ pumps_of node.now bridge.now) }
+{
+    let reads = pump_words(alloc, "read", node, bridge)?;
+    let writes = pump_words(alloc, "write", node, bridge)?;
+    Ok(Pumps { reads, writes })
+}
+
+impl Device {
+    /// The device of this path: a node is behind pumps that meet at the path of the bridge.
+    #[tactic(auto, unfolding(crate::specs::Routes::place_of))]
+    pub fn at(alloc: Global, path: &str, bridge: &str) -> Result<Self, AllocError>
+        ensures { IfOk result (λ device. place_in device ≡ place_of path.now bridge.now) }
+    {
+        if is_node(path) {
+            let target = Target::Bridge(Text::from_str(alloc, bridge)?);
+            return Ok(Device::BehindPumps(target, pumps_of(alloc, path, bridge)?));
+        }
+        Ok(Device::AtOnce(Target::Socket(Text::from_str(alloc, path)?)))
+    }
+}
+
+impl Route {
+    /// To the device itself.
+    pub fn direct(alloc: Global, device: &str, bridge: &str) -> Result<Self, AllocError>
+        ensures { IfOk result (λ route. path_in route ≡ Direct (place_of device.now bridge.now)) }
+    {
+        Ok(Route::Direct(Device::at(alloc, device, bridge)?))
+    }
+
+    /// To the proxy at a socket, which is there for a device, or is to be.
+    pub fn by_proxy(
+        alloc: Global,
+        kind: Kind,
+        device: &str,
+        socket: &str,
+        bridge: &str,
+    ) -> Result<Self, AllocError>
+        ensures { IfOk result (λ route. path_in route ≡ ByProxy (AtSocket socket.now) (proxy_words kind device.now socket.now bridge.now)) }
+    {
+        let words = proxy_words(alloc, kind, device, socket, bridge)?;
+        Ok(Route::ByProxy(Target::Socket(Text::from_str(alloc, socket)?), words))
+    }
+}

@@ -1,9 +1,0 @@
-//! The ways to a modem: over a socket, behind two pumps, or over a proxy that is started.
-#![tactic(auto)]
-
-mod reaching;
-mod way;
-mod words;
-
-pub use reaching::{ReachFault, reach, start_more_pumps, start_pumps};
-pub use way::{Device, Pumps, Way};

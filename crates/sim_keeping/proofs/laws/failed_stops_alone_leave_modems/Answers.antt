@@ -1,5 +1,0 @@
-use Rattle.sim_keeping.proofs.Left.{failed_stops_alone_leave_modems}
-use Rattle.sim_keeping.proofs.laws.failed_stops_alone_leave_modems.Goals as goal
-
-pub returns : goal.returns
-returns c = failed_stops_alone_leave_modems

@@ -1,4 +1,0 @@
-pub mod Words
-pub mod Keeping
-pub mod Once
-pub mod Laws

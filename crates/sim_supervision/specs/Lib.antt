@@ -1,0 +1,4 @@
+pub mod Words
+pub mod Supervision
+pub mod Once
+pub mod Laws

@@ -1,9 +1,0 @@
-ghost use Rattle.story_examples.specs.Shares.{SharesOfQmi, SharesOfMbim};
-
-pub fn a_share_of_qmi_is_passed()
-    ensures { SharesOfQmi }
-{}
-
-pub fn a_share_of_mbim_is_passed()
-    ensures { SharesOfMbim }
-{}

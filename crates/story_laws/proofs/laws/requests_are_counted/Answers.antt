@@ -1,8 +1,0 @@
-use Rattle.story_laws.proofs.Law.{rows_are_in_use, requests_are_counted}
-use Rattle.story_laws.proofs.laws.requests_are_counted.Goals as goal
-
-pub returns : goal.returns
-returns c = record {
-  rows = rows_are_in_use;
-  counts = requests_are_counted;
-}

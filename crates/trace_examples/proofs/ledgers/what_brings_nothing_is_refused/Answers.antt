@@ -1,0 +1,10 @@
+use Rattle.std.proofs.Common.{refl}
+use Rattle.trace_examples.proofs.ledgers.what_brings_nothing_is_refused.Goals as goal
+
+pub returns : goal.returns
+returns c = record {
+  refused = refl;
+  opens = refl;
+  rows = refl;
+  said = refl;
+}

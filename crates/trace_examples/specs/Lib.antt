@@ -1,0 +1,5 @@
+pub mod Ledgers
+pub mod MbimLedgers
+pub mod Traces
+pub mod MbimTraces
+pub mod Shares
