@@ -16,5 +16,7 @@ mod qmi_tlvs;
 pub use by_tables::dissect_by_tables;
 pub use capture::dissect;
 pub use capture_end::CaptureEnd;
+pub use mbim::MbimLines;
+pub use qmi::QmiLines;
 pub use qmi_message::push_tlvs;
 pub use stream_lines::DissectEnd;

@@ -12,7 +12,7 @@ use stream_lines::Shows;
 
 /// Shows MBIM messages, and joins those that come in fragments, each kind by itself.
 #[derive(Drop)]
-pub(crate) struct MbimLines {
+pub struct MbimLines {
     commands: Assembly,
     answers: Assembly,
     indications: Assembly,
@@ -22,7 +22,7 @@ pub(crate) struct MbimLines {
 
 impl MbimLines {
     /// No message has come.
-    pub(crate) fn open(alloc: Global) -> Result<Self, AllocError>
+    pub fn open(alloc: Global) -> Result<Self, AllocError>
         ensures { IfOk result (λ state. StandsForRuns state []) }
     {
         Ok(MbimLines {

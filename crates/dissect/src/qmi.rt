@@ -14,7 +14,7 @@ use stream_lines::Shows;
 
 /// Shows QMI messages by some tables.
 #[derive(Drop)]
-pub(crate) struct QmiLines<'a> {
+pub struct QmiLines<'a> {
     tables: &'a Tables,
 }
 
@@ -36,7 +36,8 @@ impl<'a> Model for QmiLines<'a> {
 }
 
 impl<'a> QmiLines<'a> {
-    pub(crate) fn new(tables: &'a Tables) -> Self
+    /// They are shown by these.
+    pub fn new(tables: &'a Tables) -> Self
         requires { AreSound (messages_in tables.now) }
         ensures { result ≡ tables.now }
     {

@@ -11,3 +11,4 @@ mod stream;
 pub use capture::show_capture;
 pub use end::DissectEnd;
 pub use shows::Shows;
+pub use stream::{Stream, show_all};

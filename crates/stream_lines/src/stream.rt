@@ -14,11 +14,11 @@ use std::alloc::{AllocError, Global};
 
 /// A stream that is shown as it comes.
 #[derive(Drop)]
-pub(crate) struct Stream<S: Shows> {
-    pub(crate) cutter: Cutter<S::Frames>,
-    pub(crate) state: S,
+pub struct Stream<S: Shows> {
+    pub cutter: Cutter<S::Frames>,
+    pub state: S,
     /// Where the next message begins.
-    pub(crate) place: u64,
+    pub place: u64,
 }
 
 /// Writes the lines of the messages that the next piece completes. It ends where that fails, or where
@@ -55,8 +55,8 @@ pub(crate) fn show_piece<S: Shows, O: Sink>(
     })
 }
 
-// Shows the whole messages, and says whether the stream is good behind them.
-fn show_all<S: Shows>(
+/// Shows the whole messages, and says whether the stream is good behind them.
+pub fn show_all<S: Shows>(
     alloc: Global,
     stream: &mut Stream<S>,
     lines: &mut Octets,

@@ -1,5 +1,5 @@
 ghost use Rattle.std.specs.Prelude.{◌≡◌, ◌≤◌, true, false, [], ◌∷◌, None, is_ok, length, IfOk, OnOk, IsSome};
-ghost use Rattle.kit_io.specs.Causes.{HasCause};
+ghost use Rattle.kit_io.specs.Causes.{HasCause, Rose};
 ghost use Rattle.kit_io.specs.Counts.{one_more};
 ghost use Rattle.kit_io.specs.Growth.{Grows};
 ghost use Rattle.link_io.specs.Calls.{Opened, Paired, Closed, Sends};
@@ -20,6 +20,7 @@ use std::os::unix::net::UnixStream;
 use std::rt::Clock;
 use std::thread;
 use std::time::Duration;
+use watched_link::Complain;
 
 /// The streams of a link that may be sent to.
 #[derive(Drop)]
@@ -64,6 +65,8 @@ pub struct UnixLink<'a, R: Files> {
     open_faults: Faults,
     faults: Faults,
     made: CallCount,
+    /// What the system said of the call that failed last.
+    complaint: Option<io::Error>,
 }
 
 impl<'a, R: Net + Clock + Files<File = File>> UnixLink<'a, R> {
@@ -87,6 +90,7 @@ impl<'a, R: Net + Clock + Files<File = File>> UnixLink<'a, R> {
             open_faults: Faults::none(),
             faults: Faults::none(),
             made: CallCount::none(),
+            complaint: None,
         }
     }
 
@@ -125,6 +129,31 @@ impl<'a, R: Net + Clock + Files<File = File>> UnixLink<'a, R> {
         self.streams = Some(Streams::OfBridge(bridge.pair()?));
         Ok(())
     }
+
+    fn write(&mut self, bytes: &[u8]) -> io::Result<()>
+        ensures open { OnOk result (IsSome self.old.streams) }
+        ensures ended { self.new.ended ≡ self.old.ended }
+        ensures open_faults { self.new.open_faults ≡ self.old.open_faults }
+        ensures faults { self.new.faults ≡ self.old.faults }
+        ensures made { self.new.made ≡ self.old.made }
+    {
+        let Some(streams) = &mut self.streams else {
+            return Err(ErrorKind::NotConnected.into());
+        };
+        streams.write_all(bytes)
+    }
+
+    // A call other than `open` failed for this reason.
+    fn failed(&mut self, error: io::Error) -> Failed
+        ensures later { self.old.faults ≤ self.new.faults }
+        ensures rose { Rose self.old.faults self.new.faults }
+        ensures ended { self.new.ended ≡ self.old.ended }
+        ensures open_faults { self.new.open_faults ≡ self.old.open_faults }
+        ensures made { self.new.made ≡ self.old.made }
+    {
+        self.complaint = Some(error);
+        self.faults.fail()
+    }
 }
 
 fn tick() -> Duration {
@@ -155,9 +184,10 @@ impl<R: Net + Clock + Files<File = File>> Link for UnixLink<'_, R> {
         ensures reached { OnOk result (IsReached target.now self.new.streams self.new.bridge) }
     {
         self.made.add();
-        if self.reach(target).is_ok() {
+        let Err(error) = self.reach(target) else {
             return Ok(());
-        }
+        };
+        self.complaint = Some(error);
         thread::sleep(self.rt, tick());
         Err(self.open_faults.fail())
     }
@@ -173,7 +203,7 @@ impl<R: Net + Clock + Files<File = File>> Link for UnixLink<'_, R> {
         self.made.add();
         match self.meet() {
             Ok(()) => Ok(()),
-            Err(_) => Err(self.faults.fail()),
+            Err(error) => Err(self.failed(error)),
         }
     }
 
@@ -186,12 +216,10 @@ impl<R: Net + Clock + Files<File = File>> Link for UnixLink<'_, R> {
         ensures open { OnOk result (IsSome self.old.streams) }
     {
         self.made.add();
-        if let Some(streams) = &mut self.streams
-            && streams.write_all(bytes).is_ok()
-        {
-            return Ok(());
+        match self.write(bytes) {
+            Ok(()) => Ok(()),
+            Err(error) => Err(self.failed(error)),
         }
-        Err(self.faults.fail())
     }
 
     fn take(&mut self, buffer: &mut [u8]) -> Result<Taken, Failed> {
@@ -200,7 +228,7 @@ impl<R: Net + Clock + Files<File = File>> Link for UnixLink<'_, R> {
             return Ok(Taken::End);
         }
         let Some(streams) = &mut self.streams else {
-            return Err(self.faults.fail());
+            return Err(self.failed(ErrorKind::NotConnected.into()));
         };
         match streams.read(buffer) {
             Ok(0) => {
@@ -212,7 +240,7 @@ impl<R: Net + Clock + Files<File = File>> Link for UnixLink<'_, R> {
                 ErrorKind::WouldBlock | ErrorKind::TimedOut | ErrorKind::Interrupted => {
                     Ok(Taken::Quiet)
                 }
-                _ => Err(self.faults.fail()),
+                _ => Err(self.failed(error)),
             },
         }
     }
@@ -230,5 +258,11 @@ impl<R: Net + Clock + Files<File = File>> Link for UnixLink<'_, R> {
         self.descriptor.set(-1);
         self.streams = None;
         self.bridge = None;
+    }
+}
+
+impl<R: Net + Clock + Files<File = File>> Complain for UnixLink<'_, R> {
+    fn complaint(&self) -> Option<io::Error> {
+        self.complaint
     }
 }
