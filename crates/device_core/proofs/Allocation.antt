@@ -62,5 +62,5 @@ allocated-some service message (Success fields) none reads = says_some _ reads.1
 allocated-some service message (Failure error) none reads = absurd (cc)
 
 -- it is the client id
-pub allocated-in : {message bytes tlvs : List ℕ} {client : ℕ} → tlvs ≡ tlvs_in bytes → bytes ≡ message → allocated_in tlvs ≡ Some client → allocated_in (tlvs_in message) ≡ Some client
+pub allocated-in : {message bytes tlvs : List ℕ} {cid : ℕ} → tlvs ≡ tlvs_in bytes → bytes ≡ message → allocated_in tlvs ≡ Some cid → allocated_in (tlvs_in message) ≡ Some cid
 allocated-in tlvs_are bytes_are is = ap allocated_in (sym (tlvs_are ∙ ap tlvs_in bytes_are)) ∙ is

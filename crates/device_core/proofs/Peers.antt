@@ -41,39 +41,39 @@ module _ (peer : Peer) (plan : QmiPlan) (result : Result QmiEnd SessionFault) wh
   As-released answer message last true reads stops = As-stops (OfAnswer plan.request None message) (Ok answer, reads, refl) stops
   As-released answer message last false reads stops = As-stops (Unframed last) refl stops
 
-  Finishes-as : (client number : ℕ) (answer : QmiAnswer) (message : Placed) → Reads plan.request message (Ok answer) → {talk : Talk} {heard : Heard} {calls : List Call}
-      → Finishes plan client number answer heard calls result → As talk heard calls (leave_at peer plan client number message talk)
-  Finishes-as client number answer message reads {talk = talk} {heard = heard} {calls = calls} (without none stops) =
+  Finishes-as : (cid number : ℕ) (answer : QmiAnswer) (message : Placed) → Reads plan.request message (Ok answer) → {talk : Talk} {heard : Heard} {calls : List Call}
+      → Finishes plan cid number answer heard calls result → As talk heard calls (leave_at peer plan cid number message talk)
+  Finishes-as cid number answer message reads {talk = talk} {heard = heard} {calls = calls} (without none stops) =
       subst (As talk heard calls) (is_then _ _ (service plan == 0) (ap (λ (k : ℕ). k == 0) none)) (As-stops (OfAnswer plan.request None message) (Ok answer, reads, refl) stops)
-  Finishes-as client number answer message reads {talk = talk} {heard = heard} {calls = calls} (keeping other keep stops) =
+  Finishes-as cid number answer message reads {talk = talk} {heard = heard} {calls = calls} (keeping other keep stops) =
       subst (As talk heard calls) (is_then _ _ plan.keep keep ∙ is_else _ _ (service plan == 0) (not_zero (service plan) other))
-      (As-stops (OfAnswer plan.request (Some (service plan, client)) message) (Ok answer, reads, refl) stops)
-  Finishes-as client number answer message reads {talk = talk} {heard = heard} {calls = calls} (releasing other keep step) =
+      (As-stops (OfAnswer plan.request (Some (service plan, cid)) message) (Ok answer, reads, refl) stops)
+  Finishes-as cid number answer message reads {talk = talk} {heard = heard} {calls = calls} (releasing other keep step) =
       subst (As talk heard calls) (is_else _ _ plan.keep keep ∙ is_else _ _ (service plan == 0) (not_zero (service plan) other))
       (AsAtPeer-step peer size_of-kept unanswered _ step (λ why same. same) (λ before last later more talk stops. As-released answer message last (is_framed last.bytes) reads stops))
 
   -- the answer to the command
-  command_read : (client number : ℕ) (message : Placed) {talk : Talk} {heard : Heard} {calls : List Call} (read : Result QmiAnswer SessionFault)
-      → Reads plan.request message read → AfterReading read calls result (λ answer. Finishes plan client number answer heard calls result)
+  command_read : (cid number : ℕ) (message : Placed) {talk : Talk} {heard : Heard} {calls : List Call} (read : Result QmiAnswer SessionFault)
+      → Reads plan.request message read → AfterReading read calls result (λ answer. Finishes plan cid number answer heard calls result)
       → As talk heard calls
       (if reads plan.request message.bytes
-      then leave_at peer plan client number message talk
+      then leave_at peer plan cid number message talk
       else finish (OfAnswer plan.request None message) talk)
-  command_read client number message {talk = talk} {heard = heard} {calls = calls} (Ok (Success fields)) is follows =
+  command_read cid number message {talk = talk} {heard = heard} {calls = calls} (Ok (Success fields)) is follows =
       let verdict = verdicts_are_of_what_is_read plan.request message (Ok (Success fields)) is in
-      subst (As talk heard calls) (is_then _ _ (reads plan.request message.bytes) verdict.0) (Finishes-as client number (Success fields) message is follows)
-  command_read client number message {talk = talk} {heard = heard} {calls = calls} (Ok (Failure error)) is follows =
+      subst (As talk heard calls) (is_then _ _ (reads plan.request message.bytes) verdict.0) (Finishes-as cid number (Success fields) message is follows)
+  command_read cid number message {talk = talk} {heard = heard} {calls = calls} (Ok (Failure error)) is follows =
       let verdict = verdicts_are_of_what_is_read plan.request message (Ok (Failure error)) is in
-      subst (As talk heard calls) (is_then _ _ (reads plan.request message.bytes) verdict.0) (Finishes-as client number (Failure error) message is follows)
-  command_read client number message {talk = talk} {heard = heard} {calls = calls} (Err (fault.Broken place)) is follows =
+      subst (As talk heard calls) (is_then _ _ (reads plan.request message.bytes) verdict.0) (Finishes-as cid number (Failure error) message is follows)
+  command_read cid number message {talk = talk} {heard = heard} {calls = calls} (Err (fault.Broken place)) is follows =
       let verdict = verdicts_are_of_what_is_read plan.request message (Err (fault.Broken place)) is in
       subst (As talk heard calls) (is_else _ _ (reads plan.request message.bytes) verdict.0) (As-stops (OfAnswer plan.request None message) (Err (fault.Broken place), is, refl) follows)
-  command_read client number message (Err fault.OutOfMemory) is follows = AsAtPeer-no_memory peer size_of follows
-  command_read client number message (Err why) is follows = absurd is
+  command_read cid number message (Err fault.OutOfMemory) is follows = AsAtPeer-no_memory peer size_of follows
+  command_read cid number message (Err why) is follows = absurd is
 
-  Commands-as : (client number : ℕ) {talk : Talk} {heard : Heard} {calls : List Call} → Commands plan client number heard calls result → As talk heard calls (command_at peer plan client number talk)
-  Commands-as client number commands =
-      AsAtPeer-step peer size_of-kept unanswered _ commands (λ why same. same) (λ before message later more talk is. command_read client number message is.read is.reads is.follows)
+  Commands-as : (cid number : ℕ) {talk : Talk} {heard : Heard} {calls : List Call} → Commands plan cid number heard calls result → As talk heard calls (command_at peer plan cid number talk)
+  Commands-as cid number commands =
+      AsAtPeer-step peer size_of-kept unanswered _ commands (λ why same. same) (λ before message later more talk is. command_read cid number message is.read is.reads is.follows)
 
   -- the answer to a request before the command
   before_command : (request : QmiRequest) (message : Placed) (next : Finish LastWord) {Then : Type 0} {talk : Talk} {heard : Heard} {calls : List Call} (read : Result QmiAnswer SessionFault)
@@ -94,14 +94,14 @@ module _ (peer : Peer) (plan : QmiPlan) (result : Result QmiEnd SessionFault) wh
   -- a client id that was allocated
   allocated_as : (message : List ℕ) (number : ℕ) {talk : Talk} {heard : Heard} {calls : List Call} → CommandsAs plan message number heard calls result
       → As talk heard calls (command_at peer plan (unwrap_or (allocated_in (tlvs_in message)) 0) number talk)
-  allocated_as message number {talk = talk} {heard = heard} {calls = calls} (client, is, commands) =
-      subst (λ (c : ℕ). As talk heard calls (command_at peer plan c number talk)) (sym (ap (λ (o : Option ℕ). unwrap_or o 0) is)) (Commands-as client number commands)
+  allocated_as message number {talk = talk} {heard = heard} {calls = calls} (cid, is, commands) =
+      subst (λ (c : ℕ). As talk heard calls (command_at peer plan c number talk)) (sym (ap (λ (o : Option ℕ). unwrap_or o 0) is)) (Commands-as cid number commands)
 
   Chooses-as : (number : ℕ) {talk : Talk} {heard : Heard} {calls : List Call} → Chooses plan number heard calls result → As talk heard calls (choose_at peer plan number talk)
   Chooses-as number {talk = talk} {heard = heard} {calls = calls} (control none commands) =
       subst (As talk heard calls) (is_then _ _ (service plan == 0) (ap (λ (k : ℕ). k == 0) none)) (Commands-as 0 number commands)
-  Chooses-as number {talk = talk} {heard = heard} {calls = calls} (given client other is commands) =
-      subst (As talk heard calls) (ap (λ (c : Option ℕ). given_at peer plan c number talk) (sym is) ∙ is_else _ _ (service plan == 0) (not_zero (service plan) other)) (Commands-as client number commands)
+  Chooses-as number {talk = talk} {heard = heard} {calls = calls} (given cid other is commands) =
+      subst (As talk heard calls) (ap (λ (c : Option ℕ). given_at peer plan c number talk) (sym is) ∙ is_else _ _ (service plan == 0) (not_zero (service plan) other)) (Commands-as cid number commands)
   Chooses-as number {talk = talk} {heard = heard} {calls = calls} (allocating other is step) =
       subst (As talk heard calls) (ap (λ (c : Option ℕ). given_at peer plan c number talk) (sym is) ∙ is_else _ _ (service plan == 0) (not_zero (service plan) other))
       (AsAtPeer-step peer size_of-kept unanswered _ step (λ why same. same) (λ before message later more talk read.

@@ -14,7 +14,7 @@ use Rattle.link_session.proofs.Sending.{Sends-as, Sends-known, Sends-read, Sends
 use Rattle.device_core.specs.declared.plan.QmiPlan.{QmiPlan}
 use Rattle.device_core.specs.Requests.{Request}
 use Rattle.device_core.specs.Session.{OnSuccess, Finishes, without, keeping, releasing, Commands, Chooses, control, given, allocating, Session, no_memory, direct, proxied, service, command, release}
-use Rattle.device_core.specs.Sending.{IsGood, messages_of, with_client, with_given, modem_requests, requests_of}
+use Rattle.device_core.specs.Sending.{IsGood, messages_of, with_cid, with_given, modem_requests, requests_of}
 
 -- these calls sent the messages of the requests up to some byte, where some client id is allocated
 abbrev pub Sends : (ℕ → List Request) → List Call → Result QmiEnd SessionFault → Type 0
@@ -47,28 +47,28 @@ is_else x y b is = rw is refl
 
 -- behind a command to another service than 0 its client id is given back
 abbrev pub behind_command : QmiPlan → ℕ → ℕ → List Request
-behind_command plan client number = if plan.keep then [] else release plan client number ∷ []
+behind_command plan cid number = if plan.keep then [] else release plan cid number ∷ []
 
-module _ (plan : QmiPlan) (client number : ℕ) {answer : QmiAnswer} {heard : Heard} {calls : List Call} {result : Result QmiEnd SessionFault} where
-  Finishes-control : service plan ≡ 0 → Finishes plan client number answer heard calls result → Sends (λ n. []) calls result
+module _ (plan : QmiPlan) (cid number : ℕ) {answer : QmiAnswer} {heard : Heard} {calls : List Call} {result : Result QmiEnd SessionFault} where
+  Finishes-control : service plan ≡ 0 → Finishes plan cid number answer heard calls result → Sends (λ n. []) calls result
   Finishes-control is (without none stops) = nothing_more (λ n. []) stops (λ ends. refl)
   Finishes-control is (keeping other keep stops) = absurd (other is)
   Finishes-control is (releasing other keep step) = absurd (other is)
 
-  Finishes-client : service plan ≢ 0 → Finishes plan client number answer heard calls result → Sends (λ n. behind_command plan client number) calls result
-  Finishes-client other (without none stops) = absurd (other none)
-  Finishes-client other (keeping it keep stops) = same_requests (λ n. is_then _ _ plan.keep keep) (nothing_more (λ n. []) stops (λ ends. refl))
-  Finishes-client other (releasing it keep step) =
+  Finishes-cid : service plan ≢ 0 → Finishes plan cid number answer heard calls result → Sends (λ n. behind_command plan cid number) calls result
+  Finishes-cid other (without none stops) = absurd (other none)
+  Finishes-cid other (keeping it keep stops) = same_requests (λ n. is_then _ _ plan.keep keep) (nothing_more (λ n. []) stops (λ ends. refl))
+  Finishes-cid other (releasing it keep step) =
       same_requests (λ n. is_else _ _ plan.keep keep) (Sends-step IsGood (λ n. []) step (λ before message later more stops. nothing_more (λ n. []) stops (λ ends. refl)))
 
-module _ (plan : QmiPlan) (client number : ℕ) {heard : Heard} {calls : List Call} {result : Result QmiEnd SessionFault} (commands : Commands plan client number heard calls result) where
-  Commands-control : service plan ≡ 0 → Sends (λ n. command plan client number ∷ []) calls result
-  Commands-control is = Sends-step IsGood (λ n. []) commands (λ before message later more reads. Sends-read IsGood (λ n. []) reads (λ answer is_read finishes. Finishes-control plan client number is finishes))
+module _ (plan : QmiPlan) (cid number : ℕ) {heard : Heard} {calls : List Call} {result : Result QmiEnd SessionFault} (commands : Commands plan cid number heard calls result) where
+  Commands-control : service plan ≡ 0 → Sends (λ n. command plan cid number ∷ []) calls result
+  Commands-control is = Sends-step IsGood (λ n. []) commands (λ before message later more reads. Sends-read IsGood (λ n. []) reads (λ answer is_read finishes. Finishes-control plan cid number is finishes))
 
-  Commands-client : service plan ≢ 0 → Sends (λ n. with_client plan client number) calls result
-  Commands-client other =
-      let requests : ℕ → List Request = λ n. behind_command plan client number in
-      Sends-step IsGood (λ n. messages_of (requests n)) commands (λ before message later more reads. Sends-read IsGood (λ n. messages_of (requests n)) reads (λ answer is_read finishes. Finishes-client plan client number other finishes))
+  Commands-cid : service plan ≢ 0 → Sends (λ n. with_cid plan cid number) calls result
+  Commands-cid other =
+      let requests : ℕ → List Request = λ n. behind_command plan cid number in
+      Sends-step IsGood (λ n. messages_of (requests n)) commands (λ before message later more reads. Sends-read IsGood (λ n. messages_of (requests n)) reads (λ answer is_read finishes. Finishes-cid plan cid number other finishes))
 
 -- the requests of a plan whose command is to another service than 0
 modem_requests_are : (plan : QmiPlan) (number : ℕ) {cid : Option ℕ} → service plan ≢ 0 → plan.cid ≡ cid → (n : ℕ) → with_given cid plan n number ≡ modem_requests plan n number
@@ -77,13 +77,13 @@ modem_requests_are plan number other is n = ap (λ (c : Option ℕ). with_given 
 Chooses-sends : (plan : QmiPlan) (number : ℕ) {heard : Heard} {calls : List Call} {result : Result QmiEnd SessionFault} → Chooses plan number heard calls result
     → Sends (λ n. modem_requests plan n number) calls result
 Chooses-sends plan number (control is commands) = same_requests (λ n. is_then _ _ (service plan == 0) (ap (λ (k : ℕ). k == 0) is)) (Commands-control plan 0 number commands is)
-Chooses-sends plan number (given client other is commands) = same_requests (modem_requests_are plan number other is) (Commands-client plan client number commands other)
+Chooses-sends plan number (given cid other is commands) = same_requests (modem_requests_are plan number other is) (Commands-cid plan cid number commands other)
 Chooses-sends plan number (allocating other is step) =
-    let requests : ℕ → List Request = λ n. with_client plan n (number + 1) in
+    let requests : ℕ → List Request = λ n. with_cid plan n (number + 1) in
     same_requests (modem_requests_are plan number other is)
     (Sends-step IsGood (λ n. messages_of (requests n)) step (λ before message later more reads.
     Sends-read IsGood (λ n. messages_of (requests n)) reads (λ answer is_read success.
-    Sends-success requests answer success (λ commands. Sends-known IsGood (λ n. messages_of (requests n)) commands.0 (Commands-client plan commands.0 (number + 1) commands.2 other)))))
+    Sends-success requests answer success (λ commands. Sends-known IsGood (λ n. messages_of (requests n)) commands.0 (Commands-cid plan commands.0 (number + 1) commands.2 other)))))
 
 pub Session-sends : (plan : QmiPlan) (calls : List Call) (result : Result QmiEnd SessionFault) → Session plan calls result → Sends (requests_of plan) calls result
 Session-sends plan calls result (no_memory stops) = nothing_more (requests_of plan) stops (λ ends. absurd ends)

@@ -33,26 +33,26 @@ finish word talk = record { end = word; talk = talk }
 -- ---- the requests of a plan, the last one first ----
 
 -- behind this answer to the command the client id is given back
-abbrev pub release_at : Peer → QmiPlan → (client number : ℕ) → Placed → Talk → Finish LastWord
-release_at peer plan client number message talk =
-    ask_then peer (asked plan.timeout (release plan client number)) talk unanswered (λ before last talk.
+abbrev pub release_at : Peer → QmiPlan → (cid number : ℕ) → Placed → Talk → Finish LastWord
+release_at peer plan cid number message talk =
+    ask_then peer (asked plan.timeout (release plan cid number)) talk unanswered (λ before last talk.
     if is_framed last.bytes
     then finish (OfAnswer plan.request None message) talk
     else finish (Unframed last) talk)
 
 -- behind this answer to the command the session is left
-abbrev pub leave_at : Peer → QmiPlan → (client number : ℕ) → Placed → Talk → Finish LastWord
-leave_at peer plan client number message talk =
+abbrev pub leave_at : Peer → QmiPlan → (cid number : ℕ) → Placed → Talk → Finish LastWord
+leave_at peer plan cid number message talk =
     if service plan == 0 then finish (OfAnswer plan.request None message) talk
-    else if plan.keep then finish (OfAnswer plan.request (Some (service plan, client)) message) talk
-    else release_at peer plan client number message talk
+    else if plan.keep then finish (OfAnswer plan.request (Some (service plan, cid)) message) talk
+    else release_at peer plan cid number message talk
 
 -- the command with this client id, from the number of the next request to service 0 on
-abbrev pub command_at : Peer → QmiPlan → (client number : ℕ) → Talk → Finish LastWord
-command_at peer plan client number talk =
-    ask_then peer (asked plan.timeout (command plan client number)) talk unanswered (λ before message talk.
+abbrev pub command_at : Peer → QmiPlan → (cid number : ℕ) → Talk → Finish LastWord
+command_at peer plan cid number talk =
+    ask_then peer (asked plan.timeout (command plan cid number)) talk unanswered (λ before message talk.
     if reads plan.request message.bytes
-    then leave_at peer plan client number message talk
+    then leave_at peer plan cid number message talk
     else finish (OfAnswer plan.request None message) talk)
 
 -- a client id is allocated first
@@ -65,7 +65,7 @@ allocate_at peer plan number talk =
 
 -- the client id is given, or allocated
 abbrev pub given_at : Peer → QmiPlan → (cid : Option ℕ) → (number : ℕ) → Talk → Finish LastWord
-given_at peer plan (Some client) number talk = command_at peer plan client number talk
+given_at peer plan (Some cid) number talk = command_at peer plan cid number talk
 given_at peer plan None number talk = allocate_at peer plan number talk
 
 -- the requests to the modem

@@ -4,7 +4,7 @@ use Rattle.tlv_codec.specs.Tlv.{tlv_text}
 use Rattle.qmux_frame.specs.declared.kind.MessageKind.TheVariants as kind
 use Rattle.qmux_frame.specs.declared.writing.NewMessage.{NewMessage}
 use Rattle.qmux_frame.specs.declared.writing.Sender.TheVariants.{Host}
-use Rattle.qmux_frame.specs.Head.{service_of, client_of, number_of}
+use Rattle.qmux_frame.specs.Head.{service_of, cid_of, number_of}
 use Rattle.qmux_frame.specs.Kind.{flags_for, is_response, kind_of}
 use Rattle.qmux_frame.specs.Writing.{message_text}
 use Rattle.qmi_requests.specs.declared.QmiRequest.{QmiRequest}
@@ -18,7 +18,7 @@ use Rattle.qmi_services.specs.Requests.{row_of, inputs_of}
 -- what is asked, with the client id and the number of its message
 pub record Request : Type 0 where
   pub body : QmiRequest
-  pub client : ℕ
+  pub cid : ℕ
   pub number : ℕ
 
 -- ---- its message ----
@@ -27,7 +27,7 @@ abbrev pub new_message : Request → NewMessage
 new_message request = record {
   sender = Host;
   service = (row_of request.body).service;
-  client = request.client;
+  cid = request.cid;
   flags = flags_for (row_of request.body).service kind.Request;
   number = request.number;
   message = (row_of request.body).id;
@@ -41,10 +41,10 @@ message_of request = message_text (new_message request) (tlv_text (inputs_of req
 -- a response with this service, client id and number
 abbrev pub answers : Wanted → List ℕ → Bool
 answers wanted message =
-    is_response (kind_of message) && (service_of message == wanted.service) && (client_of message == wanted.client) && (number_of message == wanted.number)
+    is_response (kind_of message) && (service_of message == wanted.service) && (cid_of message == wanted.cid) && (number_of message == wanted.number)
 
 abbrev pub wanted_by : Request → Wanted
-wanted_by request = record { service = (row_of request.body).service; client = request.client; number = request.number }
+wanted_by request = record { service = (row_of request.body).service; cid = request.cid; number = request.number }
 
 -- whatever came before
 abbrev pub judge_by : Wanted → Judge

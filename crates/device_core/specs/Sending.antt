@@ -13,13 +13,13 @@ use Rattle.device_core.specs.Session.{Session, service, proxy_open, allocate, co
 -- ---- the requests ----
 
 -- the command with a client id, which is given back unless it is kept
-abbrev pub with_client : QmiPlan → ℕ → ℕ → List Request
-with_client plan client number = command plan client number ∷ (if plan.keep then [] else release plan client number ∷ [])
+abbrev pub with_cid : QmiPlan → ℕ → ℕ → List Request
+with_cid plan cid number = command plan cid number ∷ (if plan.keep then [] else release plan cid number ∷ [])
 
 -- the client id is given, or allocated
 abbrev pub with_given : Option ℕ → QmiPlan → ℕ → ℕ → List Request
-with_given (Some client) plan allocated number = with_client plan client number
-with_given None plan allocated number = allocate plan number ∷ with_client plan allocated (number + 1)
+with_given (Some cid) plan allocated number = with_cid plan cid number
+with_given None plan allocated number = allocate plan number ∷ with_cid plan allocated (number + 1)
 
 -- the requests to the modem, from the number of the first one to service 0 on
 abbrev pub modem_requests : QmiPlan → ℕ → ℕ → List Request

@@ -48,28 +48,28 @@ abbrev pub end_with : QmiAnswer → Option (ℕ × ℕ) → Result QmiEnd Sessio
 end_with answer kept = Ok (record { answer = answer; kept = kept })
 
 abbrev pub release : QmiPlan → ℕ → ℕ → Request
-release plan client number = record { body = Release (service plan) client; client = 0; number = number }
+release plan cid number = record { body = Release (service plan) cid; cid = 0; number = number }
 
 -- the answer to Release must be framed, and isn't read
 abbrev pub released : Placed → QmiAnswer → Result QmiEnd SessionFault
 released message answer = if is_framed message.bytes then end_with answer None else Err (fault.Broken message.place)
 
 -- what becomes of the client id
-pub data Finishes (plan : QmiPlan) (client number : ℕ) (answer : QmiAnswer) (heard : Heard) (calls : List Call) (result : Result QmiEnd SessionFault) : Type 0 where
-  without : service plan ≡ 0 → Stops (end_with answer None) calls result → Finishes plan client number answer heard calls result
-  keeping : service plan ≢ 0 → plan.keep ≡ true → Stops (end_with answer (Some (service plan, client))) calls result → Finishes plan client number answer heard calls result
+pub data Finishes (plan : QmiPlan) (cid number : ℕ) (answer : QmiAnswer) (heard : Heard) (calls : List Call) (result : Result QmiEnd SessionFault) : Type 0 where
+  without : service plan ≡ 0 → Stops (end_with answer None) calls result → Finishes plan cid number answer heard calls result
+  keeping : service plan ≢ 0 → plan.keep ≡ true → Stops (end_with answer (Some (service plan, cid))) calls result → Finishes plan cid number answer heard calls result
   releasing : service plan ≢ 0 → plan.keep ≡ false
-      → Step (asked plan.timeout (release plan client number)) heard calls result (λ before message later more. Stops (released message answer) more result)
-      → Finishes plan client number answer heard calls result
+      → Step (asked plan.timeout (release plan cid number)) heard calls result (λ before message later more. Stops (released message answer) more result)
+      → Finishes plan cid number answer heard calls result
 
 abbrev pub command : QmiPlan → ℕ → ℕ → Request
-command plan client number = record { body = plan.request; client = client; number = if service plan == 0 then number else 1 }
+command plan cid number = record { body = plan.request; cid = cid; number = if service plan == 0 then number else 1 }
 
 -- the command, from the number of the next request to service 0 on
 abbrev pub Commands : QmiPlan → ℕ → ℕ → Heard → List Call → Result QmiEnd SessionFault → Type 0
-Commands plan client number heard calls result =
-    Step (asked plan.timeout (command plan client number)) heard calls result (λ before message later more.
-    ReadsThen (Reads plan.request message) more result (λ answer. Finishes plan client number answer later more result))
+Commands plan cid number heard calls result =
+    Step (asked plan.timeout (command plan cid number)) heard calls result (λ before message later more.
+    ReadsThen (Reads plan.request message) more result (λ answer. Finishes plan cid number answer later more result))
 
 -- the second number of the first Allocation, which is a service and a client id of one byte each
 -- Source: the message `Allocate CID` in libqmi's data/qmi-service-ctl.json.
@@ -78,22 +78,22 @@ allocated_in tlvs = option_and_then (λ value. slice_get value 1) (tlv_value 0x0
 
 abbrev pub CommandsAs : QmiPlan → List ℕ → ℕ → Heard → List Call → Result QmiEnd SessionFault → Type 0
 CommandsAs plan message number heard calls result =
-    (client : ℕ) × (allocated_in (tlvs_in message) ≡ Some client) × Commands plan client number heard calls result
+    (cid : ℕ) × (allocated_in (tlvs_in message) ≡ Some cid) × Commands plan cid number heard calls result
 
 abbrev pub allocate : QmiPlan → ℕ → Request
-allocate plan number = record { body = Allocate (service plan); client = 0; number = number }
+allocate plan number = record { body = Allocate (service plan); cid = 0; number = number }
 
 -- whose client id the command has
 pub data Chooses (plan : QmiPlan) (number : ℕ) (heard : Heard) (calls : List Call) (result : Result QmiEnd SessionFault) : Type 0 where
   control : service plan ≡ 0 → Commands plan 0 number heard calls result → Chooses plan number heard calls result
-  given : (client : ℕ) → service plan ≢ 0 → plan.cid ≡ Some client → Commands plan client number heard calls result → Chooses plan number heard calls result
+  given : (cid : ℕ) → service plan ≢ 0 → plan.cid ≡ Some cid → Commands plan cid number heard calls result → Chooses plan number heard calls result
   allocating : service plan ≢ 0 → plan.cid ≡ None
       → Step (asked plan.timeout (allocate plan number)) heard calls result (λ before message later more.
       ReadsThen (Reads (Allocate (service plan)) message) more result (λ answer. OnSuccess answer more result (CommandsAs plan message.bytes (number + 1) later more result)))
       → Chooses plan number heard calls result
 
 abbrev pub proxy_open : QmiPlan → Request
-proxy_open plan = record { body = ProxyOpen plan.device; client = 0; number = 1 }
+proxy_open plan = record { body = ProxyOpen plan.device; cid = 0; number = 1 }
 
 -- the session, with all its calls
 pub data Session (plan : QmiPlan) (calls : List Call) (result : Result QmiEnd SessionFault) : Type 0 where

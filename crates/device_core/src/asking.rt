@@ -24,21 +24,21 @@ pub fn exchange<L: Link>(
     link: &mut L,
     incoming: &mut Incoming<Qmux>,
     body: &QmiRequest,
-    client: u8,
+    cid: u8,
     number: u8,
     timeout: u16,
 ) -> Result<Found, SessionFault>
     ensures asks { (heard : Heard) → Stands size_of incoming.old heard
-        → AsksFor (asked timeout (record { body = body.now; client = client; number = number })) KeepsNothing heard result incoming.new (L.calls link.old) (L.calls link.new) }
+        → AsksFor (asked timeout (record { body = body.now; cid = cid; number = number })) KeepsNothing heard result incoming.new (L.calls link.old) (L.calls link.new) }
     ensures given { IfOk result (IsGiven size_of incoming.new) }
     ensures link_fault { result ≡ Err SessionFault.LinkFault → Rose (L.faults link.old) (L.faults link.new) }
     ensures later { L.faults link.old ≤ L.faults link.new }
     ensures later_open { L.open_faults link.old ≤ L.open_faults link.new }
 {
-    let message = request_message(alloc, body, client, number)?;
+    let message = request_message(alloc, body, cid, number)?;
     let mut wanted = Wanted {
         service: service_of(body),
-        client,
+        cid,
         number,
     };
     link_session::exchange(link, incoming, message.as_slice(), &mut wanted, timeout)
@@ -51,18 +51,18 @@ pub fn ask<L: Link>(
     link: &mut L,
     incoming: &mut Incoming<Qmux>,
     body: &QmiRequest,
-    client: u8,
+    cid: u8,
     number: u8,
     timeout: u16,
 ) -> Result<Reply<QmiAnswer>, SessionFault>
     ensures asks { (heard : Heard) → Stands size_of incoming.old heard
-        → RepliesTo timeout (record { body = body.now; client = client; number = number }) heard result incoming.new (L.calls link.old) (L.calls link.new) }
+        → RepliesTo timeout (record { body = body.now; cid = cid; number = number }) heard result incoming.new (L.calls link.old) (L.calls link.new) }
     ensures given { IfOk result (λ reply. IsGiven size_of incoming.new reply.found × Reads body.now (placed_in incoming.new reply.found) (Ok reply.answer)) }
     ensures link_fault { result ≡ Err SessionFault.LinkFault → Rose (L.faults link.old) (L.faults link.new) }
     ensures later { L.faults link.old ≤ L.faults link.new }
     ensures later_open { L.open_faults link.old ≤ L.open_faults link.new }
 {
-    let found = exchange(alloc, link, incoming, body, client, number, timeout)?;
+    let found = exchange(alloc, link, incoming, body, cid, number, timeout)?;
     let answer = read(alloc, body, found.place, incoming.bytes(found))?;
     Ok(Reply { found, answer })
 }

@@ -28,7 +28,7 @@ pub(crate) fn open_proxy<L: Link>(
     timeout: u16,
 ) -> Result<Reply<QmiAnswer>, SessionFault>
     ensures asks { (heard : Heard) → Stands size_of incoming.old heard
-        → RepliesTo timeout (record { body = ProxyOpen device.now; client = 0; number = 1 }) heard result incoming.new (L.calls link.old) (L.calls link.new) }
+        → RepliesTo timeout (record { body = ProxyOpen device.now; cid = 0; number = 1 }) heard result incoming.new (L.calls link.old) (L.calls link.new) }
     ensures link_fault { result ≡ Err SessionFault.LinkFault → Rose (L.faults link.old) (L.faults link.new) }
     ensures later { L.faults link.old ≤ L.faults link.new }
     ensures later_open { L.open_faults link.old ≤ L.open_faults link.new }
@@ -49,7 +49,7 @@ pub(crate) fn allocate<L: Link>(
     timeout: u16,
 ) -> Result<Reply<QmiAnswer>, SessionFault>
     ensures asks { (heard : Heard) → Stands size_of incoming.old heard
-        → RepliesTo timeout (record { body = Allocate service; client = 0; number = number }) heard result incoming.new (L.calls link.old) (L.calls link.new) }
+        → RepliesTo timeout (record { body = Allocate service; cid = 0; number = number }) heard result incoming.new (L.calls link.old) (L.calls link.new) }
     ensures given { IfOk result (λ reply. IsGiven size_of incoming.new reply.found × Reads (Allocate service) (placed_in incoming.new reply.found) (Ok reply.answer)) }
     ensures link_fault { result ≡ Err SessionFault.LinkFault → Rose (L.faults link.old) (L.faults link.new) }
     ensures later { L.faults link.old ≤ L.faults link.new }
@@ -67,18 +67,18 @@ pub(crate) fn release<L: Link>(
     link: &mut L,
     incoming: &mut Incoming<Qmux>,
     service: u8,
-    client: u8,
+    cid: u8,
     number: u8,
     timeout: u16,
 ) -> Result<Found, SessionFault>
     ensures asks { (heard : Heard) → Stands size_of incoming.old heard
-        → AsksFor (asked timeout (record { body = Release service client; client = 0; number = number })) KeepsNothing heard result incoming.new (L.calls link.old) (L.calls link.new) }
+        → AsksFor (asked timeout (record { body = Release service cid; cid = 0; number = number })) KeepsNothing heard result incoming.new (L.calls link.old) (L.calls link.new) }
     ensures given { IfOk result (IsGiven size_of incoming.new) }
     ensures link_fault { result ≡ Err SessionFault.LinkFault → Rose (L.faults link.old) (L.faults link.new) }
     ensures later { L.faults link.old ≤ L.faults link.new }
     ensures later_open { L.open_faults link.old ≤ L.open_faults link.new }
 {
-    let body = QmiRequest::Release(service, client);
+    let body = QmiRequest::Release(service, cid);
     let found = exchange(alloc, link, incoming, &body, 0, number, timeout);
     drop(body);
     found

@@ -12,17 +12,17 @@ use std::alloc::{AllocError, Global};
 pub fn request_message(
     alloc: Global,
     body: &QmiRequest,
-    client: u8,
+    cid: u8,
     number: u8,
 ) -> Result<Octets, AllocError>
-    ensures { IfOk result (λ message. message ≡ message_of (record { body = body.now; client = client; number = number })) }
+    ensures { IfOk result (λ message. message ≡ message_of (record { body = body.now; cid = cid; number = number })) }
 {
     let tlvs = request(alloc, body)?;
     let service = service_of(body);
     let message = NewMessage {
         sender: Sender::Host,
         service,
-        client,
+        cid,
         flags: MessageKind::Request.flags(service),
         number: u16::from(number),
         message: message_of(body),

@@ -38,11 +38,11 @@ pub fn qmi_session<L: Link>(
 {
     let mut incoming = Incoming::open(alloc)?;
     if !plan.proxied {
-        return choose_client(alloc, link, &mut incoming, plan, 1);
+        return choose_cid(alloc, link, &mut incoming, plan, 1);
     }
     match open_proxy(alloc, link, &mut incoming, &plan.device, plan.timeout)?.answer {
         QmiAnswer::Failure(error) => Ok(failed(error)),
-        QmiAnswer::Success(_) => choose_client(alloc, link, &mut incoming, plan, 2),
+        QmiAnswer::Success(_) => choose_cid(alloc, link, &mut incoming, plan, 2),
     }
 }
 
@@ -68,7 +68,7 @@ pub fn failed(error: u16) -> QmiEnd
 
 /// Goes on once the link leads to the modem: with the client id that the command has. The next
 /// request to service 0 has this number.
-fn choose_client<L: Link>(
+fn choose_cid<L: Link>(
     alloc: Global,
     link: &mut L,
     incoming: &mut Incoming<Qmux>,
@@ -85,8 +85,8 @@ fn choose_client<L: Link>(
     if service == 0 {
         return run_command(alloc, link, incoming, plan, 0, number);
     }
-    if let Some(client) = plan.cid {
-        return run_command(alloc, link, incoming, plan, client, number);
+    if let Some(cid) = plan.cid {
+        return run_command(alloc, link, incoming, plan, cid, number);
     }
     let reply = allocate(alloc, link, incoming, service, number, plan.timeout)?;
     if let Some(error) = failure(&reply.answer) {
@@ -112,8 +112,8 @@ fn run_allocated<L: Link>(
     ensures later { L.faults link.old ≤ L.faults link.new }
     ensures later_open { L.open_faults link.old ≤ L.open_faults link.new }
 {
-    let client = allocated(tlvs_in(incoming.bytes(found)));
-    run_command(alloc, link, incoming, plan, client, number)
+    let cid = allocated(tlvs_in(incoming.bytes(found)));
+    run_command(alloc, link, incoming, plan, cid, number)
 }
 
 /// Sends the command, with this client id.
@@ -122,10 +122,10 @@ fn run_command<L: Link>(
     link: &mut L,
     incoming: &mut Incoming<Qmux>,
     plan: &QmiPlan,
-    client: u8,
+    cid: u8,
     number: u8,
 ) -> Result<QmiEnd, SessionFault>
-    ensures commands { (heard : Heard) → Stands size_of incoming.old heard → Makes (λ calls. Commands plan.now client number heard calls result) (L.calls link.old) (L.calls link.new) }
+    ensures commands { (heard : Heard) → Stands size_of incoming.old heard → Makes (λ calls. Commands plan.now cid number heard calls result) (L.calls link.old) (L.calls link.new) }
     ensures link_fault { result ≡ Err SessionFault.LinkFault → Rose (L.faults link.old) (L.faults link.new) }
     ensures later { L.faults link.old ≤ L.faults link.new }
     ensures later_open { L.open_faults link.old ≤ L.open_faults link.new }
@@ -136,11 +136,11 @@ fn run_command<L: Link>(
         link,
         incoming,
         body,
-        client,
+        cid,
         command_number(body, number),
         plan.timeout,
     )?;
-    finish(alloc, link, incoming, plan, client, number, reply.answer)
+    finish(alloc, link, incoming, plan, cid, number, reply.answer)
 }
 
 /// The number of a command: of service 0 the next one, of the others the first.
@@ -156,11 +156,11 @@ fn finish<L: Link>(
     link: &mut L,
     incoming: &mut Incoming<Qmux>,
     plan: &QmiPlan,
-    client: u8,
+    cid: u8,
     number: u8,
     answer: QmiAnswer,
 ) -> Result<QmiEnd, SessionFault>
-    ensures finishes { (heard : Heard) → Stands size_of incoming.old heard → Makes (λ calls. Finishes plan.now client number answer heard calls result) (L.calls link.old) (L.calls link.new) }
+    ensures finishes { (heard : Heard) → Stands size_of incoming.old heard → Makes (λ calls. Finishes plan.now cid number answer heard calls result) (L.calls link.old) (L.calls link.new) }
     ensures link_fault { result ≡ Err SessionFault.LinkFault → Rose (L.faults link.old) (L.faults link.new) }
     ensures later { L.faults link.old ≤ L.faults link.new }
     ensures later_open { L.open_faults link.old ≤ L.open_faults link.new }
@@ -170,10 +170,10 @@ fn finish<L: Link>(
         return Ok(QmiEnd { answer, kept: None });
     }
     if plan.keep {
-        let kept = Some((service, client));
+        let kept = Some((service, cid));
         return Ok(QmiEnd { answer, kept });
     }
-    let found = release(alloc, link, incoming, service, client, number, plan.timeout)?;
+    let found = release(alloc, link, incoming, service, cid, number, plan.timeout)?;
     if !Head::read(incoming.bytes(found)).framed {
         return Err(SessionFault::Broken { place: found.place });
     }

@@ -8,7 +8,7 @@ use qmux_frame::{Head, Qmux};
 #[derive(Clone, Copy, Debug, PartialEq, Eq)]
 pub struct Wanted {
     pub service: u8,
-    pub client: u8,
+    pub cid: u8,
     pub number: u8,
 }
 
@@ -21,7 +21,7 @@ impl Wanted {
         let head = Head::read(message);
         head.kind().is_response()
             && head.service == self.service
-            && head.client == self.client
+            && head.cid == self.cid
             && head.number == u16::from(self.number)
     }
 }

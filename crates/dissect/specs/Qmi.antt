@@ -67,7 +67,7 @@ id_digits id = hex (id / 256 ∷ id % 256 ∷ [])
 unfoldable pub head_line : Option MessageForm → ℕ → Head → List ℕ
 head_line form at head =
     decimal at ++ codes " " ++ service_by head.service (word_of Service head.service) ++ codes " 0x" ++ id_digits head.message
-    ++ kind_word (head_kind head) ++ decimal head.client ++ codes " number " ++ decimal head.number ++ title form ++ codes "\n"
+    ++ kind_word (head_kind head) ++ decimal head.cid ++ codes " number " ++ decimal head.number ++ title form ++ codes "\n"
 
 -- ---- the lines of the TLVs ----
 

@@ -98,7 +98,7 @@ fn push_head(
     push_service(text, head.service, service_word(head.service))?;
     text.extend_from_slice(b" 0x")?;
     push_id(text, head.message)?;
-    push_number(text, kind_word(head.kind()), u64::from(head.client))?;
+    push_number(text, kind_word(head.kind()), u64::from(head.cid))?;
     push_number(text, " number ", u64::from(head.number))?;
     push_title(text, form)?;
     text.extend_from_slice(b"\n")?;

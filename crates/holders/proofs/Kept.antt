@@ -19,15 +19,15 @@ since_is s i (g ∷ rows) = ap (λ (t : Option ℕ). if is_of s i g then Some g.
 
 -- ---- what each call makes of them ----
 
-pub kept_granted : (time : ℕ) (g : Grant) (rows : List Grant) → map kept_of (granted time g.service g.client rows) ≡ kept_from time g (map kept_of rows)
+pub kept_granted : (time : ℕ) (g : Grant) (rows : List Grant) → map kept_of (granted time g.service g.cid rows) ≡ kept_from time g (map kept_of rows)
 kept_granted time g rows =
-    map-append kept_of (filter (is_before g.service g.client) rows) (record { conn = time; service = g.service; client = g.client } ∷ filter (is_behind g.service g.client) rows)
-    ∙ ap (λ (l : List KeptId). l ++ map kept_of (record { conn = time; service = g.service; client = g.client } ∷ filter (is_behind g.service g.client) rows)) (sym (filter_map_is (is_kept_before g.service g.client) kept_of rows))
-    ∙ ap (λ (l : List KeptId). filter (is_kept_before g.service g.client) (map kept_of rows) ++ record { service = g.service; client = g.client; since = time } ∷ l) (sym (filter_map_is (is_kept_behind g.service g.client) kept_of rows))
+    map-append kept_of (filter (is_before g.service g.cid) rows) (record { conn = time; service = g.service; cid = g.cid } ∷ filter (is_behind g.service g.cid) rows)
+    ∙ ap (λ (l : List KeptId). l ++ map kept_of (record { conn = time; service = g.service; cid = g.cid } ∷ filter (is_behind g.service g.cid) rows)) (sym (filter_map_is (is_kept_before g.service g.cid) kept_of rows))
+    ∙ ap (λ (l : List KeptId). filter (is_kept_before g.service g.cid) (map kept_of rows) ++ record { service = g.service; cid = g.cid; since = time } ∷ l) (sym (filter_map_is (is_kept_behind g.service g.cid) kept_of rows))
 
 pub all_kept_granted : (time : ℕ) (grants rows : List Grant) → map kept_of (all_granted time grants rows) ≡ all_kept_from time grants (map kept_of rows)
 all_kept_granted time [] rows = refl
-all_kept_granted time (g ∷ grants) rows = all_kept_granted time grants (granted time g.service g.client rows) ∙ ap (all_kept_from time grants) (kept_granted time g rows)
+all_kept_granted time (g ∷ grants) rows = all_kept_granted time grants (granted time g.service g.cid rows) ∙ ap (all_kept_from time grants) (kept_granted time g rows)
 
 -- the id is kept no more
 pub kept_no_more : (s i : ℕ) (held rows others : List Grant) (ids : Ids) → record { held = held; kept = map kept_of rows } ≡ ids → others ≡ filter (λ g. not (is_of s i g)) rows
@@ -101,8 +101,8 @@ first_is_due after time (g ∷ rows) ordered =
         at = (0, omega arith, refl);
         due = old;
         first = λ k at due. ⊎_elim
-            (λ (is : kept_of g ≡ k). subst (λ (l : KeptId). is_kept_before g.service g.client l ≡ false) is (itself_not_before g.service g.client))
-            (λ (rest : Contains (map kept_of rows) k). from_row (λ l. is_kept_before g.service g.client l ≡ false) rows (all_weaker (λ h. is_behind g.service g.client h ≡ true) (λ h. is_before g.service g.client h ≡ false) (λ h behind. behind_not_before g.service g.client h.service h.client behind) rows ordered.0) k rest)
+            (λ (is : kept_of g ≡ k). subst (λ (l : KeptId). is_kept_before g.service g.cid l ≡ false) is (itself_not_before g.service g.cid))
+            (λ (rest : Contains (map kept_of rows) k). from_row (λ l. is_kept_before g.service g.cid l ≡ false) rows (all_weaker (λ h. is_behind g.service g.cid h ≡ true) (λ h. is_before g.service g.cid h ≡ false) (λ h behind. behind_not_before g.service g.cid h.service h.cid behind) rows ordered.0) k rest)
             (Contains-cons_cases k (kept_of g) (map kept_of rows) at);
       }
       | false ↦ λ early. due_later after time g rows (option_map id_of (find (is_old after time) rows)) early (first_is_due after time rows ordered.1)

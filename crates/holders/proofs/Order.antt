@@ -31,19 +31,19 @@ pub behind_else : (s i : ℕ) (g : Grant) → is_before s i g ≡ false → is_o
 behind_else s i g before of = grind (arith, nat_tests, before, of)
 
 -- an id that is behind another
-pub before_of_behind : (s i : ℕ) (g h : Grant) → is_behind g.service g.client h ≡ true → is_of s i h ≡ true → is_before s i g ≡ true
+pub before_of_behind : (s i : ℕ) (g h : Grant) → is_behind g.service g.cid h ≡ true → is_of s i h ≡ true → is_before s i g ≡ true
 before_of_behind s i g h behind of = grind (arith, nat_tests, behind, of)
 
-pub before_before : (s i : ℕ) (g h : Grant) → is_behind g.service g.client h ≡ true → is_before s i h ≡ true → is_before s i g ≡ true
+pub before_before : (s i : ℕ) (g h : Grant) → is_behind g.service g.cid h ≡ true → is_before s i h ≡ true → is_before s i g ≡ true
 before_before s i g h behind before = grind (arith, nat_tests, behind, before)
 
-pub behind_both : (s i : ℕ) (g h : Grant) → is_of s i g ≡ true → is_behind g.service g.client h ≡ true → is_behind s i h ≡ true
+pub behind_both : (s i : ℕ) (g h : Grant) → is_of s i g ≡ true → is_behind g.service g.cid h ≡ true → is_behind s i h ≡ true
 behind_both s i g h of behind = grind (arith, nat_tests, of, behind)
 
-pub behind_behind : (s i : ℕ) (g h : Grant) → is_behind s i g ≡ true → is_behind g.service g.client h ≡ true → is_behind s i h ≡ true
+pub behind_behind : (s i : ℕ) (g h : Grant) → is_behind s i g ≡ true → is_behind g.service g.cid h ≡ true → is_behind s i h ≡ true
 behind_behind s i g h first then = grind (arith, nat_tests, first, then)
 
-pub is_of-is : (s i : ℕ) (g : Grant) → is_of s i g ≡ true → (g.service ≡ s) × (g.client ≡ i)
+pub is_of-is : (s i : ℕ) (g : Grant) → is_of s i g ≡ true → (g.service ≡ s) × (g.cid ≡ i)
 is_of-is s i g of = (grind (arith, nat_tests, of), grind (arith, nat_tests, of))
 
 -- ---- lists ----
@@ -58,7 +58,7 @@ module _ {X : Type 0} where
   kept_none p (x ∷ xs) all = rw (all.0) (kept_none p xs all.1)
 
 pub bytes_filter : (p : Grant → Bool) (grants : List Grant) → AreBytes grants → AreBytes (filter p grants)
-bytes_filter p grants bytes = all_filter (λ g. (g.service < 256) × (g.client < 256)) p grants bytes
+bytes_filter p grants bytes = all_filter (λ g. (g.service < 256) × (g.cid < 256)) p grants bytes
 
 pub bytes_none : (grants : List Grant) → grants ≡ [] → AreBytes grants
 bytes_none grants none = subst (λ (l : List Grant). AreBytes l) (sym none) tt
@@ -66,7 +66,7 @@ bytes_none grants none = subst (λ (l : List Grant). AreBytes l) (sym none) tt
 -- ---- there are no more ids than pairs of bytes ----
 
 abbrev pub id_of : Grant → ℕ
-id_of g = 256 * g.service + g.client
+id_of g = 256 * g.service + g.cid
 
 next_id : (a b c d : ℕ) → b < 256 → (nat_lt a c || (a == c && nat_lt b d)) ≡ true → 256 * a + b + 1 ≤ 256 * c + d
 next_id a b c d byte behind =
@@ -82,10 +82,10 @@ unfolding IsInOrder
 few_in_order low [] ordered bytes bound all = omega arith
 few_in_order low (g ∷ grants) ordered bytes bound all =
     let service : g.service < 256 = bytes.0.0 in
-    let client : g.client < 256 = bytes.0.1 in
+    let cid : g.cid < 256 = bytes.0.1 in
     let from : low ≤ id_of g = all.0 in
     let rest : AllByRecursion (λ h. low + 1 ≤ id_of h) grants =
-    all_weaker (λ h. is_behind g.service g.client h ≡ true) (λ h. low + 1 ≤ id_of h) (λ h behind. let next : id_of g + 1 ≤ id_of h = next_id g.service g.client h.service h.client client behind in omega arith) grants ordered.0
+    all_weaker (λ h. is_behind g.service g.cid h ≡ true) (λ h. low + 1 ≤ id_of h) (λ h behind. let next : id_of g + 1 ≤ id_of h = next_id g.service g.cid h.service h.cid cid behind in omega arith) grants ordered.0
     in
     let few : length grants + (low + 1) ≤ 65536 = few_in_order (low + 1) grants ordered.1 bytes.1 (omega arith) rest in omega arith
 

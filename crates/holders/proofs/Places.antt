@@ -51,7 +51,7 @@ found_behind s i place g grants found = record { within = omega (arith, found.wi
 stands_before : (s i place : ℕ) (g : Grant) (grants : List Grant) → AreInOrder (g ∷ grants) → IsFoundAt s i (g ∷ grants) (suc place) → is_before s i g ≡ true
 unfolding IsInOrder
 stands_before s i place g grants ordered found =
-    before_of_behind s i g (get_or grants place g) (all_at (λ h. is_behind g.service g.client h ≡ true) grants place g ordered.0 (omega (arith, found.within))) (found.is g)
+    before_of_behind s i g (get_or grants place g) (all_at (λ h. is_behind g.service g.cid h ≡ true) grants place g ordered.0 (omega (arith, found.within))) (found.is g)
 
 place_behind : (s i place : ℕ) (g : Grant) (grants : List Grant) → IsPlaceOf s i (g ∷ grants) (suc place) → IsPlaceOf s i grants place
 place_behind s i place g grants at = record {
@@ -94,7 +94,7 @@ unfolding IsInOrder
 found_removed s i place [] ordered found = absurd (omega (arith, found.within))
 found_removed s i zero (g ∷ grants) ordered found =
     let of : is_of s i g ≡ true = found.is g in
-    let others = all_weaker (λ h. is_behind g.service g.client h ≡ true) (λ h. not (is_of s i h) ≡ true) (λ h behind. ap not (behind_not_of s i h (behind_both s i g h of behind))) grants ordered.0 in
+    let others = all_weaker (λ h. is_behind g.service g.cid h ≡ true) (λ h. not (is_of s i h) ≡ true) (λ h behind. ap not (behind_not_of s i h (behind_both s i g h of behind))) grants ordered.0 in
     let all : filter (λ h. not (is_of s i h)) grants ≡ grants = kept_all (λ h. not (is_of s i h)) grants others in
     rw of (sym all)
 found_removed s i (suc place) (g ∷ grants) ordered found =
@@ -106,12 +106,12 @@ absent_removed s i zero (g ∷ grants) at = rw (behind_not_of s i g (at.behind 0
 absent_removed s i (suc place) (g ∷ grants) at = rw (before_not_of s i g (at.before 0 g (omega arith) (omega arith))) (ap (λ t. g ∷ t) (absent_removed s i place grants (place_behind s i place g grants at)))
 
 -- the id has another number
-pub found_set : (number s i place : ℕ) (grants : List Grant) (d : Grant) → AreInOrder grants → IsFoundAt s i grants place → set grants place (record { conn = number; service = s; client = i }) ≡ granted number s i grants
+pub found_set : (number s i place : ℕ) (grants : List Grant) (d : Grant) → AreInOrder grants → IsFoundAt s i grants place → set grants place (record { conn = number; service = s; cid = i }) ≡ granted number s i grants
 unfolding IsInOrder
 found_set number s i place [] d ordered found = absurd (omega (arith, found.within))
 found_set number s i zero (g ∷ grants) d ordered found =
     let of : is_of s i g ≡ true = found.is d in
-    let behind = all_weaker (λ h. is_behind g.service g.client h ≡ true) (λ h. is_behind s i h ≡ true) (λ h behind. behind_both s i g h of behind) grants ordered.0 in
+    let behind = all_weaker (λ h. is_behind g.service g.cid h ≡ true) (λ h. is_behind s i h ≡ true) (λ h behind. behind_both s i g h of behind) grants ordered.0 in
     let none : filter (is_before s i) grants ≡ [] = kept_none (is_before s i) grants (all_weaker (λ h. is_behind s i h ≡ true) (λ h. is_before s i h ≡ false) (λ h later. behind_not_before s i h later) grants behind) in
     let all : filter (is_behind s i) grants ≡ grants = kept_all (is_behind s i) grants behind in
     rw (of_not_before s i g of, of_not_behind s i g of, none, all) refl
@@ -119,10 +119,10 @@ found_set number s i (suc place) (g ∷ grants) d ordered found =
     let before = stands_before s i place g grants ordered found in
     rw (before, before_not_behind s i g before) (ap (λ t. g ∷ t) (found_set number s i place grants d ordered.1 (found_behind s i place g grants found)))
 
-grant_is : (conn s i : ℕ) (g : Grant) → g.conn ≡ conn → is_of s i g ≡ true → g ≡ record { conn = conn; service = s; client = i }
+grant_is : (conn s i : ℕ) (g : Grant) → g.conn ≡ conn → is_of s i g ≡ true → g ≡ record { conn = conn; service = s; cid = i }
 grant_is conn s i g same of =
-    ap (λ (n : ℕ). let h : Grant = record { conn = n; service = g.service; client = g.client } in h) same
-    ∙ ap₂ (λ (t j : ℕ). let h : Grant = record { conn = conn; service = t; client = j } in h) (is_of-is s i g of).0 (is_of-is s i g of).1
+    ap (λ (n : ℕ). let h : Grant = record { conn = n; service = g.service; cid = g.cid } in h) same
+    ∙ ap₂ (λ (t j : ℕ). let h : Grant = record { conn = conn; service = t; cid = j } in h) (is_of-is s i g of).0 (is_of-is s i g of).1
 
 -- the id of a connection stands somewhere
 record Place (s i : ℕ) (grants : List Grant) : Type 0 where
@@ -147,52 +147,52 @@ place_of conn s i (g ∷ grants) held = decided (place_of conn s i grants) (is_o
 pub granted_again : (conn s i : ℕ) (grants : List Grant) → AreInOrder grants → holder_in s i grants ≡ Some conn → granted conn s i grants ≡ grants
 granted_again conn s i grants ordered held =
     let at = place_of conn s i grants held in
-    let new : Grant = record { conn = conn; service = s; client = i } in
+    let new : Grant = record { conn = conn; service = s; cid = i } in
     let row : Grant = get_or grants at.place new in
     let holds : Some row.conn ≡ Some conn = sym (found_holder s i at.place grants new ordered at.found) ∙ held in
     let same : row.conn ≡ conn = cc in
     let is : row ≡ new = grant_is conn s i row same (at.found.is new) in
     sym (found_set conn s i at.place grants new ordered at.found) ∙ sym (ap (set grants at.place) is) ∙ set-get_or grants at.place new
 
-before_same : (s i : ℕ) (g h new : Grant) → is_of s i g ≡ true → new.service ≡ s → new.client ≡ i → IsAhead h g → IsAhead h new
-before_same s i g h new of service client ahead = grind (arith, nat_tests, of, service, client, ahead)
+before_same : (s i : ℕ) (g h new : Grant) → is_of s i g ≡ true → new.service ≡ s → new.cid ≡ i → IsAhead h g → IsAhead h new
+before_same s i g h new of service cid ahead = grind (arith, nat_tests, of, service, cid, ahead)
 
-behind_same : (s i : ℕ) (g h new : Grant) → is_of s i g ≡ true → new.service ≡ s → new.client ≡ i → IsAhead g h → IsAhead new h
-behind_same s i g h new of service client ahead = grind (arith, nat_tests, of, service, client, ahead)
+behind_same : (s i : ℕ) (g h new : Grant) → is_of s i g ≡ true → new.service ≡ s → new.cid ≡ i → IsAhead g h → IsAhead new h
+behind_same s i g h new of service cid ahead = grind (arith, nat_tests, of, service, cid, ahead)
 
-pub ordered_set : (s i place : ℕ) (grants : List Grant) (new : Grant) → new.service ≡ s → new.client ≡ i → AreInOrder grants → IsFoundAt s i grants place → AreInOrder (set grants place new)
-ordered_set s i place grants new service client ordered found =
-    in_order_set IsAhead grants place new new (λ h ahead. behind_same s i (get_or grants place new) h new (found.is new) service client ahead)
-    (λ h ahead. before_same s i (get_or grants place new) h new (found.is new) service client ahead) ordered
+pub ordered_set : (s i place : ℕ) (grants : List Grant) (new : Grant) → new.service ≡ s → new.cid ≡ i → AreInOrder grants → IsFoundAt s i grants place → AreInOrder (set grants place new)
+ordered_set s i place grants new service cid ordered found =
+    in_order_set IsAhead grants place new new (λ h ahead. behind_same s i (get_or grants place new) h new (found.is new) service cid ahead)
+    (λ h ahead. before_same s i (get_or grants place new) h new (found.is new) service cid ahead) ordered
 
-pub bytes_set : (place : ℕ) (grants : List Grant) (new : Grant) → AreBytes grants → new.service < 256 → new.client < 256 → AreBytes (set grants place new)
-bytes_set place grants new bytes service client = all_set (λ g. (g.service < 256) × (g.client < 256)) grants place new new (λ old. (service, client)) bytes
+pub bytes_set : (place : ℕ) (grants : List Grant) (new : Grant) → AreBytes grants → new.service < 256 → new.cid < 256 → AreBytes (set grants place new)
+bytes_set place grants new bytes service cid = all_set (λ g. (g.service < 256) × (g.cid < 256)) grants place new new (λ old. (service, cid)) bytes
 
-pub absent_granted : (conn s i place : ℕ) (grants : List Grant) → IsPlaceOf s i grants place → granted conn s i grants ≡ take place grants ++ record { conn = conn; service = s; client = i } ∷ drop place grants
+pub absent_granted : (conn s i place : ℕ) (grants : List Grant) → IsPlaceOf s i grants place → granted conn s i grants ≡ take place grants ++ record { conn = conn; service = s; cid = i } ∷ drop place grants
 absent_granted conn s i zero [] at = refl
 absent_granted conn s i (suc place) [] at = refl
 absent_granted conn s i zero (g ∷ grants) at =
     let behind = all_behind s i (g ∷ grants) at in
     let none : filter (is_before s i) (g ∷ grants) ≡ [] = kept_none (is_before s i) (g ∷ grants) (all_weaker (λ h. is_behind s i h ≡ true) (λ h. is_before s i h ≡ false) (λ h later. behind_not_before s i h later) (g ∷ grants) behind) in
     let all : filter (is_behind s i) (g ∷ grants) ≡ g ∷ grants = kept_all (is_behind s i) (g ∷ grants) behind in
-    ap (λ (l : List Grant). l ++ record { conn = conn; service = s; client = i } ∷ filter (is_behind s i) (g ∷ grants)) none ∙ ap (λ (l : List Grant). record { conn = conn; service = s; client = i } ∷ l) all
+    ap (λ (l : List Grant). l ++ record { conn = conn; service = s; cid = i } ∷ filter (is_behind s i) (g ∷ grants)) none ∙ ap (λ (l : List Grant). record { conn = conn; service = s; cid = i } ∷ l) all
 absent_granted conn s i (suc place) (g ∷ grants) at =
     let before = at.before 0 g (omega arith) (omega arith) in
     rw (before, before_not_behind s i g before) (ap (λ t. g ∷ t) (absent_granted conn s i place grants (place_behind s i place g grants at)))
 
-ahead_of_new : (s i : ℕ) (new g : Grant) → new.service ≡ s → new.client ≡ i → is_before s i g ≡ true → IsAhead g new
-ahead_of_new s i new g service client before = grind (arith, nat_tests, service, client, before)
+ahead_of_new : (s i : ℕ) (new g : Grant) → new.service ≡ s → new.cid ≡ i → is_before s i g ≡ true → IsAhead g new
+ahead_of_new s i new g service cid before = grind (arith, nat_tests, service, cid, before)
 
-behind_new : (s i : ℕ) (new g : Grant) → new.service ≡ s → new.client ≡ i → is_behind s i g ≡ true → IsAhead new g
-behind_new s i new g service client behind = grind (arith, nat_tests, service, client, behind)
+behind_new : (s i : ℕ) (new g : Grant) → new.service ≡ s → new.cid ≡ i → is_behind s i g ≡ true → IsAhead new g
+behind_new s i new g service cid behind = grind (arith, nat_tests, service, cid, behind)
 
-pub inserted : (s i place : ℕ) (grants : List Grant) (new : Grant) → new.service ≡ s → new.client ≡ i → AreInOrder grants → IsPlaceOf s i grants place → AreInOrder (take place grants ++ new ∷ drop place grants)
-inserted s i place grants new service client ordered at =
+pub inserted : (s i place : ℕ) (grants : List Grant) (new : Grant) → new.service ≡ s → new.cid ≡ i → AreInOrder grants → IsPlaceOf s i grants place → AreInOrder (take place grants ++ new ∷ drop place grants)
+inserted s i place grants new service cid ordered at =
     in_order_insert IsAhead grants place new
-    (λ k d low high. ahead_of_new s i new (get_or grants k d) service client (at.before k d low high)) (λ k d low high. behind_new s i new (get_or grants k d) service client (at.behind k d low high)) ordered
+    (λ k d low high. ahead_of_new s i new (get_or grants k d) service cid (at.before k d low high)) (λ k d low high. behind_new s i new (get_or grants k d) service cid (at.behind k d low high)) ordered
 
-pub bytes_insert : (place : ℕ) (rows : List Grant) (new : Grant) → AreBytes rows → new.service < 256 → new.client < 256 → AreBytes (take place rows ++ new ∷ drop place rows)
-bytes_insert place rows new bytes service client = all_insert (λ g. (g.service < 256) × (g.client < 256)) rows place new bytes (service, client)
+pub bytes_insert : (place : ℕ) (rows : List Grant) (new : Grant) → AreBytes rows → new.service < 256 → new.cid < 256 → AreBytes (take place rows ++ new ∷ drop place rows)
+bytes_insert place rows new bytes service cid = all_insert (λ g. (g.service < 256) × (g.cid < 256)) rows place new bytes (service, cid)
 
 length-insert : (place : ℕ) (rows : List Grant) (new : Grant) → length (take place rows ++ new ∷ drop place rows) ≡ length rows + 1
 length-insert zero rows new = omega arith
@@ -201,9 +201,9 @@ length-insert (suc place) (g ∷ rows) new = omega (arith, length-insert place r
 
 -- an id that isn't there leaves room for itself
 pub absent_room : (s i place : ℕ) (rows : List Grant) → AreInOrder rows → AreBytes rows → s < 256 → i < 256 → IsPlaceOf s i rows place → length rows < 65536
-absent_room s i place rows ordered bytes service client at =
-    let new : Grant = record { conn = 0; service = s; client = i } in
-    omega (arith, length-insert place rows new, few_ids (take place rows ++ new ∷ drop place rows) (inserted s i place rows new refl refl ordered at) (bytes_insert place rows new bytes service client))
+absent_room s i place rows ordered bytes service cid at =
+    let new : Grant = record { conn = 0; service = s; cid = i } in
+    omega (arith, length-insert place rows new, few_ids (take place rows ++ new ∷ drop place rows) (inserted s i place rows new refl refl ordered at) (bytes_insert place rows new bytes service cid))
 
 -- ---- some id of a service ----
 

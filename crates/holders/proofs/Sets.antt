@@ -20,15 +20,15 @@ unfolding IsOnce
 once_filter p [] once = tt
 once_filter p (g ∷ xs) once =
     elim (p g) as (λ b. IsOnce (cond b (g ∷ filter p xs) (filter p xs))) [
-      | true ↦ (all_filter (λ h. is_of g.service g.client h ≡ false) p xs once.0, once_filter p xs once.1)
+      | true ↦ (all_filter (λ h. is_of g.service g.cid h ≡ false) p xs once.0, once_filter p xs once.1)
       | false ↦ once_filter p xs once.1
     ]
 
-others_push : (g new : Grant) (xs : List Grant) → is_of g.service g.client new ≡ false → AllByRecursion (λ h. is_of g.service g.client h ≡ false) xs → AllByRecursion (λ h. is_of g.service g.client h ≡ false) (xs ++ new ∷ [])
+others_push : (g new : Grant) (xs : List Grant) → is_of g.service g.cid new ≡ false → AllByRecursion (λ h. is_of g.service g.cid h ≡ false) xs → AllByRecursion (λ h. is_of g.service g.cid h ≡ false) (xs ++ new ∷ [])
 others_push g new [] other all = (other, tt)
 others_push g new (h ∷ xs) other all = (all.0, others_push g new xs other all.1)
 
-once_push : (new : Grant) (xs : List Grant) → AllByRecursion (λ g. is_of g.service g.client new ≡ false) xs → IsOnce xs → IsOnce (xs ++ new ∷ [])
+once_push : (new : Grant) (xs : List Grant) → AllByRecursion (λ g. is_of g.service g.cid new ≡ false) xs → IsOnce xs → IsOnce (xs ++ new ∷ [])
 unfolding IsOnce
 once_push new [] others once = (tt, tt)
 once_push new (g ∷ xs) others once = (others_push g new xs others.0 once.0, once_push new xs others.1 once.1)
@@ -37,7 +37,7 @@ pub in_order_once : (xs : List Grant) → AreInOrder xs → IsOnce xs
 unfolding IsInOrder IsOnce
 in_order_once [] ordered = tt
 in_order_once (g ∷ xs) ordered =
-    (all_weaker (λ h. is_behind g.service g.client h ≡ true) (λ h. is_of g.service g.client h ≡ false) (λ h behind. behind_not_of g.service g.client h behind) xs ordered.0, in_order_once xs ordered.1)
+    (all_weaker (λ h. is_behind g.service g.cid h ≡ true) (λ h. is_of g.service g.cid h ≡ false) (λ h behind. behind_not_of g.service g.cid h behind) xs ordered.0, in_order_once xs ordered.1)
 
 filter_others : (s i : ℕ) (xs : List Grant) → AllByRecursion (λ g. is_of s i g ≡ false) (filter (λ g. not (is_of s i g)) xs)
 filter_others s i [] = tt
@@ -76,13 +76,13 @@ last_to_order conn s i xs ys same g at =
       | false ↦ λ e. Contains-append_right (filter (is_before s i) ys) _ g (Contains-cons g _ _ (Contains-filter (is_behind s i) ys g here (behind_else s i g e other)))
     ]
     in sides (is_before s i g) refl)
-    (λ (new : Contains (record { conn = conn; service = s; client = i } ∷ []) g).
+    (λ (new : Contains (record { conn = conn; service = s; cid = i } ∷ []) g).
     ⊎_elim
-    (λ (is : record { conn = conn; service = s; client = i } ≡ g).
-    subst (λ (h : Grant). Contains (granted conn s i ys) h) is (Contains-append_right (filter (is_before s i) ys) (record { conn = conn; service = s; client = i } ∷ filter (is_behind s i) ys) (record { conn = conn; service = s; client = i }) (0, omega arith, refl)))
+    (λ (is : record { conn = conn; service = s; cid = i } ≡ g).
+    subst (λ (h : Grant). Contains (granted conn s i ys) h) is (Contains-append_right (filter (is_before s i) ys) (record { conn = conn; service = s; cid = i } ∷ filter (is_behind s i) ys) (record { conn = conn; service = s; cid = i }) (0, omega arith, refl)))
     (λ (none : Contains [] g). absurd (Contains-nil g none))
-    (Contains-cons_cases g (record { conn = conn; service = s; client = i }) [] new))
-    (Contains-append_cases (filter (λ h. not (is_of s i h)) xs) (record { conn = conn; service = s; client = i } ∷ []) g at)
+    (Contains-cons_cases g (record { conn = conn; service = s; cid = i }) [] new))
+    (Contains-append_cases (filter (λ h. not (is_of s i h)) xs) (record { conn = conn; service = s; cid = i } ∷ []) g at)
 
 order_to_last : (conn s i : ℕ) (xs ys : List Grant) → ((g : Grant) → Contains ys g → Contains xs g) → (g : Grant) → Contains (granted conn s i ys) g → Contains (granted_last conn s i xs) g
 order_to_last conn s i xs ys same g at =
@@ -91,20 +91,20 @@ order_to_last conn s i xs ys same g at =
     in
     ⊎_elim
     (λ (left : Contains (filter (is_before s i) ys) g). kept (Contains-filter_from (is_before s i) ys g left) (before_not_of s i g (Contains-filter_passes (is_before s i) ys g left)))
-    (λ (right : Contains (record { conn = conn; service = s; client = i } ∷ filter (is_behind s i) ys) g).
+    (λ (right : Contains (record { conn = conn; service = s; cid = i } ∷ filter (is_behind s i) ys) g).
     ⊎_elim
-    (λ (is : record { conn = conn; service = s; client = i } ≡ g). subst (λ (h : Grant). Contains (granted_last conn s i xs) h) is (Contains-push (filter (λ h. not (is_of s i h)) xs) (record { conn = conn; service = s; client = i })))
+    (λ (is : record { conn = conn; service = s; cid = i } ≡ g). subst (λ (h : Grant). Contains (granted_last conn s i xs) h) is (Contains-push (filter (λ h. not (is_of s i h)) xs) (record { conn = conn; service = s; cid = i })))
     (λ (rest : Contains (filter (is_behind s i) ys) g). kept (Contains-filter_from (is_behind s i) ys g rest) (behind_not_of s i g (Contains-filter_passes (is_behind s i) ys g rest)))
-    (Contains-cons_cases g (record { conn = conn; service = s; client = i }) (filter (is_behind s i) ys) right))
-    (Contains-append_cases (filter (is_before s i) ys) (record { conn = conn; service = s; client = i } ∷ filter (is_behind s i) ys) g at)
+    (Contains-cons_cases g (record { conn = conn; service = s; cid = i }) (filter (is_behind s i) ys) right))
+    (Contains-append_cases (filter (is_before s i) ys) (record { conn = conn; service = s; cid = i } ∷ filter (is_behind s i) ys) g at)
 
-flipped : (s i : ℕ) (g : Grant) → is_of s i g ≡ false → (s == g.service && (i == g.client)) ≡ false
+flipped : (s i : ℕ) (g : Grant) → is_of s i g ≡ false → (s == g.service && (i == g.cid)) ≡ false
 flipped s i g other = grind (arith, nat_tests, other)
 
 pub once_granted : (conn s i : ℕ) (xs : List Grant) → IsOnce xs → IsOnce (granted_last conn s i xs)
 once_granted conn s i xs once =
-    once_push (record { conn = conn; service = s; client = i }) (filter (λ g. not (is_of s i g)) xs)
-    (all_weaker (λ g. is_of s i g ≡ false) (λ g. (s == g.service && (i == g.client)) ≡ false) (λ g other. flipped s i g other) (filter (λ g. not (is_of s i g)) xs) (filter_others s i xs))
+    once_push (record { conn = conn; service = s; cid = i }) (filter (λ g. not (is_of s i g)) xs)
+    (all_weaker (λ g. is_of s i g ≡ false) (λ g. (s == g.service && (i == g.cid)) ≡ false) (λ g other. flipped s i g other) (filter (λ g. not (is_of s i g)) xs) (filter_others s i xs))
     (once_filter (λ g. not (is_of s i g)) xs once)
 
 -- granting, in either order
@@ -116,52 +116,52 @@ same_granted conn s i xs ys tell = record {
 
 -- ---- what is asked of them ----
 
-pub holder_contains : (s i conn : ℕ) (xs : List Grant) → holder_in s i xs ≡ Some conn → Contains xs (record { conn = conn; service = s; client = i })
+pub holder_contains : (s i conn : ℕ) (xs : List Grant) → holder_in s i xs ≡ Some conn → Contains xs (record { conn = conn; service = s; cid = i })
 holder_contains s i conn [] e = absurd (cc)
 holder_contains s i conn (g ∷ xs) e =
-    let step : (b : Bool) → is_of s i g ≡ b → cond b (Some g.conn) (holder_in s i xs) ≡ Some conn → Contains (g ∷ xs) (record { conn = conn; service = s; client = i }) =
-    λ b. elim b as (λ b. is_of s i g ≡ b → cond b (Some g.conn) (holder_in s i xs) ≡ Some conn → Contains (g ∷ xs) (record { conn = conn; service = s; client = i })) [
+    let step : (b : Bool) → is_of s i g ≡ b → cond b (Some g.conn) (holder_in s i xs) ≡ Some conn → Contains (g ∷ xs) (record { conn = conn; service = s; cid = i }) =
+    λ b. elim b as (λ b. is_of s i g ≡ b → cond b (Some g.conn) (holder_in s i xs) ≡ Some conn → Contains (g ∷ xs) (record { conn = conn; service = s; cid = i })) [
       | true ↦ λ of e.
           let same : g.conn ≡ conn = cc in
           (0, omega arith, is_grant conn s i g same (is_of-is s i g of).0 (is_of-is s i g of).1)
-      | false ↦ λ of e. Contains-cons (record { conn = conn; service = s; client = i }) g xs (holder_contains s i conn xs e)
+      | false ↦ λ of e. Contains-cons (record { conn = conn; service = s; cid = i }) g xs (holder_contains s i conn xs e)
     ]
     in step (is_of s i g) refl e
   where
-    is_grant : (conn s i : ℕ) (g : Grant) → g.conn ≡ conn → g.service ≡ s → g.client ≡ i → g ≡ record { conn = conn; service = s; client = i }
+    is_grant : (conn s i : ℕ) (g : Grant) → g.conn ≡ conn → g.service ≡ s → g.cid ≡ i → g ≡ record { conn = conn; service = s; cid = i }
     is_grant conn s i g a b c =
-        let one : g ≡ record { conn = conn; service = g.service; client = g.client } = ap (λ (x : ℕ). record { conn = x; service = g.service; client = g.client }) a in
-        let two : record { conn = conn; service = g.service; client = g.client } ≡ record { conn = conn; service = s; client = g.client } = ap (λ (x : ℕ). record { conn = conn; service = x; client = g.client }) b in
-        let three : record { conn = conn; service = s; client = g.client } ≡ record { conn = conn; service = s; client = i } = ap (λ (x : ℕ). record { conn = conn; service = s; client = x }) c in
+        let one : g ≡ record { conn = conn; service = g.service; cid = g.cid } = ap (λ (x : ℕ). record { conn = x; service = g.service; cid = g.cid }) a in
+        let two : record { conn = conn; service = g.service; cid = g.cid } ≡ record { conn = conn; service = s; cid = g.cid } = ap (λ (x : ℕ). record { conn = conn; service = x; cid = g.cid }) b in
+        let three : record { conn = conn; service = s; cid = g.cid } ≡ record { conn = conn; service = s; cid = i } = ap (λ (x : ℕ). record { conn = conn; service = s; cid = x }) c in
         one ∙ two ∙ three
 
 equal_of : (s i : ℕ) → (s == s && (i == i)) ≡ true
 equal_of s i = grind (arith, nat_tests)
 
-not_there : (s i conn : ℕ) (xs : List Grant) → AllByRecursion (λ h. is_of s i h ≡ false) xs → Contains xs (record { conn = conn; service = s; client = i }) → ⊥
+not_there : (s i conn : ℕ) (xs : List Grant) → AllByRecursion (λ h. is_of s i h ≡ false) xs → Contains xs (record { conn = conn; service = s; cid = i }) → ⊥
 not_there s i conn [] others at = Contains-nil _ at
 not_there s i conn (g ∷ xs) others at =
     ⊎_elim
-    (λ (is : g ≡ record { conn = conn; service = s; client = i }). let clash : true ≡ false = sym (equal_of s i) ∙ sym (ap (is_of s i) is) ∙ others.0 in true≢false clash)
-    (λ (rest : Contains xs (record { conn = conn; service = s; client = i })). not_there s i conn xs others.1 rest)
-    (Contains-cons_cases (record { conn = conn; service = s; client = i }) g xs at)
+    (λ (is : g ≡ record { conn = conn; service = s; cid = i }). let clash : true ≡ false = sym (equal_of s i) ∙ sym (ap (is_of s i) is) ∙ others.0 in true≢false clash)
+    (λ (rest : Contains xs (record { conn = conn; service = s; cid = i })). not_there s i conn xs others.1 rest)
+    (Contains-cons_cases (record { conn = conn; service = s; cid = i }) g xs at)
 
-pub contains_holder : (s i conn : ℕ) (xs : List Grant) → IsOnce xs → Contains xs (record { conn = conn; service = s; client = i }) → holder_in s i xs ≡ Some conn
+pub contains_holder : (s i conn : ℕ) (xs : List Grant) → IsOnce xs → Contains xs (record { conn = conn; service = s; cid = i }) → holder_in s i xs ≡ Some conn
 unfolding IsOnce
 contains_holder s i conn [] once at = absurd (Contains-nil _ at)
 contains_holder s i conn (g ∷ xs) once at =
     ⊎_elim
-    (λ (is : g ≡ record { conn = conn; service = s; client = i }). ap (λ (h : Grant). cond (is_of s i h) (Some h.conn) (holder_in s i xs)) is ∙ ap (λ b. cond b (Some conn) (holder_in s i xs)) (equal_of s i))
-    (λ (rest : Contains xs (record { conn = conn; service = s; client = i })).
+    (λ (is : g ≡ record { conn = conn; service = s; cid = i }). ap (λ (h : Grant). cond (is_of s i h) (Some h.conn) (holder_in s i xs)) is ∙ ap (λ b. cond b (Some conn) (holder_in s i xs)) (equal_of s i))
+    (λ (rest : Contains xs (record { conn = conn; service = s; cid = i })).
     let step : (b : Bool) → is_of s i g ≡ b → cond b (Some g.conn) (holder_in s i xs) ≡ Some conn =
     λ b. elim b as (λ b. is_of s i g ≡ b → cond b (Some g.conn) (holder_in s i xs) ≡ Some conn) [
       | true ↦ λ of. absurd (not_there s i conn xs (others_of g s i xs of once.0) rest)
       | false ↦ λ of. contains_holder s i conn xs once.1 rest
     ]
     in step (is_of s i g) refl)
-    (Contains-cons_cases (record { conn = conn; service = s; client = i }) g xs at)
+    (Contains-cons_cases (record { conn = conn; service = s; cid = i }) g xs at)
   where
-    others_of : (g : Grant) (s i : ℕ) (xs : List Grant) → is_of s i g ≡ true → AllByRecursion (λ h. is_of g.service g.client h ≡ false) xs → AllByRecursion (λ h. is_of s i h ≡ false) xs
+    others_of : (g : Grant) (s i : ℕ) (xs : List Grant) → is_of s i g ≡ true → AllByRecursion (λ h. is_of g.service g.cid h ≡ false) xs → AllByRecursion (λ h. is_of s i h ≡ false) xs
     others_of g s i xs of others =
         subst (λ (t : ℕ). AllByRecursion (λ h. is_of t i h ≡ false) xs) (is_of-is s i g of).0 (subst (λ (u : ℕ). AllByRecursion (λ h. is_of g.service u h ≡ false) xs) (is_of-is s i g of).1 others)
 

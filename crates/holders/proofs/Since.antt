@@ -39,20 +39,20 @@ granted_since g conn s i past since true is at = since_more g (Grants conn s i) 
 granted_since g conn s i past since false is at =
     ⊎_elim
     (λ (old : Contains (filter (λ h. not (is_of s i h)) (held_after past)) g). since_more g (Grants conn s i) past refl (since (Contains-filter_from (λ h. not (is_of s i h)) (held_after past) g old)))
-    (λ (new : Contains (record { conn = conn; service = s; client = i } ∷ []) g).
+    (λ (new : Contains (record { conn = conn; service = s; cid = i } ∷ []) g).
     ⊎_elim
-    (λ (same : record { conn = conn; service = s; client = i } ≡ g). subst (λ (h : Grant). IsGrantedAndNotEnded h (Grants conn s i ∷ past)) same newest)
+    (λ (same : record { conn = conn; service = s; cid = i } ≡ g). subst (λ (h : Grant). IsGrantedAndNotEnded h (Grants conn s i ∷ past)) same newest)
     (λ (none : Contains [] g). absurd (Contains-nil g none))
-    (Contains-cons_cases g (record { conn = conn; service = s; client = i }) [] new))
-    (Contains-append_cases (filter (λ h. not (is_of s i h)) (held_after past)) (record { conn = conn; service = s; client = i } ∷ []) g at)
+    (Contains-cons_cases g (record { conn = conn; service = s; cid = i }) [] new))
+    (Contains-append_cases (filter (λ h. not (is_of s i h)) (held_after past)) (record { conn = conn; service = s; cid = i } ∷ []) g at)
   where
-    newest : IsGrantedAndNotEnded (record { conn = conn; service = s; client = i }) (Grants conn s i ∷ past)
+    newest : IsGrantedAndNotEnded (record { conn = conn; service = s; cid = i }) (Grants conn s i ∷ past)
     newest = record {
       later = [];
       earlier = past;
       whole = refl;
       free = is;
-      none = All-nil (λ (c : Call). ends (record { conn = conn; service = s; client = i }) c ≡ false);
+      none = All-nil (λ (c : Call). ends (record { conn = conn; service = s; cid = i }) c ≡ false);
     }
 
 held_since : (calls : List Call) (g : Grant) → Contains (held_after calls) g → IsGrantedAndNotEnded g calls
@@ -68,13 +68,13 @@ held_since (Clears ∷ past) g at = absurd (Contains-nil g at)
 
 holder_of : (g : Grant) (s i : ℕ) (held : List Grant) → IsOnce held → Contains held g → is_of s i g ≡ true → holder_in s i held ≡ Some g.conn
 holder_of g s i held once at of =
-    sym (ap (λ (t : ℕ). holder_in t g.client held) (is_of-is s i g of).0 ∙ ap (λ (u : ℕ). holder_in s u held) (is_of-is s i g of).1) ∙ contains_holder g.service g.client g.conn held once at
+    sym (ap (λ (t : ℕ). holder_in t g.cid held) (is_of-is s i g of).0 ∙ ap (λ (u : ℕ). holder_in s u held) (is_of-is s i g of).1) ∙ contains_holder g.service g.cid g.conn held once at
 
-new_is : (g : Grant) (conn s i : ℕ) → g.conn ≡ conn → is_of s i g ≡ true → record { conn = conn; service = s; client = i } ≡ g
+new_is : (g : Grant) (conn s i : ℕ) → g.conn ≡ conn → is_of s i g ≡ true → record { conn = conn; service = s; cid = i } ≡ g
 new_is g conn s i same of =
-    let one : record { conn = conn; service = s; client = i } ≡ record { conn = g.conn; service = s; client = i } = ap (λ (x : ℕ). record { conn = x; service = s; client = i }) (sym same) in
-    let two : record { conn = g.conn; service = s; client = i } ≡ record { conn = g.conn; service = g.service; client = i } = ap (λ (x : ℕ). record { conn = g.conn; service = x; client = i }) (sym (is_of-is s i g of).0) in
-    let three : record { conn = g.conn; service = g.service; client = i } ≡ g = ap (λ (x : ℕ). record { conn = g.conn; service = g.service; client = x }) (sym (is_of-is s i g of).1) in
+    let one : record { conn = conn; service = s; cid = i } ≡ record { conn = g.conn; service = s; cid = i } = ap (λ (x : ℕ). record { conn = x; service = s; cid = i }) (sym same) in
+    let two : record { conn = g.conn; service = s; cid = i } ≡ record { conn = g.conn; service = g.service; cid = i } = ap (λ (x : ℕ). record { conn = g.conn; service = x; cid = i }) (sym (is_of-is s i g of).0) in
+    let three : record { conn = g.conn; service = g.service; cid = i } ≡ g = ap (λ (x : ℕ). record { conn = g.conn; service = g.service; cid = x }) (sym (is_of-is s i g of).1) in
     one ∙ two ∙ three
 
 same_conn : (a b : ℕ) → not (a == b) ≡ false → a ≡ b
@@ -90,8 +90,8 @@ keeps_granted g conn s i held once at false is =
     λ b. elim b as (λ b. is_of s i g ≡ b → Contains (granted_last conn s i held) g) [
       | true ↦ λ of.
           let same : g.conn ≡ conn = same_conn g.conn conn (sym (ap (is_other conn) (holder_of g s i held once at of)) ∙ is) in
-          subst (λ (h : Grant). Contains (granted_last conn s i held) h) (new_is g conn s i same of) (Contains-push (filter (λ h. not (is_of s i h)) held) (record { conn = conn; service = s; client = i }))
-      | false ↦ λ of. Contains-append_left (filter (λ h. not (is_of s i h)) held) (record { conn = conn; service = s; client = i } ∷ []) g (Contains-filter (λ h. not (is_of s i h)) held g at (ap not of))
+          subst (λ (h : Grant). Contains (granted_last conn s i held) h) (new_is g conn s i same of) (Contains-push (filter (λ h. not (is_of s i h)) held) (record { conn = conn; service = s; cid = i }))
+      | false ↦ λ of. Contains-append_left (filter (λ h. not (is_of s i h)) held) (record { conn = conn; service = s; cid = i } ∷ []) g (Contains-filter (λ h. not (is_of s i h)) held g at (ap not of))
     ]
     in step (is_of s i g) refl
 
@@ -101,16 +101,16 @@ keeps_held g (Releases conn s i) past keeps at = Contains-filter (λ h. not (is_
 keeps_held g (Leaves conn time) past keeps at = Contains-filter (λ h. not (conn == h.conn)) (held_after past) g at (ap not keeps)
 keeps_held g Clears past keeps at = absurd (cc)
 
-since_held : (g : Grant) (later earlier : List Call) → is_taken g.conn g.service g.client (held_after earlier) ≡ false → All (λ call. ends g call ≡ false) later
-    → Contains (held_after (later ++ Grants g.conn g.service g.client ∷ earlier)) g
+since_held : (g : Grant) (later earlier : List Call) → is_taken g.conn g.service g.cid (held_after earlier) ≡ false → All (λ call. ends g call ≡ false) later
+    → Contains (held_after (later ++ Grants g.conn g.service g.cid ∷ earlier)) g
 since_held g [] earlier free none =
-    subst (λ (b : Bool). Contains (granted_last_unless b g.conn g.service g.client (held_after earlier)) g) (sym free) (Contains-push (filter (λ h. not (is_of g.service g.client h)) (held_after earlier)) g)
+    subst (λ (b : Bool). Contains (granted_last_unless b g.conn g.service g.cid (held_after earlier)) g) (sym free) (Contains-push (filter (λ h. not (is_of g.service g.cid h)) (held_after earlier)) g)
 since_held g (call ∷ later) earlier free none =
-    keeps_held g call (later ++ Grants g.conn g.service g.client ∷ earlier) (All-head (λ c. ends g c ≡ false) call later none) (since_held g later earlier free (All-tail (λ c. ends g c ≡ false) call later none))
+    keeps_held g call (later ++ Grants g.conn g.service g.cid ∷ earlier) (All-head (λ c. ends g c ≡ false) call later none) (since_held g later earlier free (All-tail (λ c. ends g c ≡ false) call later none))
 
-pub held_exactly : (calls : List Call) (conn s i : ℕ) → (holder_in s i (held_after calls) ≡ Some conn) ↔ IsGrantedAndNotEnded (record { conn = conn; service = s; client = i }) calls
+pub held_exactly : (calls : List Call) (conn s i : ℕ) → (holder_in s i (held_after calls) ≡ Some conn) ↔ IsGrantedAndNotEnded (record { conn = conn; service = s; cid = i }) calls
 held_exactly calls conn s i = (
-  λ holds. held_since calls (record { conn = conn; service = s; client = i }) (holder_contains s i conn (held_after calls) holds),
+  λ holds. held_since calls (record { conn = conn; service = s; cid = i }) (holder_contains s i conn (held_after calls) holds),
   λ since. contains_holder s i conn (held_after calls) (held_once calls)
-      (subst (λ (l : List Call). Contains (held_after l) (record { conn = conn; service = s; client = i })) (sym since.whole) (since_held (record { conn = conn; service = s; client = i }) since.later since.earlier since.free since.none)),
+      (subst (λ (l : List Call). Contains (held_after l) (record { conn = conn; service = s; cid = i })) (sym since.whole) (since_held (record { conn = conn; service = s; cid = i }) since.later since.earlier since.free since.none)),
 )

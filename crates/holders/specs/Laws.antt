@@ -6,7 +6,7 @@ use Rattle.holders.specs.Calls.{Call, Grants, Releases, Leaves, Clears, held_aft
 
 -- its connection gives the id up, or leaves, or all ids are given up
 abbrev pub ends : Grant → Call → Bool
-ends grant (Releases conn service client) = is_of_both conn service client grant
+ends grant (Releases conn service cid) = is_of_both conn service cid grant
 ends grant (Leaves conn time) = conn == grant.conn
 ends grant Clears = true
 ends grant _ = false
@@ -15,10 +15,10 @@ ends grant _ = false
 pub record IsGrantedAndNotEnded (grant : Grant) (calls : List Call) : Type 0 where
   pub later : List Call
   pub earlier : List Call
-  pub whole : calls ≡ later ++ Grants grant.conn grant.service grant.client ∷ earlier
-  pub free : is_taken grant.conn grant.service grant.client (held_after earlier) ≡ false
+  pub whole : calls ≡ later ++ Grants grant.conn grant.service grant.cid ∷ earlier
+  pub free : is_taken grant.conn grant.service grant.cid (held_after earlier) ≡ false
   pub none : All (λ call. ends grant call ≡ false) later
 
 abbrev pub HeldUntilEnded : Type 0
-HeldUntilEnded = (calls : List Call) (conn service client : ℕ)
-    → (holder_in service client (held_after calls) ≡ Some conn) ↔ IsGrantedAndNotEnded (record { conn = conn; service = service; client = client }) calls
+HeldUntilEnded = (calls : List Call) (conn service cid : ℕ)
+    → (holder_in service cid (held_after calls) ≡ Some conn) ↔ IsGrantedAndNotEnded (record { conn = conn; service = service; cid = cid }) calls

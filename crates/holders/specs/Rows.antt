@@ -4,10 +4,10 @@ use Rattle.proxy_history.specs.ClientIds.{Grant, KeptId}
 use Rattle.holders.specs.Grants.{granted}
 
 abbrev pub kept_of : Grant → KeptId
-kept_of g = record { service = g.service; client = g.client; since = g.conn }
+kept_of g = record { service = g.service; cid = g.cid; since = g.conn }
 
 abbrev pub id_of : Grant → ℕ × ℕ
-id_of g = (g.service, g.client)
+id_of g = (g.service, g.cid)
 
 abbrev pub is_old : (after time : ℕ) → Grant → Bool
 is_old after time g = nat_le after (time - g.conn)
@@ -15,4 +15,4 @@ is_old after time g = nat_le after (time - g.conn)
 -- each of these ids has the number
 abbrev pub all_granted : ℕ → List Grant → List Grant → List Grant
 all_granted number [] rows = rows
-all_granted number (g ∷ grants) rows = all_granted number grants (granted number g.service g.client rows)
+all_granted number (g ∷ grants) rows = all_granted number grants (granted number g.service g.cid rows)

@@ -46,11 +46,11 @@ impl ById {
     }
 
     /// The number of the id.
-    pub fn number(&self, service: u8, client: u8) -> Option<u64>
-        ensures number { result ≡ holder_in service client self.now }
+    pub fn number(&self, service: u8, cid: u8) -> Option<u64>
+        ensures number { result ≡ holder_in service cid self.now }
         ensures ordered { AreInOrder self.now }
     {
-        match find(&self.rows, service, client) {
+        match find(&self.rows, service, cid) {
             Ok(index) => {
                 let row = &self.rows[index];
                 Some(row.number())
@@ -60,11 +60,11 @@ impl ById {
     }
 
     /// The id has this number from here on.
-    pub fn set(&mut self, number: u64, service: u8, client: u8)
-        ensures { self.new ≡ granted number service client self.old }
+    pub fn set(&mut self, number: u64, service: u8, cid: u8)
+        ensures { self.new ≡ granted number service cid self.old }
     {
-        let row = Row::new(number, service, client);
-        match find(&self.rows, service, client) {
+        let row = Row::new(number, service, cid);
+        match find(&self.rows, service, cid) {
             Ok(index) => self.rows[index] = row,
             Err(place) => put(&mut self.rows, place, row),
         }
@@ -76,7 +76,7 @@ impl ById {
     {
         for row in &self.rows {
             if number == row.number() {
-                to.set(other, row.service(), row.client());
+                to.set(other, row.service(), row.cid());
             }
         }
     }
@@ -84,14 +84,14 @@ impl ById {
     /// The id has no number. Says whether it had one.
     ///
     /// Where no id has a number, it answers at once.
-    pub fn forget(&mut self, service: u8, client: u8) -> bool
-        ensures ids { self.new ≡ filter (λ g. not (is_of service client g)) self.old }
+    pub fn forget(&mut self, service: u8, cid: u8) -> bool
+        ensures ids { self.new ≡ filter (λ g. not (is_of service cid g)) self.old }
         ensures had { result ≡ false → self.new ≡ self.old }
     {
         if self.rows.is_empty() {
             return false;
         }
-        match find(&self.rows, service, client) {
+        match find(&self.rows, service, cid) {
             Ok(index) => {
                 self.rows.remove(index);
                 true
@@ -101,10 +101,10 @@ impl ById {
     }
 
     /// The id has no number, where it had this one.
-    pub fn forget_both(&mut self, number: u64, service: u8, client: u8)
-        ensures { self.new ≡ filter (λ g. not (is_of_both number service client g)) self.old }
+    pub fn forget_both(&mut self, number: u64, service: u8, cid: u8)
+        ensures { self.new ≡ filter (λ g. not (is_of_both number service cid g)) self.old }
     {
-        self.rows.retain(|row| !(row.is_of(service, client) & (number == row.number())));
+        self.rows.retain(|row| !(row.is_of(service, cid) & (number == row.number())));
     }
 
     /// No id has this number.
@@ -135,7 +135,7 @@ impl ById {
     {
         let index = old_at(&self.rows, time, after)?;
         let row = &self.rows[index];
-        Some((row.service(), row.client()))
+        Some((row.service(), row.cid()))
     }
 
     /// A number that is at most each of these.
@@ -181,17 +181,17 @@ fn some_is_of(rows: &[Row], number: u64, service: u8) -> bool
 }
 
 // Where the id stands, or else where it would stand.
-fn find(rows: &[Row], service: u8, client: u8) -> Result<usize, usize>
+fn find(rows: &[Row], service: u8, cid: u8) -> Result<usize, usize>
     requires { AreInOrder rows.now }
-    ensures found { IfOk result (IsFoundAt service client rows.now) }
-    ensures absent { IfErr result (IsPlaceOf service client rows.now) }
+    ensures found { IfOk result (IsFoundAt service cid rows.now) }
+    ensures absent { IfErr result (IsPlaceOf service cid rows.now) }
 {
-    let place = rows.partition_point(|row| row.is_before(service, client));
+    let place = rows.partition_point(|row| row.is_before(service, cid));
     if place == rows.len() {
         return Err(place);
     }
     let row = &rows[place];
-    if row.is_of(service, client) {
+    if row.is_of(service, cid) {
         Ok(place)
     } else {
         Err(place)

@@ -11,7 +11,7 @@ use std::marker::Model;
 pub struct Row {
     number: u64,
     service: u8,
-    client: u8,
+    cid: u8,
 }
 
 impl Model for Row {
@@ -19,17 +19,17 @@ impl Model for Row {
 
     ghost Value = { Grant };
 
-    ghost view = { λ row. record { conn = row.number; service = row.service; client = row.client } };
+    ghost view = { λ row. record { conn = row.number; service = row.service; cid = row.cid } };
 }
 
 impl Row {
-    pub fn new(number: u64, service: u8, client: u8) -> Self
-        ensures { result ≡ record { conn = number; service = service; client = client } }
+    pub fn new(number: u64, service: u8, cid: u8) -> Self
+        ensures { result ≡ record { conn = number; service = service; cid = cid } }
     {
         Row {
             number,
             service,
-            client,
+            cid,
         }
     }
 
@@ -45,23 +45,23 @@ impl Row {
         self.service
     }
 
-    pub fn client(&self) -> u8
-        ensures { result ≡ self.now.client }
+    pub fn cid(&self) -> u8
+        ensures { result ≡ self.now.cid }
     {
-        self.client
+        self.cid
     }
 
-    pub fn is_of(&self, service: u8, client: u8) -> bool
-        ensures { result ≡ is_of service client self.now }
+    pub fn is_of(&self, service: u8, cid: u8) -> bool
+        ensures { result ≡ is_of service cid self.now }
     {
-        (self.service == service) & (self.client == client)
+        (self.service == service) & (self.cid == cid)
     }
 
     /// Whether its id stands before this one, in order of service and client id.
-    pub fn is_before(&self, service: u8, client: u8) -> bool
-        ensures { result ≡ is_before service client self.now }
+    pub fn is_before(&self, service: u8, cid: u8) -> bool
+        ensures { result ≡ is_before service cid self.now }
     {
-        (self.service < service) | ((self.service == service) & (self.client < client))
+        (self.service < service) | ((self.service == service) & (self.cid < cid))
     }
 
     pub fn is_of_service(&self, conn: ConnId, service: u8) -> bool

@@ -19,16 +19,16 @@ use Rattle.json_answers.specs.Messages.{indication_json}
 -- whose indications are shown, by which tables, and whether each is one JSON object
 pub record Watched : Type 0 where
   pub service : ℕ
-  pub client : ℕ
+  pub cid : ℕ
   pub json : Bool
   pub indications : List Message
 
 -- ---- which ----
 
 -- an indication of the service, for the client or for each one
-abbrev pub is_followed : (service client : ℕ) → Head → Bool
-is_followed service client head =
-    head.framed && is_indication (head_kind head) && (head.service == service) && (head.client == client || head.client == 255)
+abbrev pub is_followed : (service cid : ℕ) → Head → Bool
+is_followed service cid head =
+    head.framed && is_indication (head_kind head) && (head.service == service) && (head.cid == cid || head.cid == 255)
 
 -- ---- how ----
 
@@ -57,4 +57,4 @@ told_text watch id tlvs = told_by watch.json id tlvs (find (is_key watch.service
 -- the lines of a message, none where it isn't followed
 abbrev pub followed_lines : Watched → List ℕ → List ℕ
 followed_lines watch message =
-    if is_followed watch.service watch.client (head_of message) then told_text watch (head_of message).message (tlvs_in message) else []
+    if is_followed watch.service watch.cid (head_of message) then told_text watch (head_of message).message (tlvs_in message) else []

@@ -16,7 +16,7 @@ const EACH_CLIENT: u8 = 0xFF;
 pub struct Watch<'a> {
     service: u8,
     /// The client id.
-    client: u8,
+    cid: u8,
     /// Whether each is shown as one JSON object.
     json: bool,
     indications: &'a [Message],
@@ -34,7 +34,7 @@ impl<'a> Model for Watch<'a> {
 
     ghost coded = { Prim.hlevel (codes, shape.the_row.coded) };
 
-    ghost view = { λ watch. record { service = watch.service; client = watch.client; json = watch.json; indications = watch.indications.now } };
+    ghost view = { λ watch. record { service = watch.service; cid = watch.cid; json = watch.json; indications = watch.indications.now } };
 
     ghost invariant = { λ watch. AllByRecursion IsSoundMessage (messages_in watch.indications.now) };
 }
@@ -48,13 +48,13 @@ impl<'a> Watch<'a> {
     ghost use Rattle.indication_lines.specs.Lines.{indication_text, is_followed, told_by, told_text};
 
     /// The indications for a client, by these tables.
-    pub fn new(service: u8, client: u8, json: bool, indications: &'a [Message]) -> Self
+    pub fn new(service: u8, cid: u8, json: bool, indications: &'a [Message]) -> Self
         requires { AllByRecursion IsSoundMessage (messages_in indications.now) }
-        ensures { result ≡ record { service = service; client = client; json = json; indications = indications.now } }
+        ensures { result ≡ record { service = service; cid = cid; json = json; indications = indications.now } }
     {
         Watch {
             service,
-            client,
+            cid,
             json,
             indications,
         }
@@ -62,12 +62,12 @@ impl<'a> Watch<'a> {
 
     // Whether it is an indication for the client.
     fn is_followed(&self, head: Head) -> bool
-        ensures { result ≡ is_followed self.now.service self.now.client head }
+        ensures { result ≡ is_followed self.now.service self.now.cid head }
     {
         head.framed
             && matches!(head.kind(), MessageKind::Indication)
             && head.service == self.service
-            && (head.client == self.client || head.client == EACH_CLIENT)
+            && (head.cid == self.cid || head.cid == EACH_CLIENT)
     }
 
     // The indication of this id in the tables.

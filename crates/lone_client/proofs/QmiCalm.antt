@@ -40,7 +40,7 @@ put_waits new bytes r waits room =
 module _ (s : Setup) where
   -- the client ids are the one client's, and the modem stays
   abbrev pub IsOwn : Fact → Type 0
-  IsOwn (Granted c service client) = c ≡ 1
+  IsOwn (Granted c service cid) = c ≡ 1
   IsOwn ModemLost = ⊥
   IsOwn _ = Unit {0}
 
@@ -60,25 +60,25 @@ module _ (s : Setup) where
   ids_are_own : (past : List Fact) → AreOwn past → AreOfOne (held past)
   unfolding held
   ids_are_own [] all = tt
-  ids_are_own (Granted c service client ∷ past) all =
-      all_push (λ (g : Grant). g.conn ≡ 1) _ _ (all_filter (λ (g : Grant). g.conn ≡ 1) (λ (g : Grant). not (is_of service client g)) (held past) (ids_are_own past all.1)) all.0
-  ids_are_own (Freed c service client ∷ past) all = all_filter (λ (g : Grant). g.conn ≡ 1) (λ (g : Grant). not (is_of service client g && (c == g.conn))) (held past) (ids_are_own past all.1)
+  ids_are_own (Granted c service cid ∷ past) all =
+      all_push (λ (g : Grant). g.conn ≡ 1) _ _ (all_filter (λ (g : Grant). g.conn ≡ 1) (λ (g : Grant). not (is_of service cid g)) (held past) (ids_are_own past all.1)) all.0
+  ids_are_own (Freed c service cid ∷ past) all = all_filter (λ (g : Grant). g.conn ≡ 1) (λ (g : Grant). not (is_of service cid g && (c == g.conn))) (held past) (ids_are_own past all.1)
   ids_are_own (Ended c why ∷ past) all = all_filter (λ (g : Grant). g.conn ≡ 1) (λ (g : Grant). not (c == g.conn)) (held past) (ids_are_own past all.1)
   ids_are_own (Reset ∷ past) all = tt
   ids_are_own (ModemLost ∷ past) all = tt
   ids_are_own (_ ∷ past) all = ids_are_own past all.1
 
-  nobody_else : (service client : ℕ) (grants : List Grant) → AreOfOne grants → is_other 1 (holder_in service client grants) ≡ false
-  nobody_else service client [] all = refl
-  nobody_else service client (g ∷ grants) all =
-      elim (is_of service client g) as (λ b. is_other 1 (if b then Some g.conn else holder_in service client grants) ≡ false) [
+  nobody_else : (service cid : ℕ) (grants : List Grant) → AreOfOne grants → is_other 1 (holder_in service cid grants) ≡ false
+  nobody_else service cid [] all = refl
+  nobody_else service cid (g ∷ grants) all =
+      elim (is_of service cid g) as (λ b. is_other 1 (if b then Some g.conn else holder_in service cid grants) ≡ false) [
         | true ↦ ap (λ (n : ℕ). is_other 1 (Some n)) all.0
-        | false ↦ nobody_else service client grants all.1
+        | false ↦ nobody_else service cid grants all.1
       ]
 
   -- nobody else holds any id
-  pub id_is_free : (service client : ℕ) (past : List Fact) → AreOwn past → is_other 1 (holder service client past) ≡ false
-  id_is_free service client past all = nobody_else service client (held past) (ids_are_own past all)
+  pub id_is_free : (service cid : ℕ) (past : List Fact) → AreOwn past → is_other 1 (holder service cid past) ≡ false
+  id_is_free service cid past all = nobody_else service cid (held past) (ids_are_own past all)
 
   -- the one client is there, and has opened the device or hasn't; these requests are in use, these bytes wait for the modem and these for the client
   pub record Calm (opened : Bool) (requests : List Request) (last : ℕ → ℕ) (queue waiting : List ℕ) (past : List Fact) : Type 0 where
@@ -102,13 +102,13 @@ module _ (s : Setup) where
     unfolding present in_use pending view to_modem modem_taken_count last_number
     began = record { there = calm.there; own = (tt, calm.own); open_is = calm.open_is; uses = calm.uses; waits = calm.waits; last_is = calm.last_is; taken = calm.taken; to_it = calm.to_it; count = calm.count; written = calm.written }
 
-    pub granted : (service client : ℕ) → Calm opened requests last queue waiting (Granted 1 service client ∷ past)
+    pub granted : (service cid : ℕ) → Calm opened requests last queue waiting (Granted 1 service cid ∷ past)
     unfolding present in_use pending view to_modem modem_taken_count last_number
-    granted service client = record { there = calm.there; own = (refl, calm.own); open_is = calm.open_is; uses = calm.uses; waits = calm.waits; last_is = calm.last_is; taken = calm.taken; to_it = calm.to_it; count = calm.count; written = calm.written }
+    granted service cid = record { there = calm.there; own = (refl, calm.own); open_is = calm.open_is; uses = calm.uses; waits = calm.waits; last_is = calm.last_is; taken = calm.taken; to_it = calm.to_it; count = calm.count; written = calm.written }
 
-    pub freed : (service client : ℕ) → Calm opened requests last queue waiting (Freed 1 service client ∷ past)
+    pub freed : (service cid : ℕ) → Calm opened requests last queue waiting (Freed 1 service cid ∷ past)
     unfolding present in_use pending view to_modem modem_taken_count last_number
-    freed service client = record { there = calm.there; own = (tt, calm.own); open_is = calm.open_is; uses = calm.uses; waits = calm.waits; last_is = calm.last_is; taken = calm.taken; to_it = calm.to_it; count = calm.count; written = calm.written }
+    freed service cid = record { there = calm.there; own = (tt, calm.own); open_is = calm.open_is; uses = calm.uses; waits = calm.waits; last_is = calm.last_is; taken = calm.taken; to_it = calm.to_it; count = calm.count; written = calm.written }
 
     pub modem_taken_all : (count : ℕ) → count ≡ length queue → Calm opened requests last [] waiting (ModemTaken count ∷ past)
     unfolding present in_use pending view to_modem modem_taken_count last_number

@@ -55,7 +55,7 @@ module _ (s : Setup) (near : s.starts_away ≡ false) (modem : Answering) where
         (message_long (with_number (following (top_of (space_of m)) (last (space_of m))) m) (subst (λ (n : ℕ). IsMessage size_of (with_number n m)) given is.sent))
         (subst (λ (n : ℕ). (cut size_of (modem stage.asked (with_number n m))).messages ≡ response ∷ []) given is.alone)
         is.is_message is.short is.kind_is
-        (rw (eq-eqb _ _ is.service, eq-eqb _ _ is.client, eq-eqb _ _ (sym given ∙ is.number)) refl)
+        (rw (eq-eqb _ _ is.service, eq-eqb _ _ is.cid, eq-eqb _ _ (sym given ∙ is.number)) refl)
         in
         let one = met.answered shared in
         (record { own = λ decides. let clash : true ≡ false = sym decides ∙ shared in absurd (cc); modems = λ response other is. (by response is).reply_is }, (_, _, (by one.0 one.1).stands))

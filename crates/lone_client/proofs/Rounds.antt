@@ -6,7 +6,7 @@ use Rattle.framing.specs.Framing.{IsMessage}
 use Rattle.framing.specs.Cutting.{cut, cut_from}
 use Rattle.qmux_frame.specs.Frame.{size_of}
 use Rattle.qmux_frame.specs.Framing.{size_of-kept, size_of-positive}
-use Rattle.qmux_frame.specs.Head.{service_of, client_of, number_of, is_control}
+use Rattle.qmux_frame.specs.Head.{service_of, cid_of, number_of, is_control}
 use Rattle.qmux_frame.specs.declared.kind.MessageKind.TheVariants as kind
 use Rattle.qmux_frame.specs.Kind.{framed_kind}
 use Rattle.qmux_frame.specs.Control.{is_release}
@@ -30,7 +30,7 @@ use Rattle.proxy_history.specs.History as proxy
 use Rattle.qmi_proxy.specs.Setup.{Setup}
 use Rattle.qmi_proxy.specs.Limits.{share_limit}
 use Rattle.qmi_proxy.specs.Spaces.{space_of, limit_of, top_of, control_space}
-use Rattle.qmi_proxy.specs.Messages.{uses_id, used_service, used_client, is_success, byte_of, value_of}
+use Rattle.qmi_proxy.specs.Messages.{uses_id, used_service, used_cid, is_success, byte_of, value_of}
 use Rattle.qmi_proxy.specs.OwnReplies.{own_error, view_decides, is_opening}
 use Rattle.qmi_proxy.specs.Text.{view_of, blank, note}
 use Rattle.qmi_proxy.specs.Clients.{wire, decision_as, decision_on, has_room, holder_for, number_for, request_of, grant_if, judge, hear_client, shared_decision}
@@ -67,8 +67,8 @@ reply_is_some m error = (
     by : Bool → List ℕ
     by b =
         if b
-        then 0x01 ∷ 0x12 ∷ 0x00 ∷ 0x80 ∷ service_of m ∷ client_of m ∷ 0x01 ∷ slice_index m 7 ∷ slice_index m 8 ∷ slice_index m 9 ∷ 0x07 ∷ 0x00 ∷ result_tlv error
-        else 0x01 ∷ 0x13 ∷ 0x00 ∷ 0x80 ∷ service_of m ∷ client_of m ∷ 0x02 ∷ slice_index m 7 ∷ slice_index m 8 ∷ slice_index m 9 ∷ slice_index m 10 ∷ 0x07 ∷ 0x00 ∷ result_tlv error
+        then 0x01 ∷ 0x12 ∷ 0x00 ∷ 0x80 ∷ service_of m ∷ cid_of m ∷ 0x01 ∷ slice_index m 7 ∷ slice_index m 8 ∷ slice_index m 9 ∷ 0x07 ∷ 0x00 ∷ result_tlv error
+        else 0x01 ∷ 0x13 ∷ 0x00 ∷ 0x80 ∷ service_of m ∷ cid_of m ∷ 0x02 ∷ slice_index m 7 ∷ slice_index m 8 ∷ slice_index m 9 ∷ slice_index m 10 ∷ 0x07 ∷ 0x00 ∷ result_tlv error
 
 pub one_message : (x : List ℕ) → IsMessage size_of x → (cut size_of x).messages ≡ x ∷ []
 unfolding cut_from
@@ -153,8 +153,8 @@ module _ (s : Setup) (near : s.starts_away ≡ false) where
     -- ---- it goes to the modem ----
 
     module _ (shared : view_decides true m ≡ false) (open_is : opened ≡ true) where
-      free_by : (b : Bool) → is_other 1 (if b then holder (used_service m) (used_client m) past else None) ≡ false
-      free_by true = id_is_free s (used_service m) (used_client m) past before.own
+      free_by : (b : Bool) → is_other 1 (if b then holder (used_service m) (used_cid m) past else None) ≡ false
+      free_by true = id_is_free s (used_service m) (used_cid m) past before.own
       free_by false = refl
 
       -- each request is answered before the next one is said
@@ -199,7 +199,7 @@ module _ (s : Setup) (near : s.starts_away ≡ false) where
       last_then space = if space_of m == space then number_given else last space
 
       granted_if : (b : Bool) {requests : List Request} {queue : List ℕ} {facts : List Fact} → Calm s true requests last_then queue [] facts → Calm s true requests last_then queue [] (grant_if b 1 m facts)
-      granted_if true calm = granted s calm (used_service m) (used_client m)
+      granted_if true calm = granted s calm (used_service m) (used_cid m)
       granted_if false calm = calm
 
       abbrev said_events : List Event
@@ -291,24 +291,24 @@ module _ (s : Setup) (near : s.starts_away ≡ false) where
         unfolding view
         sent_here = sent_is
 
-        freed_here : (service client : ℕ) → Answered_so (answer s.device request x (Frees service client) then_past)
+        freed_here : (service cid : ℕ) → Answered_so (answer s.device request x (Frees service cid) then_past)
         unfolding view
-        freed_here service client = let by = by_change (Freed 1 service client ∷ then_past) (freed s then_calm service client) sent_is in subst Answered_so (sym by.0) by.1
+        freed_here service cid = let by = by_change (Freed 1 service cid ∷ then_past) (freed s then_calm service cid) sent_is in subst Answered_so (sym by.0) by.1
 
-        granted_here : (service client : ℕ) → Answered_so (answer s.device request x (Grants service client) then_past)
+        granted_here : (service cid : ℕ) → Answered_so (answer s.device request x (Grants service cid) then_past)
         unfolding view
-        granted_here service client = let by = by_change (Granted 1 service client ∷ then_past) (granted s then_calm service client) sent_is in subst Answered_so (sym by.0) by.1
+        granted_here service cid = let by = by_change (Granted 1 service cid ∷ then_past) (granted s then_calm service cid) sent_is in subst Answered_so (sym by.0) by.1
 
         kept_here : Answered_so (answer s.device request x NoChange then_past)
         kept_here = let by = by_change then_past then_calm sent_here in subst Answered_so (sym by.0) by.1
 
         changed : Answered_so (answer s.device request x (id_change 1 request.message x (holder_of_brought x then_past)) then_past)
         changed =
-            elim (brings_id request.message x) as (λ b. Answered_so (answer s.device request x (if b then granted_unless (is_other 1 (holder_of_brought x then_past)) (byte_of 0 (value_of 0x01 x)) (byte_of 1 (value_of 0x01 x)) else if is_release request.message && is_success x then Frees (used_service request.message) (used_client request.message) else NoChange) then_past)) [
+            elim (brings_id request.message x) as (λ b. Answered_so (answer s.device request x (if b then granted_unless (is_other 1 (holder_of_brought x then_past)) (byte_of 0 (value_of 0x01 x)) (byte_of 1 (value_of 0x01 x)) else if is_release request.message && is_success x then Frees (used_service request.message) (used_cid request.message) else NoChange) then_past)) [
               | true ↦ subst (λ (o : Bool). Answered_so (answer s.device request x (granted_unless o (byte_of 0 (value_of 0x01 x)) (byte_of 1 (value_of 0x01 x))) then_past)) (sym (id_is_free s (byte_of 0 (value_of 0x01 x)) (byte_of 1 (value_of 0x01 x)) then_past then_calm.own))
                   (granted_here (byte_of 0 (value_of 0x01 x)) (byte_of 1 (value_of 0x01 x)))
-              | false ↦ elim (is_release request.message && is_success x) as (λ b. Answered_so (answer s.device request x (if b then Frees (used_service request.message) (used_client request.message) else NoChange) then_past)) [
-                | true ↦ freed_here (used_service request.message) (used_client request.message)
+              | false ↦ elim (is_release request.message && is_success x) as (λ b. Answered_so (answer s.device request x (if b then Frees (used_service request.message) (used_cid request.message) else NoChange) then_past)) [
+                | true ↦ freed_here (used_service request.message) (used_cid request.message)
                 | false ↦ kept_here
               ]
             ]
@@ -422,7 +422,7 @@ module _ (s : Setup) (near : s.starts_away ≡ false) where
         pub forward_exchange : view_decides true m ≡ false → opened ≡ true → (x : List ℕ)
             → let n : ℕ = following (top_of (space_of m)) (last (space_of m)) in
             IsMessage size_of (with_number n m) → 0 < length (with_number n m) → (cut size_of (modem stage.asked (with_number n m))).messages ≡ x ∷ []
-            → IsMessage size_of x → length x ≤ piece_limit → framed_kind x ≡ Some kind.Response → (service_of m == service_of x && (client_of m == client_of x) && (n == number_of x)) ≡ true
+            → IsMessage size_of x → length x ≤ piece_limit → framed_kind x ≡ Some kind.Response → (service_of m == service_of x && (cid_of m == cid_of x) && (n == number_of x)) ≡ true
             → Exchanged stage m (with_number (number_of m) x) true (λ space. if space_of m == space then n else last space) (with_number n m ∷ stage.asked)
         unfolding sent_for hear_each asked_then
         forward_exchange shared open_is x sent_is some replies x_is x_short response answers =

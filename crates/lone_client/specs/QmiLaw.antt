@@ -4,7 +4,7 @@ use Rattle.framing.specs.Framing.{IsMessage}
 use Rattle.framing.specs.Cutting.{cut}
 use Rattle.qmux_frame.specs.declared.kind.MessageKind.TheVariants as kind
 use Rattle.qmux_frame.specs.Frame.{size_of}
-use Rattle.qmux_frame.specs.Head.{service_of, client_of, number_of}
+use Rattle.qmux_frame.specs.Head.{service_of, cid_of, number_of}
 use Rattle.qmux_frame.specs.Kind.{framed_kind}
 use Rattle.qmux_frame.specs.Reply.{with_number, result_reply}
 use Rattle.proxy_history.specs.Coming.{AreSound, piece_limit}
@@ -41,7 +41,7 @@ module _ (s : Setup) (modem : Answering) (stage : Stage) where
     pub short : length response ≤ piece_limit
     pub kind_is : framed_kind response ≡ Some kind.Response
     pub service : service_of m ≡ service_of response
-    pub client : client_of m ≡ client_of response
+    pub cid : cid_of m ≡ cid_of response
     pub number : number_given m ≡ number_of response
 
   -- a text is one message, and the modem answers it where the client's own view doesn't

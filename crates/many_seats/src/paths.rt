@@ -90,7 +90,7 @@ fn opened_path(message: &[u8]) -> Option<&[u8]>
     ensures { (path : List ℕ) → chooses message.now path ≡ equals path (option_copied result) }
 {
     let head = Head::read(message);
-    if head.framed && head.flags == 0 && head.client == 0 && head.is_command(control::PROXY_OPEN) {
+    if head.framed && head.flags == 0 && head.cid == 0 && head.is_command(control::PROXY_OPEN) {
         tlv_value(tlvs_in(message), 0x01)
     } else {
         None

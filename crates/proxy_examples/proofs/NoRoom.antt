@@ -61,11 +61,11 @@ release_ends past has =
     ends (Answered release_request released) (Freed 1 2 5 ∷ past) _ _ has.present
     (over (text setup.device (view_of 1 past) (Response 2 (blank released))) (rendering setup.device 1 past) has.going has.waiting refl)
 
-ended_is_free : (past : List Fact) → held past ≡ record { conn = 1; service = 2; client = 5 } ∷ []
+ended_is_free : (past : List Fact) → held past ≡ record { conn = 1; service = 2; cid = 5 } ∷ []
     → holder 2 5 (Ended 1 NoRoom ∷ Answered release_request released ∷ Freed 1 2 5 ∷ past) ≡ None
 unfolding held
 ended_is_free past is = ap (λ (grants : List Grant). holder_in 2 5 (filter (λ g. not (1 == g.conn)) (filter (λ g. not (is_of 2 5 g && (1 == g.conn))) grants))) is
 
-pub released_is_free : (past : List Fact) → HasElevenLeft past → held past ≡ record { conn = 1; service = 2; client = 5 } ∷ []
+pub released_is_free : (past : List Fact) → HasElevenLeft past → held past ≡ record { conn = 1; service = 2; cid = 5 } ∷ []
     → holder 2 5 (answer_or_late setup.device true release_request released past) ≡ None
 released_is_free past has own = ap (λ (facts : List Fact). holder 2 5 facts) (release_ends past has) ∙ ended_is_free past own

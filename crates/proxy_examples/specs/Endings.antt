@@ -65,5 +65,5 @@ pub record NoRoomEnds : Type 0 where
 pub record ReleasedWithoutRoom : Type 0 where
   pub facts : (past : List Fact) → HasElevenLeft past
       → answer_or_late setup.device true release_request released past ≡ Ended 1 NoRoom ∷ Answered release_request released ∷ Freed 1 2 5 ∷ past
-  pub free : (past : List Fact) → HasElevenLeft past → held past ≡ record { conn = 1; service = 2; client = 5 } ∷ []
+  pub free : (past : List Fact) → HasElevenLeft past → held past ≡ record { conn = 1; service = 2; cid = 5 } ∷ []
       → holder 2 5 (answer_or_late setup.device true release_request released past) ≡ None

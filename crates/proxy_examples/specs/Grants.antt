@@ -7,7 +7,7 @@ use Rattle.proxy_examples.specs.Story.{opened, allocate, id_5, id_5_to_2, both_o
 
 -- client 1 holds id 5 of DMS
 abbrev pub grant_of_5 : Grant
-grant_of_5 = record { conn = 1; service = 2; client = 5 }
+grant_of_5 = record { conn = 1; service = 2; cid = 5 }
 
 -- one client is given one id twice: both answers come
 abbrev pub given_twice : List Event

@@ -10,7 +10,7 @@ use Rattle.proxy_history.specs.ClientIds.{Grant, KeptId, is_of, held, kept, kept
 -- ---- each id is held once ----
 
 abbrev pub IsApart : Grant → Grant → Type 0
-IsApart g h = is_of g.service g.client h ≡ false
+IsApart g h = is_of g.service g.cid h ≡ false
 
 abbrev pub AreUnique : List Grant → Type 0
 AreUnique [] = Unit {0}
@@ -44,24 +44,24 @@ turned a b c d = ap (λ (t : Bool). t && (c == d)) (flip a b) ∙ ap (λ (t : Bo
     flip : (a b : ℕ) → (a == b) ≡ (b == a)
     flip a b = by a b (a == b) (b == a) refl refl
 
-others_apart : (service client conn : ℕ) (grants : List Grant) → AllByRecursion (λ h. IsApart h (record { conn = conn; service = service; client = client })) (filter (λ g. not (is_of service client g)) grants)
-others_apart service client conn [] = tt
-others_apart service client conn (g ∷ grants) =
-    let rest = others_apart service client conn grants in
-    let step : (b : Bool) → is_of service client g ≡ b → AllByRecursion (λ h. IsApart h (record { conn = conn; service = service; client = client })) (cond (not b) (g ∷ filter (λ g. not (is_of service client g)) grants) (filter (λ g. not (is_of service client g)) grants)) =
-    λ b. elim b as (λ b. is_of service client g ≡ b → AllByRecursion (λ h. IsApart h (record { conn = conn; service = service; client = client })) (cond (not b) (g ∷ filter (λ g. not (is_of service client g)) grants) (filter (λ g. not (is_of service client g)) grants))) [
+others_apart : (service cid conn : ℕ) (grants : List Grant) → AllByRecursion (λ h. IsApart h (record { conn = conn; service = service; cid = cid })) (filter (λ g. not (is_of service cid g)) grants)
+others_apart service cid conn [] = tt
+others_apart service cid conn (g ∷ grants) =
+    let rest = others_apart service cid conn grants in
+    let step : (b : Bool) → is_of service cid g ≡ b → AllByRecursion (λ h. IsApart h (record { conn = conn; service = service; cid = cid })) (cond (not b) (g ∷ filter (λ g. not (is_of service cid g)) grants) (filter (λ g. not (is_of service cid g)) grants)) =
+    λ b. elim b as (λ b. is_of service cid g ≡ b → AllByRecursion (λ h. IsApart h (record { conn = conn; service = service; cid = cid })) (cond (not b) (g ∷ filter (λ g. not (is_of service cid g)) grants) (filter (λ g. not (is_of service cid g)) grants))) [
       | true ↦ λ e. rest
-      | false ↦ λ e. (turned service g.service client g.client ∙ e, rest)
+      | false ↦ λ e. (turned service g.service cid g.cid ∙ e, rest)
     ]
-    in step (is_of service client g) refl
+    in step (is_of service cid g) refl
 
 pub held_once : (facts : List Fact) → AreUnique (held facts)
 unfolding held
 held_once [] = tt
-held_once (Granted c service client ∷ past) =
-    unique_pushed (filter (λ g. not (is_of service client g)) (held past)) (record { conn = c; service = service; client = client })
-    (unique_filtered (λ g. not (is_of service client g)) (held past) (held_once past)) (others_apart service client c (held past))
-held_once (Freed c service client ∷ past) = unique_filtered _ (held past) (held_once past)
+held_once (Granted c service cid ∷ past) =
+    unique_pushed (filter (λ g. not (is_of service cid g)) (held past)) (record { conn = c; service = service; cid = cid })
+    (unique_filtered (λ g. not (is_of service cid g)) (held past) (held_once past)) (others_apart service cid c (held past))
+held_once (Freed c service cid ∷ past) = unique_filtered _ (held past) (held_once past)
 held_once (Ended c why ∷ past) = unique_filtered _ (held past) (held_once past)
 held_once (Reset ∷ past) = tt
 held_once (ModemLost ∷ past) = tt
@@ -69,47 +69,47 @@ held_once (_ ∷ past) = held_once past
 
 -- ---- nobody holds an id ----
 
-none_filtered : (service client : ℕ) (p : Grant → Bool) (grants : List Grant) → holder_in service client grants ≡ None → holder_in service client (filter p grants) ≡ None
-none_filtered service client p [] none = refl
-none_filtered service client p (g ∷ grants) none =
-    let step : (b : Bool) → (if b then Some g.conn else holder_in service client grants) ≡ None → is_of service client g ≡ b → holder_in service client (cond (p g) (g ∷ filter p grants) (filter p grants)) ≡ None =
-    λ b. elim b as (λ b. (if b then Some g.conn else holder_in service client grants) ≡ None → is_of service client g ≡ b → holder_in service client (cond (p g) (g ∷ filter p grants) (filter p grants)) ≡ None) [
+none_filtered : (service cid : ℕ) (p : Grant → Bool) (grants : List Grant) → holder_in service cid grants ≡ None → holder_in service cid (filter p grants) ≡ None
+none_filtered service cid p [] none = refl
+none_filtered service cid p (g ∷ grants) none =
+    let step : (b : Bool) → (if b then Some g.conn else holder_in service cid grants) ≡ None → is_of service cid g ≡ b → holder_in service cid (cond (p g) (g ∷ filter p grants) (filter p grants)) ≡ None =
+    λ b. elim b as (λ b. (if b then Some g.conn else holder_in service cid grants) ≡ None → is_of service cid g ≡ b → holder_in service cid (cond (p g) (g ∷ filter p grants) (filter p grants)) ≡ None) [
       | true ↦ λ clash is. absurd (cc)
       | false ↦ λ rest is.
-          let fewer : holder_in service client (filter p grants) ≡ None = none_filtered service client p grants rest in
-          elim (p g) as (λ t. holder_in service client (cond t (g ∷ filter p grants) (filter p grants)) ≡ None) [
-            | true ↦ ap (λ (t : Bool). if t then Some g.conn else holder_in service client (filter p grants)) is ∙ fewer
+          let fewer : holder_in service cid (filter p grants) ≡ None = none_filtered service cid p grants rest in
+          elim (p g) as (λ t. holder_in service cid (cond t (g ∷ filter p grants) (filter p grants)) ≡ None) [
+            | true ↦ ap (λ (t : Bool). if t then Some g.conn else holder_in service cid (filter p grants)) is ∙ fewer
             | false ↦ fewer
           ]
     ]
-    in step (is_of service client g) none refl
+    in step (is_of service cid g) none refl
 
-none_pushed : (service client : ℕ) (grants : List Grant) (g : Grant) → holder_in service client grants ≡ None → is_of service client g ≡ false → holder_in service client (grants ++ g ∷ []) ≡ None
-none_pushed service client [] g none other = ap (λ (t : Bool). if t then Some g.conn else None) other
-none_pushed service client (h ∷ grants) g none other =
-    let step : (b : Bool) → (if b then Some h.conn else holder_in service client grants) ≡ None → (if b then Some h.conn else holder_in service client (grants ++ g ∷ [])) ≡ None =
-    λ b. elim b as (λ b. (if b then Some h.conn else holder_in service client grants) ≡ None → (if b then Some h.conn else holder_in service client (grants ++ g ∷ [])) ≡ None) [
+none_pushed : (service cid : ℕ) (grants : List Grant) (g : Grant) → holder_in service cid grants ≡ None → is_of service cid g ≡ false → holder_in service cid (grants ++ g ∷ []) ≡ None
+none_pushed service cid [] g none other = ap (λ (t : Bool). if t then Some g.conn else None) other
+none_pushed service cid (h ∷ grants) g none other =
+    let step : (b : Bool) → (if b then Some h.conn else holder_in service cid grants) ≡ None → (if b then Some h.conn else holder_in service cid (grants ++ g ∷ [])) ≡ None =
+    λ b. elim b as (λ b. (if b then Some h.conn else holder_in service cid grants) ≡ None → (if b then Some h.conn else holder_in service cid (grants ++ g ∷ [])) ≡ None) [
       | true ↦ λ clash. absurd (cc)
-      | false ↦ λ rest. none_pushed service client grants g rest other
+      | false ↦ λ rest. none_pushed service cid grants g rest other
     ]
-    in step (is_of service client h) none
+    in step (is_of service cid h) none
 
 -- those that are apart from a grant don't hold its id
-apart_none : (g : Grant) (grants : List Grant) → AllByRecursion (IsApart g) grants → holder_in g.service g.client grants ≡ None
+apart_none : (g : Grant) (grants : List Grant) → AllByRecursion (IsApart g) grants → holder_in g.service g.cid grants ≡ None
 apart_none g [] all = refl
-apart_none g (h ∷ grants) all = ap (λ (t : Bool). if t then Some h.conn else holder_in g.service g.client grants) all.0 ∙ apart_none g grants all.1
+apart_none g (h ∷ grants) all = ap (λ (t : Bool). if t then Some h.conn else holder_in g.service g.cid grants) all.0 ∙ apart_none g grants all.1
 
 -- where a connection ends, nobody holds what it held
 abbrev IsLeft : ℕ → List Grant → Grant → Type 0
-IsLeft c grants g = (c == g.conn) ≡ true → holder_in g.service g.client (filter (λ h. not (c == h.conn)) grants) ≡ None
+IsLeft c grants g = (c == g.conn) ≡ true → holder_in g.service g.cid (filter (λ h. not (c == h.conn)) grants) ≡ None
 
 left_more : (c : ℕ) (g : Grant) (grants hs : List Grant) → AllByRecursion (IsApart g) hs → AllByRecursion (IsLeft c grants) hs → AllByRecursion (IsLeft c (g ∷ grants)) hs
 left_more c g grants [] apart all = tt
 left_more c g grants (h ∷ hs) apart all =
     let here : IsLeft c (g ∷ grants) h =
-    λ mine. elim (c == g.conn) as (λ t. holder_in h.service h.client (cond (not t) (g ∷ filter (λ h. not (c == h.conn)) grants) (filter (λ h. not (c == h.conn)) grants)) ≡ None) [
+    λ mine. elim (c == g.conn) as (λ t. holder_in h.service h.cid (cond (not t) (g ∷ filter (λ h. not (c == h.conn)) grants) (filter (λ h. not (c == h.conn)) grants)) ≡ None) [
       | true ↦ all.0 mine
-      | false ↦ ap (λ (t : Bool). if t then Some g.conn else holder_in h.service h.client (filter (λ h. not (c == h.conn)) grants)) (turned g.service h.service g.client h.client ∙ apart.0) ∙ all.0 mine
+      | false ↦ ap (λ (t : Bool). if t then Some g.conn else holder_in h.service h.cid (filter (λ h. not (c == h.conn)) grants)) (turned g.service h.service g.cid h.cid ∙ apart.0) ∙ all.0 mine
     ]
     in (here, left_more c g grants hs apart.1 all.1)
 
@@ -117,14 +117,14 @@ all_left : (c : ℕ) (grants : List Grant) → AreUnique grants → AllByRecursi
 all_left c [] unique = tt
 all_left c (g ∷ grants) unique =
     let here : IsLeft c (g ∷ grants) g =
-    λ mine. ap (λ (t : Bool). holder_in g.service g.client (cond (not t) (g ∷ filter (λ h. not (c == h.conn)) grants) (filter (λ h. not (c == h.conn)) grants))) mine
-    ∙ none_filtered g.service g.client (λ h. not (c == h.conn)) grants (apart_none g grants unique.0)
+    λ mine. ap (λ (t : Bool). holder_in g.service g.cid (cond (not t) (g ∷ filter (λ h. not (c == h.conn)) grants) (filter (λ h. not (c == h.conn)) grants))) mine
+    ∙ none_filtered g.service g.cid (λ h. not (c == h.conn)) grants (apart_none g grants unique.0)
     in (here, left_more c g grants grants unique.0 (all_left c grants unique.1))
 
 -- ---- the ids that are kept ----
 
 abbrev IsNobodys : List Grant → KeptId → Type 0
-IsNobodys grants k = holder_in k.service k.client grants ≡ None
+IsNobodys grants k = holder_in k.service k.cid grants ≡ None
 
 all_append : (P : KeptId → Type 0) (xs ys : List KeptId) → AllByRecursion P xs → AllByRecursion P ys → AllByRecursion P (xs ++ ys)
 all_append P [] ys a b = b
@@ -142,30 +142,30 @@ kept_left c time all (g ∷ grants) left =
     ]
     in step (c == g.conn) refl
 
-kept_granted : (c service client : ℕ) (grants : List Grant) (ids : List KeptId) → AllByRecursion (IsNobodys grants) ids
-    → AllByRecursion (IsNobodys (filter (λ g. not (is_of service client g)) grants ++ record { conn = c; service = service; client = client } ∷ [])) (filter (λ k. not (k.service == service && (k.client == client))) ids)
-kept_granted c service client grants [] all = tt
-kept_granted c service client grants (k ∷ ids) all =
-    let After : List KeptId → Type 0 = AllByRecursion (IsNobodys (filter (λ g. not (is_of service client g)) grants ++ record { conn = c; service = service; client = client } ∷ [])) in
-    let rest : After (filter (λ (k : KeptId). not (k.service == service && (k.client == client))) ids) = kept_granted c service client grants ids all.1 in
-    let step : (b : Bool) → (k.service == service && (k.client == client)) ≡ b → After (cond (not b) (k ∷ filter (λ (k : KeptId). not (k.service == service && (k.client == client))) ids) (filter (λ (k : KeptId). not (k.service == service && (k.client == client))) ids)) =
-    λ b. elim b as (λ b. (k.service == service && (k.client == client)) ≡ b → After (cond (not b) (k ∷ filter (λ (k : KeptId). not (k.service == service && (k.client == client))) ids) (filter (λ (k : KeptId). not (k.service == service && (k.client == client))) ids))) [
+kept_granted : (c service cid : ℕ) (grants : List Grant) (ids : List KeptId) → AllByRecursion (IsNobodys grants) ids
+    → AllByRecursion (IsNobodys (filter (λ g. not (is_of service cid g)) grants ++ record { conn = c; service = service; cid = cid } ∷ [])) (filter (λ k. not (k.service == service && (k.cid == cid))) ids)
+kept_granted c service cid grants [] all = tt
+kept_granted c service cid grants (k ∷ ids) all =
+    let After : List KeptId → Type 0 = AllByRecursion (IsNobodys (filter (λ g. not (is_of service cid g)) grants ++ record { conn = c; service = service; cid = cid } ∷ [])) in
+    let rest : After (filter (λ (k : KeptId). not (k.service == service && (k.cid == cid))) ids) = kept_granted c service cid grants ids all.1 in
+    let step : (b : Bool) → (k.service == service && (k.cid == cid)) ≡ b → After (cond (not b) (k ∷ filter (λ (k : KeptId). not (k.service == service && (k.cid == cid))) ids) (filter (λ (k : KeptId). not (k.service == service && (k.cid == cid))) ids)) =
+    λ b. elim b as (λ b. (k.service == service && (k.cid == cid)) ≡ b → After (cond (not b) (k ∷ filter (λ (k : KeptId). not (k.service == service && (k.cid == cid))) ids) (filter (λ (k : KeptId). not (k.service == service && (k.cid == cid))) ids))) [
       | true ↦ λ is. rest
       | false ↦ λ other. (
-        none_pushed k.service k.client (filter (λ g. not (is_of service client g)) grants) (record { conn = c; service = service; client = client }) (none_filtered k.service k.client (λ g. not (is_of service client g)) grants all.0) (turned service k.service client k.client ∙ other),
+        none_pushed k.service k.cid (filter (λ g. not (is_of service cid g)) grants) (record { conn = c; service = service; cid = cid }) (none_filtered k.service k.cid (λ g. not (is_of service cid g)) grants all.0) (turned service k.service cid k.cid ∙ other),
         rest,
       )
     ]
-    in step (k.service == service && (k.client == client)) refl
+    in step (k.service == service && (k.cid == cid)) refl
 
-pub kept_are_nobodys : (past : List Fact) → AllByRecursion (λ k. holder_in k.service k.client (held past) ≡ None) (kept past)
+pub kept_are_nobodys : (past : List Fact) → AllByRecursion (λ k. holder_in k.service k.cid (held past) ≡ None) (kept past)
 unfolding held kept
 kept_are_nobodys [] = tt
-kept_are_nobodys (Granted c service client ∷ past) = kept_granted c service client (held past) (kept past) (kept_are_nobodys past)
-kept_are_nobodys (Freed c service client ∷ past) = all_weaker _ _ (λ k none. none_filtered k.service k.client _ (held past) none) (kept past) (kept_are_nobodys past)
+kept_are_nobodys (Granted c service cid ∷ past) = kept_granted c service cid (held past) (kept past) (kept_are_nobodys past)
+kept_are_nobodys (Freed c service cid ∷ past) = all_weaker _ _ (λ k none. none_filtered k.service k.cid _ (held past) none) (kept past) (kept_are_nobodys past)
 kept_are_nobodys (Ended c why ∷ past) =
     all_append _ (kept past) (kept_since (now past) (filter (λ g. c == g.conn) (held past)))
-    (all_weaker _ _ (λ k none. none_filtered k.service k.client _ (held past) none) (kept past) (kept_are_nobodys past))
+    (all_weaker _ _ (λ k none. none_filtered k.service k.cid _ (held past) none) (kept past) (kept_are_nobodys past))
     (kept_left c (now past) (held past) (held past) (all_left c (held past) (held_once past)))
 kept_are_nobodys (Reset ∷ past) = tt
 kept_are_nobodys (ModemLost ∷ past) = tt

@@ -96,10 +96,10 @@ module _ (limits : Limits) where
       (λ g p e. party_leaves c g.conn why past p e)
       (All-filter (λ g. not (c == g.conn)) (λ (g : Grant). IsParty g.conn past) (held past) (holders_are_parties past s.1))
       (filter_passes (λ g. not (c == g.conn)) (held past))
-  holders_are_parties (Granted c service client ∷ past) s =
-      All-push (λ (g : Grant). IsParty g.conn past) (filter (λ g. not (is_of service client g)) (held past)) (record { conn = c; service = service; client = client })
-      (All-filter (λ g. not (is_of service client g)) (λ (g : Grant). IsParty g.conn past) (held past) (holders_are_parties past s.1)) s.0.0
-  holders_are_parties (Freed c service client ∷ past) s = All-filter _ (λ (g : Grant). IsParty g.conn past) (held past) (holders_are_parties past s.1)
+  holders_are_parties (Granted c service cid ∷ past) s =
+      All-push (λ (g : Grant). IsParty g.conn past) (filter (λ g. not (is_of service cid g)) (held past)) (record { conn = c; service = service; cid = cid })
+      (All-filter (λ g. not (is_of service cid g)) (λ (g : Grant). IsParty g.conn past) (held past) (holders_are_parties past s.1)) s.0.0
+  holders_are_parties (Freed c service cid ∷ past) s = All-filter _ (λ (g : Grant). IsParty g.conn past) (held past) (holders_are_parties past s.1)
   holders_are_parties (Reset ∷ past) s = All-nil (λ (g : Grant). IsParty g.conn past)
   holders_are_parties (ModemLost ∷ past) s = All-nil (λ (g : Grant). IsParty g.conn past)
   holders_are_parties (_ ∷ past) s = holders_are_parties past s.1

@@ -86,7 +86,7 @@ module _ (wire : Request → List ℕ) where
   unfolding is_clients in_use to_modem modem_taken_count forward_count
   one_more limits (Says c m) (Judged d place message verdict) past clients may follows = adds_none past (Judged d place message verdict ∷ past) refl refl refl refl
   one_more limits (Says c m) (Forwarded r) past clients may follows = requested r past follows.serial
-  one_more limits (Says c m) (Granted d service client) past clients may follows = adds_none past (Granted d service client ∷ past) refl refl refl refl
+  one_more limits (Says c m) (Granted d service cid) past clients may follows = adds_none past (Granted d service cid ∷ past) refl refl refl refl
   one_more limits (Says c m) (Ended d NoRoom) past clients may follows = adds_none past (Ended d NoRoom ∷ past) refl refl refl refl
   one_more limits (GoesBad c) (Ended d BadStream) past clients may follows = adds_none past (Ended d BadStream ∷ past) refl refl refl refl
   one_more limits (Says c m) _ past clients may follows = absurd may

@@ -103,7 +103,7 @@ few_wait_for_modem p Asks (_ ∷ past) asked = few_wait_for_modem p Asks past as
 -- where the protocol asks nothing when the clock shows a time
 abbrev pub MayAddStill : Item → Fact → List Fact → Type 0
 MayAddStill (ClockShows time) (Forwarded r) past = ⊥
-MayAddStill (ClockShows time) (Granted c service client) past = ⊥
+MayAddStill (ClockShows time) (Granted c service cid) past = ⊥
 MayAddStill item fact past = MayAdd item fact past
 
 module _ {Known : Type 0} (p : Protocol Known) (Asks : Request → List Fact → Type 0) (O : IsOrderly p Asks) where
@@ -125,7 +125,7 @@ module _ {Known : Type 0} (p : Protocol Known) (Asks : Request → List Fact →
   -- a refusal, where that may be added
   refuses : (May : Fact → List Fact → Type 0) (why : Fact) → ((past : List Fact) → May why past) → ((c : ℕ) (past : List Fact) → May (Ended c NoRoom) past)
       → ((status : ℕ) (receivers : List ℕ) (past : List Fact) → May (OpeningEnded status receivers) past)
-      → ((c service client : ℕ) (past : List Fact) → c ≡ 0 → May (Freed c service client) past)
+      → ((c service cid : ℕ) (past : List Fact) → c ≡ 0 → May (Freed c service cid) past)
       → (r : Request) (past : List Fact) → Soundly p Asks (MayRefuse why) why past → Sound past → AddsOf May past (p.refuse why r past)
   refuses May why may ends opens frees r past is sound =
       adds_weaker p.limits p.wording (Soundly p Asks (MayRefuse why)) (Soundly p Asks May) (λ fact before is. (is.0, weaker fact before is.1, is.2)) past _ (O.refusal why r past is sound)
@@ -136,13 +136,13 @@ module _ {Known : Type 0} (p : Protocol Known) (Asks : Request → List Fact →
       weaker : (fact : Fact) (before : List Fact) → MayRefuse why fact before → May fact before
       weaker (OpeningEnded status receivers) before is = opens status receivers before
       weaker (Ended c NoRoom) before is = ends c before
-      weaker (Freed c service client) before is = frees c service client before is
+      weaker (Freed c service cid) before is = frees c service cid before is
       weaker fact before is = because fact before is
 
   -- what an item of these refuses when all that waits is aborted
   pub adds_aborts : (item : Item) → ((r : Request) (past : List Fact) → MayAdd item (Aborted r) past) → ((c : ℕ) (past : List Fact) → MayAdd item (Ended c NoRoom) past)
       → ((status : ℕ) (receivers : List ℕ) (past : List Fact) → MayAdd item (OpeningEnded status receivers) past)
-      → ((c service client : ℕ) (past : List Fact) → c ≡ 0 → MayAdd item (Freed c service client) past)
+      → ((c service cid : ℕ) (past : List Fact) → c ≡ 0 → MayAdd item (Freed c service cid) past)
       → (past : List Fact) → Sound past → AddsOf (MayAdd item) past (abort_all p.refuse p.order past)
   adds_aborts item may ends opens frees past sound =
       adds_abort_all p.limits p.wording (By item) (follows (MayAdd item)) p.refuse p.order O.order (λ r before s at. refuses (MayAdd item) (Aborted r) (may r) ends opens frees r before (at, refl, tt) s) past sound
@@ -153,7 +153,7 @@ module _ {Known : Type 0} (p : Protocol Known) (Asks : Request → List Fact →
   -- the clock shows the time, and requests are refused whose time is over
   adds_ticks : (May : Fact → List Fact → Type 0) (time : ℕ) → ((past : List Fact) → May (TimeIs (max time (now past))) past) → ((r : Request) (past : List Fact) → May (Expired r) past) → ((c : ℕ) (past : List Fact) → May (Ended c NoRoom) past)
       → ((status : ℕ) (receivers : List ℕ) (past : List Fact) → May (OpeningEnded status receivers) past)
-      → ((c service client : ℕ) (past : List Fact) → c ≡ 0 → May (Freed c service client) past)
+      → ((c service cid : ℕ) (past : List Fact) → c ≡ 0 → May (Freed c service cid) past)
       → (past : List Fact) → Sound past → AddsOf May past (tick p.refuse p.order time past)
   adds_ticks May time shows expires ends opens frees past sound =
       let begun : List Fact = TimeIs (max time (now past)) ∷ past in
@@ -163,11 +163,11 @@ module _ {Known : Type 0} (p : Protocol Known) (Asks : Request → List Fact →
       (adds_tick p.limits p.wording (Soundly p Asks May) (follows May) p.refuse p.order O.order (λ r before s at. refuses May (Expired r) (expires r) ends opens frees r before (at, refl, tt) s) time past later)
 
   ticks : (time : ℕ) (past : List Fact) → Sound past → AddsOf (MayAdd (ClockShows time)) past (tick p.refuse p.order time past)
-  ticks time = adds_ticks (MayAdd (ClockShows time)) time (λ past. refl) (λ r past. tt) (λ c past. tt) (λ status receivers past. tt) (λ c service client past own. own)
+  ticks time = adds_ticks (MayAdd (ClockShows time)) time (λ past. refl) (λ r past. tt) (λ c past. tt) (λ status receivers past. tt) (λ c service cid past own. own)
 
   ticks_too : (time : ℕ) (fact : Fact) (before : List Fact) → MayTick fact before → MayAdd (ClockShows time) fact before
   ticks_too time (Forwarded r) before is = is
-  ticks_too time (Granted c service client) before is = is
+  ticks_too time (Granted c service cid) before is = is
   ticks_too time _ before is = absurd is
 
   pub item_adds : (item : Item) (past : List Fact) → Sound past → AddsOf (MayAdd item) past (add p item past)
@@ -177,7 +177,7 @@ module _ {Known : Type 0} (p : Protocol Known) (Asks : Request → List Fact →
   item_adds (Leaves c) past sound = adds_if_present p.limits p.wording (By (Leaves c)) c past _ (λ there. added p.limits p.wording (By (Leaves c)) (Ended c Leaving) past refl (there, refl, tt))
   item_adds (ModemSays m) past sound = O.modem m past sound
   item_adds ModemIsLost past sound =
-      let aborts = adds_aborts ModemIsLost (λ r before. tt) (λ c before. tt) (λ status receivers before. tt) (λ c service client before own. own) past sound in
+      let aborts = adds_aborts ModemIsLost (λ r before. tt) (λ c before. tt) (λ status receivers before. tt) (λ c service cid before own. own) past sound in
       let aborted : List Fact = abort_all p.refuse p.order past in
       let closes = O.loss aborted (stays_sound (MayAdd ModemIsLost) past aborted aborts sound) in
       further p.limits p.wording (By ModemIsLost) past aborted _ aborts
@@ -207,7 +207,7 @@ module _ {Known : Type 0} (p : Protocol Known) (Asks : Request → List Fact →
       weaker : (r : Request) (fact : Fact) (before : List Fact) → MayRefuse (Expired r) fact before → IsntClock fact before
       weaker r (OpeningEnded status receivers) before is = refl
       weaker r (Ended c NoRoom) before is = refl
-      weaker r (Freed c service client) before is = refl
+      weaker r (Freed c service cid) before is = refl
       weaker r fact before is = ap sets_time is
 
   pub tick_is : (time : ℕ) (past : List Fact) → Sound past → now (p.on_clock (tick p.refuse p.order time past)) ≡ max time (now past)
@@ -260,7 +260,7 @@ module _ {Known : Type 0} (p : Protocol Known) (Asks : Request → List Fact →
   item_adds_still : ((past : List Fact) → p.on_clock past ≡ past) → (item : Item) (past : List Fact) → Sound past → AddsOf (MayAddStill item) past (add p item past)
   item_adds_still still (ClockShows time) past sound =
       subst (AddsOf (MayAddStill (ClockShows time)) past) (sym (still (tick p.refuse p.order time past)))
-      (adds_ticks (MayAddStill (ClockShows time)) time (λ past. refl) (λ r past. tt) (λ c past. tt) (λ status receivers past. tt) (λ c service client past own. own) past sound)
+      (adds_ticks (MayAddStill (ClockShows time)) time (λ past. refl) (λ r past. tt) (λ c past. tt) (λ status receivers past. tt) (λ c service cid past own. own) past sound)
   item_adds_still still (Joins c) past sound = item_adds (Joins c) past sound
   item_adds_still still (Says c m) past sound = item_adds (Says c m) past sound
   item_adds_still still (GoesBad c) past sound = item_adds (GoesBad c) past sound

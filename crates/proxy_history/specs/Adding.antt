@@ -42,7 +42,7 @@ MayAdd (Joins c) (Ended d NotAdmitted) past = d ≡ c
 -- a message is judged; it may be forwarded, or have the proxy itself ask the modem; its sender may hold an id for it, and ends where it has no room for the reply
 MayAdd (Says c m) (Judged d place message verdict) past = (d ≡ c) × (message ≡ m)
 MayAdd (Says c m) (Forwarded r) past = (r.conn ≡ c) ⊎ (r.conn ≡ 0)
-MayAdd (Says c m) (Granted d service client) past = d ≡ c
+MayAdd (Says c m) (Granted d service cid) past = d ≡ c
 MayAdd (Says c m) (Ended d NoRoom) past = d ≡ c
 -- the end and the takings of a connection are of no other one
 MayAdd (GoesBad c) (Ended d BadStream) past = d ≡ c
@@ -56,8 +56,8 @@ MayAdd (ModemSays m) (Aborted r) past = Unit {0}
 MayAdd (ModemSays m) (Indicated message receivers) past = Unit {0}
 MayAdd (ModemSays m) (OpeningEnded status receivers) past = Unit {0}
 MayAdd (ModemSays m) Stray past = Unit {0}
-MayAdd (ModemSays m) (Granted c service client) past = Unit {0}
-MayAdd (ModemSays m) (Freed c service client) past = Unit {0}
+MayAdd (ModemSays m) (Granted c service cid) past = Unit {0}
+MayAdd (ModemSays m) (Freed c service cid) past = Unit {0}
 MayAdd (ModemSays m) Reset past = Unit {0}
 MayAdd (ModemSays m) (Ended c NoRoom) past = Unit {0}
 -- where the modem is lost, and where the clock shows the greater time, requests are refused
@@ -65,7 +65,7 @@ MayAdd ModemIsLost (Aborted r) past = Unit {0}
 MayAdd ModemIsLost (OpeningEnded status receivers) past = Unit {0}
 MayAdd ModemIsLost (SessionsClosed receivers) past = Unit {0}
 MayAdd ModemIsLost (Ended c NoRoom) past = Unit {0}
-MayAdd ModemIsLost (Freed c service client) past = c ≡ 0
+MayAdd ModemIsLost (Freed c service cid) past = c ≡ 0
 MayAdd ModemIsLost ModemLost past = Unit {0}
 MayAdd (ClockShows time) (TimeIs shown) past = shown ≡ max time (now past)
 MayAdd (ClockShows time) (Expired r) past = Unit {0}
@@ -73,8 +73,8 @@ MayAdd (ClockShows time) (OpeningEnded status receivers) past = Unit {0}
 MayAdd (ClockShows time) (Ended c NoRoom) past = Unit {0}
 -- and the proxy itself may ask, and hold an id for that
 MayAdd (ClockShows time) (Forwarded r) past = r.conn ≡ 0
-MayAdd (ClockShows time) (Granted c service client) past = c ≡ 0
-MayAdd (ClockShows time) (Freed c service client) past = c ≡ 0
+MayAdd (ClockShows time) (Granted c service cid) past = c ≡ 0
+MayAdd (ClockShows time) (Freed c service cid) past = c ≡ 0
 MayAdd ModemReturns ModemReturned past = Unit {0}
 MayAdd (ModemTakes count) (ModemTaken taken) past = taken ≡ count
 MayAdd _ _ past = ⊥
@@ -83,13 +83,13 @@ MayAdd _ _ past = ⊥
 abbrev pub MayRefuse : Fact → Fact → List Fact → Type 0
 MayRefuse why (OpeningEnded status receivers) past = Unit {0}
 MayRefuse why (Ended c NoRoom) past = Unit {0}
-MayRefuse why (Freed c service client) past = c ≡ 0
+MayRefuse why (Freed c service cid) past = c ≡ 0
 MayRefuse why fact past = fact ≡ why
 
 -- once the clock was told the proxy itself may ask the modem, and hold a client id for that
 abbrev pub MayTick : Fact → List Fact → Type 0
 MayTick (Forwarded r) past = r.conn ≡ 0
-MayTick (Granted c service client) past = c ≡ 0
+MayTick (Granted c service cid) past = c ≡ 0
 MayTick _ past = ⊥
 
 -- at the end of an event the proxy itself may ask the modem

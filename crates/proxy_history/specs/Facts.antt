@@ -72,8 +72,8 @@ pub data Fact : Type 0 where
   -- a message that is for nobody
   Stray : Fact
   -- ---- client ids of the modem's services ----
-  Granted : (conn : ℕ) → (service : ℕ) → (client : ℕ) → Fact
-  Freed : (conn : ℕ) → (service : ℕ) → (client : ℕ) → Fact
+  Granted : (conn : ℕ) → (service : ℕ) → (cid : ℕ) → Fact
+  Freed : (conn : ℕ) → (service : ℕ) → (cid : ℕ) → Fact
   -- ---- opening and subscribing, where clients open the modem ----
   -- the proxy's own request to open the modem ended with this status, and these connections waited for that
   OpeningEnded : (status : ℕ) → (receivers : List ℕ) → Fact

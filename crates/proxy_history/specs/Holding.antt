@@ -7,12 +7,12 @@ use Rattle.proxy_history.specs.Modem.{now}
 use Rattle.proxy_history.specs.Laws.{GoesOn}
 
 abbrev pub grants : Grant → Fact
-grants g = Granted g.conn g.service g.client
+grants g = Granted g.conn g.service g.cid
 
 -- the id is granted anew, to whomever; its connection gives it back, or ends; the modem began anew, or is lost
 abbrev pub ends_holding : Grant → Fact → Bool
-ends_holding g (Granted c service client) = is_of service client g
-ends_holding g (Freed c service client) = is_of service client g && (c == g.conn)
+ends_holding g (Granted c service cid) = is_of service cid g
+ends_holding g (Freed c service cid) = is_of service cid g && (c == g.conn)
 ends_holding g (Ended c why) = c == g.conn
 ends_holding g Reset = true
 ends_holding g ModemLost = true
@@ -24,16 +24,16 @@ HeldUntilEnded = (facts : List Fact) (g : Grant) → Contains (held facts) g ↔
 
 -- its holder is the connection that it was last granted to, where nothing ended that since
 abbrev pub HoldersWereGrantedLast : Type 0
-HoldersWereGrantedLast = (facts : List Fact) (c service client : ℕ)
-    → (holder service client facts ≡ Some c) ↔ GoesOn grants ends_holding (record { conn = c; service = service; client = client }) facts
+HoldersWereGrantedLast = (facts : List Fact) (c service cid : ℕ)
+    → (holder service cid facts ≡ Some c) ↔ GoesOn grants ends_holding (record { conn = c; service = service; cid = cid }) facts
 
 -- an id whose holder went is nobody's as long as it is kept
 abbrev pub KeptAreNobodys : Type 0
-KeptAreNobodys = (facts : List Fact) → AllByRecursion (λ k. holder k.service k.client facts ≡ None) (kept facts)
+KeptAreNobodys = (facts : List Fact) → AllByRecursion (λ k. holder k.service k.cid facts ≡ None) (kept facts)
 
 -- the id is granted, to whomever; the modem began anew, or is lost
 abbrev pub ends_keeping : KeptId → Fact → Bool
-ends_keeping k (Granted c service client) = k.service == service && (k.client == client)
+ends_keeping k (Granted c service cid) = k.service == service && (k.cid == cid)
 ends_keeping k Reset = true
 ends_keeping k ModemLost = true
 ends_keeping k _ = false
@@ -45,7 +45,7 @@ pub record IsLeftSince (k : KeptId) (facts : List Fact) : Type 0 where
   pub later : List Fact
   pub earlier : List Fact
   pub whole : facts ≡ later ++ Ended conn why ∷ earlier
-  pub held : holder k.service k.client earlier ≡ Some conn
+  pub held : holder k.service k.cid earlier ≡ Some conn
   pub time : now earlier ≡ k.since
   pub none : All (λ fact. ends_keeping k fact ≡ false) later
 

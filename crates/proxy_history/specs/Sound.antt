@@ -18,7 +18,7 @@ IsParty c past = (c == 0 || is_present c past) ≡ true
 
 -- nobody else holds the client id
 abbrev pub IsFreeFor : ℕ → ℕ → ℕ → List Fact → Type 0
-IsFreeFor c service client past = is_other c (holder service client past) ≡ false
+IsFreeFor c service cid past = is_other c (holder service cid past) ≡ false
 
 -- a request is the next one of a party, with the next number of its space
 pub record IsNextRequest (limits : Limits) (r : Request) (past : List Fact) : Type 0 where
@@ -41,7 +41,7 @@ MayFollow limits (Late r) past = Contains (in_use past) r
 MayFollow limits (Indicated message receivers) past = All (λ c. IsPresent c past) receivers
 MayFollow limits (OpeningEnded status receivers) past = All (λ c. IsPresent c past) receivers
 MayFollow limits (SessionsClosed receivers) past = All (λ c. IsPresent c past) receivers
-MayFollow limits (Granted c service client) past = IsParty c past × IsFreeFor c service client past
+MayFollow limits (Granted c service cid) past = IsParty c past × IsFreeFor c service cid past
 MayFollow limits (TimeIs time) past = now past ≤ time
 MayFollow limits _ past = Unit {0}
 

@@ -26,9 +26,9 @@ of_given_up : (control : Bool) (c time : ℕ) (traffic : Traffic) → (of_contro
 of_given_up true c time traffic = refl
 of_given_up false c time traffic = refl
 
-of_freed : (control : Bool) (c service client : ℕ) (traffic : Traffic) → (of_control control (frees_id c service client traffic)).rows ≡ (of_control control traffic).rows
-of_freed true c service client traffic = refl
-of_freed false c service client traffic = refl
+of_freed : (control : Bool) (c service cid : ℕ) (traffic : Traffic) → (of_control control (frees_id c service cid traffic)).rows ≡ (of_control control traffic).rows
+of_freed true c service cid traffic = refl
+of_freed false c service cid traffic = refl
 
 -- what is told adds no row that is waited for, and takes none away
 record TellsKeep (control : Bool) (c : ℕ) (bytes : List ℕ) (x : QmiState) : Type 0 where
@@ -64,7 +64,7 @@ refused_less control time row x due =
   where
     sender_keeps : (own : Bool) (y : QmiState) → (waiting_count (rows_at control (refuses_sender own row y)) ≤ waiting_count (rows_at control y)) × (length (rows_at control (refuses_sender own row y)) ≡ length (rows_at control y))
     sender_keeps true y =
-        let same : rows_at control (refuses_sender true row y) ≡ rows_at control y = of_freed control 0 row.note.service row.note.client y.beside.traffic in
+        let same : rows_at control (refuses_sender true row y) ≡ rows_at control y = of_freed control 0 row.note.service row.note.cid y.beside.traffic in
         let count : waiting_count (rows_at control (refuses_sender true row y)) ≡ waiting_count (rows_at control y) = ap waiting_count same in
         (omega (arith, count), ap length same)
     sender_keeps false y = let keep = tells_keep control row.conn (result_reply row.note.head aborted) y in (keep.count, keep.rows)

@@ -20,15 +20,15 @@ module _ (after : ℕ) where
   first_in x = first_due after x.beside.time (kept_in x)
 
   -- the id that is due first is kept, since some time
-  stands_first : (x : QmiState) (k : KeptId) → first_in x ≡ Some k → IsFirstDue after x.beside.time (kept_in x) k.service k.client
+  stands_first : (x : QmiState) (k : KeptId) → first_in x ≡ Some k → IsFirstDue after x.beside.time (kept_in x) k.service k.cid
   stands_first x k first = subst (λ (o : Option KeptId). FirstDue after x.beside.time (kept_in x) (id_in o)) first (first_is after x.beside.time (kept_in x))
 
   -- and it is kept no more once it is released
   fewer : (x : QmiState) (k : KeptId) (number count : ℕ) → first_in x ≡ Some k → length (kept_in x) ≤ suc count → length (kept_in (releases_one k number x)) ≤ count
   fewer x k number count first within =
       let F = stands_first x k first in
-      let there : KeptId = record { service = k.service; client = k.client; since = F.since } in
-      fewer_left k.service k.client there (kept_in x) count (is_of_itself there) F.at within
+      let there : KeptId = record { service = k.service; cid = k.cid; since = F.since } in
+      fewer_left k.service k.cid there (kept_in x) count (is_of_itself there) F.at within
 
   some_kept : (x : QmiState) (k : KeptId) → first_in x ≡ Some k → 0 < length (kept_in x)
   some_kept x k first = let within = (stands_first x k first).at.1 in omega arith
@@ -104,13 +104,13 @@ module _ (after : ℕ) where
     none = λ k first. absurd (let clash : Some (named.id_of k) ≡ None = sym (ap id_in first) ∙ first_as x None F in cc);
   }
 
-  module _ (x : QmiState) (service client : ℕ) (F : FirstDue after x.beside.time (kept_in x) (Some (service, client))) where
+  module _ (x : QmiState) (service cid : ℕ) (F : FirstDue after x.beside.time (kept_in x) (Some (service, cid))) where
     abbrev id : KeptId
-    id = id_of service client
+    id = id_of service cid
 
     -- an id is that one, since whichever time
-    same_id : (k : KeptId) → first_in x ≡ Some k → named.id_of k ≡ (service, client)
-    same_id k first = let both : Some (named.id_of k) ≡ Some (service, client) = sym (ap id_in first) ∙ first_as x (Some (service, client)) F in cc
+    same_id : (k : KeptId) → first_in x ≡ Some k → named.id_of k ≡ (service, cid)
+    same_id k first = let both : Some (named.id_of k) ≡ Some (service, cid) = sym (ap id_in first) ∙ first_as x (Some (service, cid)) F in cc
 
     number_same : (k : KeptId) → first_in x ≡ Some k → number_for_own k x.beside.traffic ≡ number_for_own id x.beside.traffic
     number_same k first = ap (λ (p : ℕ × ℕ). number_for_own (id_of p.0 p.1) x.beside.traffic) (same_id k first)
@@ -140,5 +140,5 @@ module _ (after : ℕ) where
             })
 
         by_first : (o : Option KeptId) → first_in x ≡ o → (number : Option ℕ) → number_for_own id x.beside.traffic ≡ number → NextReleased after x (with_traffic traffic x) went
-        by_first None none number under = absurd (let clash : None ≡ Some (service, client) = sym (ap id_in none) ∙ first_as x (Some (service, client)) F in cc)
+        by_first None none number under = absurd (let clash : None ≡ Some (service, cid) = sym (ap id_in none) ∙ first_as x (Some (service, cid)) F in cc)
         by_first (Some k) first number under = by_number k first number under

@@ -1,7 +1,7 @@
 -- What a response makes of a core.
 use Rattle.std.proofs.Common.{◌≡◌, ℕ, Bool, true, false, ◌&&◌, ◌==◌, List, refl, ap, sym, ◌∙◌, Option}
 use Rattle.number_space.proofs.Due.{FoundRow}
-use Rattle.qmux_frame.specs.Head.{service_of, is_control, client_of, number_of}
+use Rattle.qmux_frame.specs.Head.{service_of, is_control, cid_of, number_of}
 use Rattle.qmi_proxy.specs.FromModem.{IdChange, NoChange, Grants, Collides, Frees}
 use Rattle.qmi_state.specs.declared.asked.Asked.{Asked}
 use Rattle.qmi_state.specs.Traffic.{Row, Traffic, of_control, with_numbers, frees}
@@ -11,9 +11,9 @@ use Rattle.qmi_core.specs.State.{answers_to, answers_from}
 
 answers_is : (row : Row) (m : List ℕ) (change : IdChange) (x : QmiState) → answers row m change x ≡ answers_to row.conn row.note m change x
 answers_is row m NoChange x = refl
-answers_is row m (Grants service client) x = refl
+answers_is row m (Grants service cid) x = refl
 answers_is row m Collides x = refl
-answers_is row m (Frees service client) x = refl
+answers_is row m (Frees service cid) x = refl
 
 sender_is : (own : Bool) (row : Row) (m : List ℕ) (x : QmiState) → answers_sender own row m x ≡ answers_from own row.conn row.note m x
 sender_is true row m x = refl
@@ -21,13 +21,13 @@ sender_is false row m x = answers_is row m (change_by row.conn row.note m (holde
 
 module _ (m : List ℕ) (was : QmiState)
     (name : ℕ) (note : Asked) (waits : Bool) (F : FoundRow (number_of m) name note waits (of_control (is_control m) was.beside.traffic).rows)
-    (fitting : (service_of note.head == service_of m && (client_of note.head == client_of m)) ≡ true)
+    (fitting : (service_of note.head == service_of m && (cid_of note.head == cid_of m)) ≡ true)
     (traffic_after : Traffic) (made : traffic_after ≡ with_numbers (is_control m) (frees (number_of m) (of_control (is_control m) was.beside.traffic)) was.beside.traffic) where
   abbrev after_it : QmiState
   after_it = with_traffic traffic_after was
 
   fits_row : fits m F.row ≡ true
-  fits_row = ap (λ (a : Asked). service_of a.head == service_of m && (client_of a.head == client_of m)) F.asked ∙ fitting
+  fits_row = ap (λ (a : Asked). service_of a.head == service_of m && (cid_of a.head == cid_of m)) F.asked ∙ fitting
 
   freed : traffic_after ≡ with_numbers (is_control m) (frees F.row.number (of_control (is_control m) was.beside.traffic)) was.beside.traffic
   freed = made ∙ ap (λ (n : ℕ). with_numbers (is_control m) (frees n (of_control (is_control m) was.beside.traffic)) was.beside.traffic) F.same_number

@@ -2,7 +2,7 @@
 use Rattle.std.proofs.Common.{◌≡◌, ℕ, ◌<◌, Bool, true, false, not, cond, ◌&&◌, ◌||◌, ◌==◌, List, [], ◌∷◌, refl, ap, sym, ◌∙◌, arith, Option, Some, None, if◌then◌else◌}
 use Rattle.std.proofs.lemmas.Bool.Decides.{nat_tests}
 use Rattle.std.proofs.lemmas.Bool.{eqb-true, eq-eqb}
-use Rattle.qmux_frame.specs.Head.{service_of, is_control, client_of}
+use Rattle.qmux_frame.specs.Head.{service_of, is_control, cid_of}
 use Rattle.connections.specs.Table.{Connection, Table, connection_in, finds_room}
 use Rattle.connections.specs.Table as tables
 use Rattle.proxy_history.specs.ClientIds.{Grant, holder_in, holds_some}
@@ -57,13 +57,13 @@ abbrev indicated : List ℕ → QmiState → Bool → Bool → QmiState
 indicated m x control all =
     if control then tell_all m (opened_ones x.table.present) x
     else if all then tell_all m (holders_of (service_of m) x.beside.traffic.held x.table.present) x
-    else tells_holder (holder_in (service_of m) (client_of m) x.beside.traffic.held) m x
+    else tells_holder (holder_in (service_of m) (cid_of m) x.beside.traffic.held) m x
 
 pub indicated_open : (m : List ℕ) (new old : QmiState) → is_control m ≡ true → new ≡ tell_from None m 0 old → new ≡ indicates m old
-indicated_open m new old control is = is ∙ tell_from_first give_up (λ client. m) (λ client. client) (is_chosen None) (still_chosen None) old ∙ sym (ap (λ (b : Bool). indicated m old b (client_of m == 255)) control)
+indicated_open m new old control is = is ∙ tell_from_first give_up (λ client. m) (λ client. client) (is_chosen None) (still_chosen None) old ∙ sym (ap (λ (b : Bool). indicated m old b (cid_of m == 255)) control)
 
-pub indicated_holders : (m : List ℕ) (service : ℕ) (new old : QmiState) → is_control m ≡ false → client_of m ≡ 255 → service ≡ service_of m → new ≡ tell_from (Some service) m 0 old → new ≡ indicates m old
+pub indicated_holders : (m : List ℕ) (service : ℕ) (new old : QmiState) → is_control m ≡ false → cid_of m ≡ 255 → service ≡ service_of m → new ≡ tell_from (Some service) m 0 old → new ≡ indicates m old
 indicated_holders m service new old control client same is =
     is ∙ tell_from_first give_up (λ client. m) (λ client. client) (is_chosen (Some service)) (still_chosen (Some service)) old
     ∙ ap (λ (l : List ℕ). tell_all m l old) (holders_chosen service old.beside old.table.present ∙ ap (λ (n : ℕ). holders_of n old.beside.traffic.held old.table.present) same)
-    ∙ sym (ap (λ (b : Bool). indicated m old b (client_of m == 255)) control ∙ ap (indicated m old false) (eq-eqb (client_of m) 255 client))
+    ∙ sym (ap (λ (b : Bool). indicated m old b (cid_of m == 255)) control ∙ ap (indicated m old false) (eq-eqb (cid_of m) 255 client))

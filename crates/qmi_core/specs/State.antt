@@ -30,16 +30,16 @@ tell_from audience bytes i x = proxy.tell_from give_up (λ client. bytes) (λ cl
 
 abbrev pub answers_to : ℕ → Asked → List ℕ → IdChange → QmiState → QmiState
 answers_to conn note m NoChange x = tell conn (with_number (number_of note.head) m) x
-answers_to conn note m (Grants service client) x = tell conn (with_number (number_of note.head) m) (with_traffic (grants_id conn service client x.beside.traffic) x)
+answers_to conn note m (Grants service cid) x = tell conn (with_number (number_of note.head) m) (with_traffic (grants_id conn service cid x.beside.traffic) x)
 answers_to conn note m Collides x = tell conn (result_reply note.head client_ids_exhausted) x
-answers_to conn note m (Frees service client) x = tell conn (with_number (number_of note.head) m) (with_traffic (frees_id conn service client x.beside.traffic) x)
+answers_to conn note m (Frees service cid) x = tell conn (with_number (number_of note.head) m) (with_traffic (frees_id conn service cid x.beside.traffic) x)
 
 abbrev pub answers_noted : ℕ → Asked → List ℕ → QmiState → QmiState
 answers_noted conn note m x = answers_to conn note m (change_by conn note m (holder_brought m x.beside.traffic)) x
 
 -- nobody holds the id that the proxy itself was to release
 abbrev pub frees_noted : Asked → QmiState → QmiState
-frees_noted note x = with_traffic (frees_id 0 note.service note.client x.beside.traffic) x
+frees_noted note x = with_traffic (frees_id 0 note.service note.cid x.beside.traffic) x
 
 -- the first argument says whether the proxy itself asked
 abbrev pub answers_from : Bool → ℕ → Asked → List ℕ → QmiState → QmiState
@@ -61,12 +61,12 @@ refuses_from false conn note x = tell conn (result_reply note.head aborted) x
 
 -- the connection holds the id, unless another one does
 abbrev pub grants_unless : Bool → ℕ → ℕ → ℕ → Traffic → Traffic
-grants_unless true conn service client traffic = traffic
-grants_unless false conn service client traffic = grants_id conn service client traffic
+grants_unless true conn service cid traffic = traffic
+grants_unless false conn service cid traffic = grants_id conn service cid traffic
 
 -- an id that is kept, since whichever time
 abbrev pub id_of : ℕ → ℕ → KeptId
-id_of service client = record { service = service; client = client; since = 0 }
+id_of service cid = record { service = service; cid = cid; since = 0 }
 
 -- the proxy itself asks the modem to release the id, where there is a number for that
 abbrev pub asks_under : Option ℕ → ℕ → KeptId → Traffic → Traffic

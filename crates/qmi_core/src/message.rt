@@ -1,9 +1,9 @@
 ghost use Rattle.std.specs.Prelude.{◌≡◌, ◌≤◌, ◌==◌, ◌||◌, ◌++◌, true, length, take, drop, is_some, IfSome};
-ghost use Rattle.qmux_frame.specs.Head.{is_control, service_of, client_of, number_of};
+ghost use Rattle.qmux_frame.specs.Head.{is_control, service_of, cid_of, number_of};
 ghost use Rattle.qmux_frame.specs.Kind.{framed_kind};
 ghost use Rattle.qmux_frame.specs.Control.{is_command, is_sync};
 ghost use Rattle.qmux_frame.specs.Reply.{result_reply, with_number};
-ghost use Rattle.qmi_proxy.specs.Messages.{value_of, has_length, byte_of, is_malformed, opens, has_bad_id, uses_id, used_service, used_client, is_success};
+ghost use Rattle.qmi_proxy.specs.Messages.{value_of, has_length, byte_of, is_malformed, opens, has_bad_id, uses_id, used_service, used_cid, is_success};
 ghost use Rattle.qmi_proxy.specs.Releases.{release_of};
 ghost use Rattle.qmi_state.specs.Asked.{asked_of};
 ghost use Rattle.qmi_core.specs.Message.{tells_id};
@@ -99,7 +99,7 @@ impl<'a> Message<'a> {
         Asked {
             head: first_bytes(self.bytes),
             service: self.used_service(),
-            client: self.used_client(),
+            cid: self.used_cid(),
         }
     }
 
@@ -139,10 +139,10 @@ impl<'a> Message<'a> {
         self.head.service
     }
 
-    pub fn client(&self) -> u8
-        ensures { result ≡ client_of self.now }
+    pub fn cid(&self) -> u8
+        ensures { result ≡ cid_of self.now }
     {
-        self.head.client
+        self.head.cid
     }
 
     pub fn number(&self) -> u16
@@ -185,13 +185,13 @@ impl<'a> Message<'a> {
         }
     }
 
-    pub fn used_client(&self) -> u8
-        ensures { result ≡ used_client self.now }
+    pub fn used_cid(&self) -> u8
+        ensures { result ≡ used_cid self.now }
     {
         if self.head.service == 0 {
             self.byte(1)
         } else {
-            self.head.client
+            self.head.cid
         }
     }
 
@@ -215,7 +215,7 @@ impl<'a> Message<'a> {
     {
         !self.head.framed
             || self.head.flags != 0
-            || (self.head.service == 0 && self.head.client != 0)
+            || (self.head.service == 0 && self.head.cid != 0)
             || (self.is_command(control::PROXY_OPEN) && self.value.is_none())
             || (self.is_command(control::ALLOCATE) && !self.has_length(1))
             || (self.is_command(control::RELEASE) && !self.has_length(2))
@@ -226,7 +226,7 @@ impl<'a> Message<'a> {
         ensures { result ≡ has_bad_id self.now }
     {
         if self.head.service != 0 {
-            is_nobodys(self.head.client)
+            is_nobodys(self.head.cid)
         } else {
             self.is_command(control::RELEASE) && (self.byte(0) == 0 || is_nobodys(self.byte(1)))
         }
@@ -257,20 +257,20 @@ impl<'a> Message<'a> {
 }
 
 /// The message by which the proxy asks the modem to release the client id, with the number 0.
-pub fn release_message(service: u8, client: u8) -> [u8; 17]
-    ensures { result ≡ release_of service client }
+pub fn release_message(service: u8, cid: u8) -> [u8; 17]
+    ensures { result ≡ release_of service cid }
 {
     [
         0x01, 0x10, 0x00, 0x00, 0x00, 0x00, 0x00, 0x00, 0x23, 0x00, 0x05, 0x00, 0x01, 0x02, 0x00,
-        service, client,
+        service, cid,
     ]
 }
 
 // No client has this id: 0 is service 0's, and 255 is everybody's.
-fn is_nobodys(client: u8) -> bool
-    ensures { result ≡ (client == 0 || client == 255) }
+fn is_nobodys(cid: u8) -> bool
+    ensures { result ≡ (cid == 0 || cid == 255) }
 {
-    client == 0 || client == 255
+    cid == 0 || cid == 255
 }
 
 fn first_bytes(message: &[u8]) -> [u8; 12]

@@ -159,7 +159,7 @@ fn refuse(
     ensures limit { connections.new.limit ≡ connections.old.limit }
 {
     if name == PROXY {
-        side.traffic.release(PROXY, asked.service, asked.client);
+        side.traffic.release(PROXY, asked.service, asked.cid);
     } else {
         let reply = asked.reply(ABORTED);
         send(connections, side, name, reply.bytes());
@@ -205,10 +205,10 @@ fn release_next(side: &mut ModemSide, after: u64) -> bool
     ensures { (table : Table TableClient) → NextReleased after (state_of table side.old) (state_of table side.new) result }
 {
     let deadline = side.deadline();
-    let Some((service, client)) = side.traffic.due(side.time, after) else {
+    let Some((service, cid)) = side.traffic.due(side.time, after) else {
         return false;
     };
-    side.traffic.ask_release(service, client, deadline)
+    side.traffic.ask_release(service, cid, deadline)
 }
 
 // The requests whose time has come are refused.
@@ -263,7 +263,7 @@ fn respond(connections: &mut Connections<Qmux, Client>, side: &mut ModemSide, me
     else {
         return;
     };
-    if !asked.fits(message.service(), message.client()) {
+    if !asked.fits(message.service(), message.cid()) {
         return;
     }
     side.traffic.free(message.is_control(), message.number());
@@ -286,7 +286,7 @@ fn answer(
     ensures limit { connections.new.limit ≡ connections.old.limit }
 {
     if name == PROXY {
-        side.traffic.release(PROXY, asked.service, asked.client);
+        side.traffic.release(PROXY, asked.service, asked.cid);
     } else {
         answer_client(connections, side, name, asked, message);
     }
@@ -308,7 +308,7 @@ fn answer_client(
         return answer_allocate(connections, side, name, asked, message);
     }
     if asked.is_release() && message.is_success() {
-        side.traffic.release(name, asked.service, asked.client);
+        side.traffic.release(name, asked.service, asked.cid);
     }
     deliver(connections, side, name, asked, message);
 }
@@ -362,7 +362,7 @@ fn hear_indication(
     if message.is_sync() {
         abort(connections, side);
         indicate(connections, side, message);
-    } else if message.is_control() || message.client() != 0 {
+    } else if message.is_control() || message.cid() != 0 {
         indicate(connections, side, message);
     }
 }
@@ -381,10 +381,10 @@ fn indicate(
     if message.is_control() {
         return tell_each(connections, side, None, message.bytes());
     }
-    if message.client() == EVERYBODY {
+    if message.cid() == EVERYBODY {
         return tell_each(connections, side, Some(message.service()), message.bytes());
     }
-    if let Some(name) = side.traffic.holder(message.service(), message.client()) {
+    if let Some(name) = side.traffic.holder(message.service(), message.cid()) {
         send(connections, side, name, message.bytes());
     }
 }

@@ -112,7 +112,7 @@ impl Traffic {
     {
         if message.uses_id() {
             self.holders
-                .holder(message.used_service(), message.used_client())
+                .holder(message.used_service(), message.used_cid())
         } else {
             None
         }
@@ -147,11 +147,11 @@ impl Traffic {
             return;
         }
         let service = message.used_service();
-        let client = message.used_client();
+        let cid = message.used_cid();
         if holder.is_some() {
-            self.holders.used(service, client);
+            self.holders.used(service, cid);
         } else {
-            self.grant(name, service, client);
+            self.grant(name, service, cid);
         }
     }
 
@@ -183,10 +183,10 @@ impl Traffic {
     }
 
     /// The connection that holds the client id.
-    pub fn holder(&self, service: u8, client: u8) -> Option<ConnId>
-        ensures { result ≡ holder_in service client self.now.held }
+    pub fn holder(&self, service: u8, cid: u8) -> Option<ConnId>
+        ensures { result ≡ holder_in service cid self.now.held }
     {
-        self.holders.holder(service, client)
+        self.holders.holder(service, cid)
     }
 
     /// Whether the connection holds some client id of the service.
@@ -197,18 +197,18 @@ impl Traffic {
     }
 
     /// Grants the client id to the connection, unless another one holds it: then nothing changes.
-    pub fn grant(&mut self, name: ConnId, service: u8, client: u8) -> bool
-        ensures granted { result ≡ not (is_taken name service client self.old.held) }
-        ensures grants { self.new ≡ grants_unless (is_taken name service client self.old.held) name service client self.old }
+    pub fn grant(&mut self, name: ConnId, service: u8, cid: u8) -> bool
+        ensures granted { result ≡ not (is_taken name service cid self.old.held) }
+        ensures grants { self.new ≡ grants_unless (is_taken name service cid self.old.held) name service cid self.old }
     {
-        self.holders.grant(name, service, client)
+        self.holders.grant(name, service, cid)
     }
 
     /// The connection gives the client id back.
-    pub fn release(&mut self, name: ConnId, service: u8, client: u8)
-        ensures { self.new ≡ frees_id name service client self.old }
+    pub fn release(&mut self, name: ConnId, service: u8, cid: u8)
+        ensures { self.new ≡ frees_id name service cid self.old }
     {
-        self.holders.released(name, service, client);
+        self.holders.released(name, service, cid);
     }
 
     /// The first id that is kept for so long at this time.
@@ -220,11 +220,11 @@ impl Traffic {
 
     /// The proxy itself asks the modem to release the client id, and holds it from here on. Says
     /// whether it did: it doesn't where no number is free, or the message finds no room.
-    pub fn ask_release(&mut self, service: u8, client: u8, deadline: u64) -> bool
-        ensures asked { result ≡ is_some (number_for_own (id_of service client) self.old) }
-        ensures traffic { self.new ≡ asks_under (number_for_own (id_of service client) self.old) deadline (id_of service client) self.old }
+    pub fn ask_release(&mut self, service: u8, cid: u8, deadline: u64) -> bool
+        ensures asked { result ≡ is_some (number_for_own (id_of service cid) self.old) }
+        ensures traffic { self.new ≡ asks_under (number_for_own (id_of service cid) self.old) deadline (id_of service cid) self.old }
     {
-        let bytes = release_message(service, client);
+        let bytes = release_message(service, cid);
         let message = Message::read(&bytes);
         if !self.has_room(&message) {
             return false;
@@ -232,7 +232,7 @@ impl Traffic {
         let Some(number) = self.give(PROXY, &message, deadline) else {
             return false;
         };
-        self.holders.hold(PROXY, service, client);
+        self.holders.hold(PROXY, service, cid);
         self.queue(&message, number);
         true
     }

@@ -3,7 +3,7 @@ use Rattle.std.proofs.Common.{◌≡◌, ◌≢◌, ℕ, ◌≤◌, Bool, true, 
 use Rattle.std.proofs.lemmas.Bool.Decides.{nat_tests}
 use Rattle.std.proofs.lemmas.Bool.{eqb-true, eq-eqb, and_parts, false_from_ne_true}
 use Rattle.std.proofs.lemmas.List.Elements.{All-contains}
-use Rattle.qmux_frame.specs.Head.{service_of, is_control, client_of, number_of}
+use Rattle.qmux_frame.specs.Head.{service_of, is_control, cid_of, number_of}
 use Rattle.qmux_frame.specs.declared.kind.MessageKind.TheVariants as kind
 use Rattle.qmux_frame.specs.Kind.{framed_kind}
 use Rattle.qmux_frame.specs.Control.{is_release}
@@ -29,7 +29,7 @@ use Rattle.qmi_proxy.specs.Limits.{qmi_limits, outbox_limit}
 use Rattle.qmi_proxy.specs.Setup.{Setup}
 use Rattle.qmi_proxy.specs.Errors.{client_ids_exhausted}
 use Rattle.qmi_proxy.specs.Spaces.{space_of}
-use Rattle.qmi_proxy.specs.Messages.{is_success, byte_of, value_of, used_service, used_client}
+use Rattle.qmi_proxy.specs.Messages.{is_success, byte_of, value_of, used_service, used_cid}
 use Rattle.qmi_proxy.specs.Text.{note, text, blank, view_of, rendering, qmi_wording}
 use Rattle.qmi_proxy.specs.FromModem.{IdChange, NoChange, Frees, id_change, granted_unless, brings_id, holder_of_brought, is_answered_by, first_answered_by, answer, answer_to, answer_or_late, respond, hear_as, hear_modem, open_ones, receivers, tell}
 use Rattle.qmi_proxy.specs.History.{qmi_protocol, history}
@@ -104,18 +104,18 @@ module _ (device : List ℕ) where
     abbrev bytes_by : Bool → List ℕ
     bytes_by refuses = if refuses then result_reply r.message client_ids_exhausted else with_number (number_of r.message) m
 
-    delivered_by : (brings other frees : Bool) (service client service' client' : ℕ)
-        → Delivers (bytes_by (brings && other)) (answer device r m (if brings then granted_unless other service client else if frees then Frees service' client' else NoChange) past)
+    delivered_by : (brings other frees : Bool) (service cid service' cid' : ℕ)
+        → Delivers (bytes_by (brings && other)) (answer device r m (if brings then granted_unless other service cid else if frees then Frees service' cid' else NoChange) past)
     unfolding view
-    delivered_by true true frees service client service' client' = refused
-    delivered_by true false frees service client service' client' = answered (Granted r.conn service client ∷ past) (λ c. refl)
-    delivered_by false other true service client service' client' = answered (Freed r.conn service' client' ∷ past) (λ c. refl)
-    delivered_by false other false service client service' client' = answered past (λ c. refl)
+    delivered_by true true frees service cid service' cid' = refused
+    delivered_by true false frees service cid service' cid' = answered (Granted r.conn service cid ∷ past) (λ c. refl)
+    delivered_by false other true service cid service' cid' = answered (Freed r.conn service' cid' ∷ past) (λ c. refl)
+    delivered_by false other false service cid service' cid' = answered past (λ c. refl)
 
     delivered : IsDelivered device r m past (answer device r m (id_change r.conn r.message m (holder_of_brought m past)) past)
     delivered =
         let all = delivered_by (brings_id r.message m) (is_other r.conn (holder_of_brought m past)) (is_release r.message && is_success m)
-        (byte_of 0 (value_of 0x01 m)) (byte_of 1 (value_of 0x01 m)) (used_service r.message) (used_client r.message) in
+        (byte_of 0 (value_of 0x01 m)) (byte_of 1 (value_of 0x01 m)) (used_service r.message) (used_cid r.message) in
         record { sender = all.0; others = all.1; once = all.2 }
 
 -- a request that waits is a client's message, where the proxy itself didn't ask
@@ -124,24 +124,24 @@ sent_by_client past r R at clients = ⊎_elim (λ (sent : IsSent past r). sent) 
 
 -- ---- what comes of an answer to the proxy itself ----
 
-not_held : (service client : ℕ) (grants : List Grant) → is_holder 0 (holder_in service client (filter (λ g. not (is_of service client g && (0 == g.conn))) grants)) ≡ false
-not_held service client [] = refl
-not_held service client (g ∷ grants) =
-    let rest : List Grant = filter (λ (h : Grant). not (is_of service client h && (0 == h.conn))) grants in
-    let fewer : is_holder 0 (holder_in service client rest) ≡ false = not_held service client grants in
-    let step : (of own : Bool) → is_of service client g ≡ of → (0 == g.conn) ≡ own → is_holder 0 (holder_in service client (cond (not (of && own)) (g ∷ rest) rest)) ≡ false =
-    λ of own. elim of as (λ of. is_of service client g ≡ of → (0 == g.conn) ≡ own → is_holder 0 (holder_in service client (cond (not (of && own)) (g ∷ rest) rest)) ≡ false) [
-      | true ↦ elim own as (λ own. is_of service client g ≡ true → (0 == g.conn) ≡ own → is_holder 0 (holder_in service client (cond (not own) (g ∷ rest) rest)) ≡ false) [
+not_held : (service cid : ℕ) (grants : List Grant) → is_holder 0 (holder_in service cid (filter (λ g. not (is_of service cid g && (0 == g.conn))) grants)) ≡ false
+not_held service cid [] = refl
+not_held service cid (g ∷ grants) =
+    let rest : List Grant = filter (λ (h : Grant). not (is_of service cid h && (0 == h.conn))) grants in
+    let fewer : is_holder 0 (holder_in service cid rest) ≡ false = not_held service cid grants in
+    let step : (of own : Bool) → is_of service cid g ≡ of → (0 == g.conn) ≡ own → is_holder 0 (holder_in service cid (cond (not (of && own)) (g ∷ rest) rest)) ≡ false =
+    λ of own. elim of as (λ of. is_of service cid g ≡ of → (0 == g.conn) ≡ own → is_holder 0 (holder_in service cid (cond (not (of && own)) (g ∷ rest) rest)) ≡ false) [
+      | true ↦ elim own as (λ own. is_of service cid g ≡ true → (0 == g.conn) ≡ own → is_holder 0 (holder_in service cid (cond (not own) (g ∷ rest) rest)) ≡ false) [
         | true ↦ λ e f. fewer
-        | false ↦ λ e f. ap (λ (b : Bool). is_holder 0 (if b then Some g.conn else holder_in service client rest)) e ∙ (let turned : (g.conn == 0) ≡ false = grind (arith, nat_tests, f) in turned)
+        | false ↦ λ e f. ap (λ (b : Bool). is_holder 0 (if b then Some g.conn else holder_in service cid rest)) e ∙ (let turned : (g.conn == 0) ≡ false = grind (arith, nat_tests, f) in turned)
       ]
-      | false ↦ λ e f. ap (λ (b : Bool). is_holder 0 (if b then Some g.conn else holder_in service client rest)) e ∙ fewer
+      | false ↦ λ e f. ap (λ (b : Bool). is_holder 0 (if b then Some g.conn else holder_in service cid rest)) e ∙ fewer
     ]
-    in step (is_of service client g) (0 == g.conn) refl refl
+    in step (is_of service cid g) (0 == g.conn) refl refl
 
 module _ (device : List ℕ) (r : Request) (m : List ℕ) (past : List Fact) (own : r.conn ≡ 0) (R : Regular past) where
   abbrev facts : List Fact
-  facts = Freed 0 (used_service r.message) (used_client r.message) ∷ Answered r m ∷ past
+  facts = Freed 0 (used_service r.message) (used_cid r.message) ∷ Answered r m ∷ past
 
   -- the proxy isn't there to be ended
   ends_nobody : note device (Answered r m) past ≡ Answered r m ∷ past
@@ -151,12 +151,12 @@ module _ (device : List ℕ) (r : Request) (m : List ℕ) (past : List Fact) (ow
   for_nobody : IsForNobody device r m past (freed_if true r (note device (Answered r m) past))
   unfolding view in_use held render
   for_nobody = record {
-    facts = ap (λ (l : List Fact). Freed 0 (used_service r.message) (used_client r.message) ∷ l) ends_nobody;
+    facts = ap (λ (l : List Fact). Freed 0 (used_service r.message) (used_cid r.message) ∷ l) ends_nobody;
     clients = λ c differs.
         ap (render outbox_limit (text device)) (noted_view qmi_limits (qmi_wording device) c (Answered r m) past)
         ∙ ap (λ (b : Bool). render outbox_limit (text device) (entry_if b (Response r.place (blank m)) (view_of c past))) (false_from_ne_true (r.conn == c) (λ e. differs (sym (eqb-true r.conn c e) ∙ own)));
     once = ap (has_request r) (noted_in_use qmi_limits (qmi_wording device) (Answered r m) past) ∙ none_left r (in_use past);
-    freed = not_held (used_service r.message) (used_client r.message) (held (note device (Answered r m) past));
+    freed = not_held (used_service r.message) (used_cid r.message) (held (note device (Answered r m) past));
   }
 
 module _ (s : Setup) (events : List Event) (earlier : List (List ℕ)) (m : List ℕ) (response : framed_kind m ≡ Some kind.Response) where
@@ -184,7 +184,7 @@ module _ (s : Setup) (events : List Event) (earlier : List (List ℕ)) (m : List
       → brings_id r.message m ≡ true → is_other r.conn (holder_of_brought m past) ≡ true → hear_modem s.device m past ≡ note s.device (IdHeld r) past
   held_ids_are_not_granted r at answers clients brings other =
       let change : Bool → Bool → IdChange = λ b o.
-      if b then granted_unless o (byte_of 0 (value_of 0x01 m)) (byte_of 1 (value_of 0x01 m)) else if is_release r.message && is_success m then Frees (used_service r.message) (used_client r.message) else NoChange in
+      if b then granted_unless o (byte_of 0 (value_of 0x01 m)) (byte_of 1 (value_of 0x01 m)) else if is_release r.message && is_success m then Frees (used_service r.message) (used_cid r.message) else NoChange in
       replied r at answers clients
       ∙ ap (λ (b : Bool). answer s.device r m (change b (is_other r.conn (holder_of_brought m past))) past) brings
       ∙ ap (λ (o : Bool). answer s.device r m (change true o) past) other
@@ -233,17 +233,17 @@ indications_reach_their_receivers device m past c =
     ap (render outbox_limit (text device)) (noted_view qmi_limits (qmi_wording device) c (Indicated m (receivers device m past)) past)
     ∙ elim (contains c (receivers device m past)) as (λ b. render outbox_limit (text device) (entry_if b (Indication m) (view_of c past)) ≡ (if b then put outbox_limit m (rendering device c past) else rendering device c past)) [ true ↦ refl | false ↦ refl ]
 
-pub holders_alone_are_told : (device m : List ℕ) (past : List Fact) (c : ℕ) → is_control m ≡ false → (client_of m == 255) ≡ false → contains c (receivers device m past) ≡ true
-    → holder (service_of m) (client_of m) past ≡ Some c
+pub holders_alone_are_told : (device m : List ℕ) (past : List Fact) (c : ℕ) → is_control m ≡ false → (cid_of m == 255) ≡ false → contains c (receivers device m past) ≡ true
+    → holder (service_of m) (cid_of m) past ≡ Some c
 holders_alone_are_told device m past c service id at =
-    held_by (holder (service_of m) (client_of m) past)
+    held_by (holder (service_of m) (cid_of m) past)
     (and_parts (contains c (present past)) _
-    (sym (contains_kept c (λ (d : ℕ). is_holder d (holder (service_of m) (client_of m) past)) (present past)) ∙ sym (ap (λ (l : List ℕ). contains c l) (receivers_are service id)) ∙ at)).1
+    (sym (contains_kept c (λ (d : ℕ). is_holder d (holder (service_of m) (cid_of m) past)) (present past)) ∙ sym (ap (λ (l : List ℕ). contains c l) (receivers_are service id)) ∙ at)).1
   where
-    receivers_are : is_control m ≡ false → (client_of m == 255) ≡ false → receivers device m past ≡ filter (λ (d : ℕ). is_holder d (holder (service_of m) (client_of m) past)) (present past)
+    receivers_are : is_control m ≡ false → (cid_of m == 255) ≡ false → receivers device m past ≡ filter (λ (d : ℕ). is_holder d (holder (service_of m) (cid_of m) past)) (present past)
     receivers_are service id =
-        ap (λ (b : Bool). let l : List ℕ = if b then open_ones device past else if client_of m == 255 then filter (λ (d : ℕ). holds_some d (service_of m) (held past)) (present past) else filter (λ (d : ℕ). is_holder d (holder (service_of m) (client_of m) past)) (present past) in l) service
-        ∙ ap (λ (b : Bool). let l : List ℕ = if b then filter (λ (d : ℕ). holds_some d (service_of m) (held past)) (present past) else filter (λ (d : ℕ). is_holder d (holder (service_of m) (client_of m) past)) (present past) in l) id
+        ap (λ (b : Bool). let l : List ℕ = if b then open_ones device past else if cid_of m == 255 then filter (λ (d : ℕ). holds_some d (service_of m) (held past)) (present past) else filter (λ (d : ℕ). is_holder d (holder (service_of m) (cid_of m) past)) (present past) in l) service
+        ∙ ap (λ (b : Bool). let l : List ℕ = if b then filter (λ (d : ℕ). holds_some d (service_of m) (held past)) (present past) else filter (λ (d : ℕ). is_holder d (holder (service_of m) (cid_of m) past)) (present past) in l) id
 
     held_by : (o : Option ℕ) → is_holder c o ≡ true → o ≡ Some c
     held_by None e = absurd (cc)

@@ -17,9 +17,9 @@ use Rattle.qmi_proxy.specs.OwnReplies.{is_open, view_decides}
 use Rattle.qmi_proxy.specs.Text.{view_of, note}
 use Rattle.qmi_proxy.specs.Clients.{holder_for, shared_decision, judge, hear_client}
 
-pub ids_are_free_when_granted : (s : Setup) (events : List Event) (later past : List Fact) (c service client : ℕ) → history s events ≡ later ++ Granted c service client ∷ past → is_other c (holder service client past) ≡ false
-ids_are_free_when_granted s events later past c service client whole =
-    (sound_behind later (Granted c service client ∷ past) (subst (IsSound qmi_limits) whole (histories_are_sound s events))).0.1
+pub ids_are_free_when_granted : (s : Setup) (events : List Event) (later past : List Fact) (c service cid : ℕ) → history s events ≡ later ++ Granted c service cid ∷ past → is_other c (holder service cid past) ≡ false
+ids_are_free_when_granted s events later past c service cid whole =
+    (sound_behind later (Granted c service cid ∷ past) (subst (IsSound qmi_limits) whole (histories_are_sound s events))).0.1
 
 module _ (s : Setup) (c : ℕ) (m : List ℕ) (past : List Fact) where
   -- it isn't forwarded where its client is judged so

@@ -15,7 +15,7 @@ use Rattle.proxy_history.specs.Connections.{is_present, message_count}
 use Rattle.proxy_history.specs.Requests.{in_use, forward_count}
 use Rattle.proxy_history.specs.Modem.{to_modem, modem_taken_count}
 use Rattle.qmi_proxy.specs.Setup.{Setup}
-use Rattle.qmi_proxy.specs.Messages.{uses_id, used_service, used_client}
+use Rattle.qmi_proxy.specs.Messages.{uses_id, used_service, used_cid}
 use Rattle.qmi_proxy.specs.Clients.{wire, decision_on, request_of, grant_if, judge, hear_client}
 use Rattle.qmi_proxy.specs.History.{qmi_protocol, add, history}
 use Rattle.qmi_proxy.specs.Regular.{Regular}
@@ -28,7 +28,7 @@ use Rattle.qmi_isolation.specs.Queues.{facts_before_saying, IsQueued}
 
 granted : (b : Bool) (c : ℕ) (m : List ℕ) (past : List Fact) → Adds wire past (grant_if b c m past)
 unfolding in_use to_modem modem_taken_count forward_count
-granted true c m past = adds_none wire past (Granted c (used_service m) (used_client m) ∷ past) refl refl refl refl
+granted true c m past = adds_none wire past (Granted c (used_service m) (used_cid m) ∷ past) refl refl refl refl
 granted false c m past = same wire past
 
 -- ---- the message that is forwarded ----

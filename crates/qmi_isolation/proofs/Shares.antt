@@ -8,7 +8,7 @@ use Rattle.std.proofs.lemmas.List.{length-map}
 use Rattle.kit_bytes.proofs.Lists.{all_weaker}
 use Rattle.qmux_frame.specs.declared.kind.MessageKind.{MessageKind}
 use Rattle.qmux_frame.specs.declared.kind.MessageKind.TheVariants as kind
-use Rattle.qmux_frame.specs.Head.{is_control, client_of}
+use Rattle.qmux_frame.specs.Head.{is_control, cid_of}
 use Rattle.qmux_frame.specs.Kind.{framed_kind}
 use Rattle.qmux_frame.specs.Control.{is_sync}
 use Rattle.proxy_history.specs.Events.{Event, Joined, ModemTook}
@@ -34,7 +34,7 @@ use Rattle.proxy_history.proofs.Coming.{joins_or_modem_takes, is_joining_or_mode
 use Rattle.qmi_proxy.specs.Setup.{Setup}
 use Rattle.qmi_proxy.specs.Limits.{qmi_limits, connection_limit, share_limit}
 use Rattle.qmi_proxy.specs.Spaces.{space_of}
-use Rattle.qmi_proxy.specs.Messages.{uses_id, used_service, used_client}
+use Rattle.qmi_proxy.specs.Messages.{uses_id, used_service, used_cid}
 use Rattle.qmi_proxy.specs.OwnReplies.{is_open, view_decides}
 use Rattle.qmi_proxy.specs.Text.{view_of, blank, note, qmi_wording}
 use Rattle.qmi_proxy.specs.Clients.{shared_decision, decision_on, request_of, grant_if, judge, hear_client}
@@ -116,7 +116,7 @@ module _ (s : Setup) (c : ℕ) (client : c ≢ 0) where
 
   module _ (m : List ℕ) (past : List Fact) (there : is_present c past ≡ true) (R : Regular past) (F : Fits past) where
     grants : (b : Bool) (after : List Fact) → Fits after → Fits (grant_if b c m after)
-    grants true after held = granted_too c c (used_service m) (used_client m) after held
+    grants true after held = granted_too c c (used_service m) (used_cid m) after held
     grants false after held = held
 
     judged : (decision : Decision) → decision_on s c m past ≡ decision → Fits (judge s c m decision past)
@@ -170,7 +170,7 @@ module _ (s : Setup) (c : ℕ) (client : c ≢ 0) where
   refused_calm : (r : Request) (fact : Fact) (past : List Fact) → MayRefuse (Aborted r) fact past → IsCalm c fact past
   refused_calm r (OpeningEnded status receivers) past may = tt
   refused_calm r (Ended d NoRoom) past may = tt
-  refused_calm r (Freed d service client) past may = tt
+  refused_calm r (Freed d service cid) past may = tt
   refused_calm r fact past may = subst (λ (f : Fact). IsCalm c f past) (sym may) tt
 
   given_up_adds : (past : List Fact) → IsSound qmi_limits past → Adds qmi_limits (qmi_wording s.device) Calmly past (abort_all s.device past)
@@ -208,7 +208,7 @@ module _ (s : Setup) (c : ℕ) (client : c ≢ 0) where
         (fitting_more c (Freed r.conn service id ∷ past) (tt, R.sound) (freed_too c r.conn service id past F) client (Answered r m) at tt)
 
     answered_to : (own : Bool) (r : Request) → Contains (pending past) r → Fits (answer_to own s.device r m past)
-    answered_to true r at = freed_too c 0 (used_service r.message) (used_client r.message) (note s.device (Answered r m) past) (noted (Answered r m) past (fitting_more c past R.sound F client (Answered r m) at tt))
+    answered_to true r at = freed_too c 0 (used_service r.message) (used_cid r.message) (note s.device (Answered r m) past) (noted (Answered r m) past (fitting_more c past R.sound F client (Answered r m) at tt))
     answered_to false r at = answered r at (id_change r.conn r.message m (holder_of_brought m past)) refl
 
     answered_or_late : (waiting : Bool) (r : Request) → Contains (in_use past) r → is_pending r past ≡ waiting → Fits (answer_or_late s.device waiting r m past)
@@ -226,7 +226,7 @@ module _ (s : Setup) (c : ℕ) (client : c ≢ 0) where
     told before held = noted (Indicated m (receivers s.device m before)) before (told_too c m (receivers s.device m before) before held)
 
     indicated : Fits (indicate s.device m past)
-    indicated = by (is_sync m) (not (is_control m) && client_of m == 0)
+    indicated = by (is_sync m) (not (is_control m) && cid_of m == 0)
       where
         by : (sync stray_one : Bool) → Fits (let after : List Fact = if sync then tell s.device m (Reset ∷ abort_all s.device past) else if stray_one then Stray ∷ past else tell s.device m past in after)
         by true stray_one = told (Reset ∷ abort_all s.device past) (began_anew past R F)

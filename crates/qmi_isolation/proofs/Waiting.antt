@@ -92,13 +92,13 @@ module _ (c : ℕ) where
     fits = λ there space. F.fits (stayed_was_there c d past there) space ∙ none_ended past d space (stayed past d there);
   }
 
-  pub granted_too : (d service client : ℕ) (past : List Fact) → Fitting past → Fitting (Granted d service client ∷ past)
+  pub granted_too : (d service cid : ℕ) (past : List Fact) → Fitting past → Fitting (Granted d service cid ∷ past)
   unfolding pending present view
-  granted_too d service client past F = record { apart = F.apart; fits = F.fits }
+  granted_too d service cid past F = record { apart = F.apart; fits = F.fits }
 
-  pub freed_too : (d service client : ℕ) (past : List Fact) → Fitting past → Fitting (Freed d service client ∷ past)
+  pub freed_too : (d service cid : ℕ) (past : List Fact) → Fitting past → Fitting (Freed d service cid ∷ past)
   unfolding pending present view
-  freed_too d service client past F = record { apart = F.apart; fits = F.fits }
+  freed_too d service cid past F = record { apart = F.apart; fits = F.fits }
 
   pub told_too : (m : List ℕ) (receivers : List ℕ) (past : List Fact) → Fitting past → Fitting (Indicated m receivers ∷ past)
   unfolding pending present view

@@ -2,7 +2,7 @@
 -- Lists of events and of facts have the newest first.
 use Rattle.std.specs.Prelude.{◌≡◌, ◌≢◌, ℕ, ◌+◌, true, false, ◌&&◌, ◌==◌, if◌then◌else◌, List, ◌∷◌, ◌++◌, map, Some, All, Contains}
 use Rattle.qmux_frame.specs.declared.kind.MessageKind.TheVariants as kind
-use Rattle.qmux_frame.specs.Head.{service_of, is_control, client_of, number_of}
+use Rattle.qmux_frame.specs.Head.{service_of, is_control, cid_of, number_of}
 use Rattle.qmux_frame.specs.Kind.{framed_kind}
 use Rattle.qmux_frame.specs.Reply.{with_number, result_reply}
 use Rattle.proxy_history.specs.Events.{Event, is_anothers}
@@ -16,7 +16,7 @@ use Rattle.proxy_history.specs.Coming.{AreSound}
 use Rattle.qmi_proxy.specs.Limits.{outbox_limit}
 use Rattle.qmi_proxy.specs.Setup.{Setup}
 use Rattle.qmi_proxy.specs.Errors.{client_ids_exhausted}
-use Rattle.qmi_proxy.specs.Messages.{used_service, used_client}
+use Rattle.qmi_proxy.specs.Messages.{used_service, used_cid}
 use Rattle.qmi_proxy.specs.Text.{note, rendering}
 use Rattle.qmi_proxy.specs.Clients.{holder_for, hear_client}
 use Rattle.qmi_proxy.specs.FromModem.{is_answered_by, brings_id, holder_of_brought, hear_modem, receivers, tell, abort_all, lose}
@@ -56,10 +56,10 @@ AnswersHaveOneReceiver = (s : Setup) (events : List Event) (earlier : List (List
 
 -- an answer to the proxy's own request is noted, whatever it says, and the proxy doesn't hold the client id any more that it was to release: no client gets anything, and no later message answers the request
 pub record IsForNobody (device : List ℕ) (r : Request) (m : List ℕ) (past after : List Fact) : Type 0 where
-  pub facts : after ≡ Freed 0 (used_service r.message) (used_client r.message) ∷ Answered r m ∷ past
+  pub facts : after ≡ Freed 0 (used_service r.message) (used_cid r.message) ∷ Answered r m ∷ past
   pub clients : (c : ℕ) → c ≢ 0 → rendering device c after ≡ rendering device c past
   pub once : has_request r (in_use after) ≡ false
-  pub freed : is_holder 0 (holder (used_service r.message) (used_client r.message) after) ≡ false
+  pub freed : is_holder 0 (holder (used_service r.message) (used_cid r.message) after) ≡ false
 
 abbrev pub OwnAnswersAreForNobody : Type 0
 OwnAnswersAreForNobody = (s : Setup) (events : List Event) (earlier : List (List ℕ)) (m : List ℕ) (r : Request)
@@ -77,8 +77,8 @@ HeldIdsAreNotGranted = (s : Setup) (events : List Event) (earlier : List (List �
 
 -- so no client id is ever granted while another client holds it
 abbrev pub IdsAreFreeWhenGranted : Type 0
-IdsAreFreeWhenGranted = (s : Setup) (events : List Event) (later past : List Fact) (c service client : ℕ)
-    → history s events ≡ later ++ Granted c service client ∷ past → is_other c (holder service client past) ≡ false
+IdsAreFreeWhenGranted = (s : Setup) (events : List Event) (later past : List Fact) (c service cid : ℕ)
+    → history s events ≡ later ++ Granted c service cid ∷ past → is_other c (holder service cid past) ≡ false
 
 -- a client's message that uses a client id which another client holds isn't forwarded, and grants nothing: it is judged alone
 abbrev pub HeldIdsAreNotUsed : Type 0
@@ -102,8 +102,8 @@ IndicationsReachTheirReceivers = (device m : List ℕ) (past : List Fact) (c : �
 -- one for a client id is for its holder alone
 abbrev pub HoldersAloneAreTold : Type 0
 HoldersAloneAreTold = (device m : List ℕ) (past : List Fact) (c : ℕ)
-    → is_control m ≡ false → (client_of m == 255) ≡ false → contains c (receivers device m past) ≡ true
-    → holder (service_of m) (client_of m) past ≡ Some c
+    → is_control m ≡ false → (cid_of m == 255) ≡ false → contains c (receivers device m past) ≡ true
+    → holder (service_of m) (cid_of m) past ≡ Some c
 
 -- ---- refusals in place of answers ----
 

@@ -10,7 +10,7 @@ use Rattle.proxy_history.specs.Requests.{has_share}
 use Rattle.qmi_proxy.specs.Setup.{Setup}
 use Rattle.qmi_proxy.specs.Spaces.{space_of}
 use Rattle.qmi_proxy.specs.Limits.{share_limit}
-use Rattle.qmi_proxy.specs.Messages.{is_malformed, uses_id, used_service, used_client}
+use Rattle.qmi_proxy.specs.Messages.{is_malformed, uses_id, used_service, used_cid}
 use Rattle.qmi_proxy.specs.OwnReplies.{is_open, view_decides}
 use Rattle.qmi_proxy.specs.Text.{view_of}
 use Rattle.qmi_proxy.specs.Clients.{number_for, holder_for, has_room, wire, decision_as, decision_on}
@@ -88,8 +88,8 @@ can_go s opened c m past n e =
     record { framed = well_framed m (well_formed opened m has.shared); free = has.free; room = has.finds_room; number = has.numbered }
 
 -- so the id that a message uses is free
-pub used_id_is_free : (c : ℕ) (m : List ℕ) (past : List Fact) → is_other c (holder_for m past) ≡ false → uses_id m ≡ true → IsFreeFor c (used_service m) (used_client m) past
-used_id_is_free c m past free uses = sym (ap (λ (b : Bool). is_other c (let o : Option ℕ = if b then holder (used_service m) (used_client m) past else None in o)) uses) ∙ free
+pub used_id_is_free : (c : ℕ) (m : List ℕ) (past : List Fact) → is_other c (holder_for m past) ≡ false → uses_id m ≡ true → IsFreeFor c (used_service m) (used_cid m) past
+used_id_is_free c m past free uses = sym (ap (λ (b : Bool). is_other c (let o : Option ℕ = if b then holder (used_service m) (used_cid m) past else None in o)) uses) ∙ free
 
 -- ---- whatever the history ----
 

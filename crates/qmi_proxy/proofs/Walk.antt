@@ -6,7 +6,7 @@ use Rattle.std.proofs.lemmas.Bool.Decides.{nat_tests}
 use Rattle.std.proofs.lemmas.List.Elements.{All-filter, All-contains, Contains-append_cases}
 use Rattle.qmux_frame.specs.declared.kind.MessageKind.{MessageKind}
 use Rattle.qmux_frame.specs.declared.kind.MessageKind.TheVariants as kind
-use Rattle.qmux_frame.specs.Head.{is_control, client_of, is_framed}
+use Rattle.qmux_frame.specs.Head.{is_control, cid_of, is_framed}
 use Rattle.qmux_frame.specs.Reply.{with_number}
 use Rattle.qmux_frame.specs.Kind.{framed_kind}
 use Rattle.qmux_frame.specs.Control.{is_sync}
@@ -33,7 +33,7 @@ use Rattle.proxy_history.proofs.Adding.{extends_sound, none, further, either, ad
 use Rattle.qmi_proxy.specs.Setup.{Setup}
 use Rattle.qmi_proxy.specs.Spaces.{control_space, service_space}
 use Rattle.qmi_proxy.specs.Limits.{qmi_limits, modem_outbox_limit}
-use Rattle.qmi_proxy.specs.Messages.{uses_id, used_service, used_client}
+use Rattle.qmi_proxy.specs.Messages.{uses_id, used_service, used_cid}
 use Rattle.qmi_proxy.specs.OwnReplies.{is_open}
 use Rattle.qmi_proxy.specs.Text.{qmi_wording, blank, view_of, note}
 use Rattle.qmi_proxy.specs.Clients.{wire, has_room, forward, grant_if, judge, decision_as, request_of}
@@ -77,8 +77,8 @@ module _ (s : Setup) where
         → Adds qmi_limits wording By past (noting.note qmi_limits wording (Judged c (message_count c past + 1) m verdict) past)
     replied verdict past there = noted_by qmi_limits wording By (Judged c (message_count c past + 1) m verdict) past ((λ before there. (there, refl, tt)), tt) (there, (refl, refl), tt)
 
-    grants : (b : Bool) (past : List Fact) → IsPresent c past → (b ≡ true → IsFreeFor c (used_service m) (used_client m) past) → AddsOf (MayAdd (Says c m)) past (grant_if b c m past)
-    grants true past there free = added qmi_limits wording By (Granted c (used_service m) (used_client m)) past refl ((party_from_present c past there, free refl), refl, tt)
+    grants : (b : Bool) (past : List Fact) → IsPresent c past → (b ≡ true → IsFreeFor c (used_service m) (used_cid m) past) → AddsOf (MayAdd (Says c m)) past (grant_if b c m past)
+    grants true past there free = added qmi_limits wording By (Granted c (used_service m) (used_cid m)) past refl ((party_from_present c past there, free refl), refl, tt)
     grants false past there free = none qmi_limits wording By past
 
     abbrev pub judged_now : List Fact → List Fact
@@ -139,26 +139,26 @@ module _ (s : Setup) where
     told : (fact : Fact) (past : List Fact) → BySaying fact past → Heard past (note s.device fact past)
     told fact past may = noted qmi_limits wording BySaying ends fact past may
 
-    answers : (r : Request) (change : IdChange) (past : List Fact) → ((service client : ℕ) → change ≡ Grants service client → IsFreeFor r.conn service client past) → Sound past → Contains (pending past) r → Heard past (answer s.device r m change past)
+    answers : (r : Request) (change : IdChange) (past : List Fact) → ((service cid : ℕ) → change ≡ Grants service cid → IsFreeFor r.conn service cid past) → Sound past → Contains (pending past) r → Heard past (answer s.device r m change past)
     unfolding pending
     answers r NoChange past free sound at = told (Answered r m) past (at, refl, tt)
-    answers r (Grants service client) past free sound at =
-        let granted : List Fact = Granted r.conn service client ∷ past in
+    answers r (Grants service cid) past free sound at =
+        let granted : List Fact = Granted r.conn service cid ∷ past in
         further qmi_limits wording BySaying past granted _
-        (one (Granted r.conn service client) past refl ((All-contains (λ (q : Request). IsParty q.conn past) (pending past) r (waiting_are_parties qmi_limits past sound) at, free service client refl), tt, tt))
+        (one (Granted r.conn service cid) past refl ((All-contains (λ (q : Request). IsParty q.conn past) (pending past) r (waiting_are_parties qmi_limits past sound) at, free service cid refl), tt, tt))
         (told (Answered r m) granted (at, refl, tt))
     answers r Collides past free sound at = told (IdHeld r) past (at, tt, tt)
-    answers r (Frees service client) past free sound at =
-        let freed : List Fact = Freed r.conn service client ∷ past in
-        further qmi_limits wording BySaying past freed _ (one (Freed r.conn service client) past refl (tt, tt, tt)) (told (Answered r m) freed (at, refl, tt))
+    answers r (Frees service cid) past free sound at =
+        let freed : List Fact = Freed r.conn service cid ∷ past in
+        further qmi_limits wording BySaying past freed _ (one (Freed r.conn service cid) past refl (tt, tt, tt)) (told (Answered r m) freed (at, refl, tt))
 
     answers_to : (own : Bool) (r : Request) (past : List Fact) → Sound past → Contains (in_use past) r → is_pending r past ≡ true → Heard past (answer_to own s.device r m past)
     answers_to true r past sound at is =
         let told_so = told (Answered r m) past (waits qmi_limits past r sound (forwarded_from_in_use past r at) is, refl, tt) in
         let answered : List Fact = note s.device (Answered r m) past in
-        further qmi_limits wording BySaying past answered _ told_so (one (Freed 0 (used_service r.message) (used_client r.message)) answered refl (tt, tt, tt))
+        further qmi_limits wording BySaying past answered _ told_so (one (Freed 0 (used_service r.message) (used_cid r.message)) answered refl (tt, tt, tt))
     answers_to false r past sound at is =
-        answers r (id_change r.conn r.message m (holder_of_brought m past)) past (λ service client e. change_free r.conn r.message m past service client e) sound (waits qmi_limits past r sound (forwarded_from_in_use past r at) is)
+        answers r (id_change r.conn r.message m (holder_of_brought m past)) past (λ service cid e. change_free r.conn r.message m past service cid e) sound (waits qmi_limits past r sound (forwarded_from_in_use past r at) is)
 
     answers_or_late : (waiting : Bool) (r : Request) (past : List Fact) → Sound past → Contains (in_use past) r → is_pending r past ≡ waiting → Heard past (answer_or_late s.device waiting r m past)
     answers_or_late true r past sound at is = answers_to (r.conn == 0) r past sound at is
@@ -173,7 +173,7 @@ module _ (s : Setup) where
     receivers_present past =
         let Those : List ℕ → Type 0 = All (λ c. IsPresent c past) in
         let some : (p : ℕ → Bool) → Those (filter p (present past)) = λ p. All-filter p (λ (c : ℕ). IsPresent c past) (present past) (each_contained (present past)) in
-        any_of Those (is_control m) _ _ (some _) (any_of Those (client_of m == 255) _ _ (some _) (some _))
+        any_of Those (is_control m) _ _ (some _) (any_of Those (cid_of m == 255) _ _ (some _) (some _))
       where
         any_of : (P : List ℕ → Type 0) (b : Bool) (xs ys : List ℕ) → P xs → P ys → P (if b then xs else ys)
         any_of P true xs ys x y = x
@@ -189,10 +189,10 @@ module _ (s : Setup) where
         let aborted : List Fact = abort_all s.device past in
         further qmi_limits wording BySaying past aborted _ (aborts past sound)
         (further qmi_limits wording BySaying aborted (Reset ∷ aborted) _ (one Reset aborted refl (tt, tt, tt)) (tells (Reset ∷ aborted))))
-        (λ other. either qmi_limits wording BySaying (not (is_control m) && client_of m == 0) past _ _ (λ nobody. one Stray past refl (tt, tt, tt)) (λ some. tells past))
+        (λ other. either qmi_limits wording BySaying (not (is_control m) && cid_of m == 0) past _ _ (λ nobody. one Stray past refl (tt, tt, tt)) (λ some. tells past))
       where
         refuses : (own : Bool) (r : Request) (before : List Fact) → Heard before (note s.device (Aborted r) before) → Heard before (freed_if own r (note s.device (Aborted r) before))
-        refuses true r before told = further qmi_limits wording BySaying before (note s.device (Aborted r) before) _ told (one (Freed 0 (used_service r.message) (used_client r.message)) (note s.device (Aborted r) before) refl (tt, tt, tt))
+        refuses true r before told = further qmi_limits wording BySaying before (note s.device (Aborted r) before) _ told (one (Freed 0 (used_service r.message) (used_cid r.message)) (note s.device (Aborted r) before) refl (tt, tt, tt))
         refuses false r before told = told
 
         aborts : (past : List Fact) → Sound past → Heard past (abort_all s.device past)
@@ -213,7 +213,7 @@ module _ (s : Setup) where
   refuses_own : (why : Fact) (own : Bool) (r : Request) (past : List Fact) → AddsOf (MayRefuse why) past (note s.device why past) → AddsOf (MayRefuse why) past (freed_if own r (note s.device why past))
   refuses_own why true r past noted =
       let after : List Fact = note s.device why past in
-      further qmi_limits wording (May (MayRefuse why)) past after _ noted (added qmi_limits wording (May (MayRefuse why)) (Freed 0 (used_service r.message) (used_client r.message)) after refl (tt, refl, tt))
+      further qmi_limits wording (May (MayRefuse why)) past after _ noted (added qmi_limits wording (May (MayRefuse why)) (Freed 0 (used_service r.message) (used_cid r.message)) after refl (tt, refl, tt))
   refuses_own why false r past noted = noted
 
   pub some_if : (room : Bool) (number : Option ℕ) (n : ℕ) → number_if room number ≡ Some n → (room ≡ true) × (number ≡ Some n)
@@ -237,22 +237,22 @@ module _ (s : Setup) where
       by rest true None e is = same l all.0 is
       by rest true (Some m) e is = by_order m (is_before l m) (rest m e) is
 
-  one_released : (k : KeptId) (n : ℕ) (past : List Fact) → holder_in k.service k.client (held past) ≡ None → number_for_own k past ≡ Some n → AddsOf MayTick past (releases_one s k n past)
+  one_released : (k : KeptId) (n : ℕ) (past : List Fact) → holder_in k.service k.cid (held past) ≡ None → number_for_own k past ≡ Some n → AddsOf MayTick past (releases_one s k n past)
   unfolding in_use last_number held
   one_released k n past free is =
-      let parts = some_if (has_room (length (modem_queue wire past)) (release_of k.service k.client)) (own_number past) n is in
-      let r : Request = own_request s k.service k.client n past in
+      let parts = some_if (has_room (length (modem_queue wire past)) (release_of k.service k.cid)) (own_number past) n is in
+      let r : Request = own_request s k.service k.cid n past in
       let room : length (modem_queue wire past) + length (wire r) ≤ modem_outbox_limit = grind (arith, nat_tests, parts.0) in
       further qmi_limits wording ByClock past (Forwarded r ∷ past) _
-      (added qmi_limits wording ByClock (Forwarded r) past refl (record { serial = refl; sender = refl; number = parts.1 }, refl, (room, inr (record { sender = refl; service = k.service; client = k.client; message = refl; space = refl; deadline = refl }))))
-      (added qmi_limits wording ByClock (Granted 0 k.service k.client) (Forwarded r ∷ past) refl ((refl, ap (is_other 0) free), refl, tt))
+      (added qmi_limits wording ByClock (Forwarded r) past refl (record { serial = refl; sender = refl; number = parts.1 }, refl, (room, inr (record { sender = refl; service = k.service; cid = k.cid; message = refl; space = refl; deadline = refl }))))
+      (added qmi_limits wording ByClock (Granted 0 k.service k.cid) (Forwarded r ∷ past) refl ((refl, ap (is_other 0) free), refl, tt))
 
   releases_ids : (after count : ℕ) (past : List Fact) → Sound past → AddsOf MayTick past (releases s after count past)
   unfolding releases
   releases_ids after zero past sound = none qmi_limits wording ByClock past
   releases_ids after (suc count) past sound = by_id (λ next sound. releases_ids after count next sound) (first_due after (now past) (kept past)) refl
     where
-      by_number : ((next : List Fact) → Sound next → AddsOf MayTick next (releases s after count next)) → (k : KeptId) (number : Option ℕ) → holder_in k.service k.client (held past) ≡ None → number_for_own k past ≡ number → AddsOf MayTick past (elim number [ None ↦ past | Some number ↦ releases s after count (releases_one s k number past) ])
+      by_number : ((next : List Fact) → Sound next → AddsOf MayTick next (releases s after count next)) → (k : KeptId) (number : Option ℕ) → holder_in k.service k.cid (held past) ≡ None → number_for_own k past ≡ number → AddsOf MayTick past (elim number [ None ↦ past | Some number ↦ releases s after count (releases_one s k number past) ])
       by_number rest k None free is = none qmi_limits wording ByClock past
       by_number rest k (Some n) free is =
           let adds = one_released k n past free is in
@@ -262,7 +262,7 @@ module _ (s : Setup) where
       by_id : ((next : List Fact) → Sound next → AddsOf MayTick next (releases s after count next)) → (found : Option KeptId) → first_due after (now past) (kept past) ≡ found
           → AddsOf MayTick past (elim found [ None ↦ past | Some k ↦ elim (number_for_own k past) [ None ↦ past | Some number ↦ releases s after count (releases_one s k number past) ] ])
       by_id rest None is = none qmi_limits wording ByClock past
-      by_id rest (Some k) is = by_number rest k (number_for_own k past) (first_kept (λ k. holder_in k.service k.client (held past) ≡ None) after (now past) (kept past) k (kept_are_nobodys past) is) refl
+      by_id rest (Some k) is = by_number rest k (number_for_own k past) (first_kept (λ k. holder_in k.service k.cid (held past) ≡ None) after (now past) (kept past) k (kept_are_nobodys past) is) refl
 
   releases_due : (after : Option ℕ) (past : List Fact) → Sound past → AddsOf MayTick past (release_due s after past)
   releases_due None past sound = none qmi_limits wording ByClock past

@@ -25,8 +25,8 @@ pub record IsNewestMessage (s : Setup) (r : Request) (past : List Fact) : Type 0
 pub record IsOwnRelease (s : Setup) (r : Request) (past : List Fact) : Type 0 where
   pub sender : r.conn ≡ 0
   pub service : ℕ
-  pub client : ℕ
-  pub message : r.message ≡ release_of service client
+  pub cid : ℕ
+  pub message : r.message ≡ release_of service cid
   pub space : r.space ≡ space_of r.message
   pub deadline : r.deadline ≡ deadline_of (now past) s.time_limit
 

@@ -17,7 +17,7 @@ use Rattle.proxy_history.specs.Modem.{now, is_away, modem_queue}
 use Rattle.qmi_proxy.specs.Setup.{Setup}
 use Rattle.qmi_proxy.specs.Spaces.{space_of, limit_of, top_of}
 use Rattle.qmi_proxy.specs.Limits.{modem_outbox_limit, share_limit}
-use Rattle.qmi_proxy.specs.Messages.{uses_id, used_service, used_client}
+use Rattle.qmi_proxy.specs.Messages.{uses_id, used_service, used_cid}
 use Rattle.qmi_proxy.specs.OwnReplies.{is_open, view_decides}
 use Rattle.qmi_proxy.specs.Text.{view_of, note}
 
@@ -29,7 +29,7 @@ number_for m past = next_number (limit_of (space_of m)) (top_of (space_of m)) (s
 
 -- the connection that holds the client id that it uses
 abbrev pub holder_for : List ℕ → List Fact → Option ℕ
-holder_for m past = if uses_id m then holder (used_service m) (used_client m) past else None
+holder_for m past = if uses_id m then holder (used_service m) (used_cid m) past else None
 
 -- a request's bytes as the modem sees them: with the proxy's number
 abbrev pub wire : Request → List ℕ
@@ -78,7 +78,7 @@ request_of s c m number past = record {
 
 -- a client that uses an id is its holder from then on: an id that nobody held is adopted
 abbrev pub grant_if : Bool → ℕ → List ℕ → List Fact → List Fact
-grant_if true c m past = Granted c (used_service m) (used_client m) ∷ past
+grant_if true c m past = Granted c (used_service m) (used_cid m) ∷ past
 grant_if false c m past = past
 
 -- the message goes to the modem under this number

@@ -2,7 +2,7 @@
 use Rattle.std.specs.Prelude.{ℕ, Bool, true, false, not, ◌&&◌, ◌==◌, if◌then◌else◌, List, ◌∷◌, ◌++◌, filter, Option, Some, None}
 use Rattle.qmux_frame.specs.declared.kind.MessageKind.{MessageKind}
 use Rattle.qmux_frame.specs.declared.kind.MessageKind.TheVariants as kind
-use Rattle.qmux_frame.specs.Head.{service_of, is_control, client_of, number_of}
+use Rattle.qmux_frame.specs.Head.{service_of, is_control, cid_of, number_of}
 use Rattle.qmux_frame.specs.Kind.{framed_kind}
 use Rattle.qmux_frame.specs.Control.{is_allocate, is_release, is_sync}
 use Rattle.proxy_history.specs.Facts.{Request, Fact, Answered, IdHeld, Late, Indicated, Stray, Granted, Freed, Reset}
@@ -11,7 +11,7 @@ use Rattle.proxy_history.specs.Requests.{first_where, in_use, is_pending, of_spa
 use Rattle.proxy_history.specs.ClientIds.{held, holder, is_other, is_holder, holds_some}
 use Rattle.proxy_history.specs.Unanswered as unanswered
 use Rattle.qmi_proxy.specs.Spaces.{control_space, service_space}
-use Rattle.qmi_proxy.specs.Messages.{value_of, has_length, byte_of, used_service, used_client, is_success}
+use Rattle.qmi_proxy.specs.Messages.{value_of, has_length, byte_of, used_service, used_cid, is_success}
 use Rattle.qmi_proxy.specs.OwnReplies.{is_open}
 use Rattle.qmi_proxy.specs.Releases.{freed_if}
 use Rattle.qmi_proxy.specs.Text.{view_of, note}
@@ -21,7 +21,7 @@ use Rattle.qmi_proxy.specs.Text.{view_of, note}
 -- the message has the request's service, client id and transaction number
 -- The message id isn't compared, as in `build_transaction_key` of libqmi's src/libqmi-glib/qmi-device.c.
 abbrev pub is_answered_by : List ℕ → Request → Bool
-is_answered_by m r = service_of r.message == service_of m && (client_of r.message == client_of m) && (r.number == number_of m)
+is_answered_by m r = service_of r.message == service_of m && (cid_of r.message == cid_of m) && (r.number == number_of m)
 
 abbrev pub first_answered_by : List ℕ → List Request → Option Request
 first_answered_by m requests = first_where (is_answered_by m) requests
@@ -30,11 +30,11 @@ first_answered_by m requests = first_where (is_answered_by m) requests
 pub data IdChange : Type 0 where
   NoChange : IdChange
   -- Allocate brought this id of this service
-  Grants : (service : ℕ) → (client : ℕ) → IdChange
+  Grants : (service : ℕ) → (cid : ℕ) → IdChange
   -- Allocate brought an id that another connection holds
   Collides : IdChange
   -- Release gave this one back
-  Frees : (service : ℕ) → (client : ℕ) → IdChange
+  Frees : (service : ℕ) → (cid : ℕ) → IdChange
 
 -- an Allocate's answer brings an id: the service, then the id
 abbrev pub brings_id : List ℕ → List ℕ → Bool
@@ -43,22 +43,22 @@ brings_id request m =
     && not (byte_of 0 (value_of 0x01 m) == 0) && not (byte_of 1 (value_of 0x01 m) == 0) && not (byte_of 1 (value_of 0x01 m) == 255)
 
 abbrev pub granted_unless : Bool → ℕ → ℕ → IdChange
-granted_unless true service client = Collides
-granted_unless false service client = Grants service client
+granted_unless true service cid = Collides
+granted_unless false service cid = Grants service cid
 
 -- what this answer to this request of c does, where its id has this holder
 abbrev pub id_change : ℕ → List ℕ → List ℕ → Option ℕ → IdChange
 id_change c request m holder =
     if brings_id request m then granted_unless (is_other c holder) (byte_of 0 (value_of 0x01 m)) (byte_of 1 (value_of 0x01 m))
-    else if is_release request && is_success m then Frees (used_service request) (used_client request)
+    else if is_release request && is_success m then Frees (used_service request) (used_cid request)
     else NoChange
 
 -- the ids change before the answer is queued: where it finds no room, its connection ends, and its ids with it
 abbrev pub answer : List ℕ → Request → List ℕ → IdChange → List Fact → List Fact
 answer device r m NoChange past = note device (Answered r m) past
-answer device r m (Grants service client) past = note device (Answered r m) (Granted r.conn service client ∷ past)
+answer device r m (Grants service cid) past = note device (Answered r m) (Granted r.conn service cid ∷ past)
 answer device r m Collides past = note device (IdHeld r) past
-answer device r m (Frees service client) past = note device (Answered r m) (Freed r.conn service client ∷ past)
+answer device r m (Frees service cid) past = note device (Answered r m) (Freed r.conn service cid ∷ past)
 
 abbrev pub holder_of_brought : List ℕ → List Fact → Option ℕ
 holder_of_brought m past = holder (byte_of 0 (value_of 0x01 m)) (byte_of 1 (value_of 0x01 m)) past
@@ -105,8 +105,8 @@ open_ones device past = filter (λ c. is_open device (view_of c past)) (present 
 abbrev pub receivers : List ℕ → List ℕ → List Fact → List ℕ
 receivers device m past =
     if is_control m then open_ones device past
-    else if client_of m == 255 then filter (λ c. holds_some c (service_of m) (held past)) (present past)
-    else filter (λ c. is_holder c (holder (service_of m) (client_of m) past)) (present past)
+    else if cid_of m == 255 then filter (λ c. holds_some c (service_of m) (held past)) (present past)
+    else filter (λ c. is_holder c (holder (service_of m) (cid_of m) past)) (present past)
 
 abbrev pub tell : List ℕ → List ℕ → List Fact → List Fact
 tell device m past = note device (Indicated m (receivers device m past)) past
@@ -116,7 +116,7 @@ tell device m past = note device (Indicated m (receivers device m past)) past
 abbrev pub indicate : List ℕ → List ℕ → List Fact → List Fact
 indicate device m past =
     if is_sync m then tell device m (Reset ∷ abort_all device past)
-    else if not (is_control m) && client_of m == 0 then Stray ∷ past
+    else if not (is_control m) && cid_of m == 0 then Stray ∷ past
     else tell device m past
 
 -- ---- every message of the modem ----

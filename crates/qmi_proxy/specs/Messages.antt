@@ -1,7 +1,7 @@
 -- What the proxy reads off one message of QMI.
 -- Source: libqmi's src/libqmi-glib/qmi-proxy.c.
 use Rattle.std.specs.Prelude.{ℕ, Bool, true, false, not, ◌&&◌, ◌||◌, ◌==◌, if◌then◌else◌, List, length, slice_index, Option, Some, None, bytes_eq}
-use Rattle.qmux_frame.specs.Head.{service_of, is_control, client_of, flags_of, is_framed, tlvs_in}
+use Rattle.qmux_frame.specs.Head.{service_of, is_control, cid_of, flags_of, is_framed, tlvs_in}
 use Rattle.qmux_frame.specs.Control.{is_allocate, is_release, is_proxy_open}
 use Rattle.tlv_codec.specs.Tlv.{tlv_value}
 use Rattle.tlv_codec.specs.Outcome as outcome
@@ -42,7 +42,7 @@ opens device m = is_proxy_open m && equals device (value_of 0x01 m)
 -- its head, or the TLV that the proxy needs of it, is out of form
 abbrev pub is_malformed : List ℕ → Bool
 is_malformed m =
-    not (is_framed m) || not (flags_of m == 0) || (is_control m && not (client_of m == 0))
+    not (is_framed m) || not (flags_of m == 0) || (is_control m && not (cid_of m == 0))
     || (is_proxy_open m && not (is_there (value_of 0x01 m)))
     || (is_allocate m && not (has_length 1 (value_of 0x01 m)))
     || (is_release m && not (has_length 2 (value_of 0x01 m)))
@@ -54,9 +54,9 @@ uses_id m = not (is_control m) || is_release m
 abbrev pub used_service : List ℕ → ℕ
 used_service m = if is_control m then byte_of 0 (value_of 0x01 m) else service_of m
 
-abbrev pub used_client : List ℕ → ℕ
-used_client m = if is_control m then byte_of 1 (value_of 0x01 m) else client_of m
+abbrev pub used_cid : List ℕ → ℕ
+used_cid m = if is_control m then byte_of 1 (value_of 0x01 m) else cid_of m
 
 -- no client has this id: 0 is service 0's, and 255 is everybody's
 abbrev pub has_bad_id : List ℕ → Bool
-has_bad_id m = uses_id m && (used_service m == 0 || (used_client m == 0) || (used_client m == 255))
+has_bad_id m = uses_id m && (used_service m == 0 || (used_cid m == 0) || (used_cid m == 255))

@@ -6,29 +6,29 @@ use Rattle.proxy_history.specs.ClientIds.{KeptId, kept}
 use Rattle.proxy_history.specs.Modem.{now, modem_queue}
 use Rattle.qmi_proxy.specs.Setup.{Setup}
 use Rattle.qmi_proxy.specs.Spaces.{control_space, limit_of, top_of}
-use Rattle.qmi_proxy.specs.Messages.{used_service, used_client}
+use Rattle.qmi_proxy.specs.Messages.{used_service, used_cid}
 use Rattle.qmi_proxy.specs.Clients.{wire, has_room}
 
 -- Release CID of this id, with the number 0
 abbrev pub release_of : ℕ → ℕ → List ℕ
-release_of service client = 0x01 ∷ 0x10 ∷ 0x00 ∷ 0x00 ∷ 0x00 ∷ 0x00 ∷ 0x00 ∷ 0x00 ∷ 0x23 ∷ 0x00 ∷ 0x05 ∷ 0x00 ∷ 0x01 ∷ 0x02 ∷ 0x00 ∷ service ∷ client ∷ []
+release_of service cid = 0x01 ∷ 0x10 ∷ 0x00 ∷ 0x00 ∷ 0x00 ∷ 0x00 ∷ 0x00 ∷ 0x00 ∷ 0x23 ∷ 0x00 ∷ 0x05 ∷ 0x00 ∷ 0x01 ∷ 0x02 ∷ 0x00 ∷ service ∷ cid ∷ []
 
 -- the proxy itself is the sender
 abbrev pub own_request : Setup → ℕ → ℕ → ℕ → List Fact → Request
-own_request s service client number past = record {
+own_request s service cid number past = record {
   serial = forward_count past + 1;
   conn = 0;
   place = 0;
   space = control_space;
   number = number;
-  message = release_of service client;
+  message = release_of service cid;
   deadline = deadline_of (now past) s.time_limit;
 }
 
 -- ---- which are due ----
 
 abbrev pub is_before : KeptId → KeptId → Bool
-is_before k l = nat_lt k.service l.service || (k.service == l.service && nat_lt k.client l.client)
+is_before k l = nat_lt k.service l.service || (k.service == l.service && nat_lt k.cid l.cid)
 
 abbrev pub nearer : Bool → KeptId → Option KeptId → Option KeptId
 nearer false k found = found
@@ -44,7 +44,7 @@ first_due after time (k ∷ ids) = nearer (nat_le after (time - k.since)) k (fir
 
 -- the proxy holds the id from then on
 abbrev pub releases_one : Setup → KeptId → ℕ → List Fact → List Fact
-releases_one s k number past = Granted 0 k.service k.client ∷ Forwarded (own_request s k.service k.client number past) ∷ past
+releases_one s k number past = Granted 0 k.service k.cid ∷ Forwarded (own_request s k.service k.cid number past) ∷ past
 
 abbrev pub own_number : List Fact → Option ℕ
 own_number past = next_number (limit_of control_space) (top_of control_space) control_space past
@@ -55,7 +55,7 @@ number_if false number = None
 
 -- the number under which the next one goes, where there is one and there is room
 abbrev pub number_for_own : KeptId → List Fact → Option ℕ
-number_for_own k past = number_if (has_room (length (modem_queue wire past)) (release_of k.service k.client)) (own_number past)
+number_for_own k past = number_if (has_room (length (modem_queue wire past)) (release_of k.service k.cid)) (own_number past)
 
 -- one after the other, up to the first for which no number or no room is there, and at most so many
 unfoldable pub releases : Setup → (after : ℕ) → ℕ → List Fact → List Fact
@@ -74,5 +74,5 @@ release_due s (Some after) past = releases s after (length (kept past)) past
 
 -- nobody holds the id of an own request that ended
 abbrev pub freed_if : Bool → Request → List Fact → List Fact
-freed_if true r past = Freed 0 (used_service r.message) (used_client r.message) ∷ past
+freed_if true r past = Freed 0 (used_service r.message) (used_cid r.message) ∷ past
 freed_if false r past = past

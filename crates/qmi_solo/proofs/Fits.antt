@@ -3,7 +3,7 @@ use Rattle.std.proofs.Common.{◌≡◌, ℕ, ◌+◌, ◌≤◌, Bool, true, fa
 use Rattle.std.proofs.lemmas.Bool.{eqb-true, eq-eqb}
 use Rattle.qmux_frame.specs.declared.kind.MessageKind.{MessageKind}
 use Rattle.qmux_frame.specs.declared.kind.MessageKind.TheVariants as kind
-use Rattle.qmux_frame.specs.Head.{is_control, client_of}
+use Rattle.qmux_frame.specs.Head.{is_control, cid_of}
 use Rattle.qmux_frame.specs.Kind.{framed_kind}
 use Rattle.qmux_frame.specs.Control.{is_sync}
 use Rattle.proxy_history.specs.Items.{Item, Joins, Says, GoesBad, Leaves, ModemSays, ModemIsLost, ModemReturns, ClockShows, Takes, ModemTakes}
@@ -16,7 +16,7 @@ use Rattle.proxy_history.specs.Modem.{modem_queue}
 use Rattle.proxy_history.proofs.Sound.{forwarded_from_in_use}
 use Rattle.qmi_proxy.specs.Limits.{connection_limit}
 use Rattle.qmi_proxy.specs.Setup.{Setup}
-use Rattle.qmi_proxy.specs.Messages.{uses_id, used_service, used_client}
+use Rattle.qmi_proxy.specs.Messages.{uses_id, used_service, used_cid}
 use Rattle.qmi_proxy.specs.Text.{note, view_of}
 use Rattle.qmi_proxy.specs.Clients.{holder_for, wire, decision_on, request_of, grant_if, forward, judge}
 use Rattle.qmi_proxy.specs.FromModem.{IdChange, NoChange, Grants, Collides, Frees, id_change, holder_of_brought, answer, answer_to, answer_or_late, respond, first_answered_by, abort_all, receivers, tell, hear_as}
@@ -89,7 +89,7 @@ module _ (alone : Bool) (c : ℕ) (s : Setup) where
       (tt, F.fits),
     )
 
-    granted_fits : (b : Bool) (facts : List Fact) → (b ≡ true → is_other d (holder (used_service m) (used_client m) facts) ≡ false) → FitFacts facts → FitFacts (grant_if b d m facts)
+    granted_fits : (b : Bool) (facts : List Fact) → (b ≡ true → is_other d (holder (used_service m) (used_cid m) facts) ≡ false) → FitFacts facts → FitFacts (grant_if b d m facts)
     granted_fits true facts free fits = ((acts_own alone d facts from, free refl), fits)
     granted_fits false facts free fits = fits
 
@@ -97,7 +97,7 @@ module _ (alone : Bool) (c : ℕ) (s : Setup) where
     unfolding held
     forward_fits n free =
         granted_fits (uses_id m) (Forwarded (request_of s d m n before) ∷ before)
-        (λ e. sym (ap (λ (b : Bool). is_other d (if b then holder (used_service m) (used_client m) past else None)) e) ∙ free) (forwarded_fits n)
+        (λ e. sym (ap (λ (b : Bool). is_other d (if b then holder (used_service m) (used_cid m) past else None)) e) ∙ free) (forwarded_fits n)
 
     judge_fits : (decision : Decision) → ((n : ℕ) → decision ≡ Forwards n → is_other d (holder_for m past) ≡ false) → FitFacts (judge s d m decision past)
     judge_fits (Replies verdict) free = noted_fits (message_count d past + 1) verdict
@@ -108,11 +108,11 @@ module _ (alone : Bool) (c : ℕ) (s : Setup) where
 
   -- ---- messages of the modem ----
 
-  answer_fits : (r : Request) (m : List ℕ) (change : IdChange) (past : List Fact) → FitFacts past → ((service client : ℕ) → change ≡ Grants service client → MayBe alone c (Granted r.conn service client) past) → FitFacts (answer s.device r m change past)
+  answer_fits : (r : Request) (m : List ℕ) (change : IdChange) (past : List Fact) → FitFacts past → ((service cid : ℕ) → change ≡ Grants service cid → MayBe alone c (Granted r.conn service cid) past) → FitFacts (answer s.device r m change past)
   answer_fits r m NoChange past fits may = fit_ends alone c s.device (r.conn ∷ []) (Answered r m ∷ past) (tt, fits)
-  answer_fits r m (Grants service client) past fits may = fit_ends alone c s.device (r.conn ∷ []) (Answered r m ∷ Granted r.conn service client ∷ past) (tt, (may service client refl, fits))
+  answer_fits r m (Grants service cid) past fits may = fit_ends alone c s.device (r.conn ∷ []) (Answered r m ∷ Granted r.conn service cid ∷ past) (tt, (may service cid refl, fits))
   answer_fits r m Collides past fits may = fit_ends alone c s.device (r.conn ∷ []) (IdHeld r ∷ past) (tt, fits)
-  answer_fits r m (Frees service client) past fits may = fit_ends alone c s.device (r.conn ∷ []) (Answered r m ∷ Freed r.conn service client ∷ past) (tt, (tt, fits))
+  answer_fits r m (Frees service cid) past fits may = fit_ends alone c s.device (r.conn ∷ []) (Answered r m ∷ Freed r.conn service cid ∷ past) (tt, (tt, fits))
 
   respond_fits : (found : Option Request) (m : List ℕ) (past : List Fact) → FitFacts past → first_answered_by m (in_use past) ≡ found → FitFacts (respond s.device found m past)
   respond_fits None m past fits is = (tt, fits)
@@ -122,7 +122,7 @@ module _ (alone : Bool) (c : ℕ) (s : Setup) where
       λ own. elim own as (λ own. (r.conn == 0) ≡ own → FitFacts (answer_to own s.device r m past)) [
         | true ↦ λ e. (tt, fit_ends alone c s.device (r.conn ∷ []) (Answered r m ∷ past) (tt, fits))
         | false ↦ λ e. answer_fits r m (id_change r.conn r.message m (holder_of_brought m past)) past fits
-            (λ service client f. (acts_later alone r.conn asked.0 past e asked.1.0, change_free r.conn r.message m past service client f))
+            (λ service cid f. (acts_later alone r.conn asked.0 past e asked.1.0, change_free r.conn r.message m past service cid f))
       ]
       in
       elim (is_pending r past) as (λ b. FitFacts (answer_or_late s.device b r m past)) [ true ↦ to (r.conn == 0) refl | false ↦ (tt, fits) ]
@@ -134,7 +134,7 @@ module _ (alone : Bool) (c : ℕ) (s : Setup) where
   hear_fits (Some kind.Response) m past F = respond_fits (first_answered_by m (in_use past)) m past F.fits refl
   hear_fits (Some kind.Indication) m past F =
       either (is_sync m) past (tell s.device m (Reset ∷ abort_all s.device past)) _ (tell_fits m (Reset ∷ abort_all s.device past) (tt, (aborts-part s.device c past F).fit.fits))
-      (either (not (is_control m) && client_of m == 0) past (Stray ∷ past) (tell s.device m past) (tt, F.fits) (tell_fits m past F.fits))
+      (either (not (is_control m) && cid_of m == 0) past (Stray ∷ past) (tell s.device m past) (tt, F.fits) (tell_fits m past F.fits))
   hear_fits (Some kind.Request) m past F = (tt, F.fits)
   hear_fits None m past F = (tt, F.fits)
 

@@ -33,7 +33,7 @@ general_present c [] all = refl
 general_present c (Reset ∷ facts) all = general_present c facts all.1
 general_present c (ModemLost ∷ facts) all = general_present c facts all.1
 general_present c (ModemReturned ∷ facts) all = general_present c facts all.1
-general_present c (Freed d service client ∷ facts) all = general_present c facts all.1
+general_present c (Freed d service cid ∷ facts) all = general_present c facts all.1
 general_present c (_ ∷ facts) all = absurd (let clash : false ≡ true = all.0 in cc)
 
 general_in_use : (facts : List Fact) → AreGeneral facts → in_use facts ≡ []
@@ -42,7 +42,7 @@ general_in_use [] all = refl
 general_in_use (Reset ∷ facts) all = refl
 general_in_use (ModemLost ∷ facts) all = refl
 general_in_use (ModemReturned ∷ facts) all = general_in_use facts all.1
-general_in_use (Freed d service client ∷ facts) all = general_in_use facts all.1
+general_in_use (Freed d service cid ∷ facts) all = general_in_use facts all.1
 general_in_use (_ ∷ facts) all = absurd (let clash : false ≡ true = all.0 in cc)
 
 general_pending : (facts : List Fact) → AreGeneral facts → pending facts ≡ []
@@ -51,7 +51,7 @@ general_pending [] all = refl
 general_pending (Reset ∷ facts) all = refl
 general_pending (ModemLost ∷ facts) all = refl
 general_pending (ModemReturned ∷ facts) all = general_pending facts all.1
-general_pending (Freed d service client ∷ facts) all = general_pending facts all.1
+general_pending (Freed d service cid ∷ facts) all = general_pending facts all.1
 general_pending (_ ∷ facts) all = absurd (let clash : false ≡ true = all.0 in cc)
 
 skipped : (b more : Bool) (facts others : List Fact) → b ≡ false → (if b && more then facts else others) ≡ others

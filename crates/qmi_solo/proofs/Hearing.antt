@@ -23,7 +23,7 @@ use Rattle.proxy_solo.specs.Part as alone_part
 use Rattle.proxy_history.specs.Sound.{IsSound, IsParty}
 use Rattle.qmi_proxy.specs.Limits.{qmi_limits}
 use Rattle.qmi_proxy.specs.Setup.{Setup}
-use Rattle.qmi_proxy.specs.Messages.{value_of, has_length, byte_of, used_service, used_client, is_success}
+use Rattle.qmi_proxy.specs.Messages.{value_of, has_length, byte_of, used_service, used_cid, is_success}
 use Rattle.qmi_proxy.specs.Text.{blank, note}
 use Rattle.qmi_proxy.specs.FromModem.{IdChange, NoChange, Grants, Collides, Frees, granted_unless, id_change, brings_id, holder_of_brought, answer_to, answer_or_late, respond, first_answered_by, abort_all, receivers, tell, indicate, hear_as, hear_modem}
 use Rattle.qmux_frame.proofs.Framed.{framed_long, responses_framed}
@@ -53,21 +53,21 @@ says_success value = outcome.is_success (option_and_then outcome_of value)
 abbrev change_of : List ℕ → Option (List ℕ) → Option (List ℕ) → Bool → IdChange
 change_of request id result other =
     if is_allocate request && says_success result && has_length 2 id && not (byte_of 0 id == 0) && not (byte_of 1 id == 0) && not (byte_of 1 id == 255) then granted_unless other (byte_of 0 id) (byte_of 1 id)
-    else if is_release request && says_success result then Frees (used_service request) (used_client request)
+    else if is_release request && says_success result then Frees (used_service request) (used_cid request)
     else NoChange
 
-unless_other : (brings other : Bool) (service client : ℕ) (else_change : IdChange) → (if brings then granted_unless other service client else else_change) ≢ Collides
-    → (if brings then granted_unless other service client else else_change) ≡ (if brings then granted_unless false service client else else_change)
-unless_other true true service client else_change differs = absurd (differs refl)
-unless_other true false service client else_change differs = refl
-unless_other false other service client else_change differs = refl
+unless_other : (brings other : Bool) (service cid : ℕ) (else_change : IdChange) → (if brings then granted_unless other service cid else else_change) ≢ Collides
+    → (if brings then granted_unless other service cid else else_change) ≡ (if brings then granted_unless false service cid else else_change)
+unless_other true true service cid else_change differs = absurd (differs refl)
+unless_other true false service cid else_change differs = refl
+unless_other false other service cid else_change differs = refl
 
 module _ (s : Setup) (c : ℕ) where
   fair_answer : (r : Request) (m : List ℕ) (change : IdChange) (facts : List Fact) → AreFair (known_answer s.device c r m change facts) → (change ≢ Collides) × AreFair facts
   fair_answer r m NoChange facts fair = ((λ e. cc), (fair_end s.device c (Answered r m ∷ facts) fair).1)
-  fair_answer r m (Grants service client) facts fair = ((λ e. cc), (fair_end s.device c (Answered r m ∷ Granted r.conn service client ∷ facts) fair).1.1)
+  fair_answer r m (Grants service cid) facts fair = ((λ e. cc), (fair_end s.device c (Answered r m ∷ Granted r.conn service cid ∷ facts) fair).1.1)
   fair_answer r m Collides facts fair = absurd (let clash : true ≡ false = (fair_end s.device c (IdHeld r ∷ facts) fair).0 in cc)
-  fair_answer r m (Frees service client) facts fair = ((λ e. cc), (fair_end s.device c (Answered r m ∷ Freed r.conn service client ∷ facts) fair).1.1)
+  fair_answer r m (Frees service cid) facts fair = ((λ e. cc), (fair_end s.device c (Answered r m ∷ Freed r.conn service cid ∷ facts) fair).1.1)
 
   known_late : Bool → Request → List ℕ → IdChange → List Fact → List Fact
   known_late true r m after facts = known_answer s.device c r m after facts
@@ -88,7 +88,7 @@ module _ (s : Setup) (c : ℕ) where
 
   to_elsewhere : (own : Bool) (r : Request) (m : List ℕ) (past : List Fact) → (0 == c) ≡ false → (r.conn == c) ≡ false → part c (answer_to own s.device r m past) ≡ part c past
   to_elsewhere true r m past client theirs =
-      freed_same s.device c client (used_service r.message) (used_client r.message) (note s.device (Answered r m) past)
+      freed_same s.device c client (used_service r.message) (used_cid r.message) (note s.device (Answered r m) past)
       ∙ noted s.device c (Answered r m) past (only c r.conn)
       ∙ ap (λ (t : Bool). if t then end_known s.device c (Answered (as_sent r) (blank m) ∷ part c past) else part c past) theirs
   to_elsewhere false r m past client theirs =
@@ -164,7 +164,7 @@ module _ (s : Setup) (c : ℕ) where
           let nobody : is_other q.conn (holder_of_brought later own) ≡ false =
           subst (λ (x : ℕ). is_other x (holder_of_brought later own) ≡ false) (sym (eqb-true q.conn c T.mine)) (nobody_else c (byte_of 0 (value_of 0x01 later)) (byte_of 1 (value_of 0x01 later)) (held own) (held_mine c own G there))
           in
-          unless_other (brings_id r.message m) (is_other r.conn (holder_of_brought m past)) (byte_of 0 (value_of 0x01 m)) (byte_of 1 (value_of 0x01 m)) (if is_release r.message && is_success m then Frees (used_service r.message) (used_client r.message) else NoChange) differs
+          unless_other (brings_id r.message m) (is_other r.conn (holder_of_brought m past)) (byte_of 0 (value_of 0x01 m)) (byte_of 1 (value_of 0x01 m)) (if is_release r.message && is_success m then Frees (used_service r.message) (used_cid r.message) else NoChange) differs
           ∙ ap (λ (v : Option (List ℕ)). change_of r.message v (value_of 0x02 m) false) (sym (as_before.value 0x01))
           ∙ ap (λ (v : Option (List ℕ)). change_of r.message (value_of 0x01 later) v false) (sym (as_before.value 0x02))
           ∙ ap (λ (l : List ℕ). change_of l (value_of 0x01 later) (value_of 0x02 later) false) (ap (λ (x : Request). x.message) (sym T.same))

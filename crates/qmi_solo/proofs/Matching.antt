@@ -1,7 +1,7 @@
 -- The request that an answer belongs to is found where the client is alone.
 use Rattle.std.proofs.Common.{◌≡◌, ℕ, ◌≤◌, Bool, true, ◌&&◌, ◌==◌, List, length, ap, sym, ◌∙◌, Some}
 use Rattle.std.proofs.lemmas.Bool.{eq-eqb, and_parts}
-use Rattle.qmux_frame.specs.Head.{service_of, client_of, number_of}
+use Rattle.qmux_frame.specs.Head.{service_of, cid_of, number_of}
 use Rattle.qmux_frame.specs.Reply.{with_number}
 use Rattle.proxy_history.specs.Facts.{Fact, Request}
 use Rattle.proxy_history.specs.Requests.{in_use}
@@ -30,12 +30,12 @@ pub twin_answered : (c : ℕ) (own : List Fact) (m : List ℕ) (r : Request) →
 twin_answered c own m r long G T answers =
     let later : List ℕ = with_number T.request.number m in
     let alike = renumbered T.request.number m long in
-    let parts = and_parts (service_of r.message == service_of m && (client_of r.message == client_of m)) (r.number == number_of m) answers in
+    let parts = and_parts (service_of r.message == service_of m && (cid_of r.message == cid_of m)) (r.number == number_of m) answers in
     let message : T.request.message ≡ r.message = ap (λ (y : Request). y.message) T.same in
-    let head : (service_of T.request.message == service_of later && (client_of T.request.message == client_of later)) ≡ true =
-    ap (λ (l : List ℕ). service_of l == service_of later && (client_of l == client_of later)) message
-    ∙ ap (λ (n : ℕ). service_of r.message == n && (client_of r.message == client_of later)) alike.service
-    ∙ ap (λ (n : ℕ). service_of r.message == service_of m && (client_of r.message == n)) alike.client
+    let head : (service_of T.request.message == service_of later && (cid_of T.request.message == cid_of later)) ≡ true =
+    ap (λ (l : List ℕ). service_of l == service_of later && (cid_of l == cid_of later)) message
+    ∙ ap (λ (n : ℕ). service_of r.message == n && (cid_of r.message == cid_of later)) alike.service
+    ∙ ap (λ (n : ℕ). service_of r.message == service_of m && (cid_of r.message == n)) alike.cid
     ∙ parts.0
     in
     let number : (T.request.number == number_of later) ≡ true = eq-eqb T.request.number (number_of later) (sym alike.number) in

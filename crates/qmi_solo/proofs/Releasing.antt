@@ -30,21 +30,21 @@ module _ (s : Setup) (c : ℕ) where
   still_acts true r past client acts = ⊎_elim (λ mine. absurd (let clash : (0 == c) ≡ true = mine in cc)) (λ own. inr (refl, still_gone c (Forwarded r) past refl own.1)) acts
   still_acts false r past client acts = tt
 
-  module _ {alone : Bool} (k : KeptId) (n : ℕ) (past : List Fact) (F : Fit alone c past) (at : Contains (kept past) k) (free : holder_in k.service k.client (held past) ≡ None) (numbered : number_for_own k past ≡ Some n) where
+  module _ {alone : Bool} (k : KeptId) (n : ℕ) (past : List Fact) (F : Fit alone c past) (at : Contains (kept past) k) (free : holder_in k.service k.cid (held past) ≡ None) (numbered : number_for_own k past ≡ Some n) where
     abbrev r : Request
-    r = own_request s k.service k.client n past
+    r = own_request s k.service k.cid n past
 
     abbrev released : List Fact
     released = releases_one s k n past
 
     one-part : part c released ≡ part c past
     unfolding alone_part.part
-    one-part = ap (λ (b : Bool). fact_if b (Granted 0 k.service k.client) (fact_if b (Forwarded (as_sent r)) (part c past))) F.client
+    one-part = ap (λ (b : Bool). fact_if b (Granted 0 k.service k.cid) (fact_if b (Forwarded (as_sent r)) (part c past))) F.client
 
     one_fits : Fit alone c released
     unfolding in_use last_number held
     one_fits =
-        let parts = some_if s (has_room (length (modem_queue wire past)) (release_of k.service k.client)) (own_number past) n numbered in
+        let parts = some_if s (has_room (length (modem_queue wire past)) (release_of k.service k.cid)) (own_number past) n numbered in
         record {
           client = F.client;
           sound = ((refl, ap (is_other 0) free), (record { serial = refl; sender = refl; number = parts.1 }, F.sound));
@@ -62,7 +62,7 @@ module _ (s : Setup) (c : ℕ) where
   released-part after zero past F = record { same = refl; fit = F }
   released-part {alone} after (suc count) past F = by_id (λ next G. released-part after count next G) (first_due after (now past) (kept past)) refl
     where
-      by_number : ((next : List Fact) → Fit alone c next → Left alone (releases s after count next) next) → (k : KeptId) → Contains (kept past) k → holder_in k.service k.client (held past) ≡ None
+      by_number : ((next : List Fact) → Fit alone c next → Left alone (releases s after count next) next) → (k : KeptId) → Contains (kept past) k → holder_in k.service k.cid (held past) ≡ None
           → (number : Option ℕ) → number_for_own k past ≡ number → Left alone (elim number [ None ↦ past | Some number ↦ releases s after count (releases_one s k number past) ]) past
       by_number rest k at free None is = record { same = refl; fit = F }
       by_number rest k at free (Some n) is =
@@ -74,7 +74,7 @@ module _ (s : Setup) (c : ℕ) where
       by_id rest None is = record { same = refl; fit = F }
       by_id rest (Some k) is =
           by_number rest k (first_kept s (Contains (kept past)) after (now past) (kept past) k (recursion_from_All (Contains (kept past)) (kept past) (All-contains_itself (kept past))) is)
-          (first_kept s (λ k. holder_in k.service k.client (held past) ≡ None) after (now past) (kept past) k (kept_are_nobodys past) is) (number_for_own k past) refl
+          (first_kept s (λ k. holder_in k.service k.cid (held past) ≡ None) after (now past) (kept past) k (kept_are_nobodys past) is) (number_for_own k past) refl
 
   due-part : {alone : Bool} (after : Option ℕ) (past : List Fact) → Fit alone c past → Left alone (release_due s after past) past
   due-part None past F = record { same = refl; fit = F }

@@ -27,7 +27,7 @@ module _ (c : ℕ) where
   general_is_fair (Reset ∷ facts) general = (refl, general_is_fair facts general.1)
   general_is_fair (ModemLost ∷ facts) general = (refl, general_is_fair facts general.1)
   general_is_fair (ModemReturned ∷ facts) general = (refl, general_is_fair facts general.1)
-  general_is_fair (Freed d service client ∷ facts) general = (refl, general_is_fair facts general.1)
+  general_is_fair (Freed d service cid ∷ facts) general = (refl, general_is_fair facts general.1)
   general_is_fair (_ ∷ facts) general = absurd (let clash : false ≡ true = general.0 in cc)
 
   fair_verdict : (d place : ℕ) (m : List ℕ) (verdict : Verdict) → tells_of_others (Said m verdict) ≡ false → refuses (Judged d place m verdict) ≡ false

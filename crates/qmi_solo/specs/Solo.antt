@@ -3,7 +3,7 @@
 use Rattle.std.specs.Prelude.{ℕ, Bool, not, ◌&&◌, ◌||◌, ◌==◌, if◌then◌else◌, List, [], ◌∷◌, Option, Some, None}
 use Rattle.qmux_frame.specs.declared.kind.MessageKind.{MessageKind}
 use Rattle.qmux_frame.specs.declared.kind.MessageKind.TheVariants as kind
-use Rattle.qmux_frame.specs.Head.{is_control, client_of}
+use Rattle.qmux_frame.specs.Head.{is_control, cid_of}
 use Rattle.qmux_frame.specs.Kind.{framed_kind}
 use Rattle.qmux_frame.specs.Control.{is_sync}
 use Rattle.qmux_frame.specs.Reply.{with_number}
@@ -23,7 +23,7 @@ use Rattle.qmi_proxy.specs.History.{qmi_protocol}
 
 -- an indication of another service than 0 that names no client id is for nobody
 abbrev pub names_nobody : List ℕ → Bool
-names_nobody m = not (is_control m) && client_of m == 0
+names_nobody m = not (is_control m) && cid_of m == 0
 
 -- each Sync indication is for it, and each other one that it gets beside the others
 abbrev pub is_told : Setup → ℕ → List ℕ → List Fact → Bool

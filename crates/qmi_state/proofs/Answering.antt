@@ -62,11 +62,11 @@ freed_traffic control number traffic = with_numbers control (frees number (of_co
 freed-held : (control : Bool) (number : ℕ) (traffic : Traffic) (held : List Grant) (kept : List KeptId) → freed_traffic control number (record traffic { held = held; kept = kept }) ≡ record (freed_traffic control number traffic) { held = held; kept = kept }
 freed-held control number traffic held kept = ap (λ (n : Numbers). let d : Traffic = record (with_numbers control (frees number n) traffic) { held = held; kept = kept } in d) (of_control-held control traffic held kept)
 
-granted-freed : (control : Bool) (number c service client : ℕ) (traffic : Traffic) → freed_traffic control number (grants_id c service client traffic) ≡ grants_id c service client (freed_traffic control number traffic)
-granted-freed control number c service client traffic = freed-held control number traffic (grants_id c service client traffic).held (grants_id c service client traffic).kept
+granted-freed : (control : Bool) (number c service cid : ℕ) (traffic : Traffic) → freed_traffic control number (grants_id c service cid traffic) ≡ grants_id c service cid (freed_traffic control number traffic)
+granted-freed control number c service cid traffic = freed-held control number traffic (grants_id c service cid traffic).held (grants_id c service cid traffic).kept
 
-given_back-freed : (control : Bool) (number c service client : ℕ) (traffic : Traffic) → freed_traffic control number (frees_id c service client traffic) ≡ frees_id c service client (freed_traffic control number traffic)
-given_back-freed control number c service client traffic = freed-held control number traffic (frees_id c service client traffic).held traffic.kept
+given_back-freed : (control : Bool) (number c service cid : ℕ) (traffic : Traffic) → freed_traffic control number (frees_id c service cid traffic) ≡ frees_id c service cid (freed_traffic control number traffic)
+given_back-freed control number c service cid traffic = freed-held control number traffic (frees_id c service cid traffic).held traffic.kept
 
 module _ (s : Setup) (streams : Streams) where
   abbrev Kept : List Fact → QmiState → Type 0
@@ -114,11 +114,11 @@ module _ (s : Setup) (streams : Streams) where
   unfolding requests_in_use now is_away present dropped last_number ids kept_ids to_modem modem_taken_count view
   kept_stray past x K = keeps_quiet s streams (Stray ∷ past) past x x.beside.traffic (λ d. refl) refl refl refl refl (traffic_is s streams past x K) (regular_more Stray past tt tt tt K.fine) K
 
-  kept_granted : (past : List Fact) (x : QmiState) (c service client : ℕ) → IsParty c past → IsFreeFor c service client past → Kept past x → Kept (Granted c service client ∷ past) (with_traffic (grants_id c service client x.beside.traffic) x)
+  kept_granted : (past : List Fact) (x : QmiState) (c service cid : ℕ) → IsParty c past → IsFreeFor c service cid past → Kept past x → Kept (Granted c service cid ∷ past) (with_traffic (grants_id c service cid x.beside.traffic) x)
   unfolding requests_in_use now is_away present dropped last_number ids kept_ids to_modem modem_taken_count view
-  kept_granted past x c service client party free K =
-      keeps_quiet s streams (Granted c service client ∷ past) past x (grants_id c service client x.beside.traffic) (λ d. refl) refl refl refl refl
-      (ap (grants_id c service client) (traffic_is s streams past x K)) (regular_more (Granted c service client) past (party, free) tt tt K.fine) K
+  kept_granted past x c service cid party free K =
+      keeps_quiet s streams (Granted c service cid ∷ past) past x (grants_id c service cid x.beside.traffic) (λ d. refl) refl refl refl refl
+      (ap (grants_id c service cid) (traffic_is s streams past x K)) (regular_more (Granted c service cid) past (party, free) tt tt K.fine) K
 
   -- ---- an answer to a request that waits ----
 
@@ -140,25 +140,25 @@ module _ (s : Setup) (streams : Streams) where
     is_at : Contains (pending past) r
     is_at = ask_waits past a K.fine at waiting
 
-    answered_by : IsSent past r → (change : IdChange) → ((service client : ℕ) → change ≡ Grants service client → IsFreeFor r.conn service client past) → Kept (answer s.device r m change past) (answers (row_of a) m change x')
+    answered_by : IsSent past r → (change : IdChange) → ((service cid : ℕ) → change ≡ Grants service cid → IsFreeFor r.conn service cid past) → Kept (answer s.device r m change past) (answers (row_of a) m change x')
     unfolding end_overfull pending in_use present view
     answered_by sent NoChange free =
         subst (λ (n : ℕ). Kept (end_if s streams r.conn (Answered r m ∷ past)) (tell r.conn (with_number n m) x')) (sym numbered) (told_answer past x r is_at (request_in_use past a at) placed K m long sent)
-    answered_by sent (Grants service client) free =
-        let before : List Fact = Granted r.conn service client ∷ past in
-        let now_held : Traffic = grants_id r.conn service client x.beside.traffic in
+    answered_by sent (Grants service cid) free =
+        let before : List Fact = Granted r.conn service cid ∷ past in
+        let now_held : Traffic = grants_id r.conn service cid x.beside.traffic in
         let party : IsParty r.conn past = All-contains (λ (q : Request). IsParty q.conn past) (pending past) r (waiting_are_parties qmi_limits past K.fine.sound) is_at in
-        subst (λ (n : ℕ). Kept (end_if s streams r.conn (Answered r m ∷ before)) (tell r.conn (with_number n m) (with_traffic (grants_id r.conn service client x'.beside.traffic) x'))) (sym numbered)
-        (subst (λ (d : Traffic). Kept (end_if s streams r.conn (Answered r m ∷ before)) (tell r.conn (with_number (number_of r.message) m) (with_traffic d x))) (granted-freed (is_control r.message) r.number r.conn service client x.beside.traffic)
-        (told_answer before (with_traffic now_held x) r is_at (request_in_use past a at) placed (kept_granted past x r.conn service client party (free service client refl) K) m long sent))
+        subst (λ (n : ℕ). Kept (end_if s streams r.conn (Answered r m ∷ before)) (tell r.conn (with_number n m) (with_traffic (grants_id r.conn service cid x'.beside.traffic) x'))) (sym numbered)
+        (subst (λ (d : Traffic). Kept (end_if s streams r.conn (Answered r m ∷ before)) (tell r.conn (with_number (number_of r.message) m) (with_traffic d x))) (granted-freed (is_control r.message) r.number r.conn service cid x.beside.traffic)
+        (told_answer before (with_traffic now_held x) r is_at (request_in_use past a at) placed (kept_granted past x r.conn service cid party (free service cid refl) K) m long sent))
     answered_by sent Collides free =
         subst (λ (l : List ℕ). Kept (end_if s streams r.conn (IdHeld r ∷ past)) (tell r.conn l x')) (sym replied) (told_held past x r is_at (request_in_use past a at) placed K sent)
-    answered_by sent (Frees service client) free =
-        let before : List Fact = Freed r.conn service client ∷ past in
-        let now_held : Traffic = frees_id r.conn service client x.beside.traffic in
-        subst (λ (n : ℕ). Kept (end_if s streams r.conn (Answered r m ∷ before)) (tell r.conn (with_number n m) (with_traffic (frees_id r.conn service client x'.beside.traffic) x'))) (sym numbered)
-        (subst (λ (d : Traffic). Kept (end_if s streams r.conn (Answered r m ∷ before)) (tell r.conn (with_number (number_of r.message) m) (with_traffic d x))) (given_back-freed (is_control r.message) r.number r.conn service client x.beside.traffic)
-        (told_answer before (with_traffic now_held x) r is_at (request_in_use past a at) placed (kept_given_back s streams past x r.conn service client K) m long sent))
+    answered_by sent (Frees service cid) free =
+        let before : List Fact = Freed r.conn service cid ∷ past in
+        let now_held : Traffic = frees_id r.conn service cid x.beside.traffic in
+        subst (λ (n : ℕ). Kept (end_if s streams r.conn (Answered r m ∷ before)) (tell r.conn (with_number n m) (with_traffic (frees_id r.conn service cid x'.beside.traffic) x'))) (sym numbered)
+        (subst (λ (d : Traffic). Kept (end_if s streams r.conn (Answered r m ∷ before)) (tell r.conn (with_number (number_of r.message) m) (with_traffic d x))) (given_back-freed (is_control r.message) r.number r.conn service cid x.beside.traffic)
+        (told_answer before (with_traffic now_held x) r is_at (request_in_use past a at) placed (kept_given_back s streams past x r.conn service cid K) m long sent))
 
     change_here : change_by (row_of a).conn (row_of a).note m (holder_brought m x'.beside.traffic) ≡ id_change r.conn r.message m (holder_of_brought m past)
     change_here =
@@ -169,7 +169,7 @@ module _ (s : Setup) (streams : Streams) where
     answered_now : IsSent past r → Kept (answer s.device r m (id_change r.conn r.message m (holder_of_brought m past)) past) (answers (row_of a) m (change_by (row_of a).conn (row_of a).note m (holder_brought m x'.beside.traffic)) x')
     answered_now sent =
         subst (λ (change : IdChange). Kept (answer s.device r m (id_change r.conn r.message m (holder_of_brought m past)) past) (answers (row_of a) m change x')) (sym change_here)
-        (answered_by sent (id_change r.conn r.message m (holder_of_brought m past)) (λ service client e. change_free r.conn r.message m past service client e))
+        (answered_by sent (id_change r.conn r.message m (holder_of_brought m past)) (λ service cid e. change_free r.conn r.message m past service cid e))
 
     -- whoever asked
     pub answered_to : (own : Bool) → (r.conn == 0) ≡ own → Kept (answer_to own s.device r m past) (answers_sender own (row_of a) m x')

@@ -7,7 +7,7 @@ use Rattle.qmi_proxy.specs.Releases.{is_before, nearer, first_due}
 use Rattle.holders.specs.Kept.{is_due, is_kept_before, FirstDue}
 
 abbrev pub id_of : KeptId → ℕ × ℕ
-id_of k = (k.service, k.client)
+id_of k = (k.service, k.cid)
 
 abbrev pub id_in : Option KeptId → Option (ℕ × ℕ)
 id_in None = None
@@ -36,22 +36,22 @@ module _ (after time : ℕ) where
     at = (zero, omega arith, refl);
     due = due;
     first = λ m at comes.
-        ⊎_elim (λ (is : k ≡ m). subst (λ (n : KeptId). is_kept_before k.service k.client n ≡ false) is (not_itself k.service k.client))
-        (λ (rest : Contains ids m). not_back k.service k.client l.service l.client m.service m.client e (F.first m rest comes)) (Contains-cons_cases m k ids at);
+        ⊎_elim (λ (is : k ≡ m). subst (λ (n : KeptId). is_kept_before k.service k.cid n ≡ false) is (not_itself k.service k.cid))
+        (λ (rest : Contains ids m). not_back k.service k.cid l.service l.cid m.service m.cid e (F.first m rest comes)) (Contains-cons_cases m k ids at);
   }
   by_order k l ids false e due F = record {
     since = F.since;
-    at = Contains-cons (record { service = l.service; client = l.client; since = F.since }) k ids F.at;
+    at = Contains-cons (record { service = l.service; cid = l.cid; since = F.since }) k ids F.at;
     due = F.due;
     first = λ m at comes.
-        ⊎_elim (λ (is : k ≡ m). subst (λ (n : KeptId). is_kept_before l.service l.client n ≡ false) is e) (λ (rest : Contains ids m). F.first m rest comes) (Contains-cons_cases m k ids at);
+        ⊎_elim (λ (is : k ≡ m). subst (λ (n : KeptId). is_kept_before l.service l.cid n ≡ false) is e) (λ (rest : Contains ids m). F.first m rest comes) (Contains-cons_cases m k ids at);
   }
 
   by_test : (k : KeptId) (ids : List KeptId) (b : Bool) (found : Option KeptId) → IsDue k b → FirstDue after time ids (id_in found) → FirstDue after time (k ∷ ids) (id_in (nearer b k found))
   by_test k ids false None e none = λ m at. ⊎_elim (λ (is : k ≡ m). subst (λ (n : KeptId). is_due after time n ≡ false) is e) (λ (rest : Contains ids m). none m rest) (Contains-cons_cases m k ids at)
   by_test k ids false (Some l) e F = record {
     since = F.since;
-    at = Contains-cons (record { service = l.service; client = l.client; since = F.since }) k ids F.at;
+    at = Contains-cons (record { service = l.service; cid = l.cid; since = F.since }) k ids F.at;
     due = F.due;
     first = λ m at comes.
         ⊎_elim (λ (is : k ≡ m). absurd (let clash : is_due after time m ≡ false = subst (λ (n : KeptId). is_due after time n ≡ false) is e in cc)) (λ (rest : Contains ids m). F.first m rest comes) (Contains-cons_cases m k ids at);
@@ -61,7 +61,7 @@ module _ (after time : ℕ) where
     at = (zero, omega arith, refl);
     due = e;
     first = λ m at comes.
-        ⊎_elim (λ (is : k ≡ m). subst (λ (n : KeptId). is_kept_before k.service k.client n ≡ false) is (not_itself k.service k.client))
+        ⊎_elim (λ (is : k ≡ m). subst (λ (n : KeptId). is_kept_before k.service k.cid n ≡ false) is (not_itself k.service k.cid))
         (λ (rest : Contains ids m). absurd (let clash : is_due after time m ≡ false = none m rest in cc)) (Contains-cons_cases m k ids at);
   }
   by_test k ids true (Some l) e F = by_order k l ids (is_before k l) refl e F
@@ -77,13 +77,13 @@ module _ (after time : ℕ) where
       → (found same : Option (ℕ × ℕ)) → FirstDue after time one found → FirstDue after time other same → found ≡ same
   one_first one other to from None None F G = refl
   one_first one other to from None (Some id) F G =
-      let there : KeptId = record { service = id.0; client = id.1; since = G.since } in
+      let there : KeptId = record { service = id.0; cid = id.1; since = G.since } in
       absurd (let clash : is_due after time there ≡ false = F there (from there G.at) in let due : is_due after time there ≡ true = G.due in cc)
   one_first one other to from (Some id) None F G =
-      let there : KeptId = record { service = id.0; client = id.1; since = F.since } in
+      let there : KeptId = record { service = id.0; cid = id.1; since = F.since } in
       absurd (let clash : is_due after time there ≡ false = G there (to there F.at) in let due : is_due after time there ≡ true = F.due in cc)
   one_first one other to from (Some id) (Some second) F G =
-      let here : KeptId = record { service = id.0; client = id.1; since = F.since } in
-      let there : KeptId = record { service = second.0; client = second.1; since = G.since } in
+      let here : KeptId = record { service = id.0; cid = id.1; since = F.since } in
+      let there : KeptId = record { service = second.0; cid = second.1; since = G.since } in
       let same = neither id.0 id.1 second.0 second.1 (G.first here (to here F.at) F.due) (F.first there (from there G.at) G.due) in
       ap (λ (n : ℕ). let o : Option (ℕ × ℕ) = Some (n, id.1) in o) same.0 ∙ ap (λ (n : ℕ). let o : Option (ℕ × ℕ) = Some (second.0, n) in o) same.1

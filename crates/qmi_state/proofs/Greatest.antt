@@ -4,7 +4,7 @@ use Rattle.number_space.specs.Table.{first_due}
 use Rattle.qmux_frame.specs.Frame.{size_of}
 use Rattle.qmux_frame.specs.declared.kind.MessageKind.{MessageKind}
 use Rattle.qmux_frame.specs.declared.kind.MessageKind.TheVariants as kind
-use Rattle.qmux_frame.specs.Head.{is_control, client_of, service_of, number_of}
+use Rattle.qmux_frame.specs.Head.{is_control, cid_of, service_of, number_of}
 use Rattle.qmux_frame.specs.Control.{is_sync}
 use Rattle.qmux_frame.specs.Kind.{framed_kind}
 use Rattle.proxy_history.specs.Events.{Event, greatest_after}
@@ -53,9 +53,9 @@ expired time x = expired_in _ false time (expires_space true time x) ∙ expired
 
 answered : (row : Row) (m : List ℕ) (change : IdChange) (x : QmiState) → IsAsBefore x (answers row m change x)
 answered row m NoChange x = told row.conn _ x
-answered row m (Grants service client) x = told row.conn _ (with_traffic (grants_id row.conn service client x.beside.traffic) x)
+answered row m (Grants service cid) x = told row.conn _ (with_traffic (grants_id row.conn service cid x.beside.traffic) x)
 answered row m Collides x = told row.conn _ x
-answered row m (Frees service client) x = told row.conn _ (with_traffic (frees_id row.conn service client x.beside.traffic) x)
+answered row m (Frees service cid) x = told row.conn _ (with_traffic (frees_id row.conn service cid x.beside.traffic) x)
 
 answered_to : (own : Bool) (row : Row) (m : List ℕ) (x : QmiState) → IsAsBefore x (answers_sender own row m x)
 answered_to true row m x = refl
@@ -80,12 +80,12 @@ told_holder (Some c) m x = told c m x
 indicated : (m : List ℕ) (x : QmiState) → IsAsBefore x (indicates m x)
 indicated m x =
     either (is_control m) x _ _ (told_all m (opened_ones x.table.present) x)
-    (either (client_of m == 255) x _ _ (told_all m (holders_of (service_of m) x.beside.traffic.held x.table.present) x) (told_holder (holder_in (service_of m) (client_of m) x.beside.traffic.held) m x))
+    (either (cid_of m == 255) x _ _ (told_all m (holders_of (service_of m) x.beside.traffic.held x.table.present) x) (told_holder (holder_in (service_of m) (cid_of m) x.beside.traffic.held) m x))
 
 indication : (m : List ℕ) (x : QmiState) → IsAsBefore x (hears_indication m x)
 indication m x =
     either (is_sync m) x _ _ (indicated m (forgets_all (aborts x)) ∙ expired _ x)
-    (either (not (is_control m) && client_of m == 0) x _ _ refl (indicated m x))
+    (either (not (is_control m) && cid_of m == 0) x _ _ refl (indicated m x))
 
 heard : (m : List ℕ) (x : QmiState) → IsAsBefore x (hears_modem m x)
 heard m x = by (framed_kind m)

@@ -1,7 +1,7 @@
 -- What is kept of a request says of its message what its answer needs.
 use Rattle.std.proofs.Common.{◌≡◌, ℕ, ◌<◌, ◌==◌, List, take, slice_index, refl, ap, arith, Option}
 use Rattle.std.proofs.lemmas.List.{get_or-take}
-use Rattle.qmux_frame.specs.Head.{service_of, is_control, client_of, number_of}
+use Rattle.qmux_frame.specs.Head.{service_of, is_control, cid_of, number_of}
 use Rattle.qmux_frame.specs.Control.{allocate, is_command, release}
 use Rattle.qmux_frame.specs.Reply.{result_reply}
 use Rattle.qmi_proxy.specs.FromModem.{id_change}
@@ -14,7 +14,7 @@ kept m k within = get_or-take 12 m k 0 within
 pub service_kept : (m : List ℕ) → service_of (take 12 m) ≡ service_of m
 service_kept m = kept m 4 (omega arith)
 
-pub client_kept : (m : List ℕ) → client_of (take 12 m) ≡ client_of m
+pub client_kept : (m : List ℕ) → cid_of (take 12 m) ≡ cid_of m
 client_kept m = kept m 5 (omega arith)
 
 control_kept : (m : List ℕ) → is_control (take 12 m) ≡ is_control m

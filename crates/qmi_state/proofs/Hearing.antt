@@ -22,7 +22,7 @@ use Rattle.proxy_state.proofs.Keeping.{found_there}
 use Rattle.proxy_state.proofs.Replying as replying
 use Rattle.qmi_proxy.specs.Setup.{Setup}
 use Rattle.qmi_proxy.specs.Spaces.{space_of, control_space, service_space, limit_of, top_of}
-use Rattle.qmi_proxy.specs.Messages.{uses_id, used_service, used_client}
+use Rattle.qmi_proxy.specs.Messages.{uses_id, used_service, used_cid}
 use Rattle.qmi_proxy.specs.OwnReplies.{step, is_open, view_decides}
 use Rattle.qmi_proxy.specs.Text.{view_of}
 use Rattle.qmi_proxy.specs.Clients.{wire, number_for, holder_for, has_room, deadline_of, shared_decision_of, decision_on, request_of, grant_if, forward, judge}
@@ -60,7 +60,7 @@ number_is m past =
 -- ---- what is decided ----
 
 holder_same : (m : List ℕ) (past : List Fact) → holder_for m past ≡ holder_at m (traffic_of past)
-holder_same m past = elim (uses_id m) as (λ b. (if b then holder (used_service m) (used_client m) past else None) ≡ (if b then holder_in (used_service m) (used_client m) (ids past) else None)) [ true ↦ sym (holder_is (used_service m) (used_client m) past) | false ↦ refl ]
+holder_same m past = elim (uses_id m) as (λ b. (if b then holder (used_service m) (used_cid m) past else None) ≡ (if b then holder_in (used_service m) (used_cid m) (ids past) else None)) [ true ↦ sym (holder_is (used_service m) (used_cid m) past) | false ↦ refl ]
 
 share_same : (c : ℕ) (m : List ℕ) (past : List Fact) → has_share share_limit c (space_of m) past ≡ share_of c m (traffic_of past)
 share_same c m past =
@@ -133,12 +133,12 @@ module _ (s : Setup) (streams : Streams) where
       unfolding present dropped view now is_away
       kept_sent = keeps_quiet s streams sent after x _ (λ d. refl) refl refl refl refl traffic_sent regular_sent kept_judged
 
-      kept_granted_if : (b : Bool) (y : QmiState) → (b ≡ true → IsFreeFor c (used_service m) (used_client m) past) → Kept sent y → Kept (grant_if b c m sent) (with_traffic (record y.beside.traffic { held = granted_if b c m y.beside.traffic.held; kept = kept_if b m y.beside.traffic.kept }) y)
+      kept_granted_if : (b : Bool) (y : QmiState) → (b ≡ true → IsFreeFor c (used_service m) (used_cid m) past) → Kept sent y → Kept (grant_if b c m sent) (with_traffic (record y.beside.traffic { held = granted_if b c m y.beside.traffic.held; kept = kept_if b m y.beside.traffic.kept }) y)
       unfolding present dropped view requests_in_use now is_away last_number ids kept_ids held to_modem modem_taken_count
       kept_granted_if true y free L =
-          keeps_quiet s streams (Granted c (used_service m) (used_client m) ∷ sent) sent y _ (λ d. refl) refl refl refl refl
-          (ap (grants_id c (used_service m) (used_client m)) (traffic_is s streams sent y L))
-          (regular_more (Granted c (used_service m) (used_client m)) sent (party_from_present c sent there, free refl) tt tt L.fine) L
+          keeps_quiet s streams (Granted c (used_service m) (used_cid m) ∷ sent) sent y _ (λ d. refl) refl refl refl refl
+          (ap (grants_id c (used_service m) (used_cid m)) (traffic_is s streams sent y L))
+          (regular_more (Granted c (used_service m) (used_cid m)) sent (party_from_present c sent there, free refl) tt tt L.fine) L
       kept_granted_if false y free L = L
 
       forwards_is : (deadline : ℕ) → deadline ≡ r.deadline

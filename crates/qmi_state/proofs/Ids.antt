@@ -17,17 +17,17 @@ use Rattle.proxy_state.proofs.Rows.{both_ways}
 
 -- the grants of one id
 abbrev of : ℕ → ℕ → List Grant → List Grant
-of service client grants = filter (is_of service client) grants
+of service cid grants = filter (is_of service cid) grants
 
-all_of : (service client : ℕ) (Q : Grant → Type 0) → ((g : Grant) → is_of service client g ≡ true → Q g) → (grants : List Grant) → AllByRecursion Q (of service client grants)
-all_of service client Q h [] = tt
-all_of service client Q h (g ∷ grants) =
-    let step : (b : Bool) → is_of service client g ≡ b → AllByRecursion Q (cond b (g ∷ of service client grants) (of service client grants)) =
-    λ b. elim b as (λ b. is_of service client g ≡ b → AllByRecursion Q (cond b (g ∷ of service client grants) (of service client grants))) [
-      | true ↦ λ e. (h g e, all_of service client Q h grants)
-      | false ↦ λ e. all_of service client Q h grants
+all_of : (service cid : ℕ) (Q : Grant → Type 0) → ((g : Grant) → is_of service cid g ≡ true → Q g) → (grants : List Grant) → AllByRecursion Q (of service cid grants)
+all_of service cid Q h [] = tt
+all_of service cid Q h (g ∷ grants) =
+    let step : (b : Bool) → is_of service cid g ≡ b → AllByRecursion Q (cond b (g ∷ of service cid grants) (of service cid grants)) =
+    λ b. elim b as (λ b. is_of service cid g ≡ b → AllByRecursion Q (cond b (g ∷ of service cid grants) (of service cid grants))) [
+      | true ↦ λ e. (h g e, all_of service cid Q h grants)
+      | false ↦ λ e. all_of service cid Q h grants
     ]
-    in step (is_of service client g) refl
+    in step (is_of service cid g) refl
 
 same_filter : (p : Grant → Bool) (b : Bool) (grants : List Grant) → AllByRecursion (λ g. p g ≡ b) grants → filter p grants ≡ (if b then grants else [])
 same_filter p true [] all = refl
@@ -36,69 +36,69 @@ same_filter p false [] all = refl
 same_filter p false (g ∷ grants) all = ap (λ (t : Bool). cond t (g ∷ filter p grants) (filter p grants)) all.0 ∙ same_filter p false grants all.1
 
 -- the grants of one id all pass a test of ids, or none does
-tested : (s i : ℕ) (test : ℕ → ℕ → Bool) (grants : List Grant) → of s i (filter (λ g. test g.service g.client) grants) ≡ (if test s i then of s i grants else [])
+tested : (s i : ℕ) (test : ℕ → ℕ → Bool) (grants : List Grant) → of s i (filter (λ g. test g.service g.cid) grants) ≡ (if test s i then of s i grants else [])
 tested s i test grants =
-    filter_swap (is_of s i) (λ (g : Grant). test g.service g.client) grants
-    ∙ same_filter (λ (g : Grant). test g.service g.client) (test s i) (of s i grants)
-    (all_of s i (λ g. test g.service g.client ≡ test s i)
-    (λ g e. let parts = and_parts (g.service == s) (g.client == i) e in ap (λ (n : ℕ). test n g.client) (eqb-true g.service s parts.0) ∙ ap (test s) (eqb-true g.client i parts.1)) grants)
+    filter_swap (is_of s i) (λ (g : Grant). test g.service g.cid) grants
+    ∙ same_filter (λ (g : Grant). test g.service g.cid) (test s i) (of s i grants)
+    (all_of s i (λ g. test g.service g.cid ≡ test s i)
+    (λ g e. let parts = and_parts (g.service == s) (g.cid == i) e in ap (λ (n : ℕ). test n g.cid) (eqb-true g.service s parts.0) ∙ ap (test s) (eqb-true g.cid i parts.1)) grants)
 
 before_id : ℕ → ℕ → ℕ → ℕ → Bool
-before_id service client s i = nat_lt s service || (s == service && nat_lt i client)
+before_id service cid s i = nat_lt s service || (s == service && nat_lt i cid)
 
 behind_id : ℕ → ℕ → ℕ → ℕ → Bool
-behind_id service client s i = nat_lt service s || (service == s && nat_lt client i)
+behind_id service cid s i = nat_lt service s || (service == s && nat_lt cid i)
 
 -- another id stands before it or behind it
-one_side : (service client s i : ℕ) → (service == s && (client == i)) ≡ false → behind_id service client s i ≡ not (before_id service client s i)
+one_side : (service cid s i : ℕ) → (service == s && (cid == i)) ≡ false → behind_id service cid s i ≡ not (before_id service cid s i)
 unfolding before_id behind_id
-one_side service client s i other = grind (arith, nat_tests, other)
+one_side service cid s i other = grind (arith, nat_tests, other)
 
-neither_side : (service client s i : ℕ) → (service == s && (client == i)) ≡ true → (before_id service client s i ≡ false) × (behind_id service client s i ≡ false)
+neither_side : (service cid s i : ℕ) → (service == s && (cid == i)) ≡ true → (before_id service cid s i ≡ false) × (behind_id service cid s i ≡ false)
 unfolding before_id behind_id
-neither_side service client s i same =
-    let parts = and_parts (service == s) (client == i) same in
+neither_side service cid s i same =
+    let parts = and_parts (service == s) (cid == i) same in
     let service_same : service ≡ s = eqb-true service s parts.0 in
-    let client_same : client ≡ i = eqb-true client i parts.1 in
+    let client_same : cid ≡ i = eqb-true cid i parts.1 in
     (grind (arith, nat_tests, service_same, client_same), grind (arith, nat_tests, service_same, client_same))
 
-granted_of : (s i c service client : ℕ) (grants : List Grant)
-    → of s i (granted c service client grants) ≡ (if service == s && (client == i) then record { conn = c; service = service; client = client } ∷ [] else of s i grants)
+granted_of : (s i c service cid : ℕ) (grants : List Grant)
+    → of s i (granted c service cid grants) ≡ (if service == s && (cid == i) then record { conn = c; service = service; cid = cid } ∷ [] else of s i grants)
 unfolding before_id behind_id
-granted_of s i c service client grants =
-    let grant : Grant = record { conn = c; service = service; client = client } in
-    let step : (same : Bool) → (service == s && (client == i)) ≡ same
-    → (if before_id service client s i then of s i grants else []) ++ cond same (grant ∷ (if behind_id service client s i then of s i grants else [])) (if behind_id service client s i then of s i grants else []) ≡ (if same then grant ∷ [] else of s i grants) =
-    λ same. elim same as (λ same. (service == s && (client == i)) ≡ same
-    → (if before_id service client s i then of s i grants else []) ++ cond same (grant ∷ (if behind_id service client s i then of s i grants else [])) (if behind_id service client s i then of s i grants else []) ≡ (if same then grant ∷ [] else of s i grants)) [
-      | true ↦ λ e. let none = neither_side service client s i e in
-          ap (λ (b : Bool). (if b then of s i grants else []) ++ grant ∷ (if behind_id service client s i then of s i grants else [])) none.0
+granted_of s i c service cid grants =
+    let grant : Grant = record { conn = c; service = service; cid = cid } in
+    let step : (same : Bool) → (service == s && (cid == i)) ≡ same
+    → (if before_id service cid s i then of s i grants else []) ++ cond same (grant ∷ (if behind_id service cid s i then of s i grants else [])) (if behind_id service cid s i then of s i grants else []) ≡ (if same then grant ∷ [] else of s i grants) =
+    λ same. elim same as (λ same. (service == s && (cid == i)) ≡ same
+    → (if before_id service cid s i then of s i grants else []) ++ cond same (grant ∷ (if behind_id service cid s i then of s i grants else [])) (if behind_id service cid s i then of s i grants else []) ≡ (if same then grant ∷ [] else of s i grants)) [
+      | true ↦ λ e. let none = neither_side service cid s i e in
+          ap (λ (b : Bool). (if b then of s i grants else []) ++ grant ∷ (if behind_id service cid s i then of s i grants else [])) none.0
           ∙ ap (λ (b : Bool). grant ∷ (if b then of s i grants else [])) none.1
       | false ↦ λ e.
-          ap (λ (b : Bool). (if before_id service client s i then of s i grants else []) ++ (if b then of s i grants else [])) (one_side service client s i e)
-          ∙ elim (before_id service client s i) as (λ b. (if b then of s i grants else []) ++ (if not b then of s i grants else []) ≡ of s i grants) [ true ↦ append-nil (of s i grants) | false ↦ refl ]
+          ap (λ (b : Bool). (if before_id service cid s i then of s i grants else []) ++ (if b then of s i grants else [])) (one_side service cid s i e)
+          ∙ elim (before_id service cid s i) as (λ b. (if b then of s i grants else []) ++ (if not b then of s i grants else []) ≡ of s i grants) [ true ↦ append-nil (of s i grants) | false ↦ refl ]
     ]
     in
-    filter-append (is_of s i) (filter (is_before service client) grants) (grant ∷ filter (is_behind service client) grants)
-    ∙ ap (λ (l : List Grant). l ++ of s i (grant ∷ filter (is_behind service client) grants)) (tested s i (before_id service client) grants)
-    ∙ ap (λ (l : List Grant). (if before_id service client s i then of s i grants else []) ++ cond (service == s && (client == i)) (grant ∷ l) l) (tested s i (behind_id service client) grants)
-    ∙ step (service == s && (client == i)) refl
+    filter-append (is_of s i) (filter (is_before service cid) grants) (grant ∷ filter (is_behind service cid) grants)
+    ∙ ap (λ (l : List Grant). l ++ of s i (grant ∷ filter (is_behind service cid) grants)) (tested s i (before_id service cid) grants)
+    ∙ ap (λ (l : List Grant). (if before_id service cid s i then of s i grants else []) ++ cond (service == s && (cid == i)) (grant ∷ l) l) (tested s i (behind_id service cid) grants)
+    ∙ step (service == s && (cid == i)) refl
 
 -- in the history the newest grant is the last
-granted_last_of : (s i c service client : ℕ) (grants : List Grant)
-    → of s i (filter (λ g. not (is_of service client g)) grants ++ record { conn = c; service = service; client = client } ∷ []) ≡ (if service == s && (client == i) then record { conn = c; service = service; client = client } ∷ [] else of s i grants)
-granted_last_of s i c service client grants =
-    let grant : Grant = record { conn = c; service = service; client = client } in
-    let other : ℕ → ℕ → Bool = λ (n : ℕ) (k : ℕ). not (n == service && (k == client)) in
-    let step : (same : Bool) → (service == s && (client == i)) ≡ same → (if other s i then of s i grants else []) ++ cond same (grant ∷ []) [] ≡ (if same then grant ∷ [] else of s i grants) =
-    λ same. elim same as (λ same. (service == s && (client == i)) ≡ same → (if other s i then of s i grants else []) ++ cond same (grant ∷ []) [] ≡ (if same then grant ∷ [] else of s i grants)) [
-      | true ↦ λ e. let swapped : other s i ≡ false = ap not (turned service client s i ∙ e) in ap (λ (b : Bool). (if b then of s i grants else []) ++ grant ∷ []) swapped
-      | false ↦ λ e. let swapped : other s i ≡ true = ap not (turned service client s i ∙ e) in ap (λ (b : Bool). (if b then of s i grants else []) ++ []) swapped ∙ append-nil (of s i grants)
+granted_last_of : (s i c service cid : ℕ) (grants : List Grant)
+    → of s i (filter (λ g. not (is_of service cid g)) grants ++ record { conn = c; service = service; cid = cid } ∷ []) ≡ (if service == s && (cid == i) then record { conn = c; service = service; cid = cid } ∷ [] else of s i grants)
+granted_last_of s i c service cid grants =
+    let grant : Grant = record { conn = c; service = service; cid = cid } in
+    let other : ℕ → ℕ → Bool = λ (n : ℕ) (k : ℕ). not (n == service && (k == cid)) in
+    let step : (same : Bool) → (service == s && (cid == i)) ≡ same → (if other s i then of s i grants else []) ++ cond same (grant ∷ []) [] ≡ (if same then grant ∷ [] else of s i grants) =
+    λ same. elim same as (λ same. (service == s && (cid == i)) ≡ same → (if other s i then of s i grants else []) ++ cond same (grant ∷ []) [] ≡ (if same then grant ∷ [] else of s i grants)) [
+      | true ↦ λ e. let swapped : other s i ≡ false = ap not (turned service cid s i ∙ e) in ap (λ (b : Bool). (if b then of s i grants else []) ++ grant ∷ []) swapped
+      | false ↦ λ e. let swapped : other s i ≡ true = ap not (turned service cid s i ∙ e) in ap (λ (b : Bool). (if b then of s i grants else []) ++ []) swapped ∙ append-nil (of s i grants)
     ]
     in
-    filter-append (is_of s i) (filter (λ (g : Grant). not (is_of service client g)) grants) (grant ∷ [])
+    filter-append (is_of s i) (filter (λ (g : Grant). not (is_of service cid g)) grants) (grant ∷ [])
     ∙ ap (λ (l : List Grant). l ++ of s i (grant ∷ [])) (tested s i other grants)
-    ∙ step (service == s && (client == i)) refl
+    ∙ step (service == s && (cid == i)) refl
   where
     turned : (a b c d : ℕ) → (c == a && (d == b)) ≡ (a == c && (b == d))
     turned a b c d = ap (λ (t : Bool). t && (d == b)) (turn c a) ∙ ap (λ (t : Bool). a == c && t) (turn d b)
@@ -111,14 +111,14 @@ granted_last_of s i c service client grants =
 pub ids_of : (past : List Fact) (s i : ℕ) → of s i (ids past) ≡ of s i (held past)
 unfolding ids kept_ids held
 ids_of [] s i = refl
-ids_of (Granted c service client ∷ past) s i =
-    granted_of s i c service client (ids past)
-    ∙ ap (λ (l : List Grant). if service == s && (client == i) then record { conn = c; service = service; client = client } ∷ [] else l) (ids_of past s i)
-    ∙ sym (granted_last_of s i c service client (held past))
-ids_of (Freed c service client ∷ past) s i =
-    filter_swap (is_of s i) (λ (g : Grant). not (is_of service client g && (c == g.conn))) (ids past)
-    ∙ ap (filter (λ (g : Grant). not (is_of service client g && (c == g.conn)))) (ids_of past s i)
-    ∙ filter_swap (λ (g : Grant). not (is_of service client g && (c == g.conn))) (is_of s i) (held past)
+ids_of (Granted c service cid ∷ past) s i =
+    granted_of s i c service cid (ids past)
+    ∙ ap (λ (l : List Grant). if service == s && (cid == i) then record { conn = c; service = service; cid = cid } ∷ [] else l) (ids_of past s i)
+    ∙ sym (granted_last_of s i c service cid (held past))
+ids_of (Freed c service cid ∷ past) s i =
+    filter_swap (is_of s i) (λ (g : Grant). not (is_of service cid g && (c == g.conn))) (ids past)
+    ∙ ap (filter (λ (g : Grant). not (is_of service cid g && (c == g.conn)))) (ids_of past s i)
+    ∙ filter_swap (λ (g : Grant). not (is_of service cid g && (c == g.conn))) (is_of s i) (held past)
 ids_of (Ended c why ∷ past) s i =
     filter_swap (is_of s i) (λ (g : Grant). not (c == g.conn)) (ids past)
     ∙ ap (filter (λ (g : Grant). not (c == g.conn))) (ids_of past s i)
@@ -142,13 +142,13 @@ holder_of_list s i (g ∷ grants) =
 pub holder_is : (s i : ℕ) (past : List Fact) → holder_in s i (ids past) ≡ holder s i past
 holder_is s i past = holder_of_list s i (ids past) ∙ ap (holder_in s i) (ids_of past s i) ∙ sym (holder_of_list s i (held past))
 
-is_of_itself : (g : Grant) → is_of g.service g.client g ≡ true
-is_of_itself g = ap (λ (b : Bool). b && (g.client == g.client)) (eq-eqb g.service g.service refl) ∙ eq-eqb g.client g.client refl
+is_of_itself : (g : Grant) → is_of g.service g.cid g ≡ true
+is_of_itself g = ap (λ (b : Bool). b && (g.cid == g.cid)) (eq-eqb g.service g.service refl) ∙ eq-eqb g.cid g.cid refl
 
 pub moved : (one other : List Grant) → ((s i : ℕ) → of s i one ≡ of s i other) → (g : Grant) → Contains one g → Contains other g
 moved one other same g at =
-    Contains-filter_from (is_of g.service g.client) other g
-    (subst (λ (l : List Grant). Contains l g) (same g.service g.client) (Contains-filter (is_of g.service g.client) one g at (is_of_itself g)))
+    Contains-filter_from (is_of g.service g.cid) other g
+    (subst (λ (l : List Grant). Contains l g) (same g.service g.cid) (Contains-filter (is_of g.service g.cid) one g at (is_of_itself g)))
 
 held_one : (c s : ℕ) (grants : List Grant) → holds_some c s grants ≡ true → (g : Grant) × Contains grants g × ((g.conn == c && (g.service == s)) ≡ true)
 held_one c s [] e = absurd (cc)

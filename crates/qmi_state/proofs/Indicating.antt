@@ -6,7 +6,7 @@ use Rattle.std.proofs.lemmas.List.{map-id}
 use Rattle.std.proofs.lemmas.List.Elements.{All-from_recursion, filter_agree}
 use Rattle.std.proofs.lemmas.Simd.{map-map}
 use Rattle.connections.specs.Table.{Connection}
-use Rattle.qmux_frame.specs.Head.{service_of, is_control, client_of}
+use Rattle.qmux_frame.specs.Head.{service_of, is_control, cid_of}
 use Rattle.proxy_history.specs.Facts.{Fact, Indicated}
 use Rattle.proxy_history.specs.Connections.{present, dropped, contains}
 use Rattle.proxy_history.specs.Requests.{last_number}
@@ -118,11 +118,11 @@ module _ (s : Setup) (streams : Streams) where
 
     pub kept_indicated : (past : List Fact) (x : QmiState) → Kept past x → Kept (tell_holders s.device m past) (indicates m x)
     kept_indicated past x K =
-        let held_now : holder_in (service_of m) (client_of m) x.beside.traffic.held ≡ holder (service_of m) (client_of m) past = ap (λ (d : Traffic). holder_in (service_of m) (client_of m) d.held) (traffic_is s streams past x K) ∙ holder_is (service_of m) (client_of m) past in
-        let holders : Kept (told_facts (filter (λ c. is_holder c (holder (service_of m) (client_of m) past)) (present past)) past) (tells_holder (holder_in (service_of m) (client_of m) x.beside.traffic.held) m x) =
-        subst (λ (o : Option ℕ). Kept (told_facts (filter (λ c. is_holder c (holder (service_of m) (client_of m) past)) (present past)) past) (tells_holder o m x)) (sym held_now)
-        (subst (Kept (told_facts (filter (λ c. is_holder c (holder (service_of m) (client_of m) past)) (present past)) past)) (holder_told (holder (service_of m) (client_of m) past) past x K)
-        (kept_all (λ c. is_holder c (holder (service_of m) (client_of m) past)) past x K))
+        let held_now : holder_in (service_of m) (cid_of m) x.beside.traffic.held ≡ holder (service_of m) (cid_of m) past = ap (λ (d : Traffic). holder_in (service_of m) (cid_of m) d.held) (traffic_is s streams past x K) ∙ holder_is (service_of m) (cid_of m) past in
+        let holders : Kept (told_facts (filter (λ c. is_holder c (holder (service_of m) (cid_of m) past)) (present past)) past) (tells_holder (holder_in (service_of m) (cid_of m) x.beside.traffic.held) m x) =
+        subst (λ (o : Option ℕ). Kept (told_facts (filter (λ c. is_holder c (holder (service_of m) (cid_of m) past)) (present past)) past) (tells_holder o m x)) (sym held_now)
+        (subst (Kept (told_facts (filter (λ c. is_holder c (holder (service_of m) (cid_of m) past)) (present past)) past)) (holder_told (holder (service_of m) (cid_of m) past) past x K)
+        (kept_all (λ c. is_holder c (holder (service_of m) (cid_of m) past)) past x K))
         in
         let everybody : Kept (told_facts (filter (λ c. holds_some c (service_of m) (held past)) (present past)) past) (tell_all m (holders_of (service_of m) x.beside.traffic.held x.table.present) x) =
         subst (λ (l : List ℕ). Kept (told_facts (filter (λ c. holds_some c (service_of m) (held past)) (present past)) past) (tell_all m l x)) (sym (holders_are (service_of m) past x K))
@@ -132,10 +132,10 @@ module _ (s : Setup) (streams : Streams) where
         subst (λ (l : List ℕ). Kept (told_facts (open_ones s.device past) past) (tell_all m l x)) (sym (opened_is past x K)) (kept_all (λ c. is_open s.device (view_of c past)) past x K)
         in
         elim (is_control m) as (λ control. Kept
-        (told_facts (if control then open_ones s.device past else if client_of m == 255 then filter (λ c. holds_some c (service_of m) (held past)) (present past) else filter (λ c. is_holder c (holder (service_of m) (client_of m) past)) (present past)) past)
-        (if control then tell_all m (opened_ones x.table.present) x else if client_of m == 255 then tell_all m (holders_of (service_of m) x.beside.traffic.held x.table.present) x else tells_holder (holder_in (service_of m) (client_of m) x.beside.traffic.held) m x)) [
+        (told_facts (if control then open_ones s.device past else if cid_of m == 255 then filter (λ c. holds_some c (service_of m) (held past)) (present past) else filter (λ c. is_holder c (holder (service_of m) (cid_of m) past)) (present past)) past)
+        (if control then tell_all m (opened_ones x.table.present) x else if cid_of m == 255 then tell_all m (holders_of (service_of m) x.beside.traffic.held x.table.present) x else tells_holder (holder_in (service_of m) (cid_of m) x.beside.traffic.held) m x)) [
           | true ↦ opened
-          | false ↦ elim (client_of m == 255) as (λ all. Kept
-              (told_facts (if all then filter (λ c. holds_some c (service_of m) (held past)) (present past) else filter (λ c. is_holder c (holder (service_of m) (client_of m) past)) (present past)) past)
-              (if all then tell_all m (holders_of (service_of m) x.beside.traffic.held x.table.present) x else tells_holder (holder_in (service_of m) (client_of m) x.beside.traffic.held) m x)) [ true ↦ everybody | false ↦ holders ]
+          | false ↦ elim (cid_of m == 255) as (λ all. Kept
+              (told_facts (if all then filter (λ c. holds_some c (service_of m) (held past)) (present past) else filter (λ c. is_holder c (holder (service_of m) (cid_of m) past)) (present past)) past)
+              (if all then tell_all m (holders_of (service_of m) x.beside.traffic.held x.table.present) x else tells_holder (holder_in (service_of m) (cid_of m) x.beside.traffic.held) m x)) [ true ↦ everybody | false ↦ holders ]
         ]

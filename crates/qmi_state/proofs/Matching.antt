@@ -3,7 +3,7 @@ use Rattle.std.proofs.Common.{◌≡◌, ℕ, Bool, true, false, ◌&&◌, ◌==
 use Rattle.std.specs.List.{AllByRecursion}
 use Rattle.std.proofs.lemmas.Bool.{eqb-true, eq-eqb, and_parts}
 use Rattle.kit_bytes.proofs.Lists.{all_weaker}
-use Rattle.qmux_frame.specs.Head.{service_of, client_of, number_of}
+use Rattle.qmux_frame.specs.Head.{service_of, cid_of, number_of}
 use Rattle.proxy_history.specs.Facts.{Fact, Request}
 use Rattle.proxy_history.specs.Requests.{is_pending}
 use Rattle.qmi_proxy.specs.Limits.{qmi_limits}
@@ -31,14 +31,14 @@ pending_flag past a R at = apart.waits_by_flag past a (are_different past R) at
 -- ---- the request that is answered ----
 
 abbrev pub fits_request : List ℕ → Request → Bool
-fits_request m r = service_of r.message == service_of m && (client_of r.message == client_of m)
+fits_request m r = service_of r.message == service_of m && (cid_of r.message == cid_of m)
 
 module _ (m : List ℕ) where
   -- it is in the space of the message and has its number
   answered_is : (q : Request) → IsPlaced q → is_answered_by m q ≡ true → (q.space ≡ space_of m) × (q.number ≡ number_of m)
   answered_is q placed e =
       let parts = and_parts (fits_request m q) (q.number == number_of m) e in
-      let heads = and_parts (service_of q.message == service_of m) (client_of q.message == client_of m) parts.0 in
+      let heads = and_parts (service_of q.message == service_of m) (cid_of q.message == cid_of m) parts.0 in
       (placed.0 ∙ ap (λ (n : ℕ). if n == 0 then control_space else service_space) (eqb-true (service_of q.message) (service_of m) heads.0), eqb-true q.number (number_of m) parts.1)
 
   pub all_matched : (past : List Fact) → Regular past → AllByRecursion (λ (a : RequestInUse). IsMatched asked_of (space_of m) (number_of m) (is_answered_by m) a.request) (requests_in_use past)

@@ -3,7 +3,7 @@ use Rattle.std.proofs.Common.{◌≡◌, ℕ, ◌-◌, ◌≤◌, max, Bool, tru
 use Rattle.std.proofs.lemmas.List.{length-drop}
 use Rattle.qmux_frame.specs.declared.kind.MessageKind.{MessageKind}
 use Rattle.qmux_frame.specs.declared.kind.MessageKind.TheVariants as kind
-use Rattle.qmux_frame.specs.Head.{is_control, client_of}
+use Rattle.qmux_frame.specs.Head.{is_control, cid_of}
 use Rattle.qmux_frame.specs.Kind.{framed_kind}
 use Rattle.qmux_frame.specs.Control.{is_sync}
 use Rattle.proxy_history.specs.Facts.{Fact, Reset, ModemReturned, ModemTaken, TimeIs, ModemLost}
@@ -50,7 +50,7 @@ module _ (s : Setup) (streams : Streams) where
   kept_indication m past x K =
       kept_either (is_sync m) _ _ _ _
       (kept_indicated s streams m (Reset ∷ abort_all s.device past) (forgets_all (aborts x)) (kept_reset (abort_all s.device past) (aborts x) (kept_aborted past x K)))
-      (kept_either (not (is_control m) && client_of m == 0) _ _ _ _ (kept_stray s streams past x K) (kept_indicated s streams m past x K))
+      (kept_either (not (is_control m) && cid_of m == 0) _ _ _ _ (kept_stray s streams past x K) (kept_indicated s streams m past x K))
 
   pub kept_heard : (m : List ℕ) (past : List Fact) (x : QmiState) → Kept past x → Kept (hear_modem s.device m past) (hears_modem m x)
   kept_heard m past x K = by_kind (framed_kind m) refl

@@ -8,7 +8,7 @@ use Rattle.proxy_history.specs.Noting.{receivers_of, end_overfull}
 use Rattle.proxy_history.specs.View.{view}
 use Rattle.qmi_proxy.specs.Setup.{Setup}
 use Rattle.qmi_proxy.specs.Limits.{qmi_limits}
-use Rattle.qmi_proxy.specs.Messages.{used_service, used_client}
+use Rattle.qmi_proxy.specs.Messages.{used_service, used_cid}
 use Rattle.qmi_proxy.specs.Text.{qmi_wording, rendering, note}
 use Rattle.qmi_proxy.specs.Regular.{Regular}
 use Rattle.qmi_proxy.specs.Releases.{freed_if}
@@ -29,11 +29,11 @@ module _ (s : Setup) (streams : Streams) where
   abbrev Kept : List Fact → QmiState → Type 0
   Kept past x = keeping.Kept s streams past x
 
-  pub kept_given_back : (past : List Fact) (x : QmiState) (c service client : ℕ) → Kept past x → Kept (Freed c service client ∷ past) (with_traffic (frees_id c service client x.beside.traffic) x)
+  pub kept_given_back : (past : List Fact) (x : QmiState) (c service cid : ℕ) → Kept past x → Kept (Freed c service cid ∷ past) (with_traffic (frees_id c service cid x.beside.traffic) x)
   unfolding requests_in_use now is_away present dropped last_number ids kept_ids to_modem modem_taken_count view
-  kept_given_back past x c service client K =
-      keeps_quiet s streams (Freed c service client ∷ past) past x (frees_id c service client x.beside.traffic) (λ d. refl) refl refl refl refl
-      (ap (frees_id c service client) (traffic_is s streams past x K)) (regular_more (Freed c service client) past tt tt tt K.fine) K
+  kept_given_back past x c service cid K =
+      keeps_quiet s streams (Freed c service cid ∷ past) past x (frees_id c service cid x.beside.traffic) (λ d. refl) refl refl refl refl
+      (ap (frees_id c service cid) (traffic_is s streams past x K)) (regular_more (Freed c service cid) past tt tt tt K.fine) K
 
   -- the fact tells its sender alone, and that is the proxy
   module _ (past : List Fact) (x : QmiState) (r : Request) (own : r.conn ≡ 0) (fact : Fact) (traffic : Traffic)
@@ -63,4 +63,4 @@ module _ (s : Setup) (streams : Streams) where
 
     pub kept_own_ended : (waits : Bool) → Kept (freed_if true r (note s.device fact past)) (frees_own (row_of (record { request = r; waits = waits })) (with_traffic traffic x))
     unfolding asked_of
-    kept_own_ended waits = kept_given_back (note s.device fact past) (with_traffic traffic x) 0 (used_service r.message) (used_client r.message) untold
+    kept_own_ended waits = kept_given_back (note s.device fact past) (with_traffic traffic x) 0 (used_service r.message) (used_cid r.message) untold

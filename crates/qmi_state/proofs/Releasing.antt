@@ -53,28 +53,28 @@ none_as (Some k) is = absurd (cc)
 
 -- ---- an id that is released is kept no more ----
 
-pub fewer_left : (service client : ℕ) (k : KeptId) (rest : List KeptId) (count : ℕ) → is_kept_of service client k ≡ true → Contains rest k → length rest ≤ suc count → length (kept_without service client rest) ≤ count
-fewer_left service client k [] count is at few = absurd (Contains-nil k at)
-fewer_left service client k (l ∷ rest) count is at few =
-    let passes : KeptId → Bool = λ (m : KeptId). not (is_kept_of service client m) in
+pub fewer_left : (service cid : ℕ) (k : KeptId) (rest : List KeptId) (count : ℕ) → is_kept_of service cid k ≡ true → Contains rest k → length rest ≤ suc count → length (kept_without service cid rest) ≤ count
+fewer_left service cid k [] count is at few = absurd (Contains-nil k at)
+fewer_left service cid k (l ∷ rest) count is at few =
+    let passes : KeptId → Bool = λ (m : KeptId). not (is_kept_of service cid m) in
     let Few : Bool → Type 0 = λ (b : Bool). length (cond (not b) (l ∷ filter passes rest) (filter passes rest)) ≤ count in
-    let step : (b : Bool) → is_kept_of service client l ≡ b → Few b =
-    λ b. elim b as (λ b. is_kept_of service client l ≡ b → Few b) [
+    let step : (b : Bool) → is_kept_of service cid l ≡ b → Few b =
+    λ b. elim b as (λ b. is_kept_of service cid l ≡ b → Few b) [
       | true ↦ λ e. let shorter = filter_shorter passes rest in omega arith
-      | false ↦ λ e. by_count count (λ n there within. fewer_left service client k rest n is there within) (later e) few
+      | false ↦ λ e. by_count count (λ n there within. fewer_left service cid k rest n is there within) (later e) few
     ]
-    in step (is_kept_of service client l) refl
+    in step (is_kept_of service cid l) refl
   where
-    later : is_kept_of service client l ≡ false → Contains rest k
+    later : is_kept_of service cid l ≡ false → Contains rest k
     later e =
-        ⊎_elim (λ (same : l ≡ k). absurd (let clash : is_kept_of service client k ≡ false = subst (λ (m : KeptId). is_kept_of service client m ≡ false) same e in cc)) (λ (behind : Contains rest k). behind) (Contains-cons_cases k l rest at)
+        ⊎_elim (λ (same : l ≡ k). absurd (let clash : is_kept_of service cid k ≡ false = subst (λ (m : KeptId). is_kept_of service cid m ≡ false) same e in cc)) (λ (behind : Contains rest k). behind) (Contains-cons_cases k l rest at)
 
-    by_count : (n : ℕ) → ((n : ℕ) → Contains rest k → length rest ≤ suc n → length (kept_without service client rest) ≤ n) → Contains rest k → length (l ∷ rest) ≤ suc n → length (l ∷ kept_without service client rest) ≤ n
+    by_count : (n : ℕ) → ((n : ℕ) → Contains rest k → length rest ≤ suc n → length (kept_without service cid rest) ≤ n) → Contains rest k → length (l ∷ rest) ≤ suc n → length (l ∷ kept_without service cid rest) ≤ n
     by_count zero again there within = absurd (let some = there.1 in omega arith)
     by_count (suc n) again there within = let fewer = again n there (omega arith) in omega arith
 
-pub is_of_itself : (k : KeptId) → is_kept_of k.service k.client k ≡ true
-is_of_itself k = ap (λ (b : Bool). b && (k.client == k.client)) (eq-eqb k.service k.service refl) ∙ eq-eqb k.client k.client refl
+pub is_of_itself : (k : KeptId) → is_kept_of k.service k.cid k ≡ true
+is_of_itself k = ap (λ (b : Bool). b && (k.cid == k.cid)) (eq-eqb k.service k.service refl) ∙ eq-eqb k.cid k.cid refl
 
 -- ---- a core, one id after another ----
 
@@ -106,15 +106,15 @@ module _ (s : Setup) (streams : Streams) where
   -- ---- one id ----
 
   number_is : (k : KeptId) (past : List Fact) → history.number_for_own k past ≡ number_for_own k (traffic_of past)
-  number_is k past = ap (number_if (has_room (length (modem_queue wire past)) (release_of k.service k.client))) (sym (ap (number_after 255 255 (last_number control_space past)) (numbers_used asked_of control_space past)))
+  number_is k past = ap (number_if (has_room (length (modem_queue wire past)) (release_of k.service k.cid))) (sym (ap (number_after 255 255 (last_number control_space past)) (numbers_used asked_of control_space past)))
 
-  module _ (k : KeptId) (number : ℕ) (past : List Fact) (table : Table Client) (numbered : history.number_for_own k past ≡ Some number) (free : holder_in k.service k.client (held past) ≡ None)
+  module _ (k : KeptId) (number : ℕ) (past : List Fact) (table : Table Client) (numbered : history.number_for_own k past ≡ Some number) (free : holder_in k.service k.cid (held past) ≡ None)
       (K : Kept past (record { table = table; beside = side_of s past })) where
     abbrev x : QmiState
     x = record { table = table; beside = side_of s past }
 
     abbrev r : Request
-    r = own_request s k.service k.client number past
+    r = own_request s k.service k.cid number past
 
     abbrev sent : List Fact
     sent = Forwarded r ∷ past
@@ -122,21 +122,21 @@ module _ (s : Setup) (streams : Streams) where
     regular_sent : Regular sent
     unfolding present in_use last_number
     regular_sent =
-        let parts = some_if s (has_room (length (modem_queue wire past)) (release_of k.service k.client)) (own_number past) number numbered in
+        let parts = some_if s (has_room (length (modem_queue wire past)) (release_of k.service k.cid)) (own_number past) number numbered in
         regular_more (Forwarded r) past (record { serial = refl; sender = refl; number = parts.1 }) ((refl, omega arith), inr refl) tt K.fine
 
     kept_sent : Kept sent (with_traffic (traffic_of sent) x)
     unfolding present dropped view now is_away
     kept_sent = keeps_quiet s streams sent past x (traffic_of sent) (λ d. refl) refl refl refl refl refl regular_sent K
 
-    kept_held : Kept (history.releases_one s k number past) (with_traffic (grants_id 0 k.service k.client (traffic_of sent)) x)
+    kept_held : Kept (history.releases_one s k number past) (with_traffic (grants_id 0 k.service k.cid (traffic_of sent)) x)
     unfolding present dropped view requests_in_use now is_away last_number ids kept_ids held to_modem modem_taken_count
     kept_held =
-        keeps_quiet s streams (history.releases_one s k number past) sent (with_traffic (traffic_of sent) x) (grants_id 0 k.service k.client (traffic_of sent)) (λ d. refl) refl refl refl refl refl
-        (regular_more (Granted 0 k.service k.client) sent (refl, ap (is_other 0) free) tt tt regular_sent) kept_sent
+        keeps_quiet s streams (history.releases_one s k number past) sent (with_traffic (traffic_of sent) x) (grants_id 0 k.service k.cid (traffic_of sent)) (λ d. refl) refl refl refl refl refl
+        (regular_more (Granted 0 k.service k.cid) sent (refl, ap (is_other 0) free) tt tt regular_sent) kept_sent
 
-    traffic_released : grants_id 0 k.service k.client (traffic_of sent) ≡ asks_release (deadline_of (now past) s.time_limit) k number (traffic_of past)
-    traffic_released = ap (grants_id 0 k.service k.client) (traffic_forwarded r refl past K.fine.was_taken)
+    traffic_released : grants_id 0 k.service k.cid (traffic_of sent) ≡ asks_release (deadline_of (now past) s.time_limit) k number (traffic_of past)
+    traffic_released = ap (grants_id 0 k.service k.cid) (traffic_forwarded r refl past K.fine.was_taken)
 
     pub kept_released_one : Kept (history.releases_one s k number past) (releases_one k number x)
     kept_released_one = subst (λ (d : Traffic). Kept (history.releases_one s k number past) (with_traffic d x)) traffic_released kept_held
@@ -185,25 +185,25 @@ module _ (s : Setup) (streams : Streams) where
           same_id = let both : Some (id_of l) ≡ Some (id_of k) = sym (ap id_in core_first) ∙ sym (same_first after (now past) past) ∙ ap id_in first in cc
 
           number_same : number_for_own l (traffic_of past) ≡ history.number_for_own k past
-          number_same = ap (λ (p : ℕ × ℕ). number_for_own (record { service = p.0; client = p.1; since = 0 }) (traffic_of past)) same_id ∙ sym (number_is k past)
+          number_same = ap (λ (p : ℕ × ℕ). number_for_own (record { service = p.0; cid = p.1; since = 0 }) (traffic_of past)) same_id ∙ sym (number_is k past)
 
           one_same : (n : ℕ) → releases_one k n here ≡ releases_one l n here
-          one_same n = ap (λ (p : ℕ × ℕ). releases_one (record { service = p.0; client = p.1; since = 0 }) n here) (sym same_id)
+          one_same n = ap (λ (p : ℕ × ℕ). releases_one (record { service = p.0; cid = p.1; since = 0 }) n here) (sym same_id)
 
           fewer_kept : (n : ℕ) → length (kept (history.releases_one s k n past)) ≤ count
           unfolding kept
-          fewer_kept n = fewer_left k.service k.client k (kept past) count (is_of_itself k) (first_of after past k (kept past) first) few
+          fewer_kept n = fewer_left k.service k.cid k (kept past) count (is_of_itself k) (first_of after past k (kept past) first) few
 
           fewer_kept_ids : (n : ℕ) → length (kept_ids (history.releases_one s k n past)) ≤ core_count
           unfolding kept_ids
-          fewer_kept_ids n = fewer_left k.service k.client l (kept_ids past) core_count (ap (λ (p : ℕ × ℕ). is_kept_of p.0 p.1 l) (sym same_id) ∙ is_of_itself l) (first_of after past l (kept_ids past) core_first) core_few
+          fewer_kept_ids n = fewer_left k.service k.cid l (kept_ids past) core_count (ap (λ (p : ℕ × ℕ). is_kept_of p.0 p.1 l) (sym same_id) ∙ is_of_itself l) (first_of after past l (kept_ids past) core_first) core_few
 
           by_number : (o : Option ℕ) → history.number_for_own k past ≡ o → Released (suc count) (suc core_count) past here
           by_number None none =
               subst (λ (f : List Fact). Kept f (releases_in after (suc core_count) here)) (sym (stops_at count past k first none))
               (subst (Kept past) (sym (core_stops_at after core_count here l core_first (number_same ∙ none))) K)
           by_number (Some n) some =
-              let free : holder_in k.service k.client (held past) ≡ None = first_kept s (λ k. holder_in k.service k.client (held past) ≡ None) after (now past) (kept past) k (kept_are_nobodys past) first in
+              let free : holder_in k.service k.cid (held past) ≡ None = first_kept s (λ k. holder_in k.service k.cid (held past) ≡ None) after (now past) (kept past) k (kept_are_nobodys past) first in
               let facts : List Fact = history.releases_one s k n past in
               subst (λ (f : List Fact). Kept f (releases_in after (suc core_count) here)) (sym (goes_on count past k n first some))
               (subst (Kept (history.releases s after count facts)) (sym (core_goes_on after core_count here l n core_first (number_same ∙ some)))

@@ -110,13 +110,13 @@ pub traffic_lost : (past : List Fact) → traffic_of (ModemLost ∷ past) ≡ re
 unfolding requests_in_use last_number ids kept_ids to_modem modem_taken_count
 traffic_lost past = refl
 
-pub traffic_granted : (past : List Fact) (c service client : ℕ) → traffic_of (Granted c service client ∷ past) ≡ grants_id c service client (traffic_of past)
+pub traffic_granted : (past : List Fact) (c service cid : ℕ) → traffic_of (Granted c service cid ∷ past) ≡ grants_id c service cid (traffic_of past)
 unfolding requests_in_use last_number ids kept_ids to_modem modem_taken_count
-traffic_granted past c service client = refl
+traffic_granted past c service cid = refl
 
-pub traffic_given_back : (past : List Fact) (c service client : ℕ) → traffic_of (Freed c service client ∷ past) ≡ frees_id c service client (traffic_of past)
+pub traffic_given_back : (past : List Fact) (c service cid : ℕ) → traffic_of (Freed c service cid ∷ past) ≡ frees_id c service cid (traffic_of past)
 unfolding requests_in_use last_number ids kept_ids to_modem modem_taken_count
-traffic_given_back past c service client = refl
+traffic_given_back past c service cid = refl
 
 pub traffic_taken : (past : List Fact) (count : ℕ) → traffic_of (ModemTaken count ∷ past) ≡ record (traffic_of past) { waiting = drop count (traffic_of past).waiting }
 unfolding requests_in_use last_number ids kept_ids to_modem modem_taken_count

@@ -8,7 +8,7 @@ use Rattle.proxy_history.specs.ClientIds.{Grant, KeptId}
 use Rattle.proxy_history.specs.Modem.{now, modem_queue}
 use Rattle.proxy_history.specs.Requests as requests
 use Rattle.qmi_proxy.specs.Spaces.{control_space, service_space, limit_of, top_of}
-use Rattle.qmi_proxy.specs.Messages.{uses_id, used_service, used_client}
+use Rattle.qmi_proxy.specs.Messages.{uses_id, used_service, used_cid}
 use Rattle.qmi_proxy.specs.Clients.{wire, has_room}
 use Rattle.qmi_proxy.specs.Releases.{release_of, number_if}
 use Rattle.number_space.specs.declared.space.Row as space
@@ -43,8 +43,8 @@ pub record Traffic : Type 0 where
 -- the client ids that are held, in the order of the ids
 unfoldable pub ids : List Fact → List Grant
 ids [] = []
-ids (Granted c service client ∷ past) = granted c service client (ids past)
-ids (Freed c service client ∷ past) = releases c service client (ids past)
+ids (Granted c service cid ∷ past) = granted c service cid (ids past)
+ids (Freed c service cid ∷ past) = releases c service cid (ids past)
 ids (Ended c why ∷ past) = leaves c (ids past)
 ids (Reset ∷ past) = []
 ids (ModemLost ∷ past) = []
@@ -53,7 +53,7 @@ ids (_ ∷ past) = ids past
 -- and those whose holders went
 unfoldable pub kept_ids : List Fact → List KeptId
 kept_ids [] = []
-kept_ids (Granted c service client ∷ past) = kept_without service client (kept_ids past)
+kept_ids (Granted c service cid ∷ past) = kept_without service cid (kept_ids past)
 kept_ids (Ended c why ∷ past) = all_kept_from (now past) (filter (λ g. c == g.conn) (ids past)) (kept_ids past)
 kept_ids (Reset ∷ past) = []
 kept_ids (ModemLost ∷ past) = []
@@ -104,11 +104,11 @@ abbrev pub number_at : List ℕ → Traffic → Option ℕ
 number_at m traffic = next_number (of_control (is_control m) traffic)
 
 abbrev pub granted_if : Bool → ℕ → List ℕ → List Grant → List Grant
-granted_if true c m held = granted c (used_service m) (used_client m) held
+granted_if true c m held = granted c (used_service m) (used_cid m) held
 granted_if false c m held = held
 
 abbrev pub kept_if : Bool → List ℕ → List KeptId → List KeptId
-kept_if true m kept = kept_without (used_service m) (used_client m) kept
+kept_if true m kept = kept_without (used_service m) (used_cid m) kept
 kept_if false m kept = kept
 
 abbrev pub row_for : ℕ → ℕ → List ℕ → ℕ → Row
@@ -126,11 +126,11 @@ forwards deadline c m number traffic = record {
 
 -- the connection holds the id, which is kept no more
 abbrev pub grants_id : ℕ → ℕ → ℕ → Traffic → Traffic
-grants_id conn service client traffic = record traffic { held = granted conn service client traffic.held; kept = kept_without service client traffic.kept }
+grants_id conn service cid traffic = record traffic { held = granted conn service cid traffic.held; kept = kept_without service cid traffic.kept }
 
 -- the id is nobody's, where this connection held it
 abbrev pub frees_id : ℕ → ℕ → ℕ → Traffic → Traffic
-frees_id conn service client traffic = record traffic { held = releases conn service client traffic.held }
+frees_id conn service cid traffic = record traffic { held = releases conn service cid traffic.held }
 
 -- a connection is gone, and its ids are kept since this time
 abbrev pub gives_up : ℕ → ℕ → Traffic → Traffic
@@ -158,14 +158,14 @@ adopts_unless false c m traffic = record traffic { held = granted_if (uses_id m)
 
 -- the number under which the proxy's own Release of this id would go, where one is free and there is room
 abbrev pub number_for_own : KeptId → Traffic → Option ℕ
-number_for_own k traffic = number_if (has_room (length traffic.waiting) (release_of k.service k.client)) (next_number traffic.control)
+number_for_own k traffic = number_if (has_room (length traffic.waiting) (release_of k.service k.cid)) (next_number traffic.control)
 
 -- the proxy itself asks the modem to release the id, and holds it from then on
 abbrev pub asks_release : ℕ → KeptId → ℕ → Traffic → Traffic
 asks_release deadline k number traffic = record {
-  control = gives (row_for deadline 0 (release_of k.service k.client) number) traffic.control;
+  control = gives (row_for deadline 0 (release_of k.service k.cid) number) traffic.control;
   services = traffic.services;
-  held = granted 0 k.service k.client traffic.held;
-  kept = kept_without k.service k.client traffic.kept;
-  waiting = traffic.waiting ++ with_number number (release_of k.service k.client);
+  held = granted 0 k.service k.cid traffic.held;
+  kept = kept_without k.service k.cid traffic.kept;
+  waiting = traffic.waiting ++ with_number number (release_of k.service k.cid);
 }

@@ -6,7 +6,7 @@ use Rattle.connections.specs.Hearing.{Hearing}
 use Rattle.qmux_frame.specs.Frame.{size_of}
 use Rattle.qmux_frame.specs.declared.kind.MessageKind.{MessageKind}
 use Rattle.qmux_frame.specs.declared.kind.MessageKind.TheVariants as kind
-use Rattle.qmux_frame.specs.Head.{is_control, service_of, client_of, number_of}
+use Rattle.qmux_frame.specs.Head.{is_control, service_of, cid_of, number_of}
 use Rattle.qmux_frame.specs.Kind.{framed_kind}
 use Rattle.qmux_frame.specs.Control.{is_release, is_sync}
 use Rattle.qmux_frame.specs.Reply.{result_reply, with_number}
@@ -21,7 +21,7 @@ use Rattle.proxy_state.specs.Telling as telling
 pub use Rattle.proxy_state.specs.Chosen.{names_in}
 use Rattle.qmi_proxy.specs.Errors.{share_passed, internal, aborted, client_ids_exhausted, invalid_client_id, device_in_use}
 use Rattle.qmi_proxy.specs.Limits.{share_limit}
-use Rattle.qmi_proxy.specs.Messages.{uses_id, used_service, used_client, value_of, byte_of, is_success}
+use Rattle.qmi_proxy.specs.Messages.{uses_id, used_service, used_cid, value_of, byte_of, is_success}
 use Rattle.qmi_proxy.specs.OwnReplies.{view_decides}
 use Rattle.qmi_proxy.specs.OwnReplies as own
 use Rattle.qmi_proxy.specs.Text.{text_as}
@@ -57,7 +57,7 @@ abbrev pub reply_as : List ℕ → Bool → List ℕ → Verdict → List ℕ
 reply_as device opened m verdict = text_as device opened [] (Said m verdict)
 
 abbrev pub holder_at : List ℕ → Traffic → Option ℕ
-holder_at m traffic = if uses_id m then holder_in (used_service m) (used_client m) traffic.held else None
+holder_at m traffic = if uses_id m then holder_in (used_service m) (used_cid m) traffic.held else None
 
 -- as many requests of c wait in the message's space as may
 abbrev pub share_of : ℕ → List ℕ → Traffic → Bool
@@ -109,7 +109,7 @@ hear_client name m client outbox side = act_on name m (decision_of side.away nam
 
 -- nobody holds the id of an own request that ended
 abbrev pub frees_own : Row → QmiState → QmiState
-frees_own row x = with_traffic (frees_id 0 row.note.service row.note.client x.beside.traffic) x
+frees_own row x = with_traffic (frees_id 0 row.note.service row.note.cid x.beside.traffic) x
 
 -- the first argument says whether the proxy itself asked
 abbrev pub refuses_sender : Bool → Row → QmiState → QmiState
@@ -145,7 +145,7 @@ aborts x = expires (2 ^ 64 - 1) x
 abbrev pub change_by : ℕ → Asked → List ℕ → Option ℕ → IdChange
 change_by c note m holder =
     if brings_id note.head m then granted_unless (is_other c holder) (byte_of 0 (value_of 0x01 m)) (byte_of 1 (value_of 0x01 m))
-    else if is_release note.head && is_success m then Frees note.service note.client
+    else if is_release note.head && is_success m then Frees note.service note.cid
     else NoChange
 
 abbrev pub holder_brought : List ℕ → Traffic → Option ℕ
@@ -154,9 +154,9 @@ holder_brought m traffic = holder_in (byte_of 0 (value_of 0x01 m)) (byte_of 1 (v
 -- the response under the sender's own number, or a refusal in its place
 abbrev pub answers : Row → List ℕ → IdChange → QmiState → QmiState
 answers row m NoChange x = tell row.conn (with_number (number_of row.note.head) m) x
-answers row m (Grants service client) x = tell row.conn (with_number (number_of row.note.head) m) (with_traffic (grants_id row.conn service client x.beside.traffic) x)
+answers row m (Grants service cid) x = tell row.conn (with_number (number_of row.note.head) m) (with_traffic (grants_id row.conn service cid x.beside.traffic) x)
 answers row m Collides x = tell row.conn (result_reply row.note.head client_ids_exhausted) x
-answers row m (Frees service client) x = tell row.conn (with_number (number_of row.note.head) m) (with_traffic (frees_id row.conn service client x.beside.traffic) x)
+answers row m (Frees service cid) x = tell row.conn (with_number (number_of row.note.head) m) (with_traffic (frees_id row.conn service cid x.beside.traffic) x)
 
 -- the first argument says whether the proxy itself asked: then nobody is told, whatever the answer says
 abbrev pub answers_sender : Bool → Row → List ℕ → QmiState → QmiState
@@ -169,7 +169,7 @@ answers_if true row m x = answers_sender (row.conn == 0) row m x
 answers_if false row m x = x
 
 abbrev pub fits : List ℕ → Row → Bool
-fits m row = service_of row.note.head == service_of m && (client_of row.note.head == client_of m)
+fits m row = service_of row.note.head == service_of m && (cid_of row.note.head == cid_of m)
 
 -- an answer frees the number, late or not
 abbrev pub responds_if : Bool → Row → List ℕ → QmiState → QmiState
@@ -199,8 +199,8 @@ tells_holder (Some c) m x = tell c m x
 abbrev pub indicates : List ℕ → QmiState → QmiState
 indicates m x =
     if is_control m then tell_all m (opened_ones x.table.present) x
-    else if client_of m == 255 then tell_all m (holders_of (service_of m) x.beside.traffic.held x.table.present) x
-    else tells_holder (holder_in (service_of m) (client_of m) x.beside.traffic.held) m x
+    else if cid_of m == 255 then tell_all m (holders_of (service_of m) x.beside.traffic.held x.table.present) x
+    else tells_holder (holder_in (service_of m) (cid_of m) x.beside.traffic.held) m x
 
 abbrev pub forgets_all : QmiState → QmiState
 forgets_all x = with_traffic (forgets x.beside.traffic) x
@@ -209,7 +209,7 @@ forgets_all x = with_traffic (forgets x.beside.traffic) x
 abbrev pub hears_indication : List ℕ → QmiState → QmiState
 hears_indication m x =
     if is_sync m then indicates m (forgets_all (aborts x))
-    else if not (is_control m) && client_of m == 0 then x
+    else if not (is_control m) && cid_of m == 0 then x
     else indicates m x
 
 abbrev pub hears_as : Option MessageKind → List ℕ → QmiState → QmiState

@@ -1,6 +1,6 @@
 ghost use Rattle.std.specs.Prelude.{◌≡◌, ◌≤◌, ◌==◌, ◌&&◌, true, length};
 ghost use Rattle.framing.specs.Framing.{AreBytes};
-ghost use Rattle.qmux_frame.specs.Head.{head_of, is_control, service_of, client_of, number_of};
+ghost use Rattle.qmux_frame.specs.Head.{head_of, is_control, service_of, cid_of, number_of};
 ghost use Rattle.qmux_frame.specs.Control.{is_allocate, is_release};
 ghost use Rattle.qmux_frame.specs.Reply.{result_reply};
 
@@ -14,7 +14,7 @@ pub struct Asked {
     pub head: [u8; 12],
     /// The client id that the message uses, with its service.
     pub service: u8,
-    pub client: u8,
+    pub cid: u8,
 }
 
 impl Asked {
@@ -34,11 +34,11 @@ impl Asked {
     }
 
     /// Whether a response with this service and client id may answer it.
-    pub fn fits(&self, service: u8, client: u8) -> bool
-        ensures { result ≡ (service_of self.now.head == service && (client_of self.now.head == client)) }
+    pub fn fits(&self, service: u8, cid: u8) -> bool
+        ensures { result ≡ (service_of self.now.head == service && (cid_of self.now.head == cid)) }
     {
         let head = read(&self.head);
-        head.service == service && head.client == client
+        head.service == service && head.cid == cid
     }
 
     /// Whether it asks for a client id.

@@ -3,7 +3,7 @@ use Rattle.std.proofs.Common.{◌≡◌, ℕ, zero, suc, ◌+◌, Bool, true, fa
 use Rattle.std.proofs.Math.Seq.{drop-append_seam}
 use Rattle.qmux_frame.specs.declared.kind.MessageKind.{MessageKind}
 use Rattle.qmux_frame.specs.declared.kind.MessageKind.TheVariants as kind
-use Rattle.qmux_frame.specs.Head.{service_of, is_control, client_of}
+use Rattle.qmux_frame.specs.Head.{service_of, is_control, cid_of}
 use Rattle.qmux_frame.specs.Kind.{framed_kind}
 use Rattle.qmux_frame.specs.Control.{is_sync}
 use Rattle.qmux_frame.specs.Framing.{size_of-kept}
@@ -21,7 +21,7 @@ use Rattle.proxy_stray.proofs.Keeping.{behind, by_value, behind_each, noted, not
 use Rattle.qmi_proxy.specs.Setup.{Setup}
 use Rattle.qmi_proxy.specs.Spaces.{control_space, space_of, limit_of, top_of}
 use Rattle.qmi_proxy.specs.Limits.{qmi_limits, share_limit}
-use Rattle.qmi_proxy.specs.Messages.{uses_id, used_service, used_client, value_of, byte_of}
+use Rattle.qmi_proxy.specs.Messages.{uses_id, used_service, used_cid, value_of, byte_of}
 use Rattle.qmi_proxy.specs.OwnReplies.{is_open, view_decides}
 use Rattle.qmi_proxy.specs.Text.{qmi_wording, blank, view_of, note}
 use Rattle.qmi_proxy.specs.Clients.{number_for, holder_for, wire, has_room, shared_decision_of, decision_as, request_of, grant_if, forward, judge}
@@ -54,7 +54,7 @@ module _ (s : Setup) (a b : List Fact) (alike : Alike a b) where
   number_same m = next_same (space_of m)
 
   holder_same : (m : List ℕ) → holder_for m a ≡ holder_for m b
-  holder_same m = ap (λ (grants : List Grant). if uses_id m then holder_in (used_service m) (used_client m) grants else None) held_same
+  holder_same m = ap (λ (grants : List Grant). if uses_id m then holder_in (used_service m) (used_cid m) grants else None) held_same
 
   share_same : (c space : ℕ) → has_share share_limit c space a ≡ has_share share_limit c space b
   share_same c space = told (has_share share_limit c space) (share-told share_limit c space) a b alike.same
@@ -77,14 +77,14 @@ module _ (s : Setup) (a b : List Fact) (alike : Alike a b) where
       let opened : open_ones s.device a ≡ open_ones s.device b =
       ap (filter (λ (c : ℕ). is_open s.device (view_of c a))) there ∙ filter_same (λ (c : ℕ). is_open s.device (view_of c a)) (λ (c : ℕ). is_open s.device (view_of c b)) (present b) (λ c. ap (is_open s.device) (view_same c))
       in
-      ap (λ (l : List ℕ). if is_control m then l else if client_of m == 255 then filter (λ (c : ℕ). holds_some c (service_of m) (held a)) (present a) else filter (λ (c : ℕ). is_holder c (holder_in (service_of m) (client_of m) (held a))) (present a)) opened
-      ∙ ap₂ (λ (l : List ℕ) (grants : List Grant). if is_control m then open_ones s.device b else if client_of m == 255 then filter (λ (c : ℕ). holds_some c (service_of m) grants) l else filter (λ (c : ℕ). is_holder c (holder_in (service_of m) (client_of m) grants)) l) there held_same
+      ap (λ (l : List ℕ). if is_control m then l else if cid_of m == 255 then filter (λ (c : ℕ). holds_some c (service_of m) (held a)) (present a) else filter (λ (c : ℕ). is_holder c (holder_in (service_of m) (cid_of m) (held a))) (present a)) opened
+      ∙ ap₂ (λ (l : List ℕ) (grants : List Grant). if is_control m then open_ones s.device b else if cid_of m == 255 then filter (λ (c : ℕ). holds_some c (service_of m) grants) l else filter (λ (c : ℕ). is_holder c (holder_in (service_of m) (cid_of m) grants)) l) there held_same
 
 module _ (s : Setup) where
   -- ---- clients ----
 
   grants : (uses : Bool) (c : ℕ) (m : List ℕ) (a b : List Fact) → Alike a b → Alike (grant_if uses c m a) (grant_if uses c m b)
-  grants true c m a b alike = behind (Granted c (used_service m) (used_client m)) a b alike
+  grants true c m a b alike = behind (Granted c (used_service m) (used_cid m)) a b alike
   grants false c m a b alike = alike
 
   forwards : (c : ℕ) (m : List ℕ) (number : ℕ) (a b : List Fact) → Alike a b → Alike (forward s c m number a) (forward s c m number b)
@@ -108,12 +108,12 @@ module _ (s : Setup) where
 
   answers : (r : Request) (m : List ℕ) (change : IdChange) (a b : List Fact) → Alike a b → Alike (answer s.device r m change a) (answer s.device r m change b)
   answers r m NoChange a b alike = notes (Answered r m) a b alike
-  answers r m (Grants service client) a b alike = notes (Answered r m) _ _ (behind (Granted r.conn service client) a b alike)
+  answers r m (Grants service cid) a b alike = notes (Answered r m) _ _ (behind (Granted r.conn service cid) a b alike)
   answers r m Collides a b alike = notes (IdHeld r) a b alike
-  answers r m (Frees service client) a b alike = notes (Answered r m) _ _ (behind (Freed r.conn service client) a b alike)
+  answers r m (Frees service cid) a b alike = notes (Answered r m) _ _ (behind (Freed r.conn service cid) a b alike)
 
   frees : (own : Bool) (r : Request) (a b : List Fact) → Alike a b → Alike (freed_if own r a) (freed_if own r b)
-  frees true r a b alike = behind (Freed 0 (used_service r.message) (used_client r.message)) a b alike
+  frees true r a b alike = behind (Freed 0 (used_service r.message) (used_cid r.message)) a b alike
   frees false r a b alike = alike
 
   answers_to : (own : Bool) (r : Request) (m : List ℕ) (a b : List Fact) → Alike a b → Alike (answer_to own s.device r m a) (answer_to own s.device r m b)
@@ -148,7 +148,7 @@ module _ (s : Setup) where
   hears : (found : Option MessageKind) (m : List ℕ) (a b : List Fact) → Alike a b → Alike (hear_as found s.device m a) (hear_as found s.device m b)
   hears (Some kind.Response) m a b alike =
       by_value (λ found past. respond s.device found m past) (first_answered_by m (in_use a)) (first_answered_by m (in_use b)) a b (ap (first_answered_by m) (in_use_same s a b alike)) (responds (first_answered_by m (in_use a)) m a b alike)
-  hears (Some kind.Indication) m a b alike = indicates (is_sync m) (not (is_control m) && client_of m == 0) m a b alike
+  hears (Some kind.Indication) m a b alike = indicates (is_sync m) (not (is_control m) && cid_of m == 0) m a b alike
   hears (Some kind.Request) m a b alike = behind Stray a b alike
   hears None m a b alike = behind Stray a b alike
 
@@ -168,16 +168,16 @@ module _ (s : Setup) where
 
   own_number_same : (k : KeptId) (a b : List Fact) → Alike a b → number_for_own k a ≡ number_for_own k b
   own_number_same k a b alike =
-      ap₂ (λ (queue : List ℕ) (number : Option ℕ). number_if (has_room (length queue) (release_of k.service k.client)) number) (queue_same s a b alike) (next_same s a b alike control_space)
+      ap₂ (λ (queue : List ℕ) (number : Option ℕ). number_if (has_room (length queue) (release_of k.service k.cid)) number) (queue_same s a b alike) (next_same s a b alike control_space)
 
-  own_request_same : (k : KeptId) (number : ℕ) (a b : List Fact) → Alike a b → own_request s k.service k.client number a ≡ own_request s k.service k.client number b
+  own_request_same : (k : KeptId) (number : ℕ) (a b : List Fact) → Alike a b → own_request s k.service k.cid number a ≡ own_request s k.service k.cid number b
   own_request_same k number a b alike =
-      ap₂ (λ (forwards : ℕ) (time : ℕ). record { serial = forwards + 1; conn = 0; place = 0; space = control_space; number = number; message = release_of k.service k.client; deadline = deadline_of time s.time_limit })
+      ap₂ (λ (forwards : ℕ) (time : ℕ). record { serial = forwards + 1; conn = 0; place = 0; space = control_space; number = number; message = release_of k.service k.cid; deadline = deadline_of time s.time_limit })
       (told forward_count forwards-told a b alike.same) (told now now-told a b alike.same)
 
   releases_it : (k : KeptId) (number : ℕ) (a b : List Fact) → Alike a b → Alike (releases_one s k number a) (releases_one s k number b)
   releases_it k number a b alike =
-      behind (Granted 0 k.service k.client) _ _ (behind_each _ _ a b (ap (λ (r : Request). Forwarded r) (own_request_same k number a b alike)) alike)
+      behind (Granted 0 k.service k.cid) _ _ (behind_each _ _ a b (ap (λ (r : Request). Forwarded r) (own_request_same k number a b alike)) alike)
 
   releases_next : (after count : ℕ) → ((a b : List Fact) → Alike a b → Alike (releases s after count a) (releases s after count b))
       → (found : Option KeptId) (a b : List Fact) → Alike a b → Alike (released_next after count found a) (released_next after count found b)

@@ -7,7 +7,7 @@ use Rattle.framing.specs.Framing.{IsMessage}
 use Rattle.framing.proofs.Cuts.{cut-append, cut-message}
 use Rattle.qmux_frame.specs.declared.kind.MessageKind.{MessageKind}
 use Rattle.qmux_frame.specs.declared.kind.MessageKind.TheVariants as kind
-use Rattle.qmux_frame.specs.Head.{is_control, client_of}
+use Rattle.qmux_frame.specs.Head.{is_control, cid_of}
 use Rattle.qmux_frame.specs.Control.{is_sync}
 use Rattle.qmux_frame.specs.Kind.{framed_kind}
 use Rattle.qmux_frame.specs.Frame.{size_of, qmux_cut}
@@ -45,12 +45,12 @@ no_indication false false a b past is = absurd (cc)
 
 pub called_stray : (device : List ℕ) (found : Option MessageKind) (m : List ℕ) (past : List Fact) → is_stray_as found m past ≡ true → hear_as found device m past ≡ Stray ∷ past
 called_stray device (Some kind.Response) m past is = no_request device (first_answered_by m (in_use past)) m past is
-called_stray device (Some kind.Indication) m past is = no_indication (is_sync m) (not (is_control m) && client_of m == 0) _ _ past is
+called_stray device (Some kind.Indication) m past is = no_indication (is_sync m) (not (is_control m) && cid_of m == 0) _ _ past is
 called_stray device (Some kind.Request) m past is = refl
 called_stray device None m past is = refl
 
 -- an indication for which nobody is there
-indicates_none : (device m : List ℕ) (past : List Fact) → is_sync m ≡ false → receivers device m past ≡ [] → (unheard : Bool) → (not (is_control m) && client_of m == 0) ≡ unheard
+indicates_none : (device m : List ℕ) (past : List Fact) → is_sync m ≡ false → receivers device m past ≡ [] → (unheard : Bool) → (not (is_control m) && cid_of m == 0) ≡ unheard
     → (indicate device m past ≡ Stray ∷ past) ⊎ (indicate device m past ≡ Indicated m [] ∷ past)
 unfolding end_overfull
 indicates_none device m past no_sync nobody true is =
@@ -61,7 +61,7 @@ indicates_none device m past no_sync nobody false is =
     ∙ ap (λ (there : List ℕ). note device (Indicated m there) past) nobody)
 
 pub unwanted : (s : Setup) (m : List ℕ) (past : List Fact) → law.IsUnwanted s.device m past → IsForNobody (qmi_protocol s) m past
-unwanted s m past is = which (indicates_none s.device m past is.no_sync is.nobody (not (is_control m) && client_of m == 0) refl)
+unwanted s m past is = which (indicates_none s.device m past is.no_sync is.nobody (not (is_control m) && cid_of m == 0) refl)
   where
     heard : hear_modem s.device m past ≡ indicate s.device m past
     heard = ap (λ (found : Option MessageKind). hear_as found s.device m past) is.indication

@@ -16,7 +16,7 @@ same m n is = grind (arith, nat_tests)
 module _ (m : NewMessage) (tlvs : List ℕ) where
   -- the bytes up to the flags, of a message of so many bytes
   abbrev front : ℕ → List ℕ → List ℕ
-  front count rest = 0x01 ∷ (count + 5) % 256 ∷ (count + 5) / 256 ∷ sender_byte m.sender ∷ m.service ∷ m.client ∷ m.flags ∷ rest
+  front count rest = 0x01 ∷ (count + 5) % 256 ∷ (count + 5) / 256 ∷ sender_byte m.sender ∷ m.service ∷ m.cid ∷ m.flags ∷ rest
 
   abbrev behind : List ℕ
   behind = m.message % 256 ∷ m.message / 256 ∷ length tlvs % 256 ∷ length tlvs / 256 ∷ tlvs

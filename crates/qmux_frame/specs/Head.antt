@@ -11,8 +11,8 @@ service_of message = slice_index message 4
 abbrev pub is_control : List ℕ → Bool
 is_control message = service_of message == 0
 
-abbrev pub client_of : List ℕ → ℕ
-client_of message = slice_index message 5
+abbrev pub cid_of : List ℕ → ℕ
+cid_of message = slice_index message 5
 
 abbrev pub flags_of : List ℕ → ℕ
 flags_of message = slice_index message 6
@@ -42,7 +42,7 @@ is_framed message = head_length message + tlv_length message == length message
 abbrev pub head_of : List ℕ → Head
 head_of message = record {
   service = service_of message;
-  client = client_of message;
+  cid = cid_of message;
   flags = flags_of message;
   number = number_of message;
   message = message_id_of message;

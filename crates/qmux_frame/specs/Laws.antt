@@ -8,7 +8,7 @@ use Rattle.qmux_frame.specs.Head.{head_of, tlvs_in}
 use Rattle.qmux_frame.specs.Writing.{message_text}
 
 abbrev pub head_from : NewMessage → Head
-head_from m = record { service = m.service; client = m.client; flags = m.flags; number = m.number; message = m.message; framed = true }
+head_from m = record { service = m.service; cid = m.cid; flags = m.flags; number = m.number; message = m.message; framed = true }
 
 -- what is written is one whole message, whose head and TLVs read as they were written
 pub record ReadsBack (m : NewMessage) (tlvs : List ℕ) : Type 0 where

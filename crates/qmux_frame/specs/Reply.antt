@@ -5,7 +5,7 @@ use Rattle.qmux_frame.specs.declared.head.Head.{Head}
 use Rattle.qmux_frame.specs.declared.kind.MessageKind.TheVariants.{Response}
 use Rattle.qmux_frame.specs.declared.writing.NewMessage.{NewMessage}
 use Rattle.qmux_frame.specs.declared.writing.Sender.TheVariants.{Modem}
-use Rattle.qmux_frame.specs.Head.{service_of, is_control, client_of}
+use Rattle.qmux_frame.specs.Head.{service_of, is_control, cid_of}
 use Rattle.qmux_frame.specs.Kind.{flags_for}
 use Rattle.qmux_frame.specs.Writing.{message_text}
 
@@ -24,8 +24,8 @@ result_tlv error = 0x02 ∷ 0x04 ∷ 0x00 ∷ (if error == 0 then 0 else 1) ∷ 
 abbrev pub result_reply : List ℕ → ℕ → List ℕ
 result_reply message error =
     if is_control message
-    then 0x01 ∷ 0x12 ∷ 0x00 ∷ 0x80 ∷ service_of message ∷ client_of message ∷ 0x01 ∷ slice_index message 7 ∷ slice_index message 8 ∷ slice_index message 9 ∷ 0x07 ∷ 0x00 ∷ result_tlv error
-    else 0x01 ∷ 0x13 ∷ 0x00 ∷ 0x80 ∷ service_of message ∷ client_of message ∷ 0x02 ∷ slice_index message 7 ∷ slice_index message 8 ∷ slice_index message 9 ∷ slice_index message 10 ∷ 0x07 ∷ 0x00 ∷ result_tlv error
+    then 0x01 ∷ 0x12 ∷ 0x00 ∷ 0x80 ∷ service_of message ∷ cid_of message ∷ 0x01 ∷ slice_index message 7 ∷ slice_index message 8 ∷ slice_index message 9 ∷ 0x07 ∷ 0x00 ∷ result_tlv error
+    else 0x01 ∷ 0x13 ∷ 0x00 ∷ 0x80 ∷ service_of message ∷ cid_of message ∷ 0x02 ∷ slice_index message 7 ∷ slice_index message 8 ∷ slice_index message 9 ∷ slice_index message 10 ∷ 0x07 ∷ 0x00 ∷ result_tlv error
 
 -- ---- the same by the fields of the message's head ----
 
@@ -38,7 +38,7 @@ abbrev pub reply_to : Head → NewMessage
 reply_to head = record {
   sender = Modem;
   service = head.service;
-  client = head.client;
+  cid = head.cid;
   flags = flags_for head.service Response;
   number = short_number head;
   message = head.message;

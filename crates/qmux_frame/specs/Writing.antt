@@ -19,7 +19,7 @@ sender_byte Modem = 0x80
 
 -- the QMUX frame round the bytes of a message: the length counts all bytes behind the first
 abbrev pub frame_head : NewMessage → ℕ → List ℕ
-frame_head m inner_length = 0x01 ∷ u16_bytes (inner_length + 5) ++ sender_byte m.sender ∷ m.service ∷ m.client ∷ []
+frame_head m inner_length = 0x01 ∷ u16_bytes (inner_length + 5) ++ sender_byte m.sender ∷ m.service ∷ m.cid ∷ []
 
 -- the bytes before TLVs of this length
 unfoldable pub head_text : NewMessage → ℕ → List ℕ

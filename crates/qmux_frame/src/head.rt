@@ -9,7 +9,7 @@ use kit_bytes::u16_at;
 pub struct Head {
     pub service: u8,
     /// The client id.
-    pub client: u8,
+    pub cid: u8,
     /// Byte 6, which tells a request, a response and an indication apart.
     pub flags: u8,
     /// The number that pairs a request with its answer.
@@ -31,12 +31,12 @@ impl Head {
         ensures { result ≡ head_of message.now }
     {
         let service = message[4];
-        let client = message[5];
+        let cid = message[5];
         let flags = message[6];
         if service == 0 {
             Head {
                 service,
-                client,
+                cid,
                 flags,
                 number: u16::from(message[7]),
                 message: u16_at(message, 8),
@@ -45,7 +45,7 @@ impl Head {
         } else {
             Head {
                 service,
-                client,
+                cid,
                 flags,
                 number: u16_at(message, 7),
                 message: u16_at(message, 9),

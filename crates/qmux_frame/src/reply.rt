@@ -31,7 +31,7 @@ pub fn reply_to(head: &Head) -> NewMessage
     NewMessage {
         sender: Sender::Modem,
         service: head.service,
-        client: head.client,
+        cid: head.cid,
         flags: MessageKind::Response.flags(head.service),
         number: short_number(head),
         message: head.message,

@@ -32,7 +32,7 @@ pub struct NewMessage {
     pub sender: Sender,
     pub service: u8,
     /// The client id.
-    pub client: u8,
+    pub cid: u8,
     /// Byte 6, which tells a request, a response and an indication apart.
     pub flags: u8,
     /// The number that pairs a request with its answer. Service 0 has numbers of one byte.
@@ -83,13 +83,6 @@ impl NewMessage {
         ensures { result ≡ frame_head self.now inner_length }
     {
         let [low, high] = u16_bytes(inner_length + 5);
-        [
-            0x01,
-            low,
-            high,
-            self.sender.byte(),
-            self.service,
-            self.client,
-        ]
+        [0x01, low, high, self.sender.byte(), self.service, self.cid]
     }
 }

@@ -43,14 +43,14 @@ which_service : (body : QmiRequest) → IsCommand body → ((row_of body).servic
 which_service request.GetServiceVersionInfo is some = absurd (cc)
 which_service (request.ProxyOpen path) is some = absurd is
 which_service (request.Allocate service) is some = absurd is
-which_service (request.Release service client) is some = absurd is
+which_service (request.Release service cid) is some = absurd is
 which_service body is some = is_service (row_of body).service refl
 
 is_version : (body : QmiRequest) → IsCommand body → ((row_of body).service == 0) ≡ true → ((row_of body).id ≡ 0x21) × (first_value 1 (inputs_of body) ≡ None)
 is_version request.GetServiceVersionInfo is none = (refl, refl)
 is_version (request.ProxyOpen path) is none = absurd is
 is_version (request.Allocate service) is none = absurd is
-is_version (request.Release service client) is none = absurd is
+is_version (request.Release service cid) is none = absurd is
 is_version _ is none = absurd (cc)
 
 number_short : (head : Head) → head.number < 256 → short_number head ≡ head.number
@@ -68,7 +68,7 @@ module _ (profile : Profile) where
     short = omega (arith, text_is_short (reply_to (head_of m)) tlvs, is.short);
     flags = refl;
     service = refl;
-    client = refl;
+    cid = refl;
     number = number_short (head_of m) small;
   }
 
@@ -101,9 +101,9 @@ module _ (profile : Profile) where
       nobody (of_wms e) = inr (nobody_of_nas profile (service plan) (ap (λ (n : ℕ). n == 3) e))
       nobody (of_nas e) = inl (ap (λ (n : ℕ). n == 2) e)
 
-      module _ (client : ℕ) where
+      module _ (cid : ℕ) where
         abbrev r : Request
-        r = first_command plan client
+        r = first_command plan cid
 
         read : IsRead r
         read = is_read r
@@ -124,9 +124,9 @@ module _ (profile : Profile) where
             (subst (λ (st : State). ((service_of (message_of r) == 2) ≡ false) ⊎ (is_any_given st.clients 3 ≡ false)) (sym first.state)
             (subst (λ (n : ℕ). ((n == 2) ≡ false) ⊎ (is_any_given (with_client (fresh profile) (service plan) 1).clients 3 ≡ false)) (sym read.service) (nobody which)))
 
-      released : (client number : ℕ) → number < 256 → (before : List (List ℕ)) → Answers modem before (message_of (release plan client number))
-      released client number low before =
-          let q : Request = release plan client number in
+      released : (cid number : ℕ) → number < 256 → (before : List (List ℕ)) → Answers modem before (message_of (release plan cid number))
+      released cid number low before =
+          let q : Request = release plan cid number in
           let read = is_read q in
           let replied = control_requests_are_answered profile before (message_of q) (row_of q.body) within (of_table q) read.service in
           to_answers before (message_of q) replied.0 replied.1 (subst (λ (n : ℕ). n < 256) (sym read.number) low)
@@ -138,8 +138,8 @@ module _ (profile : Profile) where
           record {
             allocates = to_answers [] (message_of (allocate plan 1)) (first_id_tlvs (service plan)) first.replied (subst (λ (n : ℕ). n < 256) (sym (is_read (allocate plan 1)).number) (omega arith));
             brings = brings_first (service plan);
-            given = λ client. to_answers [] (message_of (first_command plan client)) (result_tlv 7) (refused_first client) (small client);
-            refuses = λ client bad. refl;
+            given = λ cid. to_answers [] (message_of (first_command plan cid)) (result_tlv 7) (refused_first cid) (small cid);
+            refuses = λ cid bad. refl;
             allocated = to_answers (message_of (allocate plan 1) ∷ []) (message_of (first_command plan 1)) replied.0 replied.1 (small 1);
             releases = released;
           }

@@ -86,81 +86,81 @@ module _ (profile : Profile) (plan : QmiPlan) where
 
   -- ---- the client id is given back ----
 
-  module _ (client control number : ℕ) (small : number + 1 < 2 ^ 32) (d_talk t_talk : Talk) (met : List (List ℕ)) (both : Both d_talk t_talk met) (a : Answers qmi met (message_of (release plan client control))) (dm tm : Placed) (same : dm.bytes ≡ tm.bytes) where
-    released : Alike (direct.release_at d_peer plan client control dm d_talk).end (release_at t_peer plan client control tm number t_talk).end
+  module _ (cid control number : ℕ) (small : number + 1 < 2 ^ 32) (d_talk t_talk : Talk) (met : List (List ℕ)) (both : Both d_talk t_talk met) (a : Answers qmi met (message_of (release plan cid control))) (dm tm : Placed) (same : dm.bytes ≡ tm.bytes) where
+    released : Alike (direct.release_at d_peer plan cid control dm d_talk).end (release_at t_peer plan cid control tm number t_talk).end
     released =
-        let g = goes (release plan client control) number d_talk t_talk met (omega (arith, small)) both (omega arith) a in
+        let g = goes (release plan cid control) number d_talk t_talk met (omega (arith, small)) both (omega arith) a in
         let framed : is_framed g.d_placed.bytes ≡ true = ap is_framed g.d_bytes ∙ (is_response_text a.response a.tlvs a.flags).framed in
         let ended : Finish direct.LastWord = direct.finish (direct.OfAnswer plan.request None dm) g.d_later in
         alike_by
         (g.d_is (λ before last talk. if is_framed last.bytes then direct.finish (direct.OfAnswer plan.request None dm) talk else direct.finish (direct.Unframed last) talk)
         ∙ ap (λ (b : Bool). if b then ended else direct.finish (direct.Unframed g.d_placed) g.d_later) framed)
         (g.t_is (λ message talk. close_at t_peer (OfAnswer plan.request None tm) (number + 1) plan.timeout talk))
-        (closes (direct.OfAnswer plan.request None dm) (OfAnswer plan.request None tm) (number + 1) g.t_later (message_of (release plan client control) ∷ met) small g.both.carried (refl, refl, same))
+        (closes (direct.OfAnswer plan.request None dm) (OfAnswer plan.request None tm) (number + 1) g.t_later (message_of (release plan cid control) ∷ met) small g.both.carried (refl, refl, same))
 
     -- the session is left
-    left_some : (service plan == 0) ≡ false → Alike (direct.leave_at d_peer plan client control dm d_talk).end (leave_at t_peer plan client control tm number t_talk).end
+    left_some : (service plan == 0) ≡ false → Alike (direct.leave_at d_peer plan cid control dm d_talk).end (leave_at t_peer plan cid control tm number t_talk).end
     left_some some =
         let d_none : Finish direct.LastWord = direct.finish (direct.OfAnswer plan.request None dm) d_talk in
-        let d_kept : Finish direct.LastWord = direct.finish (direct.OfAnswer plan.request (Some (service plan, client)) dm) d_talk in
+        let d_kept : Finish direct.LastWord = direct.finish (direct.OfAnswer plan.request (Some (service plan, cid)) dm) d_talk in
         let t_none : Finish LastWord = close_at t_peer (OfAnswer plan.request None tm) number plan.timeout t_talk in
-        let t_kept : Finish LastWord = close_at t_peer (OfAnswer plan.request (Some (service plan, client)) tm) number plan.timeout t_talk in
-        let d_released : Finish direct.LastWord = direct.release_at d_peer plan client control dm d_talk in
-        let t_released : Finish LastWord = release_at t_peer plan client control tm number t_talk in
+        let t_kept : Finish LastWord = close_at t_peer (OfAnswer plan.request (Some (service plan, cid)) tm) number plan.timeout t_talk in
+        let d_released : Finish direct.LastWord = direct.release_at d_peer plan cid control dm d_talk in
+        let t_released : Finish LastWord = release_at t_peer plan cid control tm number t_talk in
         let kept : (b : Bool) → Alike (if b then d_kept else d_released).end (if b then t_kept else t_released).end =
         λ b. elim b as (λ b. Alike (if b then d_kept else d_released).end (if b then t_kept else t_released).end) [
-          | true ↦ closes (direct.OfAnswer plan.request (Some (service plan, client)) dm) (OfAnswer plan.request (Some (service plan, client)) tm) number t_talk met (omega (arith, small)) both.carried (refl, refl, same)
+          | true ↦ closes (direct.OfAnswer plan.request (Some (service plan, cid)) dm) (OfAnswer plan.request (Some (service plan, cid)) tm) number t_talk met (omega (arith, small)) both.carried (refl, refl, same)
           | false ↦ released
         ]
         in
         subst (λ (z : Bool). Alike (if z then d_none else if plan.keep then d_kept else d_released).end (if z then t_none else if plan.keep then t_kept else t_released).end) (sym some) (kept plan.keep)
 
   -- a command of service 0 leaves nothing to give back
-  left_none : (client control number : ℕ) (d_talk t_talk : Talk) (met : List (List ℕ)) → number < 2 ^ 32 → Both d_talk t_talk met → (dm tm : Placed) → dm.bytes ≡ tm.bytes → (service plan == 0) ≡ true
-      → Alike (direct.leave_at d_peer plan client control dm d_talk).end (leave_at t_peer plan client control tm number t_talk).end
-  left_none client control number d_talk t_talk met small both dm tm same none =
+  left_none : (cid control number : ℕ) (d_talk t_talk : Talk) (met : List (List ℕ)) → number < 2 ^ 32 → Both d_talk t_talk met → (dm tm : Placed) → dm.bytes ≡ tm.bytes → (service plan == 0) ≡ true
+      → Alike (direct.leave_at d_peer plan cid control dm d_talk).end (leave_at t_peer plan cid control tm number t_talk).end
+  left_none cid control number d_talk t_talk met small both dm tm same none =
       alike_by
-      (ap (λ (z : Bool). if z then direct.finish (direct.OfAnswer plan.request None dm) d_talk else if plan.keep then direct.finish (direct.OfAnswer plan.request (Some (service plan, client)) dm) d_talk else direct.release_at d_peer plan client control dm d_talk) none)
-      (ap (λ (z : Bool). if z then close_at t_peer (OfAnswer plan.request None tm) number plan.timeout t_talk else if plan.keep then close_at t_peer (OfAnswer plan.request (Some (service plan, client)) tm) number plan.timeout t_talk else release_at t_peer plan client control tm number t_talk) none)
+      (ap (λ (z : Bool). if z then direct.finish (direct.OfAnswer plan.request None dm) d_talk else if plan.keep then direct.finish (direct.OfAnswer plan.request (Some (service plan, cid)) dm) d_talk else direct.release_at d_peer plan cid control dm d_talk) none)
+      (ap (λ (z : Bool). if z then close_at t_peer (OfAnswer plan.request None tm) number plan.timeout t_talk else if plan.keep then close_at t_peer (OfAnswer plan.request (Some (service plan, cid)) tm) number plan.timeout t_talk else release_at t_peer plan cid control tm number t_talk) none)
       (closes (direct.OfAnswer plan.request None dm) (OfAnswer plan.request None tm) number t_talk met small both.carried (refl, refl, same))
 
   -- ---- the command ----
 
   module _ (is : IsPlan plan) where
     -- the answer is read, and the session is left where it reads
-    module _ (client control number : ℕ) (small : number < 2 ^ 32) (d_talk t_talk : Talk) (met : List (List ℕ)) (both : Both d_talk t_talk met) (a : Answers qmi met (message_of (command plan client control)))
-        (left : (d_later t_later : Talk) (dm tm : Placed) → Both d_later t_later (message_of (command plan client control) ∷ met) → dm.bytes ≡ tm.bytes
-        → Alike (direct.leave_at d_peer plan client control dm d_later).end (leave_at t_peer plan client control tm (number + 1) t_later).end) where
-      commanded : Alike (direct.command_at d_peer plan client control d_talk).end (command_at t_peer plan client control number t_talk).end
+    module _ (cid control number : ℕ) (small : number < 2 ^ 32) (d_talk t_talk : Talk) (met : List (List ℕ)) (both : Both d_talk t_talk met) (a : Answers qmi met (message_of (command plan cid control)))
+        (left : (d_later t_later : Talk) (dm tm : Placed) → Both d_later t_later (message_of (command plan cid control) ∷ met) → dm.bytes ≡ tm.bytes
+        → Alike (direct.leave_at d_peer plan cid control dm d_later).end (leave_at t_peer plan cid control tm (number + 1) t_later).end) where
+      commanded : Alike (direct.command_at d_peer plan cid control d_talk).end (command_at t_peer plan cid control number t_talk).end
       commanded =
-          let g = goes (command plan client control) number d_talk t_talk met small both is.inputs a in
+          let g = goes (command plan cid control) number d_talk t_talk met small both is.inputs a in
           let same : g.d_placed.bytes ≡ g.t_placed.bytes = g.d_bytes ∙ sym g.t_bytes in
-          let d_left : Finish direct.LastWord = direct.leave_at d_peer plan client control g.d_placed g.d_later in
-          let t_left : Finish LastWord = leave_at t_peer plan client control g.t_placed (number + 1) g.t_later in
+          let d_left : Finish direct.LastWord = direct.leave_at d_peer plan cid control g.d_placed g.d_later in
+          let t_left : Finish LastWord = leave_at t_peer plan cid control g.t_placed (number + 1) g.t_later in
           let d_end : Finish direct.LastWord = direct.finish (direct.OfAnswer plan.request None g.d_placed) g.d_later in
           let t_end : Finish LastWord = finish (OfAnswer plan.request None g.t_placed) g.t_later in
           let read_so : (b : Bool) → Alike (if b then d_left else d_end).end (if b then t_left else t_end).end =
           λ b. elim b as (λ b. Alike (if b then d_left else d_end).end (if b then t_left else t_end).end) [ true ↦ left g.d_later g.t_later g.d_placed g.t_placed g.both same | false ↦ (refl, refl, same) ]
           in
           alike_by
-          (g.d_is (λ before message talk. if reads plan.request message.bytes then direct.leave_at d_peer plan client control message talk else direct.finish (direct.OfAnswer plan.request None message) talk)
+          (g.d_is (λ before message talk. if reads plan.request message.bytes then direct.leave_at d_peer plan cid control message talk else direct.finish (direct.OfAnswer plan.request None message) talk)
           ∙ ap (λ (b : Bool). if b then d_left else d_end) (ap (reads plan.request) same))
-          (g.t_is (λ message talk. if reads plan.request message.bytes then leave_at t_peer plan client control message (number + 1) talk else finish (OfAnswer plan.request None message) talk))
+          (g.t_is (λ message talk. if reads plan.request message.bytes then leave_at t_peer plan cid control message (number + 1) talk else finish (OfAnswer plan.request None message) talk))
           (read_so (reads plan.request g.t_placed.bytes))
 
     module _ (served : IsServed qmi plan) where
       -- with a client id
-      commanded_some : (some : (service plan == 0) ≡ false) (client control number : ℕ) → control < 256 → number + 2 < 2 ^ 32 → (d_talk t_talk : Talk) (met : List (List ℕ)) → Both d_talk t_talk met → Answers qmi met (message_of (first_command plan client))
-          → Alike (direct.command_at d_peer plan client control d_talk).end (command_at t_peer plan client control number t_talk).end
-      commanded_some some client control number low small d_talk t_talk met both a =
-          let first : command plan client control ≡ first_command plan client = ap (λ (b : Bool). let r : Request = record { body = plan.request; client = client; number = if b then control else 1 } in r) some in
-          commanded client control number (omega (arith, small)) d_talk t_talk met both (subst (λ (r : Request). Answers qmi met (message_of r)) (sym first) a)
+      commanded_some : (some : (service plan == 0) ≡ false) (cid control number : ℕ) → control < 256 → number + 2 < 2 ^ 32 → (d_talk t_talk : Talk) (met : List (List ℕ)) → Both d_talk t_talk met → Answers qmi met (message_of (first_command plan cid))
+          → Alike (direct.command_at d_peer plan cid control d_talk).end (command_at t_peer plan cid control number t_talk).end
+      commanded_some some cid control number low small d_talk t_talk met both a =
+          let first : command plan cid control ≡ first_command plan cid = ap (λ (b : Bool). let r : Request = record { body = plan.request; cid = cid; number = if b then control else 1 } in r) some in
+          commanded cid control number (omega (arith, small)) d_talk t_talk met both (subst (λ (r : Request). Answers qmi met (message_of r)) (sym first) a)
           (λ d_later t_later dm tm later same.
-          left_some client control (number + 1) (omega (arith, small)) d_later t_later (message_of (command plan client control) ∷ met) later ((served.services some).releases client control low (message_of (command plan client control) ∷ met)) dm tm same some)
+          left_some cid control (number + 1) (omega (arith, small)) d_later t_later (message_of (command plan cid control) ∷ met) later ((served.services some).releases cid control low (message_of (command plan cid control) ∷ met)) dm tm same some)
 
       commanded_none : (none : (service plan == 0) ≡ true) (d_talk t_talk : Talk) → Both d_talk t_talk [] → Alike (direct.command_at d_peer plan 0 1 d_talk).end (command_at t_peer plan 0 1 2 t_talk).end
       commanded_none none d_talk t_talk both =
-          let only : command plan 0 1 ≡ first_command plan 0 = ap (λ (b : Bool). let r : Request = record { body = plan.request; client = 0; number = if b then 1 else 1 } in r) none in
+          let only : command plan 0 1 ≡ first_command plan 0 = ap (λ (b : Bool). let r : Request = record { body = plan.request; cid = 0; number = if b then 1 else 1 } in r) none in
           commanded 0 1 2 (omega arith) d_talk t_talk [] both (subst (λ (r : Request). Answers qmi [] (message_of r)) (sym only) (served.versions none).answers)
           (λ d_later t_later dm tm later same. left_none 0 1 3 d_later t_later (message_of (command plan 0 1) ∷ []) (omega arith) later dm tm same none)
 
@@ -214,7 +214,7 @@ module _ (profile : Profile) (plan : QmiPlan) where
         where
           by_id : (some : (service plan == 0) ≡ false) (cid : Option ℕ) → Alike (direct.given_at d_peer plan cid 1 d_talk).end (given_at t_peer plan cid 2 t_talk).end
           by_id some None = allocated some d_talk t_talk both
-          by_id some (Some client) = commanded_some some client 1 2 (omega arith) (omega arith) d_talk t_talk [] both ((served.services some).given client)
+          by_id some (Some cid) = commanded_some some cid 1 2 (omega arith) (omega arith) d_talk t_talk [] both ((served.services some).given cid)
 
   d_start : Direct (setup_of plan) refl qmi plan.timeout nothing_said []
   unfolding cut_from asked_by

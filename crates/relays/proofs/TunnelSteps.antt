@@ -267,7 +267,7 @@ module _ (profile : Profile) (plan : QmiPlan) where
         let read = is_read r in
         ap (λ (b : Bool). b && is_framed x && answers wanted x) (is_one x response.is_message)
         ∙ ap (λ (b : Bool). b && answers wanted x) response.framed
-        ∙ answers_it r a.response a.tlvs a.flags (a.service ∙ read.service) (a.client ∙ read.client) (a.number ∙ read.number)
+        ∙ answers_it r a.response a.tlvs a.flags (a.service ∙ read.service) (a.cid ∙ read.cid) (a.number ∙ read.number)
 
     abbrev begin : ℕ
     begin = begins_at (pieces number before) last

@@ -23,7 +23,7 @@ use Rattle.relays.specs.QmiRuns.{setup_of, direct_run, through_run, relay}
 abbrev pub IsCommand : QmiRequest → Type 0
 IsCommand (ProxyOpen path) = ⊥
 IsCommand (Allocate service) = ⊥
-IsCommand (Release service client) = ⊥
+IsCommand (Release service cid) = ⊥
 IsCommand _ = Unit {0}
 
 pub record IsPlan (plan : QmiPlan) : Type 0 where

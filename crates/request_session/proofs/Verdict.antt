@@ -62,18 +62,18 @@ module _ (seconds : ℕ) (body : QmiRequest) (number : ℕ) (next : Placed → S
   followed = control seconds body number (λ message. on_success body message (next message))
 
   module _ {heard : Heard} {cutter : Reading} {before : Option (List Call)} where
-    pub Goes-control_unread : {why : SessionFault} {after : Option (List Call)} → RepliesTo seconds (record { body = body; client = 0; number = number }) heard (Err why) cutter before after
+    pub Goes-control_unread : {why : SessionFault} {after : Option (List Call)} → RepliesTo seconds (record { body = body; cid = 0; number = number }) heard (Err why) cutter before after
         → Goes size_of followed heard (Err why) cutter before after
     Goes-control_unread {why = why} replies = Goes-unread replies (λ passed message now is. unread-ends body message (next message) why now is)
 
     pub Goes-refused : {reply : Reply QmiAnswer} {error : ℕ} {after : Option (List Call)} → failure_in reply.answer ≡ Some error
-        → RepliesTo seconds (record { body = body; client = 0; number = number }) heard (Ok reply) cutter before after → Goes size_of followed heard (Ok (Refused error)) cutter before after
+        → RepliesTo seconds (record { body = body; cid = 0; number = number }) heard (Ok reply) cutter before after → Goes size_of followed heard (Ok (Refused error)) cutter before after
     Goes-refused {reply = reply} {after = after} some replies =
         let message : Placed = placed_in cutter reply.found in
         Goes-read replies (Goes-as (failure-ends body message (next message) reply.answer some replies.says.1) (Goes-ends after replies.says.2))
 
     pub Goes-succeeded : {reply : Reply QmiAnswer} {result : Result Access SessionFault} {last : Reading} {mid after : Option (List Call)} → failure_in reply.answer ≡ None
-        → (replies : RepliesTo seconds (record { body = body; client = 0; number = number }) heard (Ok reply) cutter before mid) → Goes size_of (next (placed_in cutter reply.found)) replies.later result last mid after
+        → (replies : RepliesTo seconds (record { body = body; cid = 0; number = number }) heard (Ok reply) cutter before mid) → Goes size_of (next (placed_in cutter reply.found)) replies.later result last mid after
         → Goes size_of followed heard result last before after
     Goes-succeeded {reply = reply} none replies goes =
         let message : Placed = placed_in cutter reply.found in Goes-read replies (Goes-as (success-goes body message (next message) reply.answer none replies.says.1) goes)

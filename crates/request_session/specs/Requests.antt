@@ -14,30 +14,30 @@ use Rattle.device_core.specs.Requests as device
 use Rattle.request_session.specs.declared.request.TlvRequest.{TlvRequest}
 use Rattle.request_session.specs.declared.wanted.WantedAnswer.{WantedAnswer}
 
-abbrev pub new_message : TlvRequest → (client number : ℕ) → NewMessage
-new_message request client number = record {
+abbrev pub new_message : TlvRequest → (cid number : ℕ) → NewMessage
+new_message request cid number = record {
   sender = Host;
   service = request.service;
-  client = client;
+  cid = cid;
   flags = flags_for request.service kind.Request;
   number = number;
   message = request.message;
 }
 
-unfoldable pub message_of : TlvRequest → (client number : ℕ) → List ℕ
-message_of request client number = message_text (new_message request client number) request.tlvs
+unfoldable pub message_of : TlvRequest → (cid number : ℕ) → List ℕ
+message_of request cid number = message_text (new_message request cid number) request.tlvs
 
 -- a response with this service, client id, number and message id
 abbrev pub answers : WantedAnswer → List ℕ → Bool
 answers wanted message = device.answers wanted.wanted message && (message_id_of message == wanted.message)
 
-abbrev pub wanted_by : TlvRequest → (client number : ℕ) → WantedAnswer
-wanted_by request client number = record { wanted = record { service = request.service; client = client; number = number }; message = request.message }
+abbrev pub wanted_by : TlvRequest → (cid number : ℕ) → WantedAnswer
+wanted_by request cid number = record { wanted = record { service = request.service; cid = cid; number = number }; message = request.message }
 
 -- whatever came before
 abbrev pub judge_by : WantedAnswer → Judge
 judge_by wanted = λ before message. if answers wanted message.bytes then Answer else NoAnswer
 
 -- with so many seconds for its answer
-abbrev pub asked : (seconds : ℕ) → TlvRequest → (client number : ℕ) → Asked
-asked seconds request client number = record { size = size_of; text = message_of request client number; wait = waiting (judge_by (wanted_by request client number)) seconds }
+abbrev pub asked : (seconds : ℕ) → TlvRequest → (cid number : ℕ) → Asked
+asked seconds request cid number = record { size = size_of; text = message_of request cid number; wait = waiting (judge_by (wanted_by request cid number)) seconds }

@@ -29,7 +29,7 @@ broken message = Err (fault.Broken message.place)
 -- ---- requests to service 0 ----
 
 abbrev pub control : (seconds : ℕ) → QmiRequest → (number : ℕ) → (Placed → Script Access) → Script Access
-control seconds body number next = Asks (device.asked seconds (record { body = body; client = 0; number = number })) (λ before message. next message)
+control seconds body number next = Asks (device.asked seconds (record { body = body; cid = 0; number = number })) (λ before message. next message)
 
 abbrev pub error_of : Option Outcome → ℕ
 error_of None = 0
@@ -96,7 +96,7 @@ released message = if is_framed message.bytes then Ok None else broken message
 
 abbrev pub release : RequestPlan → Client → Script (Option (ℕ × ℕ))
 release plan client =
-    Asks (device.asked plan.timeout (record { body = Release plan.request.service client.id; client = 0; number = client.next }))
+    Asks (device.asked plan.timeout (record { body = Release plan.request.service client.id; cid = 0; number = client.next }))
     (λ before message. Ends (released message))
 
 -- it is given back unless it is kept, and the service and the client id are told that are kept

@@ -29,7 +29,7 @@ pub(crate) fn ask_control<L: Link>(
     timeout: u16,
 ) -> Result<Reply<QmiAnswer>, SessionFault>
     ensures asks { (heard : Heard) → Stands size_of incoming.old heard
-        → RepliesTo timeout (record { body = body; client = 0; number = number }) heard result incoming.new (L.calls link.old) (L.calls link.new) }
+        → RepliesTo timeout (record { body = body; cid = 0; number = number }) heard result incoming.new (L.calls link.old) (L.calls link.new) }
     ensures given { IfOk result (λ reply. IsGiven size_of incoming.new reply.found × Reads body (placed_in incoming.new reply.found) (Ok reply.answer)) }
     ensures link_fault { result ≡ Err SessionFault.LinkFault → Rose (L.faults link.old) (L.faults link.new) }
     ensures later { L.faults link.old ≤ L.faults link.new }
@@ -50,7 +50,7 @@ pub(crate) fn release<L: Link>(
     timeout: u16,
 ) -> Result<Found, SessionFault>
     ensures asks { (heard : Heard) → Stands size_of incoming.old heard
-        → AsksFor (asked timeout (record { body = Release service client.id; client = 0; number = client.next })) KeepsNothing heard result incoming.new (L.calls link.old) (L.calls link.new) }
+        → AsksFor (asked timeout (record { body = Release service client.id; cid = 0; number = client.next })) KeepsNothing heard result incoming.new (L.calls link.old) (L.calls link.new) }
     ensures given { IfOk result (IsGiven size_of incoming.new) }
     ensures link_fault { result ≡ Err SessionFault.LinkFault → Rose (L.faults link.old) (L.faults link.new) }
     ensures later { L.faults link.old ≤ L.faults link.new }

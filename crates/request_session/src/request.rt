@@ -20,14 +20,14 @@ pub struct TlvRequest {
 impl TlvRequest {
     /// The whole message, with this client id and this number.
     #[tactic(auto, unfolding(crate::specs::Requests::message_of))]
-    pub(crate) fn write(&self, alloc: Global, client: u8, number: u8) -> Result<Octets, AllocError>
+    pub(crate) fn write(&self, alloc: Global, cid: u8, number: u8) -> Result<Octets, AllocError>
         requires { length self.now.tlvs ≤ LONGEST_TLVS }
-        ensures { IfOk result (λ message. message ≡ message_of self.now client number) }
+        ensures { IfOk result (λ message. message ≡ message_of self.now cid number) }
     {
         let message = NewMessage {
             sender: Sender::Host,
             service: self.service,
-            client,
+            cid,
             flags: MessageKind::Request.flags(self.service),
             number: u16::from(number),
             message: self.message,
@@ -36,13 +36,13 @@ impl TlvRequest {
     }
 
     /// What its answer has.
-    pub(crate) fn wanted(&self, client: u8, number: u8) -> WantedAnswer
-        ensures { result ≡ wanted_by self.now client number }
+    pub(crate) fn wanted(&self, cid: u8, number: u8) -> WantedAnswer
+        ensures { result ≡ wanted_by self.now cid number }
     {
         WantedAnswer {
             wanted: Wanted {
                 service: self.service,
-                client,
+                cid,
                 number,
             },
             message: self.message,

@@ -6,7 +6,7 @@ use Rattle.qmux_frame.specs.declared.head.Head.{Head}
 use Rattle.qmux_frame.specs.declared.writing.NewMessage.{NewMessage}
 use Rattle.qmux_frame.specs.declared.kind.MessageKind.{MessageKind}
 use Rattle.qmux_frame.specs.declared.kind.MessageKind.TheVariants as kind
-use Rattle.qmux_frame.specs.Head.{service_of, client_of, number_of}
+use Rattle.qmux_frame.specs.Head.{service_of, cid_of, number_of}
 use Rattle.qmux_frame.specs.Kind.{kind_by}
 use Rattle.qmux_frame.specs.Control.{is_release}
 use Rattle.qmux_frame.specs.Writing.{head_text, inner_head, message_text}
@@ -31,9 +31,9 @@ abbrev kind_from : Head → Option MessageKind
 kind_from head = if head.framed then Some (kind_by head.service head.flags) else None
 
 pub suits_its_request : (m : NewMessage) (tlvs : List ℕ) (r : Request) → length tlvs ≤ 8000 → kind_by m.service m.flags ≡ kind.Response
-    → service_of r.message ≡ m.service → client_of r.message ≡ m.client → r.number ≡ m.number → is_release r.message ≡ false
+    → service_of r.message ≡ m.service → cid_of r.message ≡ m.cid → r.number ≡ m.number → is_release r.message ≡ false
     → (brings_id r.message (message_text m tlvs) ≡ true → byte_of 1 (value_of 0x01 (message_text m tlvs)) ≡ r.conn) → Suits (message_text m tlvs) r
-suits_its_request m tlvs r short response service client number keeps own =
+suits_its_request m tlvs r short response service cid number keeps own =
     let read = written_is_read m tlvs in
     let reply : List ℕ = message_text m tlvs in
     let head = head_is_short m (length tlvs) in
@@ -43,10 +43,10 @@ suits_its_request m tlvs r short response service client number keeps own =
       short = omega (arith, head, whole, short);
       response = ap kind_from read.head ∙ ap (λ (k : MessageKind). Some k) response;
       answers =
-          and_from (service_of r.message == service_of reply && (client_of r.message == client_of reply)) (r.number == number_of reply)
-          (and_from (service_of r.message == service_of reply) (client_of r.message == client_of reply)
+          and_from (service_of r.message == service_of reply && (cid_of r.message == cid_of reply)) (r.number == number_of reply)
+          (and_from (service_of r.message == service_of reply) (cid_of r.message == cid_of reply)
           (eq-eqb _ _ (service ∙ sym (ap (λ (h : Head). h.service) read.head)))
-          (eq-eqb _ _ (client ∙ sym (ap (λ (h : Head). h.client) read.head))))
+          (eq-eqb _ _ (cid ∙ sym (ap (λ (h : Head). h.cid) read.head))))
           (eq-eqb _ _ (number ∙ sym (ap (λ (h : Head). h.number) read.head)));
       keeps_ids = keeps;
       own_id = own;

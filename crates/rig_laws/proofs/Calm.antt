@@ -91,9 +91,9 @@ module _ (s : Setup) where
       count = calm.count;
     }
 
-    pub granted : (c service client : ℕ) → client ≡ c → Calm joined opened requests queue (Granted c service client ∷ past)
+    pub granted : (c service cid : ℕ) → cid ≡ c → Calm joined opened requests queue (Granted c service cid ∷ past)
     unfolding present in_use view message_count to_modem modem_taken_count
-    granted c service client own = record { there = calm.there; harmless = (own, calm.harmless); open_ones = calm.open_ones; uses = calm.uses; clients = calm.clients; quiet = calm.quiet; taken = calm.taken; to_it = calm.to_it; count = calm.count }
+    granted c service cid own = record { there = calm.there; harmless = (own, calm.harmless); open_ones = calm.open_ones; uses = calm.uses; clients = calm.clients; quiet = calm.quiet; taken = calm.taken; to_it = calm.to_it; count = calm.count }
 
     pub judged : (c place : ℕ) (m : List ℕ) (verdict : Verdict) → IsHarmless s (Judged c place m verdict) past → 1 ≤ c → c ≤ opened → Calm joined opened requests queue (Judged c place m verdict ∷ past)
     unfolding present in_use view message_count to_modem modem_taken_count

@@ -32,8 +32,8 @@ module _ (s : Setup) where
   IsHarmless (Judged c place m Share) past = passes_share s c m past ≡ true
   IsHarmless (Judged c place m verdict) past = ⊥
   IsHarmless (IdHeld r) past = ⊥
-  IsHarmless (Granted c service client) past = client ≡ c
-  IsHarmless (Freed c service client) past = ⊥
+  IsHarmless (Granted c service cid) past = cid ≡ c
+  IsHarmless (Freed c service cid) past = ⊥
   IsHarmless Reset past = ⊥
   IsHarmless ModemLost past = ⊥
   IsHarmless _ past = Unit {0}
@@ -118,7 +118,7 @@ module _ (s : Setup) where
   none_kept : (past : List Fact) → AreHarmless past → kept past ≡ []
   unfolding kept
   none_kept [] all = refl
-  none_kept (Granted c service client ∷ past) all = ap (filter (λ (k : KeptId). not (k.service == service && (k.client == client)))) (none_kept past all.1)
+  none_kept (Granted c service cid ∷ past) all = ap (filter (λ (k : KeptId). not (k.service == service && (k.cid == cid)))) (none_kept past all.1)
   none_kept (Ended c why ∷ past) all = absurd all.0
   none_kept (Reset ∷ past) all = absurd all.0
   none_kept (ModemLost ∷ past) all = absurd all.0
@@ -130,14 +130,14 @@ module _ (s : Setup) where
   none_released (Some after) past all = ap (λ (l : List KeptId). releases s after (length l) past) (none_kept past all)
 
   abbrev AreOwn : List Grant → Type 0
-  AreOwn grants = AllByRecursion (λ g. g.client ≡ g.conn) grants
+  AreOwn grants = AllByRecursion (λ g. g.cid ≡ g.conn) grants
 
   ids_are_own : (past : List Fact) → AreHarmless past → AreOwn (held past)
   unfolding held
   ids_are_own [] all = tt
-  ids_are_own (Granted c service client ∷ past) all =
-      all_push (λ (g : Grant). g.client ≡ g.conn) _ _ (all_filter (λ (g : Grant). g.client ≡ g.conn) (λ (g : Grant). not (is_of service client g)) (held past) (ids_are_own past all.1)) all.0
-  ids_are_own (Freed c service client ∷ past) all = absurd all.0
+  ids_are_own (Granted c service cid ∷ past) all =
+      all_push (λ (g : Grant). g.cid ≡ g.conn) _ _ (all_filter (λ (g : Grant). g.cid ≡ g.conn) (λ (g : Grant). not (is_of service cid g)) (held past) (ids_are_own past all.1)) all.0
+  ids_are_own (Freed c service cid ∷ past) all = absurd all.0
   ids_are_own (Ended c why ∷ past) all = absurd all.0
   ids_are_own (Reset ∷ past) all = absurd all.0
   ids_are_own (ModemLost ∷ past) all = absurd all.0
@@ -149,7 +149,7 @@ module _ (s : Setup) where
       let step : (b : Bool) → is_of service c g ≡ b → is_other c (if b then Some g.conn else holder_in service c grants) ≡ false =
       λ b. elim b as (λ b. is_of service c g ≡ b → is_other c (if b then Some g.conn else holder_in service c grants) ≡ false) [
         | true ↦ λ e.
-            let id : g.client ≡ c = eqb-true g.client c (and_parts (g.service == service) (g.client == c) e).1 in
+            let id : g.cid ≡ c = eqb-true g.cid c (and_parts (g.service == service) (g.cid == c) e).1 in
             ap (λ (b : Bool). not b) (eq-eqb g.conn c (sym all.0 ∙ id))
         | false ↦ λ e. nobody_else c service grants all.1
       ]

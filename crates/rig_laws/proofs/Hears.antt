@@ -22,7 +22,7 @@ use Rattle.proxy_history.proofs.SoundLaws.{in_use_differ}
 use Rattle.qmi_proxy.specs.Setup.{Setup}
 use Rattle.qmi_proxy.specs.Limits.{qmi_limits, outbox_limit}
 use Rattle.qmi_proxy.specs.Spaces.{space_of}
-use Rattle.qmi_proxy.specs.Messages.{is_success, byte_of, value_of, used_service, used_client}
+use Rattle.qmi_proxy.specs.Messages.{is_success, byte_of, value_of, used_service, used_cid}
 use Rattle.qmi_proxy.specs.Text.{blank, text, view_of, rendering, note}
 use Rattle.qmi_proxy.specs.FromModem.{IdChange, NoChange, Frees, granted_unless, brings_id, holder_of_brought, is_answered_by, first_answered_by, answer, answer_to, answer_or_late, respond, hear_as, hear_modem}
 use Rattle.qmi_proxy.proofs.Apart.{within}
@@ -89,23 +89,23 @@ module _ (s : Setup) (m : List ℕ) (r : Request) (suits : Suits m r) where
 
     abbrev change : Bool → Bool → IdChange
     change brings other =
-        if brings then granted_unless other (byte_of 0 (value_of 0x01 m)) (byte_of 1 (value_of 0x01 m)) else if is_release r.message && is_success m then Frees (used_service r.message) (used_client r.message) else NoChange
+        if brings then granted_unless other (byte_of 0 (value_of 0x01 m)) (byte_of 1 (value_of 0x01 m)) else if is_release r.message && is_success m then Frees (used_service r.message) (used_cid r.message) else NoChange
 
-    frees_none : (b : Bool) → b ≡ false → IsCalm (answer s.device r m (if b && is_success m then Frees (used_service r.message) (used_client r.message) else NoChange) past)
+    frees_none : (b : Bool) → b ≡ false → IsCalm (answer s.device r m (if b && is_success m then Frees (used_service r.message) (used_cid r.message) else NoChange) past)
     frees_none true e = absurd (cc)
     frees_none false e = subst IsCalm (sym (answer_is_noted past room)) (calm_without (Answered r m ∷ past) (answered s calm r m))
 
-    room_behind : (service client : ℕ) → AllHaveRoom s piece_limit (Granted r.conn service client ∷ past)
+    room_behind : (service cid : ℕ) → AllHaveRoom s piece_limit (Granted r.conn service cid ∷ past)
     unfolding view present
-    room_behind service client = room
+    room_behind service cid = room
 
     brings : (other : Bool) → other ≡ false → byte_of 1 (value_of 0x01 m) ≡ r.conn → IsCalm (answer s.device r m (granted_unless other (byte_of 0 (value_of 0x01 m)) (byte_of 1 (value_of 0x01 m))) past)
     brings true isnt own = absurd (cc)
     brings false isnt own =
         let service : ℕ = byte_of 0 (value_of 0x01 m) in
-        let client : ℕ = byte_of 1 (value_of 0x01 m) in
-        subst IsCalm (sym (answer_is_noted (Granted r.conn service client ∷ past) (room_behind service client)))
-        (calm_without (Answered r m ∷ Granted r.conn service client ∷ past) (answered s (granted s calm r.conn service client own) r m))
+        let cid : ℕ = byte_of 1 (value_of 0x01 m) in
+        subst IsCalm (sym (answer_is_noted (Granted r.conn service cid ∷ past) (room_behind service cid)))
+        (calm_without (Answered r m ∷ Granted r.conn service cid ∷ past) (answered s (granted s calm r.conn service cid own) r m))
 
     not_others : byte_of 1 (value_of 0x01 m) ≡ r.conn → is_other r.conn (holder_of_brought m past) ≡ false
     not_others own = ap (λ (n : ℕ). is_other r.conn (holder (byte_of 0 (value_of 0x01 m)) n past)) own ∙ own_id_is_free s r.conn (byte_of 0 (value_of 0x01 m)) past calm.harmless

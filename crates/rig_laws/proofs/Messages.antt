@@ -9,7 +9,7 @@ use Rattle.qmux_frame.specs.declared.kind.MessageKind.TheVariants as kind
 use Rattle.qmux_frame.specs.declared.writing.NewMessage.{NewMessage}
 use Rattle.qmux_frame.specs.declared.writing.Sender.TheVariants.{Host}
 use Rattle.qmux_frame.specs.Frame.{size_of}
-use Rattle.qmux_frame.specs.Head.{head_of, service_of, client_of}
+use Rattle.qmux_frame.specs.Head.{head_of, service_of, cid_of}
 use Rattle.qmux_frame.specs.Kind.{framed_kind}
 use Rattle.qmux_frame.specs.Control.{is_allocate, is_release}
 use Rattle.qmux_frame.specs.Reply.{with_number}
@@ -43,7 +43,7 @@ device_is_opened = record { is_message = refl; short = lit≤ tt; fine = refl; o
 -- ---- Allocate for NAS ----
 
 abbrev pub allocate_head : ℕ → NewMessage
-allocate_head number = record { sender = Host; service = 0; client = 0; flags = 0; number = number; message = 0x0022 }
+allocate_head number = record { sender = Host; service = 0; cid = 0; flags = 0; number = number; message = 0x0022 }
 
 abbrev pub allocate_message : ℕ → List ℕ
 allocate_message number = message_text (allocate_head number) (tlv_text (tlv 0x01 (3 ∷ [])))
@@ -59,7 +59,7 @@ allocate_is_request c = record { is_message = refl; short = lit≤ tt; is_shared
 pub record IsAllocate (number : ℕ) : Type 0 where
   pub renumbered : with_number number (allocate_message 2) ≡ allocate_message number
   pub kind_is : framed_kind (allocate_message number) ≡ Some kind.Request
-  pub head : head_of (allocate_message number) ≡ record { service = 0; client = 0; flags = 0; number = number; message = 0x0022; framed = true }
+  pub head : head_of (allocate_message number) ≡ record { service = 0; cid = 0; flags = 0; number = number; message = 0x0022; framed = true }
 
 pub allocate_is : (number : ℕ) → IsAllocate number
 unfolding head_text
@@ -67,11 +67,11 @@ allocate_is number = record { renumbered = refl; kind_is = refl; head = (written
 
 -- ---- requests of NAS ----
 
-abbrev pub nas_head : (id client number : ℕ) → NewMessage
-nas_head id client number = record { sender = Host; service = 3; client = client; flags = 0; number = number; message = id }
+abbrev pub nas_head : (id cid number : ℕ) → NewMessage
+nas_head id cid number = record { sender = Host; service = 3; cid = cid; flags = 0; number = number; message = id }
 
-abbrev pub nas_message : (id client number : ℕ) → List ℕ
-nas_message id client number = message_text (nas_head id client number) []
+abbrev pub nas_message : (id cid number : ℕ) → List ℕ
+nas_message id cid number = message_text (nas_head id cid number) []
 
 -- what is asked
 pub data NasKind : Type 0 where
@@ -91,42 +91,42 @@ row_of home_network = table.get_home_network
 abbrev pub kind_for : ℕ → NasKind
 kind_for choice = if choice == 0 then signal_strength else if choice == 1 then network_scan else if choice == 2 then serving_system else home_network
 
-said_by : (client number : ℕ) (a b c : Bool) → says (if a then NasGetSignalStrength else if b then NasNetworkScan else if c then NasGetServingSystem else NasGetHomeNetwork) client number
-    ≡ nas_message (row_of (if a then signal_strength else if b then network_scan else if c then serving_system else home_network)).id client number
+said_by : (cid number : ℕ) (a b c : Bool) → says (if a then NasGetSignalStrength else if b then NasNetworkScan else if c then NasGetServingSystem else NasGetHomeNetwork) cid number
+    ≡ nas_message (row_of (if a then signal_strength else if b then network_scan else if c then serving_system else home_network)).id cid number
 unfolding message_of
-said_by client number true b c = refl
-said_by client number false true c = refl
-said_by client number false false true = refl
-said_by client number false false false = refl
+said_by cid number true b c = refl
+said_by cid number false true c = refl
+said_by cid number false false true = refl
+said_by cid number false false false = refl
 
-pub said_nas : (choice client number : ℕ) → says (asks_for choice) client number ≡ nas_message (row_of (kind_for choice)).id client number
-said_nas choice client number = said_by client number (choice == 0) (choice == 1) (choice == 2)
+pub said_nas : (choice cid number : ℕ) → says (asks_for choice) cid number ≡ nas_message (row_of (kind_for choice)).id cid number
+said_nas choice cid number = said_by cid number (choice == 0) (choice == 1) (choice == 2)
 
-module _ (id client number : ℕ) where
-  pub nas_is_request : (client == 0) ≡ false → (client == 255) ≡ false → IsRequestOf client (nas_message id client number)
+module _ (id cid number : ℕ) where
+  pub nas_is_request : (cid == 0) ≡ false → (cid == 255) ≡ false → IsRequestOf cid (nas_message id cid number)
   unfolding head_text
   nas_is_request low high = record {
-    is_message = (written_is_read (nas_head id client number) []).whole;
+    is_message = (written_is_read (nas_head id cid number) []).whole;
     short = lit≤ tt;
-    is_shared = or_from (client == 0) (client == 255) low high;
+    is_shared = or_from (cid == 0) (cid == 255) low high;
     own_id = λ uses. refl;
   }
 
   pub record IsNas : Type 0 where
-    pub renumbered : (other : ℕ) → with_number other (nas_message id client number) ≡ nas_message id client other
-    pub kind_is : framed_kind (nas_message id client number) ≡ Some kind.Request
-    pub head : head_of (nas_message id client number) ≡ record { service = 3; client = client; flags = 0; number = number; message = id; framed = true }
-    pub service : service_of (nas_message id client number) ≡ 3
-    pub client_is : client_of (nas_message id client number) ≡ client
-    pub no_allocate : is_allocate (nas_message id client number) ≡ false
-    pub no_release : is_release (nas_message id client number) ≡ false
+    pub renumbered : (other : ℕ) → with_number other (nas_message id cid number) ≡ nas_message id cid other
+    pub kind_is : framed_kind (nas_message id cid number) ≡ Some kind.Request
+    pub head : head_of (nas_message id cid number) ≡ record { service = 3; cid = cid; flags = 0; number = number; message = id; framed = true }
+    pub service : service_of (nas_message id cid number) ≡ 3
+    pub client_is : cid_of (nas_message id cid number) ≡ cid
+    pub no_allocate : is_allocate (nas_message id cid number) ≡ false
+    pub no_release : is_release (nas_message id cid number) ≡ false
 
   pub nas_is : IsNas
   unfolding head_text
   nas_is = record {
     renumbered = λ other. refl;
     kind_is = refl;
-    head = (written_is_read (nas_head id client number) []).head;
+    head = (written_is_read (nas_head id cid number) []).head;
     service = refl;
     client_is = refl;
     no_allocate = refl;

@@ -10,7 +10,7 @@ use Rattle.qmux_frame.specs.declared.head.Head.{Head}
 use Rattle.qmux_frame.specs.declared.writing.NewMessage.{NewMessage}
 use Rattle.qmux_frame.specs.declared.kind.MessageKind.{MessageKind}
 use Rattle.qmux_frame.specs.Frame.{size_of}
-use Rattle.qmux_frame.specs.Head.{tlvs_in, service_of, client_of}
+use Rattle.qmux_frame.specs.Head.{tlvs_in, service_of, cid_of}
 use Rattle.qmux_frame.specs.Control.{is_allocate, is_release}
 use Rattle.qmux_frame.specs.Reply.{with_number, reply_to}
 use Rattle.qmux_frame.specs.Writing.{head_text, message_text}
@@ -63,7 +63,7 @@ short_if state serving_system true = lit≤ tt
 short_if state home_network true = lit≤ tt
 
 abbrev nas_asked : NasKind → (client number : ℕ) → Head
-nas_asked what client number = record { service = 3; client = client; flags = 0; number = number; message = (row_of what).id; framed = true }
+nas_asked what client number = record { service = 3; cid = client; flags = 0; number = number; message = (row_of what).id; framed = true }
 
 -- the request is in the table
 sent_if : (state : State) (what : NasKind) (client number : ℕ) (tlvs : List ℕ) (known : Bool)
@@ -105,7 +105,7 @@ module _ (s : Setup) (there : s.starts_away ≡ false) (clients : ℕ) (before :
             ∙ one_message (message_text answered tlvs) (written_is_read answered tlvs).whole;
         suits = λ r conn message number_is.
             suits_its_request answered tlvs r (short_if state what known) refl
-            (ap service_of message ∙ is.service) (ap client_of message ∙ is.client_is) number_is (ap is_release message ∙ is.no_release)
+            (ap service_of message ∙ is.service) (ap cid_of message ∙ is.client_is) number_is (ap is_release message ∙ is.no_release)
             (λ brings. absurd (brings_none (is_allocate r.message) _ _ _ _ _ (ap is_allocate message ∙ is.no_allocate) brings));
       }
 
@@ -147,7 +147,7 @@ next_is_free count few =
     first_free (with_ids count).clients 3 ∙ passes count count (omega arith) few ∙ free_here (with_ids count).clients 3 (count + 1) (omega arith) (given_not_above count (count + 1) (omega arith))
 
 abbrev allocate_asked : ℕ → Head
-allocate_asked number = record { service = 0; client = 0; flags = 0; number = number; message = 0x0022; framed = true }
+allocate_asked number = record { service = 0; cid = 0; flags = 0; number = number; message = 0x0022; framed = true }
 
 -- the response and the state, by the id that is free
 abbrev allocated : (state : State) (number : ℕ) → Option ℕ → Exchange
@@ -188,7 +188,7 @@ allocate_service : service_of (allocate_message 2) ≡ 0
 unfolding head_text
 allocate_service = refl
 
-allocate_client : client_of (allocate_message 2) ≡ 0
+allocate_client : cid_of (allocate_message 2) ≡ 0
 unfolding head_text
 allocate_client = refl
 
@@ -227,6 +227,6 @@ module _ (s : Setup) (there : s.starts_away ≡ false) (clients : ℕ) (before :
             ∙ one_message (message_text answered tlvs) read.whole;
         suits = λ r conn message number_is.
             suits_its_request answered tlvs r (id_is_short (count + 1)) refl
-            (ap service_of message ∙ allocate_service) (ap client_of message ∙ allocate_client) (omega (arith, number_is, low)) (ap is_release message ∙ allocate_keeps)
+            (ap service_of message ∙ allocate_service) (ap cid_of message ∙ allocate_client) (omega (arith, number_is, low)) (ap is_release message ∙ allocate_keeps)
             (λ brings. ap (λ (l : List ℕ). byte_of 1 (tlv_value 0x01 l)) read.behind ∙ id_brought (count + 1) ∙ (let small : (count + 1) % 256 ≡ count + 1 = omega (arith, few) in small) ∙ sym conn);
       }

@@ -1,7 +1,7 @@
 -- Room for what is due to a client: nobody ends for want of it. Lists of facts have the newest first.
 use Rattle.std.proofs.Common.{◌≡◌, ℕ, ◌+◌, ◌*◌, ◌≤◌, Bool, true, false, ◌&&◌, ◌||◌, ◌==◌, nat_lt, if◌then◌else◌, List, [], ◌∷◌, ◌++◌, length, refl, ap, sym, ◌∙◌, arith, subst, slice_index, lit≤, length-append}
 use Rattle.std.proofs.lemmas.Bool.Decides.{nat_tests}
-use Rattle.qmux_frame.specs.Head.{service_of, is_control, client_of}
+use Rattle.qmux_frame.specs.Head.{service_of, is_control, cid_of}
 use Rattle.qmux_frame.specs.Reply.{result_tlv, result_reply}
 use Rattle.proxy_history.specs.Facts.{Fact, Request, Ended, NoRoom, Expired}
 use Rattle.proxy_history.specs.Connections.{present, is_present}
@@ -26,8 +26,8 @@ reply_is_short m error = elim (is_control m) as (λ b. length (by b) ≤ 20) [ t
     by : Bool → List ℕ
     by b =
         if b
-        then 0x01 ∷ 0x12 ∷ 0x00 ∷ 0x80 ∷ service_of m ∷ client_of m ∷ 0x01 ∷ slice_index m 7 ∷ slice_index m 8 ∷ slice_index m 9 ∷ 0x07 ∷ 0x00 ∷ result_tlv error
-        else 0x01 ∷ 0x13 ∷ 0x00 ∷ 0x80 ∷ service_of m ∷ client_of m ∷ 0x02 ∷ slice_index m 7 ∷ slice_index m 8 ∷ slice_index m 9 ∷ slice_index m 10 ∷ 0x07 ∷ 0x00 ∷ result_tlv error
+        then 0x01 ∷ 0x12 ∷ 0x00 ∷ 0x80 ∷ service_of m ∷ cid_of m ∷ 0x01 ∷ slice_index m 7 ∷ slice_index m 8 ∷ slice_index m 9 ∷ 0x07 ∷ 0x00 ∷ result_tlv error
+        else 0x01 ∷ 0x13 ∷ 0x00 ∷ 0x80 ∷ service_of m ∷ cid_of m ∷ 0x02 ∷ slice_index m 7 ∷ slice_index m 8 ∷ slice_index m 9 ∷ slice_index m 10 ∷ 0x07 ∷ 0x00 ∷ result_tlv error
 
 -- so many more bytes find room
 pub record HasRoom (count : ℕ) (r : Rendering) : Type 0 where

@@ -23,7 +23,7 @@ use Rattle.qmi_proxy.specs.Setup.{Setup}
 use Rattle.qmi_proxy.specs.Limits.{share_limit, qmi_limits, outbox_limit}
 use Rattle.qmi_proxy.specs.Errors.{share_passed}
 use Rattle.qmi_proxy.specs.Spaces.{space_of, limit_of, top_of, control_space}
-use Rattle.qmi_proxy.specs.Messages.{opens, equals, value_of, uses_id, used_service, used_client}
+use Rattle.qmi_proxy.specs.Messages.{opens, equals, value_of, uses_id, used_service, used_cid}
 use Rattle.qmi_proxy.specs.OwnReplies.{is_open, own_error, view_decides}
 use Rattle.qmi_proxy.specs.Text.{text, view_of, rendering, note}
 use Rattle.qmi_proxy.specs.Clients.{number_for, holder_for, has_room, wire, decision_on, decision_as, request_of, grant_if, judge, hear_client}
@@ -85,7 +85,7 @@ pub record IsRequestOf (c : ℕ) (m : List ℕ) : Type 0 where
   pub is_message : IsMessage size_of m
   pub short : length m ≤ piece_limit
   pub is_shared : view_decides true m ≡ false
-  pub own_id : uses_id m ≡ true → used_client m ≡ c
+  pub own_id : uses_id m ≡ true → used_cid m ≡ c
 
 abbrev by_tests : (own share foreign away room : Bool) → Option ℕ → Decision
 by_tests own share foreign away room number =
@@ -167,7 +167,7 @@ module _ (s : Setup) (c : ℕ) (m : List ℕ) where
     -- ---- it goes to the modem ----
 
     module _ (there : s.starts_away ≡ false) (sound : IsSound qmi_limits past) (few : length requests ≤ 200) where
-      free_by : (b : Bool) → uses_id m ≡ b → is_other c (if b then holder (used_service m) (used_client m) past else None) ≡ false
+      free_by : (b : Bool) → uses_id m ≡ b → is_other c (if b then holder (used_service m) (used_cid m) past else None) ≡ false
       free_by true e = ap (λ (n : ℕ). is_other c (holder (used_service m) n past)) (is.own_id e) ∙ own_id_is_free s c (used_service m) past calm.harmless
       free_by false e = refl
 
@@ -191,7 +191,7 @@ module _ (s : Setup) (c : ℕ) (m : List ℕ) where
           ∙ ap forwards_under (number_is (limit_of (space_of m)) (top_of (space_of m)) (last_number (space_of m) past) (numbers_in_use (space_of m) past) few_used)
 
       granted_if : (b : Bool) → uses_id m ≡ b → {requests : List Request} {queue : List ℕ} {before : List Fact} → Calm s joined opened requests queue before → Calm s joined opened requests queue (grant_if b c m before)
-      granted_if true e before = granted s before c (used_service m) (used_client m) (is.own_id e)
+      granted_if true e before = granted s before c (used_service m) (used_cid m) (is.own_id e)
       granted_if false e before = before
 
       pub request_is_forwarded : share ≡ false → IsForwarded joined opened requests (hear_client s c m past)

@@ -189,5 +189,5 @@ fn first_with(key: Key, rows: &[Row]) -> Option<Row>
 fn is_same_key(key: &Key, other: &Key) -> bool
     ensures { result ≡ is_same_key key.now other.now }
 {
-    key.kind == other.kind && key.client == other.client && key.number == other.number
+    key.kind == other.kind && key.cid == other.cid && key.number == other.number
 }

@@ -66,7 +66,7 @@ fn key_of(message: &[u8]) -> Key
     let head = MHead::read(message);
     Key {
         kind: head.kind % 0x8000_0000,
-        client: 0,
+        cid: 0,
         number: head.number,
     }
 }

@@ -57,7 +57,7 @@ fn key_of(message: &[u8]) -> Key
     let head = Head::read(message);
     Key {
         kind: u32::from(head.service),
-        client: head.client,
+        cid: head.cid,
         number: u32::from(head.number),
     }
 }

@@ -113,9 +113,9 @@ fn asked(choice: u64) -> QmiRequest
 
 // The whole message of a request, with this client id and this number.
 #[tactic(auto, unfolding(device_core::specs::Requests::message_of))]
-fn write(alloc: Global, body: &QmiRequest, client: u8, number: u16) -> Result<Octets, AllocError>
+fn write(alloc: Global, body: &QmiRequest, cid: u8, number: u16) -> Result<Octets, AllocError>
     requires { (row_of body.now).service ≡ 0 → number ≤ 255 }
-    ensures message { IfOk result (λ message. message ≡ session.message_of (record { body = body.now; client = client; number = number })) }
+    ensures message { IfOk result (λ message. message ≡ session.message_of (record { body = body.now; cid = cid; number = number })) }
     ensures short { IfOk result (λ message. length message ≤ 16384) }
 {
     let tlvs = request(alloc, body)?;
@@ -123,7 +123,7 @@ fn write(alloc: Global, body: &QmiRequest, client: u8, number: u16) -> Result<Oc
     let message = NewMessage {
         sender: Sender::Host,
         service,
-        client,
+        cid,
         flags: MessageKind::Request.flags(service),
         number,
         message: message_of(body),

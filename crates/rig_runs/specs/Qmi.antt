@@ -27,8 +27,8 @@ cast clients = record { clients = range_with_len 1 clients; proxy = proxy_of set
 -- ---- what a client says ----
 
 -- a request with the client's number
-abbrev pub says : QmiRequest → (client number : ℕ) → List ℕ
-says body client number = message_of (record { body = body; client = client; number = number })
+abbrev pub says : QmiRequest → (cid number : ℕ) → List ℕ
+says body cid number = message_of (record { body = body; cid = cid; number = number })
 
 -- it opens the device by Proxy Open, and gets a client id of NAS
 abbrev pub opening : List (List ℕ)

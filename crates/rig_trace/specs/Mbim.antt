@@ -14,7 +14,7 @@ use Rattle.rig_trace.specs.Rows.{Key, Reading}
 -- an error in place of an answer has another kind, and finds none
 -- Source: the USB-IF MBIM specification 1.0, section 9.2, "Message Types".
 abbrev pub key_of : List ℕ → Key
-key_of m = record { kind = kind_of m % 2 ^ 31; client = 0; number = number_of m }
+key_of m = record { kind = kind_of m % 2 ^ 31; cid = 0; number = number_of m }
 
 -- the proxy opens the modem by itself, when the first client asks for that
 abbrev pub is_open : List ℕ → Bool

@@ -1,6 +1,6 @@
 -- How the messages of QMI are read by whoever runs its proxy.
 use Rattle.std.specs.Prelude.{ℕ, false, List, None}
-use Rattle.qmux_frame.specs.Head.{service_of, client_of, number_of}
+use Rattle.qmux_frame.specs.Head.{service_of, cid_of, number_of}
 use Rattle.qmux_frame.specs.Control.{is_proxy_open}
 use Rattle.qmux_frame.specs.Reply.{with_number}
 use Rattle.rig_runs.specs.Rig.{time_limit}
@@ -8,7 +8,7 @@ use Rattle.rig_trace.specs.Rows.{Key, Reading}
 
 -- a request and its answer have their service, client id and number in common
 abbrev pub key_of : List ℕ → Key
-key_of m = record { kind = service_of m; client = client_of m; number = number_of m }
+key_of m = record { kind = service_of m; cid = cid_of m; number = number_of m }
 
 -- the proxy asks nothing by itself
 abbrev pub qmi_reading : Reading

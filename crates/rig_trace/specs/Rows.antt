@@ -29,7 +29,7 @@ pub record Reading : Type 0 where
 -- ---- rows ----
 
 abbrev pub is_same_key : Key → Key → Bool
-is_same_key k l = k.kind == l.kind && (k.client == l.client) && (k.number == l.number)
+is_same_key k l = k.kind == l.kind && (k.cid == l.cid) && (k.number == l.number)
 
 -- the first of them with this key
 abbrev pub first_with : Key → List Row → Option Row

@@ -6,7 +6,7 @@ pub struct Key {
     /// What tells requests of one number apart: a service, or the kind of a message.
     pub kind: u32,
     /// The client id, where the protocol has such.
-    pub client: u8,
+    pub cid: u8,
     /// The number that the modem sees.
     pub number: u32,
 }

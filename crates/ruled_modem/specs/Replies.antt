@@ -42,7 +42,7 @@ reply Mbim longest message error bytes = done_if longest (number_of message) (co
 
 -- to every client of a service
 abbrev pub message_told : (service message : ℕ) → (tlvs : List ℕ) → List ℕ
-message_told service message tlvs = message_text (record { sender = sender.Modem; service = service; client = 255; flags = flags_for service qmi.Indication; number = 0; message = message }) tlvs
+message_told service message tlvs = message_text (record { sender = sender.Modem; service = service; cid = 255; flags = flags_for service qmi.Indication; number = 0; message = message }) tlvs
 
 abbrev pub command_told : (longest : ℕ) → (service : List ℕ) → (command : ℕ) → (buffer : List ℕ) → List ℕ
 command_told longest service command buffer = split (kind_number IndicateStatus) 0 longest (service ++ u32_bytes command ++ u32_bytes (length buffer) ++ buffer)

@@ -112,7 +112,7 @@ fn message_told(
     let told = NewMessage {
         sender: Sender::Modem,
         service,
-        client: EVERY_CLIENT,
+        cid: EVERY_CLIENT,
         flags: MessageKind::Indication.flags(service),
         number: 0,
         message,

@@ -8,7 +8,7 @@ use Rattle.qmux_frame.specs.declared.kind.MessageKind.{MessageKind}
 use Rattle.qmux_frame.specs.declared.kind.MessageKind.TheVariants as kind
 use Rattle.qmux_frame.specs.declared.head.Head.{Head}
 use Rattle.framing.specs.Cutting.{cut_from}
-use Rattle.qmux_frame.specs.Head.{head_of, tlvs_in, service_of, client_of, message_id_of}
+use Rattle.qmux_frame.specs.Head.{head_of, tlvs_in, service_of, cid_of, message_id_of}
 use Rattle.qmux_frame.specs.Kind.{framed_kind}
 use Rattle.qmux_frame.specs.Writing.{message_text}
 use Rattle.qmux_frame.specs.Reply.{reply_to, result_tlv}
@@ -153,7 +153,7 @@ module _ (profile : Profile) (before : List (List ℕ)) (m : List ℕ) (row : Ro
       let found : Result Request ℕ = ok_or (option_map Ctl o) missing_argument in
       let control : (row.service == 0) ≡ true = ap (λ (n : ℕ). n == 0) (service_is (service_of m) (message_id_of m) row request.line ∙ none) in
       let read : request_in row tlvs ≡ option_map Ctl o = ap (λ (b : Bool). if b then option_map Ctl o else if row.service == 1 then option_map Wds (wds_request row.id (input_of row 1 tlvs)) else if row.service == 2 then option_map Dms (dms_request row.id (input_of row 1 tlvs)) else if row.service == 3 then option_map Nas (nas_request row.id) else option_map Wms (wms_request row.id (input_of row 1 tlvs) (input_of row 16 tlvs))) control in
-      let known : is_known found_state (head_of m) ≡ true = ap (λ (b : Bool). b || is_given found_state.clients (service_of m) (client_of m)) (ap (λ (n : ℕ). n == 0) none) in
+      let known : is_known found_state (head_of m) ≡ true = ap (λ (b : Bool). b || is_given found_state.clients (service_of m) (cid_of m)) (ap (λ (n : ℕ). n == 0) none) in
       let is : asked found_state (head_of m) tlvs ≡ found = asked_is true known ∙ ap (λ (q : Option Request). ok_or q missing_argument) read in
       let range : (r : CtlRequest) → o ≡ Some r → IsInRange (Ctl r) = λ r there. in_range (Ctl r) (ap (λ (q : Option Request). ok_or q missing_argument) (read ∙ ap (option_map Ctl) there)) in
       (tlvs_of profile found_state found, answered profile before m found is request.kind_is (ctl_is_quiet profile found_state o within range))
@@ -215,7 +215,7 @@ unknown_ids_are_refused profile before m row request = unknown_is_refused profil
 -- ---- the first client id ----
 
 abbrev asks_first : ℕ → Head
-asks_first number = record { service = 0; client = 0; flags = 0; number = number; message = 0x22; framed = true }
+asks_first number = record { service = 0; cid = 0; flags = 0; number = number; message = 0x22; framed = true }
 
 abbrev Computes : ℕ → Type 0
 Computes service = (profile : Profile) (number : ℕ) → takes profile (fresh profile) (asks_first number) (asked (fresh profile) (asks_first number) (tlv_text (record { kind = 1; value = service ∷ [] } ∷ []))) ≡ record { messages = message_text (reply_to (asks_first number)) (first_id_tlvs service) ++ []; state = with_client (fresh profile) service 1 }

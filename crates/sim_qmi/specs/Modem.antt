@@ -40,7 +40,7 @@ response head outputs answer = message_text (reply_to head) (answer_tlvs outputs
 
 -- the Serving System indication, which goes to every client
 abbrev pub to_all : NewMessage
-to_all = record { sender = sender.Modem; service = table.nas; client = 255; flags = flags_for table.nas kind.Indication; number = 0; message = table.get_serving_system.id }
+to_all = record { sender = sender.Modem; service = table.nas; cid = 255; flags = flags_for table.nas kind.Indication; number = 0; message = table.get_serving_system.id }
 
 abbrev pub indication : Profile → (mode : ℕ) → List ℕ
 indication profile mode = message_text to_all (tlv_text (output_tlvs table.get_serving_system.output (serving_system profile mode)))

@@ -43,7 +43,7 @@ row_of (Wms request) = wms_row request
 
 -- the client id in the head is given; service 0 needs none
 abbrev pub is_known : State → Head → Bool
-is_known state head = head.service == table.ctl || is_given state.clients head.service head.client
+is_known state head = head.service == table.ctl || is_given state.clients head.service head.cid
 
 -- what a request asks, if its message is in the table, or the error that refuses it
 abbrev pub asked_of : Option Row → (tlvs : List ℕ) → Result Request ℕ

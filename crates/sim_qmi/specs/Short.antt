@@ -65,7 +65,7 @@ pub data IsService (service : ℕ) : Type 0 where
 pub record IsAllocate (m : List ℕ) (service : ℕ) : Type 0 where
   pub kind_is : framed_kind m ≡ Some kind.Request
   pub number : ℕ
-  pub head : head_of m ≡ record { service = 0; client = 0; flags = 0; number = number; message = 0x22; framed = true }
+  pub head : head_of m ≡ record { service = 0; cid = 0; flags = 0; number = number; message = 0x22; framed = true }
   pub behind : tlvs_in m ≡ tlv_text (record { kind = 1; value = service ∷ [] } ∷ [])
 
 -- the TLVs that bring id 1

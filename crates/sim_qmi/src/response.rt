@@ -64,7 +64,7 @@ pub(crate) fn indication(alloc: Global, profile: &Profile, mode: u8) -> Result<O
     let indication = NewMessage {
         sender: Sender::Modem,
         service: NAS,
-        client: EVERY_CLIENT,
+        cid: EVERY_CLIENT,
         flags: MessageKind::Indication.flags(NAS),
         number: 0,
         // Its indication has the id of the request.

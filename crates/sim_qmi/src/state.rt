@@ -89,7 +89,7 @@ impl ModemState {
     pub(crate) fn is_known(&self, head: &Head) -> bool
         ensures { result ≡ is_known self.now head.now }
     {
-        head.service == CTL || self.is_given(head.service, head.client)
+        head.service == CTL || self.is_given(head.service, head.cid)
     }
 
     /// Whether any id of a service is given.

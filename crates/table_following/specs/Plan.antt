@@ -17,4 +17,4 @@ abbrev pub kept_by : RequestPlan → Client → Option (ℕ × ℕ)
 kept_by session client = if not (session.request.service == 0) && session.keep then Some (session.request.service, client.id) else None
 
 abbrev pub watched : Plan → Client → Watched
-watched plan client = record { service = plan.request.session.request.service; client = client.id; json = plan.request.json; indications = plan.indications }
+watched plan client = record { service = plan.request.session.request.service; cid = client.id; json = plan.request.json; indications = plan.indications }

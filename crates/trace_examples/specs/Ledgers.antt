@@ -22,14 +22,14 @@ abbrev pub asked : Ledger
 asked = follow qmi_reading (Piece 1 get_model) get_model_as_2 (record empty { time = 9 })
 
 abbrev pub row : Row
-row = record { serial = 1; conn = 1; place = 1; key = record { kind = 2; client = 5; number = 2 }; own = false; deadline = 30009 }
+row = record { serial = 1; conn = 1; place = 1; key = record { kind = 2; cid = 5; number = 2 }; own = false; deadline = 30009 }
 
 -- and then client 2 says it, and the modem sees it with number 1
 abbrev pub asked_again : Ledger
 asked_again = follow qmi_reading (Piece 2 get_model) get_model asked
 
 abbrev pub other_row : Row
-other_row = record { serial = 2; conn = 2; place = 1; key = record { kind = 2; client = 5; number = 1 }; own = false; deadline = 30009 }
+other_row = record { serial = 2; conn = 2; place = 1; key = record { kind = 2; cid = 5; number = 1 }; own = false; deadline = 30009 }
 
 pub record ARequestIsAsked : Type 0 where
   pub rows : asked.rows ≡ row ∷ []

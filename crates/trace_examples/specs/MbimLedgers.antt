@@ -27,7 +27,7 @@ abbrev pub opening : Ledger
 opening = follow mbim_reading (Piece 1 open_2) open_1 (follow mbim_reading (Piece 1 configuration) [] empty)
 
 abbrev pub own_row : Row
-own_row = record { serial = 1; conn = 1; place = 2; key = record { kind = 1; client = 0; number = 1 }; own = true; deadline = 30000 }
+own_row = record { serial = 1; conn = 1; place = 2; key = record { kind = 1; cid = 0; number = 1 }; own = true; deadline = 30000 }
 
 -- an error in place of its answer
 abbrev pub error_1 : List ℕ
@@ -51,7 +51,7 @@ abbrev pub asked : Ledger
 asked = follow mbim_reading (Piece 2 query_1) (query (four 2) (four 9)) opening
 
 abbrev pub row : Row
-row = record { serial = 2; conn = 2; place = 1; key = record { kind = 3; client = 0; number = 2 }; own = false; deadline = 30000 }
+row = record { serial = 2; conn = 2; place = 1; key = record { kind = 3; cid = 0; number = 2 }; own = false; deadline = 30000 }
 
 pub record ARequestIsAsked : Type 0 where
   pub rows : asked.rows ≡ own_row ∷ row ∷ []

@@ -1,7 +1,7 @@
 -- What an answer of the modem takes out of the requests in use, and what a ledger then mirrors. A list of facts has the newest first.
 use Rattle.std.proofs.Common.{◌≡◌, ℕ, ◌≤◌, Bool, true, false, not, ◌&&◌, ◌==◌, if◌then◌else◌, List, [], ◌∷◌, length, map, refl, ap, sym, ◌∙◌, subst, Option, Some, None, option_map}
 use Rattle.kit_bytes.proofs.Lists.{all_filter}
-use Rattle.qmux_frame.specs.Head.{service_of, client_of, number_of}
+use Rattle.qmux_frame.specs.Head.{service_of, cid_of, number_of}
 use Rattle.proxy_history.specs.Facts.{Fact, Request, Why, Ended, Answered, IdHeld, Granted, Freed}
 use Rattle.proxy_history.specs.Connections.{message_count}
 use Rattle.proxy_history.specs.Requests.{in_use, forward_count, without_request, is_pending}
@@ -23,19 +23,19 @@ use Rattle.trace_laws.proofs.Saying.{AreLong, Mirrored}
 
 -- ---- rows ----
 
-abbrev all_three : (service client number : ℕ) → (m : List ℕ) → Bool
-all_three service client number m = service == service_of m && (client == client_of m) && (number == number_of m)
+abbrev all_three : (service cid number : ℕ) → (m : List ℕ) → Bool
+all_three service cid number m = service == service_of m && (cid == cid_of m) && (number == number_of m)
 
 -- an answer has the key of the requests that it may answer
 same_key : (m : List ℕ) (r : Request) → 12 ≤ length r.message → is_same_key (key_of m) (row_of r).key ≡ is_answered_by m r
 same_key m r long =
     let same : Same r.number r.message (wire r) = renumbered r.number r.message long in
-    ap (λ (b : Bool). b && (client_of m == client_of (wire r)) && (number_of m == number_of (wire r))) (turned (service_of m) (service_of (wire r)))
-    ∙ ap (λ (b : Bool). service_of (wire r) == service_of m && b && (number_of m == number_of (wire r))) (turned (client_of m) (client_of (wire r)))
-    ∙ ap (λ (b : Bool). service_of (wire r) == service_of m && (client_of (wire r) == client_of m) && b) (turned (number_of m) (number_of (wire r)))
-    ∙ ap (λ (n : ℕ). all_three n (client_of (wire r)) (number_of (wire r)) m) same.service
-    ∙ ap (λ (n : ℕ). all_three (service_of r.message) n (number_of (wire r)) m) same.client
-    ∙ ap (λ (n : ℕ). all_three (service_of r.message) (client_of r.message) n m) same.number
+    ap (λ (b : Bool). b && (cid_of m == cid_of (wire r)) && (number_of m == number_of (wire r))) (turned (service_of m) (service_of (wire r)))
+    ∙ ap (λ (b : Bool). service_of (wire r) == service_of m && b && (number_of m == number_of (wire r))) (turned (cid_of m) (cid_of (wire r)))
+    ∙ ap (λ (b : Bool). service_of (wire r) == service_of m && (cid_of (wire r) == cid_of m) && b) (turned (number_of m) (number_of (wire r)))
+    ∙ ap (λ (n : ℕ). all_three n (cid_of (wire r)) (number_of (wire r)) m) same.service
+    ∙ ap (λ (n : ℕ). all_three (service_of r.message) n (number_of (wire r)) m) same.cid
+    ∙ ap (λ (n : ℕ). all_three (service_of r.message) (cid_of r.message) n m) same.number
 
 pub first_row : (m : List ℕ) (requests : List Request) → AreLong requests → first_with (key_of m) (map row_of requests) ≡ option_map row_of (first_answered_by m requests)
 first_row m [] long = refl
@@ -89,9 +89,9 @@ module _ (s : Setup) (m : List ℕ) (past : List Fact) where
     answered : (change : IdChange) → IsTakenOut (answer s.device r m change past)
     unfolding in_use forward_count now message_count
     answered NoChange = noted_has _ _ _ _ s (Answered r m) past (record { in_use = refl; count = refl; time = refl; said = λ c. refl })
-    answered (Grants service client) = noted_has _ _ _ _ s (Answered r m) (Granted r.conn service client ∷ past) (record { in_use = refl; count = refl; time = refl; said = λ c. refl })
+    answered (Grants service cid) = noted_has _ _ _ _ s (Answered r m) (Granted r.conn service cid ∷ past) (record { in_use = refl; count = refl; time = refl; said = λ c. refl })
     answered Collides = noted_has _ _ _ _ s (IdHeld r) past (record { in_use = refl; count = refl; time = refl; said = λ c. refl })
-    answered (Frees service client) = noted_has _ _ _ _ s (Answered r m) (Freed r.conn service client ∷ past) (record { in_use = refl; count = refl; time = refl; said = λ c. refl })
+    answered (Frees service cid) = noted_has _ _ _ _ s (Answered r m) (Freed r.conn service cid ∷ past) (record { in_use = refl; count = refl; time = refl; said = λ c. refl })
 
     answered_to : (own : Bool) → IsTakenOut (answer_to own s.device r m past)
     unfolding in_use forward_count now message_count

@@ -186,9 +186,9 @@ module _ (s : Setup) where
 
   -- ---- the modem answers ----
 
-  granted_before : (c service client : ℕ) (past : List Fact) → Same past (Granted c service client ∷ past)
+  granted_before : (c service cid : ℕ) (past : List Fact) → Same past (Granted c service cid ∷ past)
   unfolding in_use pending now
-  granted_before c service client past = record { counts = refl; used = refl; waiting = refl; time = refl }
+  granted_before c service cid past = record { counts = refl; used = refl; waiting = refl; time = refl }
 
   module _ (m : List ℕ) (r : Request) where
     answered_tells : (past : List Fact) (counts : Counts) → IsOfClient r → Tells past counts → Tells (Answered r m ∷ past) (record counts { answered = counts.answered + 1 })

@@ -95,46 +95,46 @@ module _ (peer : Peer) (plan : QmiPlan) (result : Result TunnelEnd SessionFault)
 
   -- ---- the requests of a plan, the last one first ----
 
-  Finishes-as : (client ctl number : ℕ) (answer : QmiAnswer) (message : Placed) → qmi.Reads plan.request message (Ok answer) → {talk : Talk} {heard : Heard} {calls : List Call}
-      → Finishes plan client ctl number answer heard calls result → As talk heard calls (leave_at peer plan client ctl message number talk)
-  Finishes-as client ctl number answer message reads {talk = talk} {heard = heard} {calls = calls} (without none closes) =
+  Finishes-as : (cid ctl number : ℕ) (answer : QmiAnswer) (message : Placed) → qmi.Reads plan.request message (Ok answer) → {talk : Talk} {heard : Heard} {calls : List Call}
+      → Finishes plan cid ctl number answer heard calls result → As talk heard calls (leave_at peer plan cid ctl message number talk)
+  Finishes-as cid ctl number answer message reads {talk = talk} {heard = heard} {calls = calls} (without none closes) =
       subst (As talk heard calls) (is_then _ _ (service plan == 0) (ap (λ (k : ℕ). k == 0) none)) (Closes-as (end_with answer None) number (OfAnswer plan.request None message) (Ok answer, reads, refl) closes)
-  Finishes-as client ctl number answer message reads {talk = talk} {heard = heard} {calls = calls} (keeping other keep closes) =
+  Finishes-as cid ctl number answer message reads {talk = talk} {heard = heard} {calls = calls} (keeping other keep closes) =
       subst (As talk heard calls) (is_then _ _ plan.keep keep ∙ is_else _ _ (service plan == 0) (not_zero (service plan) other))
-      (Closes-as (end_with answer (Some (service plan, client))) number (OfAnswer plan.request (Some (service plan, client)) message) (Ok answer, reads, refl) closes)
-  Finishes-as client ctl number answer message reads {talk = talk} {heard = heard} {calls = calls} (releasing other keep step) =
+      (Closes-as (end_with answer (Some (service plan, cid))) number (OfAnswer plan.request (Some (service plan, cid)) message) (Ok answer, reads, refl) closes)
+  Finishes-as cid ctl number answer message reads {talk = talk} {heard = heard} {calls = calls} (releasing other keep step) =
       subst (As talk heard calls) (is_else _ _ plan.keep keep ∙ is_else _ _ (service plan == 0) (not_zero (service plan) other))
-      (Carries-as (record { body = Release (service plan) client; client = 0; number = ctl }) number _ step (λ last later more talk closes.
+      (Carries-as (record { body = Release (service plan) cid; cid = 0; number = ctl }) number _ step (λ last later more talk closes.
       Closes-as (end_with answer None) (number + 1) (OfAnswer plan.request None message) (Ok answer, reads, refl) closes))
 
   -- the answer to the command
-  command_read : (client ctl number : ℕ) (message : Placed) {talk : Talk} {heard : Heard} {calls : List Call} (read : Result QmiAnswer SessionFault)
-      → qmi.Reads plan.request message read → AfterReading read calls result (λ answer. Finishes plan client ctl number answer heard calls result)
+  command_read : (cid ctl number : ℕ) (message : Placed) {talk : Talk} {heard : Heard} {calls : List Call} (read : Result QmiAnswer SessionFault)
+      → qmi.Reads plan.request message read → AfterReading read calls result (λ answer. Finishes plan cid ctl number answer heard calls result)
       → As talk heard calls
       (if reads plan.request message.bytes
-      then leave_at peer plan client ctl message number talk
+      then leave_at peer plan cid ctl message number talk
       else finish (OfAnswer plan.request None message) talk)
-  command_read client ctl number message {talk = talk} {heard = heard} {calls = calls} (Ok (Success fields)) is follows =
+  command_read cid ctl number message {talk = talk} {heard = heard} {calls = calls} (Ok (Success fields)) is follows =
       let verdict = verdicts_are_of_what_is_read plan.request message (Ok (Success fields)) is in
-      subst (As talk heard calls) (is_then _ _ (reads plan.request message.bytes) verdict.0) (Finishes-as client ctl number (Success fields) message is follows)
-  command_read client ctl number message {talk = talk} {heard = heard} {calls = calls} (Ok (Failure error)) is follows =
+      subst (As talk heard calls) (is_then _ _ (reads plan.request message.bytes) verdict.0) (Finishes-as cid ctl number (Success fields) message is follows)
+  command_read cid ctl number message {talk = talk} {heard = heard} {calls = calls} (Ok (Failure error)) is follows =
       let verdict = verdicts_are_of_what_is_read plan.request message (Ok (Failure error)) is in
-      subst (As talk heard calls) (is_then _ _ (reads plan.request message.bytes) verdict.0) (Finishes-as client ctl number (Failure error) message is follows)
-  command_read client ctl number message {talk = talk} {heard = heard} {calls = calls} (Err (fault.Broken place)) is follows =
+      subst (As talk heard calls) (is_then _ _ (reads plan.request message.bytes) verdict.0) (Finishes-as cid ctl number (Failure error) message is follows)
+  command_read cid ctl number message {talk = talk} {heard = heard} {calls = calls} (Err (fault.Broken place)) is follows =
       let verdict = verdicts_are_of_what_is_read plan.request message (Err (fault.Broken place)) is in
       subst (As talk heard calls) (is_else _ _ (reads plan.request message.bytes) verdict.0) (As-stops (OfAnswer plan.request None message) (Err (fault.Broken place), is, refl) follows)
-  command_read client ctl number message (Err fault.OutOfMemory) is follows = AsAtPeer-no_memory peer size_of follows
-  command_read client ctl number message (Err why) is follows = absurd is
+  command_read cid ctl number message (Err fault.OutOfMemory) is follows = AsAtPeer-no_memory peer size_of follows
+  command_read cid ctl number message (Err why) is follows = absurd is
 
-  Commands-as : (client ctl number : ℕ) {talk : Talk} {heard : Heard} {calls : List Call} → Commands plan client ctl number heard calls result → As talk heard calls (command_at peer plan client ctl number talk)
-  Commands-as client ctl number step =
-      Carries-as (qmi.command plan client ctl) number _ step (λ message later more talk is. command_read client ctl (number + 1) message is.read is.reads is.follows)
+  Commands-as : (cid ctl number : ℕ) {talk : Talk} {heard : Heard} {calls : List Call} → Commands plan cid ctl number heard calls result → As talk heard calls (command_at peer plan cid ctl number talk)
+  Commands-as cid ctl number step =
+      Carries-as (qmi.command plan cid ctl) number _ step (λ message later more talk is. command_read cid ctl (number + 1) message is.read is.reads is.follows)
 
   -- the answer to Allocate
   allocated_as : (message : List ℕ) (number : ℕ) {talk : Talk} {heard : Heard} {calls : List Call} → CommandsAs plan message number heard calls result
       → As talk heard calls (command_at peer plan (unwrap_or (allocated_in (tlvs_in message)) 0) 2 number talk)
-  allocated_as message number {talk = talk} {heard = heard} {calls = calls} (client, is, commands) =
-      subst (λ (c : ℕ). As talk heard calls (command_at peer plan c 2 number talk)) (sym (ap (λ (o : Option ℕ). unwrap_or o 0) is)) (Commands-as client 2 number commands)
+  allocated_as message number {talk = talk} {heard = heard} {calls = calls} (cid, is, commands) =
+      subst (λ (c : ℕ). As talk heard calls (command_at peer plan c 2 number talk)) (sym (ap (λ (o : Option ℕ). unwrap_or o 0) is)) (Commands-as cid 2 number commands)
 
   take_read : (number : ℕ) (message : Placed) {talk : Talk} {heard : Heard} {calls : List Call} (read : Result QmiAnswer SessionFault)
       → qmi.Reads (Allocate (service plan)) message read
@@ -157,11 +157,11 @@ module _ (peer : Peer) (plan : QmiPlan) (result : Result TunnelEnd SessionFault)
   Chooses-as : (number : ℕ) {talk : Talk} {heard : Heard} {calls : List Call} → Chooses plan number heard calls result → As talk heard calls (choose_at peer plan number talk)
   Chooses-as number {talk = talk} {heard = heard} {calls = calls} (control none commands) =
       subst (As talk heard calls) (is_then _ _ (service plan == 0) (ap (λ (k : ℕ). k == 0) none)) (Commands-as 0 1 number commands)
-  Chooses-as number {talk = talk} {heard = heard} {calls = calls} (given client other is commands) =
-      subst (As talk heard calls) (ap (λ (c : Option ℕ). given_at peer plan c number talk) (sym is) ∙ is_else _ _ (service plan == 0) (not_zero (service plan) other)) (Commands-as client 1 number commands)
+  Chooses-as number {talk = talk} {heard = heard} {calls = calls} (given cid other is commands) =
+      subst (As talk heard calls) (ap (λ (c : Option ℕ). given_at peer plan c number talk) (sym is) ∙ is_else _ _ (service plan == 0) (not_zero (service plan) other)) (Commands-as cid 1 number commands)
   Chooses-as number {talk = talk} {heard = heard} {calls = calls} (allocating other is step) =
       subst (As talk heard calls) (ap (λ (c : Option ℕ). given_at peer plan c number talk) (sym is) ∙ is_else _ _ (service plan == 0) (not_zero (service plan) other))
-      (Carries-as (record { body = Allocate (service plan); client = 0; number = 1 }) number _ step (λ message later more talk is. take_read (number + 1) message is.read is.reads is.follows))
+      (Carries-as (record { body = Allocate (service plan); cid = 0; number = 1 }) number _ step (λ message later more talk is. take_read (number + 1) message is.read is.reads is.follows))
 
   -- the answer to an OPEN
   opening_read : (number : ℕ) (message : Placed) {talk : Talk} {heard : Heard} {calls : List Call} (read : Result (Option MbimEnd) SessionFault) → answers.ReadsOpening number message read

@@ -20,7 +20,7 @@ pub record MessagesAreCarried : Type 0 where
 
 -- the answer to a request of DMS, of the client 1, with number 1
 abbrev pub wanted : Wanted
-wanted = record { service = 2; client = 1; number = 1 }
+wanted = record { service = 2; cid = 1; number = 1 }
 
 -- its Result TLV alone, which is a success
 abbrev pub response : List ℕ

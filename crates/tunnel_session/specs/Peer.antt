@@ -60,21 +60,21 @@ abbrev pub close_at : Peer → LastWord → (number seconds : ℕ) → Talk → 
 close_at peer word number seconds talk = ask_then peer (closing number seconds) talk unanswered (λ before message talk. finish word talk)
 
 -- behind this answer to the command
-abbrev pub release_at : Peer → QmiPlan → (client control : ℕ) → Placed → (number : ℕ) → Talk → Finish LastWord
-release_at peer plan client control answer number talk =
-    carry_then peer (record { body = Release (service plan) client; client = 0; number = control }) number plan.timeout talk (λ message talk. close_at peer (OfAnswer plan.request None answer) (number + 1) plan.timeout talk)
+abbrev pub release_at : Peer → QmiPlan → (cid control : ℕ) → Placed → (number : ℕ) → Talk → Finish LastWord
+release_at peer plan cid control answer number talk =
+    carry_then peer (record { body = Release (service plan) cid; cid = 0; number = control }) number plan.timeout talk (λ message talk. close_at peer (OfAnswer plan.request None answer) (number + 1) plan.timeout talk)
 
-abbrev pub leave_at : Peer → QmiPlan → (client control : ℕ) → Placed → (number : ℕ) → Talk → Finish LastWord
-leave_at peer plan client control answer number talk =
+abbrev pub leave_at : Peer → QmiPlan → (cid control : ℕ) → Placed → (number : ℕ) → Talk → Finish LastWord
+leave_at peer plan cid control answer number talk =
     if service plan == 0 then close_at peer (OfAnswer plan.request None answer) number plan.timeout talk
-    else if plan.keep then close_at peer (OfAnswer plan.request (Some (service plan, client)) answer) number plan.timeout talk
-    else release_at peer plan client control answer number talk
+    else if plan.keep then close_at peer (OfAnswer plan.request (Some (service plan, cid)) answer) number plan.timeout talk
+    else release_at peer plan cid control answer number talk
 
-abbrev pub command_at : Peer → QmiPlan → (client control number : ℕ) → Talk → Finish LastWord
-command_at peer plan client control number talk =
-    carry_then peer (command plan client control) number plan.timeout talk (λ message talk.
+abbrev pub command_at : Peer → QmiPlan → (cid control number : ℕ) → Talk → Finish LastWord
+command_at peer plan cid control number talk =
+    carry_then peer (command plan cid control) number plan.timeout talk (λ message talk.
     if reads plan.request message.bytes
-    then leave_at peer plan client control message (number + 1) talk
+    then leave_at peer plan cid control message (number + 1) talk
     else finish (OfAnswer plan.request None message) talk)
 
 -- one that reads and is no success is followed by CLOSE
@@ -86,10 +86,10 @@ take_at peer plan message number talk =
 
 abbrev pub allocate_at : Peer → QmiPlan → (number : ℕ) → Talk → Finish LastWord
 allocate_at peer plan number talk =
-    carry_then peer (record { body = Allocate (service plan); client = 0; number = 1 }) number plan.timeout talk (λ message talk. take_at peer plan message (number + 1) talk)
+    carry_then peer (record { body = Allocate (service plan); cid = 0; number = 1 }) number plan.timeout talk (λ message talk. take_at peer plan message (number + 1) talk)
 
 abbrev pub given_at : Peer → QmiPlan → (cid : Option ℕ) → (number : ℕ) → Talk → Finish LastWord
-given_at peer plan (Some client) number talk = command_at peer plan client 1 number talk
+given_at peer plan (Some cid) number talk = command_at peer plan cid 1 number talk
 given_at peer plan None number talk = allocate_at peer plan number talk
 
 abbrev pub choose_at : Peer → QmiPlan → (number : ℕ) → Talk → Finish LastWord

@@ -60,29 +60,29 @@ abbrev pub end_with : QmiAnswer → Option (ℕ × ℕ) → TunnelEnd
 end_with answer kept = Qmi (record { answer = answer; kept = kept })
 
 -- the client id is given back; what the answer says isn't read
-abbrev pub Releases : QmiPlan → (client control number : ℕ) → QmiAnswer → Heard → List Call → Result TunnelEnd SessionFault → Type 0
-Releases plan client control number answer heard calls result =
-    Carries (record { body = Release (service plan) client; client = 0; number = control }) number plan.timeout heard calls result (λ message later more. Closes (end_with answer None) (number + 1) plan.timeout later more result)
+abbrev pub Releases : QmiPlan → (cid control number : ℕ) → QmiAnswer → Heard → List Call → Result TunnelEnd SessionFault → Type 0
+Releases plan cid control number answer heard calls result =
+    Carries (record { body = Release (service plan) cid; cid = 0; number = control }) number plan.timeout heard calls result (λ message later more. Closes (end_with answer None) (number + 1) plan.timeout later more result)
 
 -- what becomes of the client id
-pub data Finishes (plan : QmiPlan) (client control number : ℕ) (answer : QmiAnswer) (heard : Heard) (calls : List Call) (result : Result TunnelEnd SessionFault) : Type 0 where
-  without : service plan ≡ 0 → Closes (end_with answer None) number plan.timeout heard calls result → Finishes plan client control number answer heard calls result
-  keeping : service plan ≢ 0 → plan.keep ≡ true → Closes (end_with answer (Some (service plan, client))) number plan.timeout heard calls result → Finishes plan client control number answer heard calls result
-  releasing : service plan ≢ 0 → plan.keep ≡ false → Releases plan client control number answer heard calls result → Finishes plan client control number answer heard calls result
+pub data Finishes (plan : QmiPlan) (cid control number : ℕ) (answer : QmiAnswer) (heard : Heard) (calls : List Call) (result : Result TunnelEnd SessionFault) : Type 0 where
+  without : service plan ≡ 0 → Closes (end_with answer None) number plan.timeout heard calls result → Finishes plan cid control number answer heard calls result
+  keeping : service plan ≢ 0 → plan.keep ≡ true → Closes (end_with answer (Some (service plan, cid))) number plan.timeout heard calls result → Finishes plan cid control number answer heard calls result
+  releasing : service plan ≢ 0 → plan.keep ≡ false → Releases plan cid control number answer heard calls result → Finishes plan cid control number answer heard calls result
 
 -- whatever the answer to the command says
-abbrev pub ReadsCommand : QmiPlan → (client control : ℕ) → Placed → (number : ℕ) → Heard → List Call → Result TunnelEnd SessionFault → Type 0
-ReadsCommand plan client control message number heard calls result =
-    ReadsThen (qmi.Reads plan.request message) calls result (λ answer. Finishes plan client control number answer heard calls result)
+abbrev pub ReadsCommand : QmiPlan → (cid control : ℕ) → Placed → (number : ℕ) → Heard → List Call → Result TunnelEnd SessionFault → Type 0
+ReadsCommand plan cid control message number heard calls result =
+    ReadsThen (qmi.Reads plan.request message) calls result (λ answer. Finishes plan cid control number answer heard calls result)
 
-abbrev pub Commands : QmiPlan → (client control number : ℕ) → Heard → List Call → Result TunnelEnd SessionFault → Type 0
-Commands plan client control number heard calls result =
-    Carries (command plan client control) number plan.timeout heard calls result (λ message later more. ReadsCommand plan client control message (number + 1) later more result)
+abbrev pub Commands : QmiPlan → (cid control number : ℕ) → Heard → List Call → Result TunnelEnd SessionFault → Type 0
+Commands plan cid control number heard calls result =
+    Carries (command plan cid control) number plan.timeout heard calls result (λ message later more. ReadsCommand plan cid control message (number + 1) later more result)
 
 -- with the client id that an answer allocates
 abbrev pub CommandsAs : QmiPlan → (message : List ℕ) → (number : ℕ) → Heard → List Call → Result TunnelEnd SessionFault → Type 0
 CommandsAs plan message number heard calls result =
-    (client : ℕ) × (allocated_in (tlvs_in message) ≡ Some client) × Commands plan client 2 number heard calls result
+    (cid : ℕ) × (allocated_in (tlvs_in message) ≡ Some cid) × Commands plan cid 2 number heard calls result
 
 -- a failure of Allocate is the session's answer, and the MBIM modem is closed behind it
 abbrev pub OnSuccess : QmiAnswer → (number seconds : ℕ) → Heard → List Call → Result TunnelEnd SessionFault → Type 0 → Type 0
@@ -95,12 +95,12 @@ TakesClient plan service message number heard calls result =
 
 abbrev pub Allocates : QmiPlan → (service number : ℕ) → Heard → List Call → Result TunnelEnd SessionFault → Type 0
 Allocates plan service number heard calls result =
-    Carries (record { body = Allocate service; client = 0; number = 1 }) number plan.timeout heard calls result (λ message later more. TakesClient plan service message (number + 1) later more result)
+    Carries (record { body = Allocate service; cid = 0; number = 1 }) number plan.timeout heard calls result (λ message later more. TakesClient plan service message (number + 1) later more result)
 
 -- whose client id the command has
 pub data Chooses (plan : QmiPlan) (number : ℕ) (heard : Heard) (calls : List Call) (result : Result TunnelEnd SessionFault) : Type 0 where
   control : service plan ≡ 0 → Commands plan 0 1 number heard calls result → Chooses plan number heard calls result
-  given : (client : ℕ) → service plan ≢ 0 → plan.cid ≡ Some client → Commands plan client 1 number heard calls result → Chooses plan number heard calls result
+  given : (cid : ℕ) → service plan ≢ 0 → plan.cid ≡ Some cid → Commands plan cid 1 number heard calls result → Chooses plan number heard calls result
   allocating : service plan ≢ 0 → plan.cid ≡ None → Allocates plan (service plan) number heard calls result → Chooses plan number heard calls result
 
 abbrev pub Opens : QmiPlan → (number : ℕ) → Heard → List Call → Result TunnelEnd SessionFault → Type 0

@@ -27,24 +27,24 @@ pub(crate) fn carry<L: Link>(
     link: &mut L,
     incoming: &mut Incoming<Mbim>,
     body: &QmiRequest,
-    client: u8,
+    cid: u8,
     number: u8,
     command: u32,
     timeout: u16,
 ) -> Result<Reply<Carried>, SessionFault>
     ensures asks { (heard : Heard) → Stands size_of incoming.old heard
-        → RepliesTo (carrying (record { body = body.now; client = client; number = number }) command timeout) (Reads (wanted_by (record { body = body.now; client = client; number = number })) command) heard result incoming.new (L.calls link.old) (L.calls link.new) }
+        → RepliesTo (carrying (record { body = body.now; cid = cid; number = number }) command timeout) (Reads (wanted_by (record { body = body.now; cid = cid; number = number })) command) heard result incoming.new (L.calls link.old) (L.calls link.new) }
     ensures whole { IfOk result (λ reply. IsWhole reply.answer) }
     ensures link_fault { result ≡ Err SessionFault.LinkFault → Rose (L.faults link.old) (L.faults link.new) }
     ensures later { L.faults link.old ≤ L.faults link.new }
     ensures later_open { L.open_faults link.old ≤ L.open_faults link.new }
 {
-    let message = request_message(alloc, body, client, number)?;
+    let message = request_message(alloc, body, cid, number)?;
     let messages = carried_message(alloc, message.as_slice(), command)?;
     let mut coming = CommandAnswer::open(alloc, command)?;
     let wanted = Wanted {
         service: service_of(body),
-        client,
+        cid,
         number,
     };
     hear(

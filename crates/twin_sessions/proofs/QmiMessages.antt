@@ -7,7 +7,7 @@ use Rattle.qmux_frame.specs.declared.head.Head.{Head}
 use Rattle.qmux_frame.specs.declared.writing.NewMessage.{NewMessage}
 use Rattle.qmux_frame.specs.declared.kind.MessageKind.TheVariants as kind
 use Rattle.qmux_frame.specs.Frame.{size_of}
-use Rattle.qmux_frame.specs.Head.{service_of, client_of, number_of, flags_of, message_id_of, is_framed, tlvs_in}
+use Rattle.qmux_frame.specs.Head.{service_of, cid_of, number_of, flags_of, message_id_of, is_framed, tlvs_in}
 use Rattle.qmux_frame.specs.Kind.{framed_kind, kind_of, kind_by}
 use Rattle.qmux_frame.specs.Reply.{with_number}
 use Rattle.qmux_frame.specs.Writing.{message_text, head_text, inner_head}
@@ -37,18 +37,18 @@ module _ (m : NewMessage) (tlvs : List ℕ) where
 -- ---- what a client that has opened the device may have forwarded ----
 
 -- of another service than 0
-pub service_shared : (m : List ℕ) → is_framed m ≡ true → flags_of m ≡ 0 → (service_of m == 0) ≡ false → (client_of m == 0) ≡ false → (client_of m == 255) ≡ false → view_decides true m ≡ false
+pub service_shared : (m : List ℕ) → is_framed m ≡ true → flags_of m ≡ 0 → (service_of m == 0) ≡ false → (cid_of m == 0) ≡ false → (cid_of m == 255) ≡ false → view_decides true m ≡ false
 service_shared m framed flags service low high = rw (framed, flags, service, low, high) (rw service refl)
 
 any_true : (x a b : Bool) → (a || b) ≡ true → (x || a || b) ≡ true
 any_true true a b is = refl
 any_true false a b is = is
 
-service_refused_by : (device m : List ℕ) (a b : Bool) → is_framed m ≡ true → flags_of m ≡ 0 → (service_of m == 0) ≡ false → (client_of m == 0) ≡ a → (client_of m == 255) ≡ b → (a || b) ≡ true → (view_decides true m ≡ true) × (own_error device true m ≡ 7)
+service_refused_by : (device m : List ℕ) (a b : Bool) → is_framed m ≡ true → flags_of m ≡ 0 → (service_of m == 0) ≡ false → (cid_of m == 0) ≡ a → (cid_of m == 255) ≡ b → (a || b) ≡ true → (view_decides true m ≡ true) × (own_error device true m ≡ 7)
 service_refused_by device m a b framed flags service low high bad = (rw (framed, flags, service, low, high) (any_true (service_of m == 0) a b bad), rw (framed, flags, service) refl)
 
-pub service_refused : (device m : List ℕ) → is_framed m ≡ true → flags_of m ≡ 0 → (service_of m == 0) ≡ false → (client_of m == 0 || (client_of m == 255)) ≡ true → (view_decides true m ≡ true) × (own_error device true m ≡ 7)
-service_refused device m framed flags service bad = service_refused_by device m (client_of m == 0) (client_of m == 255) framed flags service refl refl bad
+pub service_refused : (device m : List ℕ) → is_framed m ≡ true → flags_of m ≡ 0 → (service_of m == 0) ≡ false → (cid_of m == 0 || (cid_of m == 255)) ≡ true → (view_decides true m ≡ true) × (own_error device true m ≡ 7)
+service_refused device m framed flags service bad = service_refused_by device m (cid_of m == 0) (cid_of m == 255) framed flags service refl refl bad
 
 -- ---- the messages of a session ----
 
@@ -60,7 +60,7 @@ pub record IsRead (r : Request) : Type 0 where
   pub is_message : IsMessage size_of (message_of r)
   pub framed : is_framed (message_of r) ≡ true
   pub service : service_of (message_of r) ≡ (row_of r.body).service
-  pub client : client_of (message_of r) ≡ r.client
+  pub cid : cid_of (message_of r) ≡ r.cid
   pub flags : flags_of (message_of r) ≡ 0
   pub number : number_of (message_of r) ≡ r.number
   pub id : message_id_of (message_of r) ≡ (row_of r.body).id
@@ -82,7 +82,7 @@ is_read r =
       is_message = read.whole;
       framed = framed;
       service = ap (λ (h : Head). h.service) read.head;
-      client = ap (λ (h : Head). h.client) read.head;
+      cid = ap (λ (h : Head). h.cid) read.head;
       flags = flags;
       number = ap (λ (h : Head). h.number) read.head;
       id = ap (λ (h : Head). h.message) read.head;
@@ -111,7 +111,7 @@ value_is r kind = ap (λ (l : List ℕ). option_and_then (first_value kind) (tlv
 pub record OfControl (m : List ℕ) (id : ℕ) (value : Option (List ℕ)) : Type 0 where
   pub framed : is_framed m ≡ true
   pub flags : flags_of m ≡ 0
-  pub client : client_of m ≡ 0
+  pub cid : cid_of m ≡ 0
   pub service : service_of m ≡ 0
   pub id_is : message_id_of m ≡ id
   pub value_is : value_of 1 m ≡ value
@@ -120,25 +120,25 @@ pub control_is : (body : QmiRequest) (number : ℕ) → (row_of body).service �
 control_is body number none =
     let r : Request = of_control body number in
     let is = is_read r in
-    record { framed = is.framed; flags = is.flags; client = is.client; service = is.service ∙ none; id_is = is.id; value_is = value_is r 1 }
+    record { framed = is.framed; flags = is.flags; cid = is.cid; service = is.service ∙ none; id_is = is.id; value_is = value_is r 1 }
 
 pub version_shared : (m : List ℕ) → OfControl m 0x21 None → view_decides true m ≡ false
-version_shared m is = rw (is.framed, is.id_is, is.flags, is.client, is.service) refl
+version_shared m is = rw (is.framed, is.id_is, is.flags, is.cid, is.service) refl
 
 pub allocate_shared : (m : List ℕ) (service : ℕ) → OfControl m 0x22 (Some (service ∷ [])) → view_decides true m ≡ false
-allocate_shared m service is = rw (is.framed, is.value_is, is.id_is, is.flags, is.client, is.service) refl
+allocate_shared m service is = rw (is.framed, is.value_is, is.id_is, is.flags, is.cid, is.service) refl
 
-pub release_shared : (m : List ℕ) (service client : ℕ) → OfControl m 0x23 (Some (service ∷ client ∷ [])) → (service == 0) ≡ false → (client == 0) ≡ false → (client == 255) ≡ false → view_decides true m ≡ false
-release_shared m service client is some low high = rw (is.framed, is.value_is, is.id_is, is.flags, is.client, is.service, some, low, high) refl
+pub release_shared : (m : List ℕ) (service cid : ℕ) → OfControl m 0x23 (Some (service ∷ cid ∷ [])) → (service == 0) ≡ false → (cid == 0) ≡ false → (cid == 255) ≡ false → view_decides true m ≡ false
+release_shared m service cid is some low high = rw (is.framed, is.value_is, is.id_is, is.flags, is.cid, is.service, some, low, high) refl
 
-release_refused_by : (device m : List ℕ) (service client : ℕ) (a b : Bool) → OfControl m 0x23 (Some (service ∷ client ∷ [])) → (client == 0) ≡ a → (client == 255) ≡ b → (a || b) ≡ true → (view_decides true m ≡ true) × (own_error device true m ≡ 7)
-release_refused_by device m service client a b is low high bad = (
-  rw (is.framed, is.value_is, is.id_is, is.flags, is.client, is.service, low, high) (any_true (service == 0) a b bad),
-  rw (is.framed, is.value_is, is.id_is, is.flags, is.client, is.service) refl,
+release_refused_by : (device m : List ℕ) (service cid : ℕ) (a b : Bool) → OfControl m 0x23 (Some (service ∷ cid ∷ [])) → (cid == 0) ≡ a → (cid == 255) ≡ b → (a || b) ≡ true → (view_decides true m ≡ true) × (own_error device true m ≡ 7)
+release_refused_by device m service cid a b is low high bad = (
+  rw (is.framed, is.value_is, is.id_is, is.flags, is.cid, is.service, low, high) (any_true (service == 0) a b bad),
+  rw (is.framed, is.value_is, is.id_is, is.flags, is.cid, is.service) refl,
 )
 
-pub release_refused : (device m : List ℕ) (service client : ℕ) → OfControl m 0x23 (Some (service ∷ client ∷ [])) → (client == 0 || (client == 255)) ≡ true → (view_decides true m ≡ true) × (own_error device true m ≡ 7)
-release_refused device m service client is bad = release_refused_by device m service client (client == 0) (client == 255) is refl refl bad
+pub release_refused : (device m : List ℕ) (service cid : ℕ) → OfControl m 0x23 (Some (service ∷ cid ∷ [])) → (cid == 0 || (cid == 255)) ≡ true → (view_decides true m ≡ true) × (own_error device true m ≡ 7)
+release_refused device m service cid is bad = release_refused_by device m service cid (cid == 0) (cid == 255) is refl refl bad
 
 pub record Opens (device m : List ℕ) : Type 0 where
   pub fine : is_malformed m ≡ false
@@ -154,8 +154,8 @@ pub open_opens : (device m : List ℕ) → OfControl m 0xFF00 (Some device) → 
 open_opens device m is =
     let same : bytes_eq device device ≡ true = bytes_same device in
     record {
-      fine = rw (is.framed, is.value_is, is.id_is, is.flags, is.client, is.service) refl;
+      fine = rw (is.framed, is.value_is, is.id_is, is.flags, is.cid, is.service) refl;
       opening = rw (is.value_is, is.id_is, is.service, same) refl;
-      decides = rw (is.framed, is.value_is, is.id_is, is.flags, is.client, is.service) refl;
-      error = rw (is.framed, is.value_is, is.id_is, is.flags, is.client, is.service, same) refl;
+      decides = rw (is.framed, is.value_is, is.id_is, is.flags, is.cid, is.service) refl;
+      error = rw (is.framed, is.value_is, is.id_is, is.flags, is.cid, is.service, same) refl;
     }

@@ -40,10 +40,10 @@ use Rattle.twin_sessions.proofs.QmiSteps.{is_response_text, played, Direct, Thro
 -- ---- the proxy's own replies ----
 
 abbrev pub own_head : Request → NewMessage
-own_head r = record { sender = Modem; service = (row_of r.body).service; client = r.client; flags = flags_for (row_of r.body).service kind.Response; number = r.number; message = (row_of r.body).id }
+own_head r = record { sender = Modem; service = (row_of r.body).service; cid = r.cid; flags = flags_for (row_of r.body).service kind.Response; number = r.number; message = (row_of r.body).id }
 
 abbrev replying : NewMessage → NewMessage
-replying m = record { sender = Modem; service = m.service; client = m.client; flags = flags_for m.service kind.Response; number = m.number; message = m.message }
+replying m = record { sender = Modem; service = m.service; cid = m.cid; flags = flags_for m.service kind.Response; number = m.number; message = m.message }
 
 refused_text : (m : NewMessage) (tlvs : List ℕ) (error : ℕ) → result_reply (message_text m tlvs) error ≡ message_text (replying m) (result_tlv error)
 unfolding head_text
@@ -106,21 +106,21 @@ module _ (s : Setup) (near : s.starts_away ≡ false) (modem : Answering) (plan 
 
   -- ---- the client id is given back ----
 
-  released_then : (peer : Peer) (client number : ℕ) (talk : Talk) (message : Placed) (h : NewMessage) (tlvs : List ℕ) (Then : Talk → Type 0) → h.flags ≡ flags_for h.service kind.Response → (g : Goes s near modem plan.timeout peer (release plan client number) talk (message_text h tlvs) Then)
-      → release_at peer plan client number message talk ≡ finish (OfAnswer plan.request None message) g.later
-  released_then peer client number talk message h tlvs Then flags g =
+  released_then : (peer : Peer) (cid number : ℕ) (talk : Talk) (message : Placed) (h : NewMessage) (tlvs : List ℕ) (Then : Talk → Type 0) → h.flags ≡ flags_for h.service kind.Response → (g : Goes s near modem plan.timeout peer (release plan cid number) talk (message_text h tlvs) Then)
+      → release_at peer plan cid number message talk ≡ finish (OfAnswer plan.request None message) g.later
+  released_then peer cid number talk message h tlvs Then flags g =
       g.is unanswered (λ before last talk. if is_framed last.bytes then finish (OfAnswer plan.request None message) talk else finish (Unframed last) talk)
       ∙ ap (λ (b : Bool). if b then finish (OfAnswer plan.request None message) g.later else finish (Unframed g.placed) g.later) (ap is_framed g.bytes ∙ (is_response_text h tlvs flags).framed)
 
   alike_by : {a b a' b' : Finish LastWord} → a ≡ a' → b ≡ b' → IsAlike a' b' → IsAlike a b
   alike_by {a = a} {b' = b'} is_a is_b same = subst (λ (f : Finish LastWord). IsAlike a f) (sym is_b) (subst (λ (f : Finish LastWord). IsAlike f b') (sym is_a) same)
 
-  module _ (some : (service plan == 0) ≡ false) (client number : ℕ) where
+  module _ (some : (service plan == 0) ≡ false) (cid number : ℕ) where
     abbrev pub d_release : Request
-    d_release = release plan client number
+    d_release = release plan cid number
 
     abbrev pub t_release : Request
-    t_release = release plan client (number + 1)
+    t_release = release plan cid (number + 1)
 
     release_short : length (message_of t_release) ≤ piece_limit
     unfolding message_of
@@ -130,39 +130,39 @@ module _ (s : Setup) (near : s.starts_away ≡ false) (modem : Answering) (plan 
     space_control = ap (λ (n : ℕ). if n == 0 then 0 else 1) (is_read t_release).service
 
     module _ (dm tm : Placed) (same : ReadsAs dm.bytes tm.bytes) (d_talk t_talk : Talk) where
-      pub released_alike : (before : List (List ℕ)) (last : ℕ → ℕ) → (client == 0) ≡ false → (client == 255) ≡ false → Direct s near modem plan.timeout d_talk before → Through s near modem plan.timeout true last t_talk before → number ≡ following 255 (last 0)
-          → Answers modem before (message_of d_release) → IsAlike (release_at at_modem plan client number dm d_talk) (release_at at_proxy plan client (number + 1) tm t_talk)
+      pub released_alike : (before : List (List ℕ)) (last : ℕ → ℕ) → (cid == 0) ≡ false → (cid == 255) ≡ false → Direct s near modem plan.timeout d_talk before → Through s near modem plan.timeout true last t_talk before → number ≡ following 255 (last 0)
+          → Answers modem before (message_of d_release) → IsAlike (release_at at_modem plan cid number dm d_talk) (release_at at_proxy plan cid (number + 1) tm t_talk)
       released_alike before last low high direct has n_is a =
           let d = direct_goes s near modem plan.timeout d_release d_talk before direct a in
-          let shared = release_shared (message_of t_release) (service plan) client (control_is t_release.body t_release.number refl) some low high in
+          let shared = release_shared (message_of t_release) (service plan) cid (control_is t_release.body t_release.number refl) some low high in
           let t = forward_goes s near modem plan.timeout last t_release number t_talk before has (n_is ∙ ap (λ (p : ℕ). following (top_of p) (last p)) (sym space_control)) shared release_short a in
-          alike_by (released_then at_modem client number d_talk dm a.response a.tlvs _ a.flags d) (released_then at_proxy client (number + 1) t_talk tm (record a.response { number = number + 1 }) a.tlvs _ a.flags t) ((refl, refl, same), (_, _, t.goes_on))
+          alike_by (released_then at_modem cid number d_talk dm a.response a.tlvs _ a.flags d) (released_then at_proxy cid (number + 1) t_talk tm (record a.response { number = number + 1 }) a.tlvs _ a.flags t) ((refl, refl, same), (_, _, t.goes_on))
 
-      pub released_badly : (d_before t_before : List (List ℕ)) (last : ℕ → ℕ) → (client == 0 || (client == 255)) ≡ true → Direct s near modem plan.timeout d_talk d_before → Through s near modem plan.timeout true last t_talk t_before
-          → Answers modem d_before (message_of d_release) → IsAlike (release_at at_modem plan client number dm d_talk) (release_at at_proxy plan client (number + 1) tm t_talk)
+      pub released_badly : (d_before t_before : List (List ℕ)) (last : ℕ → ℕ) → (cid == 0 || (cid == 255)) ≡ true → Direct s near modem plan.timeout d_talk d_before → Through s near modem plan.timeout true last t_talk t_before
+          → Answers modem d_before (message_of d_release) → IsAlike (release_at at_modem plan cid number dm d_talk) (release_at at_proxy plan cid (number + 1) tm t_talk)
       released_badly d_before t_before last bad direct has a =
           let d = direct_goes s near modem plan.timeout d_release d_talk d_before direct a in
-          let refused = release_refused s.device (message_of t_release) (service plan) client (control_is t_release.body t_release.number refl) bad in
+          let refused = release_refused s.device (message_of t_release) (service plan) cid (control_is t_release.body t_release.number refl) bad in
           let t = own_goes s near modem plan.timeout true last t_release t_talk t_before (own_head t_release) (result_tlv 7) has refused.0 release_short (ap (result_reply (message_of t_release)) refused.1 ∙ own_text t_release 7) refl refl refl refl in
-          alike_by (released_then at_modem client number d_talk dm a.response a.tlvs _ a.flags d) (released_then at_proxy client (number + 1) t_talk tm (own_head t_release) (result_tlv 7) _ refl t) ((refl, refl, same), (last, t_before, subst (λ (b : Bool). Through s near modem plan.timeout b last t.later t_before) (or_true (is_opening s.device (message_of t_release) Own)) t.goes_on))
+          alike_by (released_then at_modem cid number d_talk dm a.response a.tlvs _ a.flags d) (released_then at_proxy cid (number + 1) t_talk tm (own_head t_release) (result_tlv 7) _ refl t) ((refl, refl, same), (last, t_before, subst (λ (b : Bool). Through s near modem plan.timeout b last t.later t_before) (or_true (is_opening s.device (message_of t_release) Own)) t.goes_on))
 
       -- the session is left
-      left_alike : Met t_talk → IsAlike (release_at at_modem plan client number dm d_talk) (release_at at_proxy plan client (number + 1) tm t_talk) → IsAlike (leave_at at_modem plan client number dm d_talk) (leave_at at_proxy plan client (number + 1) tm t_talk)
+      left_alike : Met t_talk → IsAlike (release_at at_modem plan cid number dm d_talk) (release_at at_proxy plan cid (number + 1) tm t_talk) → IsAlike (leave_at at_modem plan cid number dm d_talk) (leave_at at_proxy plan cid (number + 1) tm t_talk)
       left_alike met released =
-          let kept : (b : Bool) → IsAlike (if b then finish (OfAnswer plan.request (Some (service plan, client)) dm) d_talk else release_at at_modem plan client number dm d_talk) (if b then finish (OfAnswer plan.request (Some (service plan, client)) tm) t_talk else release_at at_proxy plan client (number + 1) tm t_talk) =
-          λ b. elim b as (λ b. IsAlike (if b then finish (OfAnswer plan.request (Some (service plan, client)) dm) d_talk else release_at at_modem plan client number dm d_talk) (if b then finish (OfAnswer plan.request (Some (service plan, client)) tm) t_talk else release_at at_proxy plan client (number + 1) tm t_talk)) [
+          let kept : (b : Bool) → IsAlike (if b then finish (OfAnswer plan.request (Some (service plan, cid)) dm) d_talk else release_at at_modem plan cid number dm d_talk) (if b then finish (OfAnswer plan.request (Some (service plan, cid)) tm) t_talk else release_at at_proxy plan cid (number + 1) tm t_talk) =
+          λ b. elim b as (λ b. IsAlike (if b then finish (OfAnswer plan.request (Some (service plan, cid)) dm) d_talk else release_at at_modem plan cid number dm d_talk) (if b then finish (OfAnswer plan.request (Some (service plan, cid)) tm) t_talk else release_at at_proxy plan cid (number + 1) tm t_talk)) [
             | true ↦ ((refl, refl, same), met)
             | false ↦ released
           ] in
-          subst (λ (z : Bool). IsAlike (if z then finish (OfAnswer plan.request None dm) d_talk else if plan.keep then finish (OfAnswer plan.request (Some (service plan, client)) dm) d_talk else release_at at_modem plan client number dm d_talk)
-          (if z then finish (OfAnswer plan.request None tm) t_talk else if plan.keep then finish (OfAnswer plan.request (Some (service plan, client)) tm) t_talk else release_at at_proxy plan client (number + 1) tm t_talk)) (sym some) (kept plan.keep)
+          subst (λ (z : Bool). IsAlike (if z then finish (OfAnswer plan.request None dm) d_talk else if plan.keep then finish (OfAnswer plan.request (Some (service plan, cid)) dm) d_talk else release_at at_modem plan cid number dm d_talk)
+          (if z then finish (OfAnswer plan.request None tm) t_talk else if plan.keep then finish (OfAnswer plan.request (Some (service plan, cid)) tm) t_talk else release_at at_proxy plan cid (number + 1) tm t_talk)) (sym some) (kept plan.keep)
 
       -- the answer to the command is read
-      pub read_alike : Met t_talk → IsAlike (leave_at at_modem plan client number dm d_talk) (leave_at at_proxy plan client (number + 1) tm t_talk)
-          → IsAlike (if reads plan.request dm.bytes then leave_at at_modem plan client number dm d_talk else finish (OfAnswer plan.request None dm) d_talk) (if reads plan.request tm.bytes then leave_at at_proxy plan client (number + 1) tm t_talk else finish (OfAnswer plan.request None tm) t_talk)
+      pub read_alike : Met t_talk → IsAlike (leave_at at_modem plan cid number dm d_talk) (leave_at at_proxy plan cid (number + 1) tm t_talk)
+          → IsAlike (if reads plan.request dm.bytes then leave_at at_modem plan cid number dm d_talk else finish (OfAnswer plan.request None dm) d_talk) (if reads plan.request tm.bytes then leave_at at_proxy plan cid (number + 1) tm t_talk else finish (OfAnswer plan.request None tm) t_talk)
       read_alike met left =
-          subst (λ (z : Bool). IsAlike (if reads plan.request dm.bytes then leave_at at_modem plan client number dm d_talk else finish (OfAnswer plan.request None dm) d_talk) (if z then leave_at at_proxy plan client (number + 1) tm t_talk else finish (OfAnswer plan.request None tm) t_talk)) (reads_same plan.request dm.bytes tm.bytes same)
-          (elim (reads plan.request dm.bytes) as (λ z. IsAlike (if z then leave_at at_modem plan client number dm d_talk else finish (OfAnswer plan.request None dm) d_talk) (if z then leave_at at_proxy plan client (number + 1) tm t_talk else finish (OfAnswer plan.request None tm) t_talk)) [
+          subst (λ (z : Bool). IsAlike (if reads plan.request dm.bytes then leave_at at_modem plan cid number dm d_talk else finish (OfAnswer plan.request None dm) d_talk) (if z then leave_at at_proxy plan cid (number + 1) tm t_talk else finish (OfAnswer plan.request None tm) t_talk)) (reads_same plan.request dm.bytes tm.bytes same)
+          (elim (reads plan.request dm.bytes) as (λ z. IsAlike (if z then leave_at at_modem plan cid number dm d_talk else finish (OfAnswer plan.request None dm) d_talk) (if z then leave_at at_proxy plan cid (number + 1) tm t_talk else finish (OfAnswer plan.request None tm) t_talk)) [
             | true ↦ left
             | false ↦ ((refl, refl, same), met)
           ])
@@ -170,23 +170,23 @@ module _ (s : Setup) (near : s.starts_away ≡ false) (modem : Answering) (plan 
   module _ (device_is : s.device ≡ encode_utf8_all plan.device) (served : IsServed modem plan) where
     -- ---- the command, with a client id ----
 
-    command_then : (peer : Peer) (client number : ℕ) (talk : Talk) (x : List ℕ) (Then : Talk → Type 0) → (service plan == 0) ≡ false → (g : Goes s near modem plan.timeout peer (first_command plan client) talk x Then)
-        → command_at peer plan client number talk ≡ (if reads plan.request g.placed.bytes then leave_at peer plan client number g.placed g.later else finish (OfAnswer plan.request None g.placed) g.later)
-    command_then peer client number talk x Then some g =
-        let next : List Placed → Placed → Talk → Finish LastWord = λ before message talk. if reads plan.request message.bytes then leave_at peer plan client number message talk else finish (OfAnswer plan.request None message) talk in
-        ap (λ (b : Bool). let r : Request = record { body = plan.request; client = client; number = if b then number else 1 } in ask_then peer (asked plan.timeout r) talk unanswered next) some
+    command_then : (peer : Peer) (cid number : ℕ) (talk : Talk) (x : List ℕ) (Then : Talk → Type 0) → (service plan == 0) ≡ false → (g : Goes s near modem plan.timeout peer (first_command plan cid) talk x Then)
+        → command_at peer plan cid number talk ≡ (if reads plan.request g.placed.bytes then leave_at peer plan cid number g.placed g.later else finish (OfAnswer plan.request None g.placed) g.later)
+    command_then peer cid number talk x Then some g =
+        let next : List Placed → Placed → Talk → Finish LastWord = λ before message talk. if reads plan.request message.bytes then leave_at peer plan cid number message talk else finish (OfAnswer plan.request None message) talk in
+        ap (λ (b : Bool). let r : Request = record { body = plan.request; cid = cid; number = if b then number else 1 } in ask_then peer (asked plan.timeout r) talk unanswered next) some
         ∙ g.is unanswered next
 
-    command_short : (client : ℕ) → length (message_of (first_command plan client)) ≤ piece_limit
+    command_short : (cid : ℕ) → length (message_of (first_command plan cid)) ≤ piece_limit
     unfolding message_of
-    command_short client = omega (arith, text_is_short (new_message (first_command plan client)) (tlv_text (inputs_of plan.request)), served.inputs)
+    command_short cid = omega (arith, text_is_short (new_message (first_command plan cid)) (tlv_text (inputs_of plan.request)), served.inputs)
 
-    module _ (some : (service plan == 0) ≡ false) (client number : ℕ) (d_talk t_talk : Talk) (before : List (List ℕ)) (last : ℕ → ℕ) (direct : Direct s near modem plan.timeout d_talk before) (has : Through s near modem plan.timeout true last t_talk before) where
+    module _ (some : (service plan == 0) ≡ false) (cid number : ℕ) (d_talk t_talk : Talk) (before : List (List ℕ)) (last : ℕ → ℕ) (direct : Direct s near modem plan.timeout d_talk before) (has : Through s near modem plan.timeout true last t_talk before) where
       abbrev m : List ℕ
-      m = message_of (first_command plan client)
+      m = message_of (first_command plan cid)
 
-      read : IsRead (first_command plan client)
-      read = is_read (first_command plan client)
+      read : IsRead (first_command plan cid)
+      read = is_read (first_command plan cid)
 
       service_some : (service_of m == 0) ≡ false
       service_some = ap (λ (n : ℕ). n == 0) read.service ∙ some
@@ -194,49 +194,49 @@ module _ (s : Setup) (near : s.starts_away ≡ false) (modem : Answering) (plan 
       space_service : space_of m ≡ 1
       space_service = ap (λ (b : Bool). if b then 0 else 1) service_some
 
-      pub commanded_alike : Answers modem before m → (client == 0) ≡ false → (client == 255) ≡ false → number ≡ following 255 (last 0) → 1 ≡ following 65535 (last 1)
-          → IsAlike (command_at at_modem plan client number d_talk) (command_at at_proxy plan client (number + 1) t_talk)
+      pub commanded_alike : Answers modem before m → (cid == 0) ≡ false → (cid == 255) ≡ false → number ≡ following 255 (last 0) → 1 ≡ following 65535 (last 1)
+          → IsAlike (command_at at_modem plan cid number d_talk) (command_at at_proxy plan cid (number + 1) t_talk)
       commanded_alike a low high n_is one_is =
-          let d = direct_goes s near modem plan.timeout (first_command plan client) d_talk before direct a in
-          let shared : view_decides true m ≡ false = service_shared m read.framed read.flags service_some (ap (λ (n : ℕ). n == 0) read.client ∙ low) (ap (λ (n : ℕ). n == 255) read.client ∙ high) in
-          let t = forward_goes s near modem plan.timeout last (first_command plan client) 1 t_talk before has (one_is ∙ ap (λ (p : ℕ). following (top_of p) (last p)) (sym space_service)) shared (command_short client) a in
+          let d = direct_goes s near modem plan.timeout (first_command plan cid) d_talk before direct a in
+          let shared : view_decides true m ≡ false = service_shared m read.framed read.flags service_some (ap (λ (n : ℕ). n == 0) read.cid ∙ low) (ap (λ (n : ℕ). n == 255) read.cid ∙ high) in
+          let t = forward_goes s near modem plan.timeout last (first_command plan cid) 1 t_talk before has (one_is ∙ ap (λ (p : ℕ). following (top_of p) (last p)) (sym space_service)) shared (command_short cid) a in
           let same : ReadsAs d.placed.bytes t.placed.bytes = placed_alike d.bytes t.bytes (texts_read_alike a.response (record a.response { number = 1 }) a.tlvs a.flags a.flags) in
           let later_number : number ≡ following 255 (if space_of m == 0 then 1 else last 0) = n_is ∙ ap (λ (p : ℕ). following 255 (if p == 0 then 1 else last 0)) (sym space_service) in
-          let released = released_alike some client number d.placed t.placed same d.later t.later (m ∷ before) (λ space. if space_of m == space then 1 else last space) low high d.goes_on t.goes_on later_number ((served.services some).releases client number (subst (λ (n : ℕ). n < 256) (sym n_is) (following_small (last 0))) (m ∷ before)) in
-          alike_by (command_then at_modem client number d_talk _ _ some d) (command_then at_proxy client (number + 1) t_talk _ _ some t)
-          (read_alike some client number d.placed t.placed same d.later t.later (_, _, t.goes_on) (left_alike some client number d.placed t.placed same d.later t.later (_, _, t.goes_on) released))
+          let released = released_alike some cid number d.placed t.placed same d.later t.later (m ∷ before) (λ space. if space_of m == space then 1 else last space) low high d.goes_on t.goes_on later_number ((served.services some).releases cid number (subst (λ (n : ℕ). n < 256) (sym n_is) (following_small (last 0))) (m ∷ before)) in
+          alike_by (command_then at_modem cid number d_talk _ _ some d) (command_then at_proxy cid (number + 1) t_talk _ _ some t)
+          (read_alike some cid number d.placed t.placed same d.later t.later (_, _, t.goes_on) (left_alike some cid number d.placed t.placed same d.later t.later (_, _, t.goes_on) released))
 
     -- with one that is nobody's
-    refused_alike : (some : (service plan == 0) ≡ false) (client number : ℕ) (d_talk t_talk : Talk) (last : ℕ → ℕ) → number ≡ following 255 (last 0) → Direct s near modem plan.timeout d_talk [] → Through s near modem plan.timeout true last t_talk [] → (client == 0 || (client == 255)) ≡ true
-        → IsAlike (command_at at_modem plan client number d_talk) (command_at at_proxy plan client (number + 1) t_talk)
-    refused_alike some client number d_talk t_talk last n_is direct has bad =
-        let r : Request = first_command plan client in
+    refused_alike : (some : (service plan == 0) ≡ false) (cid number : ℕ) (d_talk t_talk : Talk) (last : ℕ → ℕ) → number ≡ following 255 (last 0) → Direct s near modem plan.timeout d_talk [] → Through s near modem plan.timeout true last t_talk [] → (cid == 0 || (cid == 255)) ≡ true
+        → IsAlike (command_at at_modem plan cid number d_talk) (command_at at_proxy plan cid (number + 1) t_talk)
+    refused_alike some cid number d_talk t_talk last n_is direct has bad =
+        let r : Request = first_command plan cid in
         let m : List ℕ = message_of r in
         let read = is_read r in
-        let a = (served.services some).given client in
+        let a = (served.services some).given cid in
         let d = direct_goes s near modem plan.timeout r d_talk [] direct a in
-        let refused = service_refused s.device m read.framed read.flags (ap (λ (n : ℕ). n == 0) read.service ∙ some) (ap (λ (n : ℕ). n == 0 || (n == 255)) read.client ∙ bad) in
-        let t = own_goes s near modem plan.timeout true last r t_talk [] (own_head r) (result_tlv 7) has refused.0 (command_short client) (ap (result_reply m) refused.1 ∙ own_text r 7) refl refl refl refl in
-        let same : ReadsAs d.placed.bytes t.placed.bytes = placed_alike d.bytes t.bytes (subst (λ (l : List ℕ). ReadsAs (message_text a.response a.tlvs) (message_text (own_head r) l)) ((served.services some).refuses client bad) (texts_read_alike a.response (own_head r) a.tlvs a.flags refl)) in
+        let refused = service_refused s.device m read.framed read.flags (ap (λ (n : ℕ). n == 0) read.service ∙ some) (ap (λ (n : ℕ). n == 0 || (n == 255)) read.cid ∙ bad) in
+        let t = own_goes s near modem plan.timeout true last r t_talk [] (own_head r) (result_tlv 7) has refused.0 (command_short cid) (ap (result_reply m) refused.1 ∙ own_text r 7) refl refl refl refl in
+        let same : ReadsAs d.placed.bytes t.placed.bytes = placed_alike d.bytes t.bytes (subst (λ (l : List ℕ). ReadsAs (message_text a.response a.tlvs) (message_text (own_head r) l)) ((served.services some).refuses cid bad) (texts_read_alike a.response (own_head r) a.tlvs a.flags refl)) in
         let opened : Through s near modem plan.timeout true last t.later [] = subst (λ (b : Bool). Through s near modem plan.timeout b last t.later []) (or_true (is_opening s.device m Own)) t.goes_on in
-        let released = released_badly some client number d.placed t.placed same d.later t.later (m ∷ []) [] last bad d.goes_on opened ((served.services some).releases client number (subst (λ (n : ℕ). n < 256) (sym n_is) (following_small (last 0))) (m ∷ [])) in
-        alike_by (command_then at_modem client number d_talk _ _ some d) (command_then at_proxy client (number + 1) t_talk _ _ some t)
-        (read_alike some client number d.placed t.placed same d.later t.later (last, [], opened) (left_alike some client number d.placed t.placed same d.later t.later (last, [], opened) released))
+        let released = released_badly some cid number d.placed t.placed same d.later t.later (m ∷ []) [] last bad d.goes_on opened ((served.services some).releases cid number (subst (λ (n : ℕ). n < 256) (sym n_is) (following_small (last 0))) (m ∷ [])) in
+        alike_by (command_then at_modem cid number d_talk _ _ some d) (command_then at_proxy cid (number + 1) t_talk _ _ some t)
+        (read_alike some cid number d.placed t.placed same d.later t.later (last, [], opened) (left_alike some cid number d.placed t.placed same d.later t.later (last, [], opened) released))
 
     -- a client id that is given
-    given_alike : (some : (service plan == 0) ≡ false) (client number : ℕ) (d_talk t_talk : Talk) (last : ℕ → ℕ) → Direct s near modem plan.timeout d_talk [] → Through s near modem plan.timeout true last t_talk [] → number ≡ following 255 (last 0) → 1 ≡ following 65535 (last 1)
-        → IsAlike (command_at at_modem plan client number d_talk) (command_at at_proxy plan client (number + 1) t_talk)
-    given_alike some client number d_talk t_talk last direct has n_is one_is =
-        let Goal : Type 0 = IsAlike (command_at at_modem plan client number d_talk) (command_at at_proxy plan client (number + 1) t_talk) in
-        let by : (a b : Bool) → (client == 0) ≡ a → (client == 255) ≡ b → Goal =
-        λ a b. elim a as (λ a. (client == 0) ≡ a → (client == 255) ≡ b → Goal) [
-          | true ↦ λ low high. refused_alike some client number d_talk t_talk last n_is direct has (ap (λ (x : Bool). x || (client == 255)) low)
-          | false ↦ elim b as (λ b. (client == 0) ≡ false → (client == 255) ≡ b → Goal) [
-            | true ↦ λ low high. refused_alike some client number d_talk t_talk last n_is direct has (ap (λ (x : Bool). x || (client == 255)) low ∙ high)
-            | false ↦ λ low high. commanded_alike some client number d_talk t_talk [] last direct has ((served.services some).given client) low high n_is one_is
+    given_alike : (some : (service plan == 0) ≡ false) (cid number : ℕ) (d_talk t_talk : Talk) (last : ℕ → ℕ) → Direct s near modem plan.timeout d_talk [] → Through s near modem plan.timeout true last t_talk [] → number ≡ following 255 (last 0) → 1 ≡ following 65535 (last 1)
+        → IsAlike (command_at at_modem plan cid number d_talk) (command_at at_proxy plan cid (number + 1) t_talk)
+    given_alike some cid number d_talk t_talk last direct has n_is one_is =
+        let Goal : Type 0 = IsAlike (command_at at_modem plan cid number d_talk) (command_at at_proxy plan cid (number + 1) t_talk) in
+        let by : (a b : Bool) → (cid == 0) ≡ a → (cid == 255) ≡ b → Goal =
+        λ a b. elim a as (λ a. (cid == 0) ≡ a → (cid == 255) ≡ b → Goal) [
+          | true ↦ λ low high. refused_alike some cid number d_talk t_talk last n_is direct has (ap (λ (x : Bool). x || (cid == 255)) low)
+          | false ↦ elim b as (λ b. (cid == 0) ≡ false → (cid == 255) ≡ b → Goal) [
+            | true ↦ λ low high. refused_alike some cid number d_talk t_talk last n_is direct has (ap (λ (x : Bool). x || (cid == 255)) low ∙ high)
+            | false ↦ λ low high. commanded_alike some cid number d_talk t_talk [] last direct has ((served.services some).given cid) low high n_is one_is
           ]
         ]
-        in by (client == 0) (client == 255) refl refl
+        in by (cid == 0) (cid == 255) refl refl
 
     -- ---- a client id is allocated ----
 
@@ -286,7 +286,7 @@ module _ (s : Setup) (near : s.starts_away ≡ false) (modem : Answering) (plan 
         let next : List Placed → Placed → Talk → Finish LastWord = λ before message talk. if reads plan.request message.bytes then leave_at peer plan 0 number message talk else finish (OfAnswer plan.request None message) talk in
         let ended : Finish LastWord = finish (OfAnswer plan.request None g.placed) g.later in
         let left : leave_at peer plan 0 number g.placed g.later ≡ ended = ap (λ (b : Bool). if b then ended else if plan.keep then finish (OfAnswer plan.request (Some (service plan, 0)) g.placed) g.later else release_at peer plan 0 number g.placed g.later) none in
-        ap (λ (b : Bool). let r : Request = record { body = plan.request; client = 0; number = if b then number else 1 } in ask_then peer (asked plan.timeout r) talk unanswered next) none
+        ap (λ (b : Bool). let r : Request = record { body = plan.request; cid = 0; number = if b then number else 1 } in ask_then peer (asked plan.timeout r) talk unanswered next) none
         ∙ g.is unanswered next
         ∙ ap (λ (f : Finish LastWord). if reads plan.request g.placed.bytes then f else ended) left
         ∙ elim (reads plan.request g.placed.bytes) as (λ b. (if b then ended else ended) ≡ ended) [ true ↦ refl | false ↦ refl ]
@@ -321,7 +321,7 @@ module _ (s : Setup) (near : s.starts_away ≡ false) (modem : Answering) (plan 
       where
         by_id : (some : (service plan == 0) ≡ false) (cid : Option ℕ) → IsAlike (given_at at_modem plan cid 1 d_talk) (given_at at_proxy plan cid 2 t_talk)
         by_id some None = allocated_alike some d_talk t_talk direct has
-        by_id some (Some client) = given_alike some client 1 d_talk t_talk (λ space. 0) direct has refl refl
+        by_id some (Some cid) = given_alike some cid 1 d_talk t_talk (λ space. 0) direct has refl refl
 
     d_start : Direct s near modem plan.timeout nothing_said []
     unfolding cut_from asked_by

@@ -10,7 +10,7 @@ use Rattle.qmux_frame.specs.declared.writing.NewMessage.{NewMessage}
 use Rattle.qmux_frame.specs.declared.kind.MessageKind.TheVariants as kind
 use Rattle.qmux_frame.specs.Frame.{size_of}
 use Rattle.qmux_frame.specs.Framing.{size_of-kept, size_of-positive}
-use Rattle.qmux_frame.specs.Head.{service_of, client_of, number_of, is_framed, tlvs_in}
+use Rattle.qmux_frame.specs.Head.{service_of, cid_of, number_of, is_framed, tlvs_in}
 use Rattle.qmux_frame.specs.Kind.{framed_kind, kind_of, kind_by, flags_for, is_response}
 use Rattle.qmux_frame.specs.Reply.{with_number, result_reply}
 use Rattle.qmux_frame.specs.Writing.{message_text}
@@ -48,7 +48,7 @@ pub record IsResponse (h : NewMessage) (tlvs : List ℕ) : Type 0 where
   pub kind_is : framed_kind (message_text h tlvs) ≡ Some kind.Response
   pub tlvs_are : tlvs_in (message_text h tlvs) ≡ tlvs
   pub service : service_of (message_text h tlvs) ≡ h.service
-  pub client : client_of (message_text h tlvs) ≡ h.client
+  pub cid : cid_of (message_text h tlvs) ≡ h.cid
   pub number : number_of (message_text h tlvs) ≡ h.number
   pub response : is_response (kind_of (message_text h tlvs)) ≡ true
 
@@ -64,16 +64,16 @@ is_response_text h tlvs flags =
       kind_is = ap (λ (b : Bool). if b then Some (kind_of x) else None) framed ∙ ap Some kinds;
       tlvs_are = read.behind;
       service = ap (λ (a : Head). a.service) read.head;
-      client = ap (λ (a : Head). a.client) read.head;
+      cid = ap (λ (a : Head). a.cid) read.head;
       number = ap (λ (a : Head). a.number) read.head;
       response = ap is_response kinds;
     }
 
 -- a message that answers a request
-pub answers_it : (r : Request) (h : NewMessage) (tlvs : List ℕ) → h.flags ≡ flags_for h.service kind.Response → h.service ≡ (row_of r.body).service → h.client ≡ r.client → h.number ≡ r.number → answers (wanted_by r) (message_text h tlvs) ≡ true
-answers_it r h tlvs flags service client number =
+pub answers_it : (r : Request) (h : NewMessage) (tlvs : List ℕ) → h.flags ≡ flags_for h.service kind.Response → h.service ≡ (row_of r.body).service → h.cid ≡ r.cid → h.number ≡ r.number → answers (wanted_by r) (message_text h tlvs) ≡ true
+answers_it r h tlvs flags service cid number =
     let is = is_response_text h tlvs flags in
-    rw (is.response, eq-eqb _ _ (is.service ∙ service), eq-eqb _ _ (is.client ∙ client), eq-eqb _ _ (is.number ∙ number)) refl
+    rw (is.response, eq-eqb _ _ (is.service ∙ service), eq-eqb _ _ (is.cid ∙ cid), eq-eqb _ _ (is.number ∙ number)) refl
 
 newest_is : (texts : List (List ℕ)) (m : List ℕ) → reverse (texts ++ m ∷ []) ≡ m ∷ reverse texts
 newest_is texts m = reverse-append texts (m ∷ [])
@@ -105,10 +105,10 @@ module _ (s : Setup) (near : s.starts_away ≡ false) (modem : Answering) (secon
     abbrev said_now : Placed
     said_now = one_said size_of size_of-kept size_of-positive refl peer (asked seconds r) refl talk whole said_text
 
-    answered_so : reply_to peer (asked seconds r) talk ≡ said_text → h.service ≡ (row_of r.body).service → h.client ≡ r.client → h.number ≡ r.number → IsAnsweredBy size_of peer (asked seconds r) talk [] said_now []
-    answered_so replies service client number =
+    answered_so : reply_to peer (asked seconds r) talk ≡ said_text → h.service ≡ (row_of r.body).service → h.cid ≡ r.cid → h.number ≡ r.number → IsAnsweredBy size_of peer (asked seconds r) talk [] said_now []
+    answered_so replies service cid number =
         answered_by_one size_of size_of-kept size_of-positive refl peer (asked seconds r) refl talk whole said_text (is_response_text h tlvs flags).is_message replies [] left
-        (record { each = tt; quiets = omega arith; messages = omega arith }) (ap (λ (b : Bool). if b then meaning.Answer else meaning.NoAnswer) (answers_it r h tlvs flags service client number))
+        (record { each = tt; quiets = omega arith; messages = omega arith }) (ap (λ (b : Bool). if b then meaning.Answer else meaning.NoAnswer) (answers_it r h tlvs flags service cid number))
 
     goes_by : (Then : Talk → Type 0) → (a : IsAnsweredBy size_of peer (asked seconds r) talk [] said_now []) → Then a.later → Goes peer r talk said_text Then
     goes_by Then a goes = record { placed = said_now; bytes = refl; later = a.later; is = λ failed next. goes_on size_of peer (asked seconds r) talk [] said_now [] a failed next; goes_on = goes }
@@ -127,7 +127,7 @@ module _ (s : Setup) (near : s.starts_away ≡ false) (modem : Answering) (secon
       ∙ ap (λ (l : List (List ℕ)). concat (l ++ [])) (one_message x (is_response_text a.response a.tlvs a.flags).is_message)
       ∙ append-nil x
       in
-      let by = answered_so (directly played) r talk direct.left direct.whole a.response a.tlvs a.flags replies (a.service ∙ read.service) (a.client ∙ read.client) (a.number ∙ read.number) in
+      let by = answered_so (directly played) r talk direct.left direct.whole a.response a.tlvs a.flags replies (a.service ∙ read.service) (a.cid ∙ read.cid) (a.number ∙ read.number) in
       goes_by (directly played) r talk direct.left direct.whole a.response a.tlvs a.flags (λ later. Direct later (m ∷ before)) by (record {
         left = by.left_is;
         whole = by.whole;
@@ -144,17 +144,17 @@ module _ (s : Setup) (near : s.starts_away ≡ false) (modem : Answering) (secon
 
   -- where the proxy answers so
   through_goes : (opened : Bool) (last : ℕ → ℕ) (r : Request) (talk : Talk) (before after : List (List ℕ)) (opened' : Bool) (last' : ℕ → ℕ) (h : NewMessage) (tlvs : List ℕ) → Through opened last talk before
-      → h.flags ≡ flags_for h.service kind.Response → h.service ≡ (row_of r.body).service → h.client ≡ r.client → h.number ≡ r.number
+      → h.flags ≡ flags_for h.service kind.Response → h.service ≡ (row_of r.body).service → h.cid ≡ r.cid → h.number ≡ r.number
       → Exchanged s near modem (relayed played (reverse talk.texts)) (message_of r) (message_text h tlvs) opened' last' after
       → Goes (through played) r talk (message_text h tlvs) (λ later. Through opened' last' later after)
   unfolding relayed
-  through_goes opened last r talk before after opened' last' h tlvs has flags service client number exchanged =
+  through_goes opened last r talk before after opened' last' h tlvs has flags service cid number exchanged =
       let m : List ℕ = message_of r in
       let x : List ℕ = message_text h tlvs in
       let replies : reply_to (through played) (asked seconds r) talk ≡ x =
       ap (to_newest (λ text before. reply played text (relayed played before))) (newest_is talk.texts m) ∙ exchanged.reply_is
       in
-      let by = answered_so (through played) r talk has.left has.whole h tlvs flags replies service client number in
+      let by = answered_so (through played) r talk has.left has.whole h tlvs flags replies service cid number in
       let newest : reverse by.later.texts ≡ m ∷ reverse talk.texts = ap (λ (l : List (List ℕ)). reverse l) by.texts ∙ newest_is talk.texts m in
       goes_by (through played) r talk has.left has.whole h tlvs flags (λ later. Through opened' last' later after) by (record {
         left = by.left_is;
@@ -178,8 +178,8 @@ module _ (s : Setup) (near : s.starts_away ≡ false) (modem : Answering) (secon
       let sent_is : with_number given m ≡ sent = ap (λ (k : ℕ). with_number k m) (sym n_is) ∙ read.renumbered n in
       let some : 0 < length sent = omega (arith, message_long sent read_sent.is_message) in
       let back : with_number (number_of m) x ≡ message_text (record a.response { number = r.number }) a.tlvs = ap (λ (k : ℕ). with_number k x) read.number ∙ with_number_is a.response a.tlvs r.number in
-      let fits : (service_of m == service_of x && (client_of m == client_of x) && (given == number_of x)) ≡ true =
-      rw (eq-eqb _ _ (read.service ∙ sym (is.service ∙ a.service ∙ read_sent.service)), eq-eqb _ _ (read.client ∙ sym (is.client ∙ a.client ∙ read_sent.client)), eq-eqb _ _ (sym n_is ∙ sym (is.number ∙ a.number ∙ read_sent.number))) refl
+      let fits : (service_of m == service_of x && (cid_of m == cid_of x) && (given == number_of x)) ≡ true =
+      rw (eq-eqb _ _ (read.service ∙ sym (is.service ∙ a.service ∙ read_sent.service)), eq-eqb _ _ (read.cid ∙ sym (is.cid ∙ a.cid ∙ read_sent.cid)), eq-eqb _ _ (sym n_is ∙ sym (is.number ∙ a.number ∙ read_sent.number))) refl
       in
       let replies : (cut size_of (modem (relayed played (reverse talk.texts)).asked (with_number given m))).messages ≡ x ∷ [] =
       ap (λ (l : List (List ℕ)). (cut size_of (modem l (with_number given m))).messages) has.before_is
@@ -190,7 +190,7 @@ module _ (s : Setup) (near : s.starts_away ≡ false) (modem : Answering) (secon
       let exchanged = forward_exchange s near modem (relayed played (reverse talk.texts)) m has.stands read.is_message short shared refl x
       (subst (IsMessage size_of) (sym sent_is) read_sent.is_message) (subst (λ (l : List ℕ). 0 < length l) (sym sent_is) some) replies is.is_message (omega (arith, a.short)) is.kind_is fits in
       through_goes true last r talk before (sent ∷ before) true (λ space. if space_of m == space then n else last space) (record a.response { number = r.number }) a.tlvs has
-      a.flags (a.service ∙ read_sent.service) (a.client ∙ read_sent.client) refl
+      a.flags (a.service ∙ read_sent.service) (a.cid ∙ read_sent.cid) refl
       (record {
         reply_is = exchanged.reply_is ∙ back;
         stands = subst (λ (k : ℕ). Stands s near true (λ space. if space_of m == space then k else last space) (ask played m (relayed played (reverse talk.texts))).events) (sym n_is) exchanged.stands;
@@ -200,10 +200,10 @@ module _ (s : Setup) (near : s.starts_away ≡ false) (modem : Answering) (secon
   -- a request that the client's own view decides
   pub own_goes : (opened : Bool) (last : ℕ → ℕ) (r : Request) (talk : Talk) (before : List (List ℕ)) (h : NewMessage) (tlvs : List ℕ) → Through opened last talk before
       → view_decides opened (message_of r) ≡ true → length (message_of r) ≤ piece_limit → result_reply (message_of r) (own_error s.device opened (message_of r)) ≡ message_text h tlvs
-      → h.flags ≡ flags_for h.service kind.Response → h.service ≡ (row_of r.body).service → h.client ≡ r.client → h.number ≡ r.number
+      → h.flags ≡ flags_for h.service kind.Response → h.service ≡ (row_of r.body).service → h.cid ≡ r.cid → h.number ≡ r.number
       → Goes (through played) r talk (message_text h tlvs) (λ later. Through (is_opening s.device (message_of r) Own || opened) last later before)
-  own_goes opened last r talk before h tlvs has decides short reply_is flags service client number =
+  own_goes opened last r talk before h tlvs has decides short reply_is flags service cid number =
       let m : List ℕ = message_of r in
       let exchanged = own_exchange s near modem (relayed played (reverse talk.texts)) m has.stands (is_read r).is_message short decides in
-      through_goes opened last r talk before before (is_opening s.device m Own || opened) last h tlvs has flags service client number
+      through_goes opened last r talk before before (is_opening s.device m Own || opened) last h tlvs has flags service cid number
       (record { reply_is = exchanged.reply_is ∙ reply_is; stands = exchanged.stands; asked_is = exchanged.asked_is ∙ has.before_is })

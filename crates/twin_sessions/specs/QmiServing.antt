@@ -3,7 +3,7 @@ use Rattle.std.specs.Prelude.{◌≡◌, ◌≤◌, ◌<◌, ℕ, true, false, �
 use Rattle.tlv_codec.specs.Tlv.{tlv_text, first_value}
 use Rattle.qmux_frame.specs.declared.kind.MessageKind.TheVariants as kind
 use Rattle.qmux_frame.specs.declared.writing.NewMessage.{NewMessage}
-use Rattle.qmux_frame.specs.Head.{service_of, client_of, number_of}
+use Rattle.qmux_frame.specs.Head.{service_of, cid_of, number_of}
 use Rattle.qmux_frame.specs.Kind.{flags_for}
 use Rattle.qmux_frame.specs.Reply.{result_tlv}
 use Rattle.qmux_frame.specs.Writing.{message_text}
@@ -23,20 +23,20 @@ pub record Answers (modem : Answering) (before : List (List ℕ)) (m : List ℕ)
   pub short : length (message_text response tlvs) ≤ 16000
   pub flags : response.flags ≡ flags_for response.service kind.Response
   pub service : response.service ≡ service_of m
-  pub client : response.client ≡ client_of m
+  pub cid : response.cid ≡ cid_of m
   pub number : response.number ≡ number_of m
 
 -- the command of a plan, with this client id: the first request to its service
 abbrev pub first_command : QmiPlan → ℕ → Request
-first_command plan client = record { body = plan.request; client = client; number = 1 }
+first_command plan cid = record { body = plan.request; cid = cid; number = 1 }
 
 -- a request to service 0
 abbrev pub of_control : QmiRequest → ℕ → Request
-of_control body number = record { body = body; client = 0; number = number }
+of_control body number = record { body = body; cid = 0; number = number }
 
 -- an id that nobody can hold
 abbrev pub IsNobodys : ℕ → Type 0
-IsNobodys client = (client == 0 || (client == 255)) ≡ true
+IsNobodys cid = (cid == 0 || (cid == 255)) ≡ true
 
 -- a modem that answers each request of a session, and gives id 1; an id that is nobody's it refuses
 pub record Serves (modem : Answering) (plan : QmiPlan) : Type 0 where
@@ -44,11 +44,11 @@ pub record Serves (modem : Answering) (plan : QmiPlan) : Type 0 where
   pub allocates : Answers modem [] (message_of (allocate plan 1))
   pub brings : allocated_in allocates.tlvs ≡ Some 1
   -- or the plan names one
-  pub given : (client : ℕ) → Answers modem [] (message_of (first_command plan client))
-  pub refuses : (client : ℕ) → IsNobodys client → (given client).tlvs ≡ result_tlv 7
+  pub given : (cid : ℕ) → Answers modem [] (message_of (first_command plan cid))
+  pub refuses : (cid : ℕ) → IsNobodys cid → (given cid).tlvs ≡ result_tlv 7
   pub allocated : Answers modem (message_of (allocate plan 1) ∷ []) (message_of (first_command plan 1))
   -- and gets it back, whatever it was asked before
-  pub releases : (client number : ℕ) → number < 256 → (before : List (List ℕ)) → Answers modem before (message_of (release plan client number))
+  pub releases : (cid number : ℕ) → number < 256 → (before : List (List ℕ)) → Answers modem before (message_of (release plan cid number))
 
 -- a plan whose command is to service 0 asks for the versions, and the modem tells them
 pub record ServesVersions (modem : Answering) (plan : QmiPlan) : Type 0 where

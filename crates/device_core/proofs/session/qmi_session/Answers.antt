@@ -10,7 +10,7 @@ use Rattle.link_session.proofs.Steps.{Makes-map, Makes-none, Replies-as, Step-re
 use Rattle.device_core.proofs.session.qmi_session.Goals as goal
 
 pub returns-then-not-plan-clause-session : goal.returns-then-not-plan-clause-session
-returns-then-not-plan-clause-session g c = Makes-map (λ calls chooses. direct c.if-not-plan.true chooses) (c.choose_client.ensures.chooses nothing_heard (rw c.in_ok-incoming.ensures (Stands-start size_of size_of-kept size_of-begins)))
+returns-then-not-plan-clause-session g c = Makes-map (λ calls chooses. direct c.if-not-plan.true chooses) (c.choose_cid.ensures.chooses nothing_heard (rw c.in_ok-incoming.ensures (Stands-start size_of size_of-kept size_of-begins)))
 
 pub returns-in_err-error-clause-session : goal.returns-in_err-error-clause-session
 returns-in_err-error-clause-session g c =
@@ -26,4 +26,4 @@ returns-in-Failure-clause-session g c =
 pub returns-clause-session : goal.returns-clause-session
 returns-clause-session g c =
     let replies = Replies-as c.in-Success.is (c.in_ok-error.ensures.asks nothing_heard (rw c.in_ok-incoming.ensures (Stands-start size_of size_of-kept size_of-begins))) in
-    Makes-map (λ calls step. proxied c.if-not-plan.false step) (Step-read replies (c.choose_client-in-Success.ensures.chooses replies.later replies.says.2))
+    Makes-map (λ calls step. proxied c.if-not-plan.false step) (Step-read replies (c.choose_cid-in-Success.ensures.chooses replies.later replies.says.2))

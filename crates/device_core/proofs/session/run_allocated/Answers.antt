@@ -4,4 +4,4 @@ use Rattle.device_core.proofs.session.run_allocated.Goals as goal
 
 pub returns-clause-commands : goal.returns-clause-commands
 returns-clause-commands g c = λ heard stands.
-    Makes-map (λ calls commands. (c.allocated-client.result, allocated-in c.tlvs_in.ensures c.bytes.ensures c.allocated-client.ensures, commands)) (c.run_command.ensures.commands heard stands)
+    Makes-map (λ calls commands. (c.allocated-cid.result, allocated-in c.tlvs_in.ensures c.bytes.ensures c.allocated-cid.ensures, commands)) (c.run_command.ensures.commands heard stands)

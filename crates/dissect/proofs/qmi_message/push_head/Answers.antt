@@ -23,10 +23,10 @@ returns c =
     let number_is = c.in_ok-push_number-2.ensures ∙ ap (λ (n : ℕ). (c.push_number.new.text ++ codes " number ") ++ decimal n) c.from-2.ensures in
     let named : List ℕ = (place ++ codes " ") ++ name in
     let digits : List ℕ = (named ++ codes " 0x") ++ id_digits head.message in
-    let clients : List ℕ = (digits ++ word) ++ decimal head.client in
+    let clients : List ℕ = (digits ++ word) ++ decimal head.cid in
     let numbers : List ℕ = (clients ++ codes " number ") ++ decimal head.number in
     let last : List ℕ = title (option_map (λ (message : Bor Message). message_view message.now) c.args.form) in
     let to_name = then_one old (place ++ codes " ") name (then_one old place (codes " ") c.in_ok-push_decimal.ensures c.in_ok-extend_from_slice.ensures.ok) name_is in
     let to_digits = then_one old (named ++ codes " 0x") (id_digits head.message) (then_one old named (codes " 0x") to_name c.in_ok-extend_from_slice-2.ensures.ok) c.in_ok-push_id.ensures in
-    let to_numbers = then_two old clients (codes " number ") (decimal head.number) (then_two old digits word (decimal head.client) to_digits kind_is) number_is in
+    let to_numbers = then_two old clients (codes " number ") (decimal head.number) (then_two old digits word (decimal head.cid) to_digits kind_is) number_is in
     then_one old (numbers ++ last) (codes "\n") (then_one old numbers last to_numbers c.in_ok-push_title.ensures) c.in_ok-extend_from_slice-3.ensures.ok

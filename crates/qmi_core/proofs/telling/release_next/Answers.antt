@@ -17,8 +17,8 @@ returns-in_default c = λ table.
 pub returns : goal.returns
 returns c = λ table.
     let was : QmiState = state_of table (side_in c.side.inside) in
-    let id = id_of c.in-Some.service c.in-Some.client in
+    let id = id_of c.in-Some.service c.in-Some.cid in
     subst (λ (b : ModemSide). NextReleased c.args.after (state_of table b) (with_traffic c.ask_release.new.self was) c.ask_release.result) c.side.view_is
-    (next_released c.args.after was c.in-Some.service c.in-Some.client c.in-Some.ensures c.ask_release.result c.ask_release.new.self c.ask_release.ensures.asked
+    (next_released c.args.after was c.in-Some.service c.in-Some.cid c.in-Some.ensures c.ask_release.result c.ask_release.new.self c.ask_release.ensures.asked
     (c.ask_release.ensures.traffic
     ∙ ap (λ t. asks_under (number_for_own id was.beside.traffic) t id was.beside.traffic) (c.deadline-deadline.ensures ∙ sym (ap (λ (b : ModemSide). deadline_of b.time b.time_limit) c.side.view_is))))

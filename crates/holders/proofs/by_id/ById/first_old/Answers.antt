@@ -13,5 +13,5 @@ pub returns-clause-first : goal.returns-clause-first
 returns-clause-first c =
     let row : Grant = c.index-row.result.now in
     let at : position (is_old c.args.after c.args.time) c.self.inside.rows.items ≡ Some c.in_ok-index.index = ap (position (is_old c.args.after c.args.time)) (sym c.deref.ensures.value) ∙ sym c.in_ok-index.ensures.place in
-    ap (λ n. Some (n, c.client.result)) c.service.ensures ∙ ap (λ n. Some (row.service, n)) c.client.ensures ∙ ap (λ (g : Grant). Some (id_of g)) c.index-row.ensures
+    ap (λ n. Some (n, c.cid.result)) c.service.ensures ∙ ap (λ n. Some (row.service, n)) c.cid.ensures ∙ ap (λ (g : Grant). Some (id_of g)) c.index-row.ensures
     ∙ sym (ap (option_map id_of) (sym (ap (find (is_old c.args.after c.args.time)) c.self.view_is) ∙ find_first (is_old c.args.after c.args.time) c.self.inside.rows.items c.in_ok-index.index row at))

@@ -6,10 +6,10 @@ use Rattle.holders.proofs.by_id.ById.number.Goals as goal
 
 pub returns-in-Ok-clause-number : goal.returns-in-Ok-clause-number
 returns-in-Ok-clause-number c =
-    let found : IsFoundAt c.args.service c.args.client c.self.inside.rows.items c.in-Ok.index = subst (λ (l : List Grant). IsFoundAt c.args.service c.args.client l c.in-Ok.index) c.deref.ensures.value c.in-Ok.ensures.found in
-    ap Some c.number.ensures ∙ ap (λ (g : Grant). Some g.conn) c.index-row.ensures ∙ sym (found_holder c.args.service c.args.client c.in-Ok.index c.self.inside.rows.items c.index-row.result.now c.self.invariant.ordered found)
-    ∙ ap (holder_in c.args.service c.args.client) c.self.view_is
+    let found : IsFoundAt c.args.service c.args.cid c.self.inside.rows.items c.in-Ok.index = subst (λ (l : List Grant). IsFoundAt c.args.service c.args.cid l c.in-Ok.index) c.deref.ensures.value c.in-Ok.ensures.found in
+    ap Some c.number.ensures ∙ ap (λ (g : Grant). Some g.conn) c.index-row.ensures ∙ sym (found_holder c.args.service c.args.cid c.in-Ok.index c.self.inside.rows.items c.index-row.result.now c.self.invariant.ordered found)
+    ∙ ap (holder_in c.args.service c.args.cid) c.self.view_is
 
 pub returns-in-Err-clause-number : goal.returns-in-Err-clause-number
 returns-in-Err-clause-number c =
-    sym (absent_holder c.args.service c.args.client _ c.deref.result.now c.in-Err.ensures.absent) ∙ ap (holder_in c.args.service c.args.client) (c.deref.ensures.value ∙ c.self.view_is)
+    sym (absent_holder c.args.service c.args.cid _ c.deref.result.now c.in-Err.ensures.absent) ∙ ap (holder_in c.args.service c.args.cid) (c.deref.ensures.value ∙ c.self.view_is)

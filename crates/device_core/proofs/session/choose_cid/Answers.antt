@@ -7,7 +7,7 @@ use Rattle.device_core.specs.Session.{allocating, control, given}
 use Rattle.device_core.proofs.Allocation.{allocated-some}
 use Rattle.link_session.proofs.Steps.{Makes-map, Makes-none, Step-read, Step-unread}
 use Rattle.device_core.proofs.Steps.{OnSuccess-failure, OnSuccess-none}
-use Rattle.device_core.proofs.session.choose_client.Goals as goal
+use Rattle.device_core.proofs.session.choose_cid.Goals as goal
 
 pub returns-then-service-eq0-clause-chooses : goal.returns-then-service-eq0-clause-chooses
 returns-then-service-eq0-clause-chooses g c = λ heard stands.
@@ -16,7 +16,7 @@ returns-then-service-eq0-clause-chooses g c = λ heard stands.
 pub returns-in-Some-clause-chooses : goal.returns-in-Some-clause-chooses
 returns-in-Some-clause-chooses g c = λ heard stands.
     let other = rw c.service_of-service.ensures at c.if-service-eq0.false in
-    Makes-map (λ calls commands. given c.in-Some.client other c.in-Some.is commands) (c.run_command-in-Some.ensures.commands heard stands)
+    Makes-map (λ calls commands. given c.in-Some.cid other c.in-Some.is commands) (c.run_command-in-Some.ensures.commands heard stands)
 
 pub returns-in_err-reply-clause-chooses : goal.returns-in_err-reply-clause-chooses
 returns-in_err-reply-clause-chooses g c = λ heard stands.
