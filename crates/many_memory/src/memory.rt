@@ -1,6 +1,6 @@
 ghost use Rattle.std.specs.Prelude.{◌≡◌, ℕ, Bool, Some, None, reverse, IfOk};
 ghost use Rattle.hub_io.specs.Hub.{FitsBuffer, NamesRise, ToldOfThose};
-ghost use Rattle.many_io.specs.Hub.{unnamed_told, IsOfDevice};
+ghost use Rattle.many_io.specs.Hub.{told_without_device, IsOfDevice};
 
 use hub_io::{Hub, HubCall, HubEvent};
 use kit_io::{Failed, Log};
@@ -109,10 +109,10 @@ impl<H: Drop> MemManyHub<H> {
 
 // What a hub of one device tells, as it is told of this one of so many devices.
 fn of_device(told: HubEvent, device: usize, devices: usize) -> ManyHubEvent
-    ensures fits { (room : ℕ) → FitsBuffer told room → FitsBuffer (unnamed_told result) room }
+    ensures fits { (room : ℕ) → FitsBuffer told room → FitsBuffer (told_without_device result) room }
     ensures device { IsOfDevice result devices }
-    ensures names { (old new : ℕ) → NamesRise (Some told) old new → NamesRise (Some (unnamed_told result)) old new }
-    ensures clients { (old new : ℕ → Bool) → ToldOfThose (Some told) old new → ToldOfThose (Some (unnamed_told result)) old new }
+    ensures names { (old new : ℕ) → NamesRise (Some told) old new → NamesRise (Some (told_without_device result)) old new }
+    ensures clients { (old new : ℕ → Bool) → ToldOfThose (Some told) old new → ToldOfThose (Some (told_without_device result)) old new }
 {
     match told {
         HubEvent::Joined(conn) => ManyHubEvent::Joined(conn),

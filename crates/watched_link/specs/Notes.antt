@@ -26,10 +26,10 @@ calls_in [] = []
 calls_in (Called call ∷ events) = call ∷ calls_in events
 calls_in (Said words ∷ events) = calls_in events
 
--- what is told of the events
-abbrev pub events_told : Option (List (Noted LinkNote)) → Option (List Event)
-events_told told = option_map (map event_of) told
+-- what is recorded of the events
+abbrev pub events_recorded : Option (List (Noted LinkNote)) → Option (List Event)
+events_recorded recorded = option_map (map event_of) recorded
 
 -- and of the calls
-abbrev pub calls_told : Option (List (Noted LinkNote)) → Option (List Call)
-calls_told told = option_map calls_in (events_told told)
+abbrev pub calls_recorded : Option (List (Noted LinkNote)) → Option (List Call)
+calls_recorded recorded = option_map calls_in (events_recorded recorded)

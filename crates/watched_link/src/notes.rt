@@ -32,7 +32,7 @@ impl Model for Notes {
 
     ghost Value = { Logged LinkNote };
 
-    ghost view = { λ n. record { told = (if n.whole then n.log.told else None); room = n.room; bytes_room = n.bytes_room } };
+    ghost view = { λ n. record { recorded = (if n.whole then n.log.recorded else None); room = n.room; bytes_room = n.bytes_room } };
 
     ghost invariant = { λ n. (n.room ≤ n.log.room) × (n.bytes_room ≤ n.log.bytes_room) };
 }
@@ -42,11 +42,11 @@ impl Notes {
     ghost use Rattle.kit_io.specs.Record.{Notes as NotesOne, note_at};
     ghost use Rattle.kit_io.specs.Growth.{Grows};
     ghost use Rattle.link_io.specs.Made.{call_as};
-    ghost use Rattle.watched_link.specs.Notes.{Called, Said, events_told};
+    ghost use Rattle.watched_link.specs.Notes.{Called, Said, events_recorded};
 
     /// Nothing was done yet, and nothing will be noted.
     pub(crate) fn none(alloc: Global) -> Result<Self, AllocError>
-        ensures { IfOk result (λ notes. notes ≡ record { told = Some []; room = 0; bytes_room = 0 }) }
+        ensures { IfOk result (λ notes. notes ≡ record { recorded = Some []; room = 0; bytes_room = 0 }) }
     {
         Ok(Notes {
             log: Log::new(alloc, 0, 0)?,
@@ -58,9 +58,9 @@ impl Notes {
 
     /// Takes the room for what will be noted, if nothing was done yet.
     pub(crate) fn keep(&mut self, alloc: Global) -> Result<(), AllocError>
-        ensures told { self.new.told ≡ self.old.told }
-        ensures room { OnOk result (self.old.told ≡ Some [] → self.new.room ≡ NOTES_ROOM) }
-        ensures bytes_room { OnOk result (self.old.told ≡ Some [] → self.new.bytes_room ≡ BYTES_ROOM) }
+        ensures recorded { self.new.recorded ≡ self.old.recorded }
+        ensures room { OnOk result (self.old.recorded ≡ Some [] → self.new.room ≡ NOTES_ROOM) }
+        ensures bytes_room { OnOk result (self.old.recorded ≡ Some [] → self.new.bytes_room ≡ BYTES_ROOM) }
     {
         if self.is_unused() {
             self.log = Log::new(alloc, NOTES_ROOM, BYTES_ROOM)?;
@@ -72,7 +72,7 @@ impl Notes {
 
     // Whether nothing was done yet.
     fn is_unused(&self) -> bool
-        ensures { IsTrue result ↔ (self.now.told ≡ Some []) }
+        ensures { IsTrue result ↔ (self.now.recorded ≡ Some []) }
     {
         if !self.whole {
             return false;
@@ -96,7 +96,7 @@ impl Notes {
     /// Notes a call.
     #[tactic(auto, using(kit_io::proofs::Growth::growing))]
     pub(crate) fn call(&mut self, made: Made, bytes: &[u8])
-        ensures { Grows (events_told self.old.told) (Called (call_as made bytes.now) ∷ []) (events_told self.new.told) }
+        ensures { Grows (events_recorded self.old.recorded) (Called (call_as made bytes.now) ∷ []) (events_recorded self.new.recorded) }
     {
         self.note(LinkNote::Called(made), bytes);
     }
@@ -104,28 +104,28 @@ impl Notes {
     /// Notes what the system says of it.
     #[tactic(auto, using(kit_io::proofs::Growth::growing))]
     pub(crate) fn said(&mut self, words: &[u8])
-        ensures { Grows (events_told self.old.told) (Said words.now ∷ []) (events_told self.new.told) }
+        ensures { Grows (events_recorded self.old.recorded) (Said words.now ∷ []) (events_recorded self.new.recorded) }
     {
         self.note(LinkNote::Said, words);
     }
 
     /// Whether they tell of all that was done.
     pub fn is_whole(&self) -> bool
-        ensures { ¬ (self.now.told ≡ None) → IsTrue result }
+        ensures { ¬ (self.now.recorded ≡ None) → IsTrue result }
     {
         self.whole
     }
 
     /// How many there are.
     pub fn len(&self) -> usize
-        ensures { ¬ (self.now.told ≡ None) → Some result ≡ option_map length self.now.told }
+        ensures { ¬ (self.now.recorded ≡ None) → Some result ≡ option_map length self.now.recorded }
     {
         self.log.len().unwrap_or(0)
     }
 
     /// What the note at a place says happened, and its bytes.
     pub fn at(&self, index: usize) -> Option<(LinkNote, &[u8])>
-        ensures { ¬ (self.now.told ≡ None) → option_map (λ note. record { kind = note.0; bytes = note.1.now }) result ≡ note_at self.now.told index }
+        ensures { ¬ (self.now.recorded ≡ None) → option_map (λ note. record { kind = note.0; bytes = note.1.now }) result ≡ note_at self.now.recorded index }
     {
         self.log.at(index)
     }

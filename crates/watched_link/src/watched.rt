@@ -5,7 +5,7 @@ ghost use Rattle.kit_io.specs.Growth.{Grows};
 ghost use Rattle.link_io.specs.Calls.{Opened, Paired, Closed, take_call, Sends, EndsForGood};
 ghost use Rattle.link_io.specs.Made.{call_as};
 ghost use Rattle.link_io.specs.Target.{address_of, IsWithin};
-ghost use Rattle.watched_link.specs.Notes.{Called, calls_told, events_told};
+ghost use Rattle.watched_link.specs.Notes.{Called, calls_recorded, events_recorded};
 ghost use Rattle.watched_link.specs.Calls.{NotesCall, NotesFailure, sent_call};
 
 use crate::{Complain, Notes, Watch};
@@ -28,7 +28,7 @@ impl<L: Complain + Drop> Watched<L> {
     /// A link that isn't watched, and leads where this one does.
     pub fn new(alloc: Global, link: L) -> Result<Self, AllocError>
         ensures link { IfOk result (λ watched. watched.link ≡ link) }
-        ensures notes { IfOk result (λ watched. watched.notes ≡ record { told = Some []; room = 0; bytes_room = 0 }) }
+        ensures notes { IfOk result (λ watched. watched.notes ≡ record { recorded = Some []; room = 0; bytes_room = 0 }) }
     {
         let notes = Notes::none(alloc)?;
         Ok(Watched { alloc, link, notes })
@@ -46,7 +46,7 @@ impl<L: Complain> Watched<L> {
     // Notes a call that failed, and what the system says of it.
     #[tactic(auto, using(kit_io::proofs::Growth::growing))]
     fn note_failed(&mut self, made: Made, bytes: &[u8])
-        ensures notes { NotesFailure self.old.notes.told (call_as made bytes.now) self.new.notes.told }
+        ensures notes { NotesFailure self.old.notes.recorded (call_as made bytes.now) self.new.notes.recorded }
         ensures link { self.new.link ≡ self.old.link }
     {
         let words = words_of(self.alloc, self.link.complaint());
@@ -85,7 +85,7 @@ fn opening(target: &Target, ok: bool) -> (Made, &[u8])
 }
 
 impl<L: Complain> Link for Watched<L> {
-    ghost calls = { λ w. calls_told w.notes.told };
+    ghost calls = { λ w. calls_recorded w.notes.recorded };
 
     ghost ended = { λ w. L.ended w.link };
 
@@ -100,12 +100,12 @@ impl<L: Complain> Link for Watched<L> {
     }
 
     fn open(&mut self, target: &Target) -> Result<(), Failed>
-        ensures calls { Grows (calls_told self.old.notes.told) (Opened (address_of target.now) (is_ok result) ∷ []) (calls_told self.new.notes.told) }
+        ensures calls { Grows (calls_recorded self.old.notes.recorded) (Opened (address_of target.now) (is_ok result) ∷ []) (calls_recorded self.new.notes.recorded) }
         ensures ended { L.ended self.old.link ≡ true → L.ended self.new.link ≡ true }
         ensures cause { HasCause (L.open_faults self.old.link) (L.open_faults self.new.link) result }
         ensures later { L.faults self.old.link ≤ L.faults self.new.link }
         ensures made { L.made self.new.link ≡ one_more (L.made self.old.link) }
-        ensures notes { NotesCall self.old.notes.told (Opened (address_of target.now) (is_ok result)) result self.new.notes.told }
+        ensures notes { NotesCall self.old.notes.recorded (Opened (address_of target.now) (is_ok result)) result self.new.notes.recorded }
         ensures passes { Grows (L.calls self.old.link) (Opened (address_of target.now) (is_ok result) ∷ []) (L.calls self.new.link) }
     {
         match self.link.open(target) {
@@ -123,12 +123,12 @@ impl<L: Complain> Link for Watched<L> {
     }
 
     fn pair(&mut self) -> Result<(), Failed>
-        ensures calls { Grows (calls_told self.old.notes.told) (Paired (is_ok result) ∷ []) (calls_told self.new.notes.told) }
+        ensures calls { Grows (calls_recorded self.old.notes.recorded) (Paired (is_ok result) ∷ []) (calls_recorded self.new.notes.recorded) }
         ensures ended { L.ended self.old.link ≡ true → L.ended self.new.link ≡ true }
         ensures cause { HasCause (L.faults self.old.link) (L.faults self.new.link) result }
         ensures later { L.open_faults self.old.link ≤ L.open_faults self.new.link }
         ensures made { L.made self.new.link ≡ one_more (L.made self.old.link) }
-        ensures notes { NotesCall self.old.notes.told (Paired (is_ok result)) result self.new.notes.told }
+        ensures notes { NotesCall self.old.notes.recorded (Paired (is_ok result)) result self.new.notes.recorded }
         ensures passes { Grows (L.calls self.old.link) (Paired (is_ok result) ∷ []) (L.calls self.new.link) }
     {
         match self.link.pair() {
@@ -144,12 +144,12 @@ impl<L: Complain> Link for Watched<L> {
     }
 
     fn send(&mut self, bytes: &[u8]) -> Result<(), Failed>
-        ensures calls { Sends (calls_told self.old.notes.told) bytes.now result (calls_told self.new.notes.told) }
+        ensures calls { Sends (calls_recorded self.old.notes.recorded) bytes.now result (calls_recorded self.new.notes.recorded) }
         ensures ended { L.ended self.old.link ≡ true → L.ended self.new.link ≡ true }
         ensures cause { HasCause (L.faults self.old.link) (L.faults self.new.link) result }
         ensures later { L.open_faults self.old.link ≤ L.open_faults self.new.link }
         ensures made { L.made self.new.link ≡ one_more (L.made self.old.link) }
-        ensures notes { NotesCall self.old.notes.told (sent_call bytes.now result) result self.new.notes.told }
+        ensures notes { NotesCall self.old.notes.recorded (sent_call bytes.now result) result self.new.notes.recorded }
         ensures passes { Sends (L.calls self.old.link) bytes.now result (L.calls self.new.link) }
     {
         match self.link.send(bytes) {
@@ -167,12 +167,12 @@ impl<L: Complain> Link for Watched<L> {
     fn take(&mut self, buffer: &mut [u8]) -> Result<Taken, Failed>
         requires { length buffer.old ≡ TAKE_ROOM }
         ensures within { IfOk result (λ taken. IsWithin taken TAKE_ROOM) }
-        ensures calls { Grows (calls_told self.old.notes.told) (take_call result buffer.new ∷ []) (calls_told self.new.notes.told) }
+        ensures calls { Grows (calls_recorded self.old.notes.recorded) (take_call result buffer.new ∷ []) (calls_recorded self.new.notes.recorded) }
         ensures ended { EndsForGood (L.ended self.old.link) result (L.ended self.new.link) }
         ensures cause { HasCause (L.faults self.old.link) (L.faults self.new.link) result }
         ensures later { L.open_faults self.old.link ≤ L.open_faults self.new.link }
         ensures made { L.made self.new.link ≡ one_more (L.made self.old.link) }
-        ensures notes { NotesCall self.old.notes.told (take_call result buffer.new) result self.new.notes.told }
+        ensures notes { NotesCall self.old.notes.recorded (take_call result buffer.new) result self.new.notes.recorded }
         ensures passes { Grows (L.calls self.old.link) (take_call result buffer.new ∷ []) (L.calls self.new.link) }
     {
         match self.link.take(buffer) {
@@ -196,12 +196,12 @@ impl<L: Complain> Link for Watched<L> {
     }
 
     fn close(&mut self)
-        ensures calls { Grows (calls_told self.old.notes.told) (Closed ∷ []) (calls_told self.new.notes.told) }
+        ensures calls { Grows (calls_recorded self.old.notes.recorded) (Closed ∷ []) (calls_recorded self.new.notes.recorded) }
         ensures ended { L.ended self.old.link ≡ true → L.ended self.new.link ≡ true }
         ensures later { L.faults self.old.link ≤ L.faults self.new.link }
         ensures later_open { L.open_faults self.old.link ≤ L.open_faults self.new.link }
         ensures made { L.made self.new.link ≡ one_more (L.made self.old.link) }
-        ensures notes { Grows (events_told self.old.notes.told) (Called Closed ∷ []) (events_told self.new.notes.told) }
+        ensures notes { Grows (events_recorded self.old.notes.recorded) (Called Closed ∷ []) (events_recorded self.new.notes.recorded) }
         ensures passes { Grows (L.calls self.old.link) (Closed ∷ []) (L.calls self.new.link) }
     {
         self.link.close();
