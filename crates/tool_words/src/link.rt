@@ -12,7 +12,7 @@ use clap::ArgMatches;
 use kit_bytes::{Kind, PathText};
 use std::alloc::Global;
 
-/// An option that says how a tool reaches its modem, or how long it waits for it.
+/// An option that says how a tool reaches its modem, how long it waits for it, or whether it tells what goes over its link.
 #[derive(Clone, Copy, Debug, PartialEq, Eq)]
 pub enum LinkOption {
     Device,
@@ -20,14 +20,16 @@ pub enum LinkOption {
     Socket,
     Bridge,
     Timeout,
+    Verbose,
 }
 
-static LINK_OPTIONS: [LinkOption; 5] = [
+static LINK_OPTIONS: [LinkOption; 6] = [
     LinkOption::Device,
     LinkOption::DeviceOpenProxy,
     LinkOption::Socket,
     LinkOption::Bridge,
     LinkOption::Timeout,
+    LinkOption::Verbose,
 ];
 
 impl ToolOption for LinkOption {
@@ -40,6 +42,7 @@ impl ToolOption for LinkOption {
             LinkOption::Socket => valued("socket"),
             LinkOption::Bridge => valued("bridge"),
             LinkOption::Timeout => valued("timeout"),
+            LinkOption::Verbose => flag("verbose").or_letter('v'),
         }
     }
 }
@@ -63,6 +66,8 @@ pub struct LinkSettings {
     pub bridge: PathText,
     /// For how many seconds an answer is waited for.
     pub timeout: u16,
+    /// Whether the tool tells what goes over its link.
+    pub verbose: bool,
 }
 
 fn timeout(text: Option<&str>) -> Result<u16, WordFault>
@@ -95,11 +100,13 @@ pub fn link_given(
     let bridge = value_given(matches, LinkOption::Bridge);
     let bridge = path_or(alloc, bridge_socket(), bridge)?;
     let timeout = timeout(value_given(matches, LinkOption::Timeout))?;
+    let verbose = is_given(matches, LinkOption::Verbose);
     Ok(LinkSettings {
         kind,
         proxied,
         socket,
         bridge,
         timeout,
+        verbose,
     })
 }

@@ -15,4 +15,5 @@ returns c =
       c.in_ok-bridge.ensures,
       ← c.value_given.ensures,
       c.in_ok-timeout.ensures,
+      ← c.is_given-verbose.ensures,
     ) refl
