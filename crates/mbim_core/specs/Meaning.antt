@@ -32,6 +32,7 @@ pub record IsAtHand (clients : List (Named Client)) (side : ModemSide) (hand : A
 
 pub record Lasting : Type 0 where
   pub device : List ℕ
+  -- for how many milliseconds a request waits for its answer
   pub time_limit : ℕ
 
 abbrev pub lasting_of : Setup → Lasting

@@ -11,11 +11,11 @@ use std::marker::Model;
 pub struct ModemSide {
     /// The path of the device.
     pub device: Octets,
-    /// How long a request waits for its answer.
+    /// For how many milliseconds a request waits for its answer.
     pub time_limit: u64,
-    /// For how long a client id is kept whose holder went, before the proxy releases it.
+    /// For how many milliseconds a client id is kept whose holder went, before the proxy releases it.
     pub release: Option<u64>,
-    /// What the clock shows.
+    /// What the clock shows, in milliseconds.
     pub time: u64,
     /// Whether the modem is away.
     pub away: bool,
