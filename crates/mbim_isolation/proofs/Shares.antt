@@ -205,7 +205,7 @@ module _ (s : Setup) (c : ℕ) (client : c ≢ 0) where
   refused_calm : (r : Request) (fact : Fact) (past : List Fact) → MayRefuse (Aborted r) fact past → Calm fact past
   refused_calm r (OpeningEnded status receivers) past may = tt
   refused_calm r (Ended d NoRoom) past may = tt
-  refused_calm r (Freed d service client) past may = tt
+  refused_calm r (Freed d service cid) past may = tt
   refused_calm r fact past may = subst (λ (f : Fact). Calm f past) (sym may) tt
 
   given_up_adds : (past : List Fact) → Sound past → Adds s.limits (mbim_wording s) Calmly past (abort_all (refuse s) in_order past)

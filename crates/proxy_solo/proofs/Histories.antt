@@ -71,7 +71,7 @@ not_joined c (ModemTook count) events e = ((λ same. cc), e)
 pub general_present : (c : ℕ) (facts : List Fact) → AreGeneral facts → is_present c facts ≡ false
 unfolding present
 general_present c [] general = refl
-general_present c (Freed d service client ∷ facts) general = general_present c facts general.1
+general_present c (Freed d service cid ∷ facts) general = general_present c facts general.1
 general_present c (Reset ∷ facts) general = general_present c facts general.1
 general_present c (ModemLost ∷ facts) general = general_present c facts general.1
 general_present c (ModemReturned ∷ facts) general = general_present c facts general.1

@@ -205,16 +205,16 @@ held_by-ended c d grants =
     in step (d == c) refl
 
 -- nobody else gives back what the client holds
-pub held_by-freed : (c d service client : ℕ) (grants : List Grant)
-    → held_by c (filter (λ g. not (is_of service client g && (d == g.conn))) grants) ≡ (if d == c then filter (λ g. not (is_of service client g && (d == g.conn))) (held_by c grants) else held_by c grants)
-held_by-freed c d service client grants =
-    let p : Grant → Bool = λ (g : Grant). not (is_of service client g && (d == g.conn)) in
+pub held_by-freed : (c d service cid : ℕ) (grants : List Grant)
+    → held_by c (filter (λ g. not (is_of service cid g && (d == g.conn))) grants) ≡ (if d == c then filter (λ g. not (is_of service cid g && (d == g.conn))) (held_by c grants) else held_by c grants)
+held_by-freed c d service cid grants =
+    let p : Grant → Bool = λ (g : Grant). not (is_of service cid g && (d == g.conn)) in
     let step : (b : Bool) → (d == c) ≡ b → held_by c (filter p grants) ≡ (if b then filter p (held_by c grants) else held_by c grants) =
     λ b. elim b as (λ b. (d == c) ≡ b → held_by c (filter p grants) ≡ (if b then filter p (held_by c grants) else held_by c grants)) [
       | true ↦ λ e. held_by-filter c p p grants (every (SameGrantTest c p p) (λ g is. refl) grants)
       | false ↦ λ e.
           held_by-filter c p (λ g. true) grants
-          (every (SameGrantTest c p (λ g. true)) (λ g is. let other : (d == g.conn) ≡ false = grind (arith, nat_tests, is, e) in ap (λ (t : Bool). not (is_of service client g && t)) other ∙ elim (is_of service client g) as (λ t. not (t && false) ≡ true) [ true ↦ refl | false ↦ refl ]) grants)
+          (every (SameGrantTest c p (λ g. true)) (λ g is. let other : (d == g.conn) ≡ false = grind (arith, nat_tests, is, e) in ap (λ (t : Bool). not (is_of service cid g && t)) other ∙ elim (is_of service cid g) as (λ t. not (t && false) ≡ true) [ true ↦ refl | false ↦ refl ]) grants)
           ∙ filter-all (held_by c grants)
     ]
     in step (d == c) refl

@@ -151,21 +151,21 @@ module _ (limits : Limits) (blank : Blank) (restated : Fact → List Fact) (R : 
   -- ---- client ids ----
 
   -- a grant to c, and one to others
-  granted : (d service client : ℕ) (past : List Fact) → MayFollow limits (Granted d service client) past
-      → held_by c (filter (λ g. not (is_of service client g)) (held past) ++ record { conn = d; service = service; client = client } ∷ [])
-      ≡ (if d == c then filter (λ g. not (is_of service client g)) (held_by c (held past)) ++ record { conn = d; service = service; client = client } ∷ [] else held_by c (held past))
-  granted d service client past may =
-      let p : Grant → Bool = λ (g : Grant). not (is_of service client g) in
-      let new : Grant = record { conn = d; service = service; client = client } in
+  granted : (d service cid : ℕ) (past : List Fact) → MayFollow limits (Granted d service cid) past
+      → held_by c (filter (λ g. not (is_of service cid g)) (held past) ++ record { conn = d; service = service; cid = cid } ∷ [])
+      ≡ (if d == c then filter (λ g. not (is_of service cid g)) (held_by c (held past)) ++ record { conn = d; service = service; cid = cid } ∷ [] else held_by c (held past))
+  granted d service cid past may =
+      let p : Grant → Bool = λ (g : Grant). not (is_of service cid g) in
+      let new : Grant = record { conn = d; service = service; cid = cid } in
       held_by-push c (filter p (held past)) new
       ∙ (let step : (b : Bool) → (d == c) ≡ b → (if b then held_by c (filter p (held past)) ++ new ∷ [] else held_by c (filter p (held past))) ≡ (if b then filter p (held_by c (held past)) ++ new ∷ [] else held_by c (held past)) =
       λ b. elim b as (λ b. (d == c) ≡ b → (if b then held_by c (filter p (held past)) ++ new ∷ [] else held_by c (filter p (held past))) ≡ (if b then filter p (held_by c (held past)) ++ new ∷ [] else held_by c (held past))) [
         | true ↦ λ e. ap (λ (l : List Grant). l ++ new ∷ []) (held_by-filter c p p (held past) (every (SameGrantTest c p p) (λ g is. refl) (held past)))
-        | false ↦ λ e. held_by-filter c p (λ g. true) (held past) (tests (held past) (not_held c d service client (held past) (held_once past) e may.1)) ∙ filter-all (held_by c (held past))
+        | false ↦ λ e. held_by-filter c p (λ g. true) (held past) (tests (held past) (not_held c d service cid (held past) (held_once past) e may.1)) ∙ filter-all (held_by c (held past))
       ]
       in step (d == c) refl)
     where
-      tests : (grants : List Grant) → AllByRecursion (λ g. (g.conn == c) ≡ true → is_of service client g ≡ false) grants → AllByRecursion (SameGrantTest c (λ g. not (is_of service client g)) (λ g. true)) grants
+      tests : (grants : List Grant) → AllByRecursion (λ g. (g.conn == c) ≡ true → is_of service cid g ≡ false) grants → AllByRecursion (SameGrantTest c (λ g. not (is_of service cid g)) (λ g. true)) grants
       tests [] all = tt
       tests (g ∷ grants) all = ((λ mine. ap not (all.0 mine)), tests grants all.1)
 
@@ -175,17 +175,17 @@ module _ (limits : Limits) (blank : Blank) (restated : Fact → List Fact) (R : 
   pub held-part : (facts : List Fact) → IsSound limits facts → held (part_of facts) ≡ held_by c (held facts)
   unfolding held part
   held-part [] sound = refl
-  held-part (Granted d service client ∷ past) sound =
-      let new : Grant = record { conn = d; service = service; client = client } in
-      kept_plain restated R held (λ t l. if t then filter (λ g. not (is_of service client g)) l ++ new ∷ [] else l) (d == c) (Granted d service client) (part_of past) refl refl
-      (λ e. sym (ap (λ (t : Bool). if t then filter (λ g. not (is_of service client g)) (held (part_of past)) ++ new ∷ [] else held (part_of past)) e))
-      ∙ ap (λ (l : List Grant). if d == c then filter (λ g. not (is_of service client g)) l ++ new ∷ [] else l) (held-part past sound.1)
-      ∙ sym (granted d service client past sound.0)
-  held-part (Freed d service client ∷ past) sound =
-      let p : Grant → Bool = λ (g : Grant). not (is_of service client g && (d == g.conn)) in
-      kept_plain restated R held (λ t l. if t then filter p l else l) (d == c) (Freed d service client) (part_of past) refl refl (λ e. sym (ap (λ (t : Bool). if t then filter p (held (part_of past)) else held (part_of past)) e))
+  held-part (Granted d service cid ∷ past) sound =
+      let new : Grant = record { conn = d; service = service; cid = cid } in
+      kept_plain restated R held (λ t l. if t then filter (λ g. not (is_of service cid g)) l ++ new ∷ [] else l) (d == c) (Granted d service cid) (part_of past) refl refl
+      (λ e. sym (ap (λ (t : Bool). if t then filter (λ g. not (is_of service cid g)) (held (part_of past)) ++ new ∷ [] else held (part_of past)) e))
+      ∙ ap (λ (l : List Grant). if d == c then filter (λ g. not (is_of service cid g)) l ++ new ∷ [] else l) (held-part past sound.1)
+      ∙ sym (granted d service cid past sound.0)
+  held-part (Freed d service cid ∷ past) sound =
+      let p : Grant → Bool = λ (g : Grant). not (is_of service cid g && (d == g.conn)) in
+      kept_plain restated R held (λ t l. if t then filter p l else l) (d == c) (Freed d service cid) (part_of past) refl refl (λ e. sym (ap (λ (t : Bool). if t then filter p (held (part_of past)) else held (part_of past)) e))
       ∙ ap (λ (l : List Grant). if d == c then filter p l else l) (held-part past sound.1)
-      ∙ sym (held_by-freed c d service client (held past))
+      ∙ sym (held_by-freed c d service cid (held past))
   held-part (Ended d why ∷ past) sound =
       let same = held-part past sound.1 in
       kept_plain restated R held (λ t l. if t then [] else l) (d == c) (Ended d why) (part_of past) refl refl

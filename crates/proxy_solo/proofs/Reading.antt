@@ -43,7 +43,7 @@ module _ (restated : Fact → List Fact) (R : Reads restated) where
 -- ---- the facts that name nobody, and that a client gave something back ----
 
 abbrev pub is_general : Fact → Bool
-is_general (Freed c service client) = true
+is_general (Freed c service cid) = true
 is_general Reset = true
 is_general ModemLost = true
 is_general ModemReturned = true

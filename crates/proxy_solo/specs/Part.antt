@@ -25,8 +25,8 @@ concerns c (Aborted r) = r.conn == c
 concerns c (Indicated message receivers) = contains c receivers
 concerns c (OpeningEnded status receivers) = contains c receivers
 concerns c (SessionsClosed receivers) = contains c receivers
-concerns c (Granted d service client) = d == c
-concerns c (Freed d service client) = d == c
+concerns c (Granted d service cid) = d == c
+concerns c (Freed d service cid) = d == c
 concerns c Reset = true
 concerns c ModemLost = true
 concerns c ModemReturned = true

@@ -75,9 +75,9 @@ last-told space (_ ∷ past) = last-told space past
 pub held-told : IsTold held
 unfolding held substance
 held-told [] = refl
-held-told (Granted c service client ∷ past) =
-    ap (λ (l : List Grant). filter (λ (g : Grant). not (is_of service client g)) l ++ record { conn = c; service = service; client = client } ∷ []) (held-told past)
-held-told (Freed c service client ∷ past) = ap (filter (λ (g : Grant). not (is_of service client g && (c == g.conn)))) (held-told past)
+held-told (Granted c service cid ∷ past) =
+    ap (λ (l : List Grant). filter (λ (g : Grant). not (is_of service cid g)) l ++ record { conn = c; service = service; cid = cid } ∷ []) (held-told past)
+held-told (Freed c service cid ∷ past) = ap (filter (λ (g : Grant). not (is_of service cid g && (c == g.conn)))) (held-told past)
 held-told (Ended c why ∷ past) = ap (filter (λ (g : Grant). not (c == g.conn))) (held-told past)
 held-told (Reset ∷ past) = refl
 held-told (ModemLost ∷ past) = refl
@@ -97,7 +97,7 @@ kept-told [] = refl
 kept-told (Ended c why ∷ past) =
     ap₂ (λ (l more : List KeptId). l ++ more) (kept-told past)
     (ap₂ (λ (time : ℕ) (grants : List Grant). kept_since time (filter (λ (g : Grant). c == g.conn) grants)) (now-told past) (held-told past))
-kept-told (Granted c service client ∷ past) = ap (filter (λ (k : KeptId). not (k.service == service && (k.client == client)))) (kept-told past)
+kept-told (Granted c service cid ∷ past) = ap (filter (λ (k : KeptId). not (k.service == service && (k.cid == cid)))) (kept-told past)
 kept-told (Reset ∷ past) = refl
 kept-told (ModemLost ∷ past) = refl
 kept-told (Indicated m [] ∷ past) = kept-told past
