@@ -20,8 +20,8 @@ none_behind service cid g [] is apart = tt
 none_behind service cid g (h ∷ grants) is apart =
     let parts = both_true (g.service == service) (g.cid == cid) is in
     let service_is : g.service ≡ service = eqb-true g.service service parts.0 in
-    let client_is : g.cid ≡ client = eqb-true g.cid cid parts.1 in (
-      sym (ap (λ (n : ℕ). is_of n g.cid h) service_is ∙ ap (λ (n : ℕ). is_of service n h) client_is) ∙ apart.0,
+    let cid_is : g.cid ≡ cid = eqb-true g.cid cid parts.1 in (
+      sym (ap (λ (n : ℕ). is_of n g.cid h) service_is ∙ ap (λ (n : ℕ). is_of service n h) cid_is) ∙ apart.0,
       none_behind service cid g grants is apart.1,
     )
 
