@@ -8,6 +8,7 @@ pub mod Takings
 pub mod Going
 pub mod Places
 pub mod Away
+pub mod Same
 pub mod Modem
 pub mod Turns
 pub mod AsOne

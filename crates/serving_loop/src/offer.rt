@@ -5,6 +5,7 @@ ghost use Rattle.many_serving.specs.Proxy.{ManyProxy};
 ghost use Rattle.serving_loop.specs.Carrying.{Carries};
 ghost use Rattle.serving_loop.specs.Face.{SameAway};
 ghost use Rattle.serving_loop.specs.Cores.{IsKnown};
+ghost use Rattle.serving_loop.specs.Same.{IsAsBefore};
 ghost use Rattle.serving_loop.specs.Server.{devices_there};
 ghost use Rattle.serving_loop.specs.Progress.{IsServing, HasOffered, OffersModems, IsAt, IsReady, AfterModem, AfterModems, OneIsDone, AreHangUps, StayAway};
 
@@ -23,12 +24,7 @@ pub fn hang_up_dropped<C: ManyProxyCore, H: ManyHub>(hub: &mut H, server: &mut S
     ensures only { Since (H.calls hub.old) (H.calls hub.new) AreHangUps }
     ensures asked { (C.face server.new.core).dropped ≡ [] }
     ensures away { SameAway (C.face server.old.core) (C.face server.new.core) }
-    ensures known { IsKnown C.keeps server.new.core }
-    ensures devices { (C.face server.new.core).devices ≡ (C.face server.old.core).devices }
-    ensures greatest { (C.face server.new.core).greatest ≡ (C.face server.old.core).greatest }
-    ensures later { H.faults hub.old ≤ H.faults hub.new }
-    ensures names { H.greatest hub.new ≡ H.greatest hub.old }
-    ensures hub { H.devices hub.new ≡ H.devices hub.old }
+    ensures same { IsAsBefore C.keeps C.face H.faults H.greatest H.devices server.old.core server.new.core hub.old hub.new }
 {
     while let Some(dropped) = server.core.next_dropped() {
         server.blocked.remove(dropped);
@@ -54,12 +50,7 @@ fn offer<C: ManyProxyCore, H: ManyHub>(
     ensures asked { (C.face server.new.core).dropped ≡ [] }
     ensures done { OneIsDone place result (C.face server.old.core) (C.face server.new.core) }
     ensures away { SameAway (C.face server.old.core) (C.face server.new.core) }
-    ensures known { IsKnown C.keeps server.new.core }
-    ensures devices { (C.face server.new.core).devices ≡ (C.face server.old.core).devices }
-    ensures greatest { (C.face server.new.core).greatest ≡ (C.face server.old.core).greatest }
-    ensures later { H.faults hub.old ≤ H.faults hub.new }
-    ensures names { H.greatest hub.new ≡ H.greatest hub.old }
-    ensures hub { H.devices hub.new ≡ H.devices hub.old }
+    ensures same { IsAsBefore C.keeps C.face H.faults H.greatest H.devices server.old.core server.new.core hub.old hub.new }
 {
     loop {
         if server.blocked.contains(conn) {
@@ -93,12 +84,7 @@ fn offer_clients<C: ManyProxyCore, H: ManyHub>(hub: &mut H, server: &mut Server<
         Carries (H.calls hub.old) (HasOffered C.keeps C.face p until turns 0 server.old) (H.calls hub.new) (OffersModems C.keeps C.face p until turns 0 server.new) }
     ensures asked { (C.face server.new.core).dropped ≡ [] }
     ensures away { SameAway (C.face server.old.core) (C.face server.new.core) }
-    ensures known { IsKnown C.keeps server.new.core }
-    ensures devices { (C.face server.new.core).devices ≡ (C.face server.old.core).devices }
-    ensures greatest { (C.face server.new.core).greatest ≡ (C.face server.old.core).greatest }
-    ensures later { H.faults hub.old ≤ H.faults hub.new }
-    ensures names { H.greatest hub.new ≡ H.greatest hub.old }
-    ensures hub { H.devices hub.new ≡ H.devices hub.old }
+    ensures same { IsAsBefore C.keeps C.face H.faults H.greatest H.devices server.old.core server.new.core hub.old hub.new }
 {
     let mut from = 0;
     while let Some(place) = server.core.waiting_from(from) {
@@ -123,12 +109,7 @@ fn offer_modem<C: ManyProxyCore, H: ManyHub>(
     ensures asked { result ≡ true → (C.face server.new.core).dropped ≡ [] }
     ensures away { StayAway (C.face server.old.core) (C.face server.new.core) }
     ensures gone { result ≡ false → ((C.face server.old.core).away device ≡ false) × ((C.face server.new.core).away device ≡ true) }
-    ensures known { IsKnown C.keeps server.new.core }
-    ensures devices { (C.face server.new.core).devices ≡ (C.face server.old.core).devices }
-    ensures greatest { (C.face server.new.core).greatest ≡ (C.face server.old.core).greatest }
-    ensures later { H.faults hub.old ≤ H.faults hub.new }
-    ensures names { H.greatest hub.new ≡ H.greatest hub.old }
-    ensures hub { H.devices hub.new ≡ H.devices hub.old }
+    ensures same { IsAsBefore C.keeps C.face H.faults H.greatest H.devices server.old.core server.new.core hub.old hub.new }
 {
     loop {
         if server.modems.contains(device as u64) {
@@ -164,12 +145,7 @@ fn offer_modems<C: ManyProxyCore, H: ManyHub>(hub: &mut H, server: &mut Server<C
         Carries (H.calls hub.old) (OffersModems C.keeps C.face p until turns 0 server.old) (H.calls hub.new) (AfterModems C.keeps C.face result p until turns server.new) }
     ensures asked { result ≡ true → (C.face server.new.core).dropped ≡ [] }
     ensures fewer { result ≡ false → devices_there (C.face server.new.core).away (C.face server.new.core).devices < devices_there (C.face server.old.core).away (C.face server.old.core).devices }
-    ensures known { IsKnown C.keeps server.new.core }
-    ensures devices { (C.face server.new.core).devices ≡ (C.face server.old.core).devices }
-    ensures greatest { (C.face server.new.core).greatest ≡ (C.face server.old.core).greatest }
-    ensures later { H.faults hub.old ≤ H.faults hub.new }
-    ensures names { H.greatest hub.new ≡ H.greatest hub.old }
-    ensures hub { H.devices hub.new ≡ H.devices hub.old }
+    ensures same { IsAsBefore C.keeps C.face H.faults H.greatest H.devices server.old.core server.new.core hub.old hub.new }
 {
     for device in 0..server.core.devices() {
         if !offer_modem(hub, server, device) {
@@ -188,12 +164,7 @@ pub fn offer_all<C: ManyProxyCore, H: ManyHub>(hub: &mut H, server: &mut Server<
     ensures carries { (p : ManyProxy) (until : Until) (turns : ℕ) →
         Carries (H.calls hub.old) (HasOffered C.keeps C.face p until turns 0 server.old) (H.calls hub.new) (IsReady C.keeps C.face p until turns server.new) }
     ensures asked { (C.face server.new.core).dropped ≡ [] }
-    ensures known { IsKnown C.keeps server.new.core }
-    ensures devices { (C.face server.new.core).devices ≡ (C.face server.old.core).devices }
-    ensures greatest { (C.face server.new.core).greatest ≡ (C.face server.old.core).greatest }
-    ensures later { H.faults hub.old ≤ H.faults hub.new }
-    ensures names { H.greatest hub.new ≡ H.greatest hub.old }
-    ensures hub { H.devices hub.new ≡ H.devices hub.old }
+    ensures same { IsAsBefore C.keeps C.face H.faults H.greatest H.devices server.old.core server.new.core hub.old hub.new }
 {
     loop {
         offer_clients(hub, server);

@@ -7,6 +7,7 @@ ghost use Rattle.many_serving.specs.Proxy.{ManyProxy};
 ghost use Rattle.many_serving.specs.Ends.{EndsFor};
 ghost use Rattle.serving_loop.specs.Carrying.{Carries};
 ghost use Rattle.serving_loop.specs.Cores.{IsKnown};
+ghost use Rattle.serving_loop.specs.Same.{IsAsBefore};
 ghost use Rattle.serving_loop.specs.Face.{greatest_after};
 ghost use Rattle.serving_loop.specs.Server.{is_clock, misses_modem};
 ghost use Rattle.serving_loop.specs.Progress.{IsReady, HasTold, MayReopen, HasOffered, MayBeTold, TellsEvent, call_of, AfterMeeting, AfterTurn, IsHubFault, EndsServing};
@@ -28,13 +29,8 @@ fn reopen<C: ManyProxyCore, H: ManyHub>(hub: &mut H, server: &mut Server<C>, dev
     requires hub { H.devices hub.old ≡ (C.face server.old.core).devices }
     ensures carries { (p : ManyProxy) (until : Until) (turns : ℕ) →
         Carries (H.calls hub.old) (MayReopen C.keeps C.face p until turns (C.face server.old.core).away device server.old) (H.calls hub.new) (MayReopen C.keeps C.face p until turns (C.face server.new.core).away (device + 1) server.new) }
-    ensures known { IsKnown C.keeps server.new.core }
     ensures asked { (C.face server.new.core).dropped ≡ [] }
-    ensures devices { (C.face server.new.core).devices ≡ (C.face server.old.core).devices }
-    ensures greatest { (C.face server.new.core).greatest ≡ (C.face server.old.core).greatest }
-    ensures later { H.faults hub.old ≤ H.faults hub.new }
-    ensures names { H.greatest hub.new ≡ H.greatest hub.old }
-    ensures hub { H.devices hub.new ≡ H.devices hub.old }
+    ensures same { IsAsBefore C.keeps C.face H.faults H.greatest H.devices server.old.core server.new.core hub.old hub.new }
 {
     if !server.core.away(device) {
         return;
@@ -55,13 +51,8 @@ fn reopen_all<C: ManyProxyCore, H: ManyHub>(hub: &mut H, server: &mut Server<C>)
     requires hub { H.devices hub.old ≡ (C.face server.old.core).devices }
     ensures carries { (p : ManyProxy) (until : Until) (turns : ℕ) →
         Carries (H.calls hub.old) (MayReopen C.keeps C.face p until turns (C.face server.old.core).away 0 server.old) (H.calls hub.new) (HasOffered C.keeps C.face p until turns 0 server.new) }
-    ensures known { IsKnown C.keeps server.new.core }
     ensures asked { (C.face server.new.core).dropped ≡ [] }
-    ensures devices { (C.face server.new.core).devices ≡ (C.face server.old.core).devices }
-    ensures greatest { (C.face server.new.core).greatest ≡ (C.face server.old.core).greatest }
-    ensures later { H.faults hub.old ≤ H.faults hub.new }
-    ensures names { H.greatest hub.new ≡ H.greatest hub.old }
-    ensures hub { H.devices hub.new ≡ H.devices hub.old }
+    ensures same { IsAsBefore C.keeps C.face H.faults H.greatest H.devices server.old.core server.new.core hub.old hub.new }
 {
     for device in 0..server.core.devices() {
         reopen(hub, server, device);
@@ -89,13 +80,8 @@ fn reopen_at<C: ManyProxyCore, H: ManyHub>(
     requires hub { H.devices hub.old ≡ (C.face server.old.core).devices }
     ensures carries { (p : ManyProxy) (until : Until) (turns : ℕ) →
         Carries (H.calls hub.old) (MayReopen C.keeps C.face p until turns (misses_modem (event_of event.entry) (C.face server.old.core)) 0 server.old) (H.calls hub.new) (HasOffered C.keeps C.face p until turns 0 server.new) }
-    ensures known { IsKnown C.keeps server.new.core }
     ensures asked { (C.face server.new.core).dropped ≡ [] }
-    ensures devices { (C.face server.new.core).devices ≡ (C.face server.old.core).devices }
-    ensures greatest { (C.face server.new.core).greatest ≡ (C.face server.old.core).greatest }
-    ensures later { H.faults hub.old ≤ H.faults hub.new }
-    ensures names { H.greatest hub.new ≡ H.greatest hub.old }
-    ensures hub { H.devices hub.new ≡ H.devices hub.old }
+    ensures same { IsAsBefore C.keeps C.face H.faults H.greatest H.devices server.old.core server.new.core hub.old hub.new }
 {
     if !is_clock(event) {
         return;

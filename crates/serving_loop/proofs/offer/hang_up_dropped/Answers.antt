@@ -6,12 +6,14 @@ use Rattle.serving_loop.proofs.Offering.{AreBlocked, still_without}
 use Rattle.serving_loop.specs.Progress.{IsServing, AreHangUps}
 use Rattle.serving_loop.specs.declared.server.Server.{Server}
 use Rattle.serving_loop.specs.Face.{SameAway}
+use Rattle.serving_loop.specs.Cores.{IsKnown}
 use Rattle.serving_loop.proofs.Away.{same-none, same-then}
+use Rattle.serving_loop.proofs.Same.{as_before-none, as_before-met, as_before-called, as_before-is}
 use Rattle.serving_loop.proofs.Going.{serving-hung_up}
 use Rattle.serving_loop.proofs.offer.hang_up_dropped.Goals as goal
 
 pub loop-dropped-init : goal.loop-dropped-init
-loop-dropped-init g c = record { carried = λ p turns. Carries-none _ _ _ (λ calls going. going); only = since-starts _ AreHangUps ([], refl); known = c.requires; away = same-none _; devices = refl; greatest = refl; later = omega arith; names = refl; hub = refl }
+loop-dropped-init g c = record { carried = λ p turns. Carries-none _ _ _ (λ calls going. going); only = since-starts _ AreHangUps ([], refl); same = as_before-none c.requires; away = same-none _ }
 
 pub loop-dropped-preserved : goal.loop-dropped-preserved
 loop-dropped-preserved g c =
@@ -26,13 +28,10 @@ loop-dropped-preserved g c =
           serving-hung_up going c.in-Some.dropped now next.dropped (record { kept = kept; shows = g.met.C.ManyProxyCore.shows p (events calls) c.next_dropped.new.self kept })
           (subst (AreBlocked (calls_without_device calls)) (sym c.remove.ensures) (still_without _ c.in-Some.dropped c.loop-dropped.server.blocked going.blocked)) refl refl));
       only = since-grows _ _ _ _ AreHangUps AreHangUps (λ calls hung. (c.in-Some.dropped ∷ hung.0, ap (λ (l : List ManyCall). HungUp c.in-Some.dropped ∷ l) hung.1)) i.only c.hang_up.ensures.calls;
-      known = record { proxy = i.known.proxy; past = i.known.past; kept = c.in-Some.ensures.keeps i.known.proxy i.known.past i.known.kept };
-      away = same-then i.devices i.away next.away;
-      devices = next.devices ∙ i.devices;
-      greatest = next.greatest ∙ i.greatest;
-      later = omega arith;
-      names = c.hang_up.ensures.names ∙ i.names;
-      hub = c.hang_up.ensures.devices ∙ i.hub;
+      same =
+          let known : IsKnown g.C.ManyProxyCore.keeps c.next_dropped.new.self = record { proxy = i.same.known.proxy; past = i.same.known.past; kept = c.in-Some.ensures.keeps i.same.known.proxy i.same.known.past i.same.known.kept } in
+          as_before-called (as_before-met i.same known next.devices next.greatest) c.hang_up.ensures.own c.hang_up.ensures.names c.hang_up.ensures.devices;
+      away = same-then i.same.devices i.away next.away;
     }
 
 pub loop-dropped-smaller : goal.loop-dropped-smaller
@@ -49,11 +48,6 @@ returns g c =
           (Carries-none _ _ _ (λ calls going. let P : g.row.C.Denot → Type 0 = λ core. IsServing g.C.ManyProxyCore.keeps g.C.ManyProxyCore.face p turns (asked core) calls in subst P (sym next.1) going));
       only = i.only;
       asked = ap (λ (core : g.row.C.Denot). (g.C.ManyProxyCore.face core).dropped) next.1 ∙ next.0;
-      known = record { proxy = i.known.proxy; past = i.known.past; kept = c.in_default.ensures.keeps i.known.proxy i.known.past i.known.kept };
       away = subst (λ (core : g.row.C.Denot). SameAway (g.C.ManyProxyCore.face c.args.server.now.core) (g.C.ManyProxyCore.face core)) (sym next.1) i.away;
-      devices = ap (λ (core : g.row.C.Denot). (g.C.ManyProxyCore.face core).devices) next.1 ∙ i.devices;
-      greatest = ap (λ (core : g.row.C.Denot). (g.C.ManyProxyCore.face core).greatest) next.1 ∙ i.greatest;
-      later = i.later;
-      names = i.names;
-      hub = i.hub;
+      same = as_before-is next.1 i.same;
     }

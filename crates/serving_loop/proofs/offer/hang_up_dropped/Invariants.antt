@@ -1,9 +1,9 @@
 use Rattle.many_serving.specs.Proxy.{ManyProxy}
-use Rattle.std.proofs.Common.{◌≡◌, ◌≤◌, ℕ, length}
+use Rattle.std.proofs.Common.{ℕ, length}
 use Rattle.serving_loop.specs.Carrying.{Carries}
 use Rattle.serving_loop.specs.Face.{SameAway}
 use Rattle.hub_io.specs.Record.{Since}
-use Rattle.serving_loop.specs.Cores.{IsKnown}
+use Rattle.serving_loop.specs.Same.{IsAsBefore}
 use Rattle.serving_loop.specs.Progress.{IsServing, AreHangUps}
 use Rattle.serving_loop.proofs.offer.hang_up_dropped.Given as goal
 
@@ -11,13 +11,8 @@ abbrev pub invariant-loop-dropped : goal.invariant-loop-dropped
 invariant-loop-dropped g l = record {
   carried : (p : ManyProxy) (turns : ℕ) → Carries (g.H.ManyHub.calls l.initial.hub) (IsServing g.C.ManyProxyCore.keeps g.C.ManyProxyCore.face p turns l.initial.server) (g.H.ManyHub.calls l.hub) (IsServing g.C.ManyProxyCore.keeps g.C.ManyProxyCore.face p turns l.server);
   only : Since (g.H.ManyHub.calls l.initial.hub) (g.H.ManyHub.calls l.hub) AreHangUps;
-  known : IsKnown g.C.ManyProxyCore.keeps l.server.core;
+  same : IsAsBefore g.C.ManyProxyCore.keeps g.C.ManyProxyCore.face g.H.ManyHub.faults g.H.ManyHub.greatest g.H.ManyHub.devices l.initial.server.core l.server.core l.initial.hub l.hub;
   away : SameAway (g.C.ManyProxyCore.face l.initial.server.core) (g.C.ManyProxyCore.face l.server.core);
-  devices : (g.C.ManyProxyCore.face l.server.core).devices ≡ (g.C.ManyProxyCore.face l.initial.server.core).devices;
-  greatest : (g.C.ManyProxyCore.face l.server.core).greatest ≡ (g.C.ManyProxyCore.face l.initial.server.core).greatest;
-  later : g.H.ManyHub.faults l.initial.hub ≤ g.H.ManyHub.faults l.hub;
-  names : g.H.ManyHub.greatest l.hub ≡ g.H.ManyHub.greatest l.initial.hub;
-  hub : g.H.ManyHub.devices l.hub ≡ g.H.ManyHub.devices l.initial.hub;
 }
 
 abbrev pub decreases-loop-dropped : goal.decreases-loop-dropped

@@ -1,4 +1,4 @@
-use Rattle.std.proofs.Common.{◌≡◌, ℕ, ◌+◌, ◌<◌, false, ◌==◌, List, [], ◌∷◌, length, refl, ap, sym, subst, ◌∙◌, arith, rules}
+use Rattle.std.proofs.Common.{◌≡◌, ℕ, ◌+◌, ◌<◌, false, ◌==◌, List, [], ◌∷◌, length, refl, ap, sym, subst, ◌∙◌, rules}
 use Rattle.std.proofs.lemmas.List.{nil_from_length}
 use Rattle.proxy_history.specs.Connections.{contains, without}
 use Rattle.many_io.specs.Record.{ManyCall, Sent, SendFailed, HungUp, events, calls_without_device}
@@ -8,6 +8,7 @@ use Rattle.serving_loop.specs.Progress.{IsAt, HasOffered}
 use Rattle.serving_loop.specs.declared.server.Server.{Server}
 use Rattle.serving_loop.specs.Cores.{IsTaken}
 use Rattle.serving_loop.proofs.Away.{same-then}
+use Rattle.serving_loop.proofs.Same.{as_before-met, as_before-called}
 use Rattle.serving_loop.proofs.Places.{at-blocked, at-empty, at-sent_none, at-sent, at-failed, not_zero}
 use Rattle.serving_loop.proofs.offer.offer.Given.{Over}
 use Rattle.serving_loop.proofs.offer.offer.Goals as goal
@@ -55,13 +56,8 @@ loop-conn-preserved g c =
       asked = (taking g c).dropped ∙ i.asked;
       there = ap (contains c.args.conn) (taking g c).present ∙ i.there;
       many = ap length (taking g c).present ∙ i.many;
-      known = c.note.ensures.known;
-      away = same-then i.devices i.away (taking g c).away;
-      devices = c.note.ensures.devices ∙ i.devices;
-      greatest = c.note.ensures.greatest ∙ i.greatest;
-      later = omega (arith, i.later, c.send.ensures.own);
-      names = c.send.ensures.names ∙ i.names;
-      hub = c.send.ensures.devices ∙ i.hub;
+      same = as_before-called (as_before-met i.same c.note.ensures.known c.note.ensures.devices c.note.ensures.greatest) c.send.ensures.own c.send.ensures.names c.send.ensures.devices;
+      away = same-then i.same.devices i.away (taking g c).away;
     }
 
 pub returns-in-Err-clause-carries : goal.returns-in-Err-clause-carries
@@ -86,4 +82,4 @@ returns-in-Err-clause-carries g c = λ p until turns.
     c.note-in-Err.ensures.emptied)))
 
 pub returns-in-Err-clause-away : goal.returns-in-Err-clause-away
-returns-in-Err-clause-away g c = let i = c.loop-conn.invariant in same-then i.devices i.away (c.note-in-Err.ensures.makes i.there).away
+returns-in-Err-clause-away g c = let i = c.loop-conn.invariant in same-then i.same.devices i.away (c.note-in-Err.ensures.makes i.there).away

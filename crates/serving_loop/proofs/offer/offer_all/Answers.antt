@@ -10,6 +10,7 @@ use Rattle.serving_loop.specs.Face.{ManyFace}
 use Rattle.serving_loop.specs.Progress.{HasOffered, IsServing, AfterModems, AreHangUps}
 use Rattle.serving_loop.specs.declared.server.Server.{Server}
 use Rattle.serving_loop.proofs.Carrying.{Carries-none, Carries-then, Carries-with}
+use Rattle.serving_loop.proofs.Same.{as_before-then}
 use Rattle.serving_loop.proofs.Away.{same_there}
 use Rattle.serving_loop.proofs.Turns.{offered-hangs}
 use Rattle.serving_loop.proofs.offer.offer_all.Goals as goal
@@ -54,19 +55,14 @@ loop-hub-preserved g c =
           (modems_as g.C.ManyProxyCore.keeps g.C.ManyProxyCore.face p until turns c.offer_modems.new.server c.offer_modems.result false c.if-offer_modems.false (modems.carries p until turns)))
           hangs.only (hangs.carries p turns);
       asked = hangs.asked;
-      known = hangs.known;
-      devices = hangs.devices ∙ modems.devices ∙ clients.devices ∙ i.devices;
-      greatest = hangs.greatest ∙ modems.greatest ∙ clients.greatest ∙ i.greatest;
-      later = omega (arith, i.later, clients.later, modems.later, hangs.later);
-      names = hangs.names ∙ modems.names ∙ clients.names ∙ i.names;
-      hub = hangs.hub ∙ modems.hub ∙ clients.hub ∙ i.hub;
+      same = as_before-then i.same (as_before-then clients.same (as_before-then modems.same hangs.same));
     }
 
 pub loop-hub-smaller : goal.loop-hub-smaller
 loop-hub-smaller g c =
     let less = c.offer_modems.ensures.fewer c.if-offer_modems.false in
-    let clients = same_there c.offer_clients.ensures.devices c.offer_clients.ensures.away in
-    let hangs = same_there c.hang_up_dropped.ensures.devices c.hang_up_dropped.ensures.away in
+    let clients = same_there c.offer_clients.ensures.same.devices c.offer_clients.ensures.away in
+    let hangs = same_there c.hang_up_dropped.ensures.same.devices c.hang_up_dropped.ensures.away in
     omega (arith, less, clients, hangs)
 
 pub returns-then-offer_modems-clause-carries : goal.returns-then-offer_modems-clause-carries

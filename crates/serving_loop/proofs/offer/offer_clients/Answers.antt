@@ -1,8 +1,9 @@
-use Rattle.std.proofs.Common.{sym, ◌∙◌, arith}
+use Rattle.std.proofs.Common.{sym, arith}
 use Rattle.many_io.specs.Record.{events}
 use Rattle.serving_loop.proofs.Carrying.{Carries-none, Carries-then}
 use Rattle.serving_loop.proofs.Faces.{contains-at}
 use Rattle.serving_loop.proofs.Away.{same-then}
+use Rattle.serving_loop.proofs.Same.{as_before-then}
 use Rattle.serving_loop.proofs.Places.{at_next, all_offered}
 use Rattle.serving_loop.proofs.offer.offer_clients.Goals as goal
 
@@ -19,13 +20,8 @@ loop-place-preserved g c =
           (c.offer-from.ensures.carries p until turns);
       asked = c.offer-from.ensures.asked;
       within = omega (arith, c.offer-from.ensures.done, c.in-Some.ensures.within.1);
-      known = c.offer-from.ensures.known;
-      away = same-then i.devices i.away c.offer-from.ensures.away;
-      devices = c.offer-from.ensures.devices ∙ i.devices;
-      greatest = c.offer-from.ensures.greatest ∙ i.greatest;
-      later = omega (arith, c.offer-from.ensures.later, i.later);
-      names = c.offer-from.ensures.names ∙ i.names;
-      hub = c.offer-from.ensures.hub ∙ i.hub;
+      same = as_before-then i.same c.offer-from.ensures.same;
+      away = same-then i.same.devices i.away c.offer-from.ensures.away;
     }
 
 pub returns-clause-carries : goal.returns-clause-carries

@@ -2,7 +2,7 @@ use Rattle.many_serving.specs.Proxy.{ManyProxy}
 use Rattle.std.proofs.Common.{◌≡◌, ◌≤◌, ◌-◌, ℕ, [], length}
 use Rattle.serving_loop.specs.Carrying.{Carries}
 use Rattle.serving_loop.specs.Face.{SameAway}
-use Rattle.serving_loop.specs.Cores.{IsKnown}
+use Rattle.serving_loop.specs.Same.{IsAsBefore}
 use Rattle.serving_loop.specs.Progress.{HasOffered}
 use Rattle.serving_loop.proofs.offer.offer_clients.Given as goal
 use Rattle.hub_io.specs.declared.settings.Until.{Until}
@@ -13,13 +13,8 @@ invariant-loop-place g l = record {
       Carries (g.H.ManyHub.calls l.initial.hub) (HasOffered g.C.ManyProxyCore.keeps g.C.ManyProxyCore.face p until turns 0 l.initial.server) (g.H.ManyHub.calls l.hub) (HasOffered g.C.ManyProxyCore.keeps g.C.ManyProxyCore.face p until turns l.from l.server);
   asked : (g.C.ManyProxyCore.face l.server.core).dropped ≡ [];
   within : l.from ≤ length (g.C.ManyProxyCore.face l.server.core).present;
-  known : IsKnown g.C.ManyProxyCore.keeps l.server.core;
+  same : IsAsBefore g.C.ManyProxyCore.keeps g.C.ManyProxyCore.face g.H.ManyHub.faults g.H.ManyHub.greatest g.H.ManyHub.devices l.initial.server.core l.server.core l.initial.hub l.hub;
   away : SameAway (g.C.ManyProxyCore.face l.initial.server.core) (g.C.ManyProxyCore.face l.server.core);
-  devices : (g.C.ManyProxyCore.face l.server.core).devices ≡ (g.C.ManyProxyCore.face l.initial.server.core).devices;
-  greatest : (g.C.ManyProxyCore.face l.server.core).greatest ≡ (g.C.ManyProxyCore.face l.initial.server.core).greatest;
-  later : g.H.ManyHub.faults l.initial.hub ≤ g.H.ManyHub.faults l.hub;
-  names : g.H.ManyHub.greatest l.hub ≡ g.H.ManyHub.greatest l.initial.hub;
-  hub : g.H.ManyHub.devices l.hub ≡ g.H.ManyHub.devices l.initial.hub;
 }
 
 abbrev pub decreases-loop-place : goal.decreases-loop-place

@@ -6,6 +6,7 @@ use Rattle.serving_loop.specs.Progress.{OffersModems}
 use Rattle.serving_loop.specs.declared.server.Server.{Server}
 use Rattle.serving_loop.proofs.Away.{stays-but, stays-then, was_there}
 use Rattle.serving_loop.proofs.Carrying.{Carries-none, Carries-call, Carries-then}
+use Rattle.serving_loop.proofs.Same.{as_before-met, as_before-called}
 use Rattle.serving_loop.proofs.Offering.{contains-any}
 use Rattle.serving_loop.proofs.Places.{not_zero, lent_some, lent_within}
 use Rattle.serving_loop.proofs.Modem.{modem-blocked, modem-away, modem-empty, modem-sent_none, modem-sent, modem-failed}
@@ -63,14 +64,9 @@ loop-device-preserved g c =
           (c.note.ensures.stands p (events calls) all.serving.stands)
           c.note.ensures.blocked c.note.ensures.modems c.note.ensures.emptied));
       asked = c.note.ensures.makes.dropped ∙ i.asked;
-      known = c.note.ensures.known;
-      stays = stays-then i.devices i.stays (stays-but c.args.device c.note.ensures.makes.others there);
-      devices = c.note.ensures.devices ∙ i.devices;
+      same = as_before-called (as_before-met i.same c.note.ensures.known c.note.ensures.devices c.note.ensures.greatest) c.send_modem.ensures.own c.send_modem.ensures.names c.send_modem.ensures.devices;
+      stays = stays-then i.same.devices i.stays (stays-but c.args.device c.note.ensures.makes.others there);
       within = omega (arith, i.within, c.note.ensures.devices);
-      greatest = c.note.ensures.greatest ∙ i.greatest;
-      later = omega (arith, i.later, c.send_modem.ensures.own);
-      names = c.send_modem.ensures.names ∙ i.names;
-      hub = c.send_modem.ensures.devices ∙ i.hub;
     }
 
 -- the modem is gone
@@ -90,7 +86,7 @@ pub returns-in-Err-clause-away : goal.returns-in-Err-clause-away
 returns-in-Err-clause-away g c =
     let i = c.loop-device.invariant in
     let there = sym c.away.ensures ∙ c.if-away.false in
-    stays-then i.devices i.stays (stays-but c.args.device c.note-in-Err.ensures.makes.others there)
+    stays-then i.same.devices i.stays (stays-but c.args.device c.note-in-Err.ensures.makes.others there)
 
 pub returns-in-Err-clause-gone : goal.returns-in-Err-clause-gone
 returns-in-Err-clause-gone g c = λ is.

@@ -1,4 +1,4 @@
-use Rattle.std.proofs.Common.{◌≡◌, ℕ, List, Bool, true, false, refl, ap, subst, ◌∙◌, arith, Option}
+use Rattle.std.proofs.Common.{◌≡◌, ℕ, List, Bool, true, false, ap, subst, ◌∙◌, arith, Option}
 use Rattle.hub_io.specs.declared.settings.Until.{Until}
 use Rattle.many_history.specs.Events.{ManyEvent}
 use Rattle.many_io.specs.Record.{ManyCall}
@@ -9,6 +9,7 @@ use Rattle.serving_loop.specs.Server.{devices_there}
 use Rattle.serving_loop.specs.Progress.{AfterModem}
 use Rattle.serving_loop.specs.declared.server.Server.{Server}
 use Rattle.serving_loop.proofs.Away.{stays-none, stays-then, fewer_there, no_more_there}
+use Rattle.serving_loop.proofs.Same.{as_before-none, as_before-then}
 use Rattle.serving_loop.proofs.Carrying.{Carries-none, Carries-then}
 use Rattle.serving_loop.proofs.Modem.{modems-ready}
 use Rattle.serving_loop.proofs.offer.offer_modems.Goals as goal
@@ -23,14 +24,9 @@ pub loop-device-init : goal.loop-device-init
 loop-device-init g c = record {
   carried = λ p until turns. Carries-none _ _ _ (λ calls all. all);
   asked = c.requires.asked;
-  known = c.requires.known;
+  same = as_before-none c.requires.known;
   stays = stays-none _;
-  devices = refl;
   within = omega arith;
-  greatest = refl;
-  later = omega arith;
-  names = refl;
-  hub = refl;
 }
 
 pub loop-device-preserved : goal.loop-device-preserved
@@ -43,14 +39,9 @@ loop-device-preserved g c =
           Carries-then (i.carried p until turns)
           (modem_as g.C.ManyProxyCore.keeps g.C.ManyProxyCore.face p until turns c.loop-device.device c.offer_modem.new.server c.offer_modem.result true there (offered.carries p until turns));
       asked = offered.asked there;
-      known = offered.known;
-      stays = stays-then i.devices i.stays offered.away;
-      devices = offered.devices ∙ i.devices;
+      same = as_before-then i.same offered.same;
+      stays = stays-then i.same.devices i.stays offered.away;
       within = omega arith;
-      greatest = offered.greatest ∙ i.greatest;
-      later = omega (arith, i.later, offered.later);
-      names = offered.names ∙ i.names;
-      hub = offered.hub ∙ i.hub;
     }
 
 -- one is gone
@@ -67,16 +58,16 @@ returns-then-not-offer_modem-clause-fewer g c = λ is.
     let before = (g.C.ManyProxyCore.face c.args.server.now.core) in
     let mid = (g.C.ManyProxyCore.face c.loop-device.server.core) in
     let after = (g.C.ManyProxyCore.face c.offer_modem.new.server.core) in
-    let same : after.devices ≡ before.devices = offered.devices ∙ i.devices in
-    let less = fewer_there mid.away after.away mid.devices c.loop-device.device offered.away.stay (omega (arith, i.devices)) gone.0 gone.1 in
+    let same : after.devices ≡ before.devices = offered.same.devices ∙ i.same.devices in
+    let less = fewer_there mid.away after.away mid.devices c.loop-device.device offered.away.stay (omega (arith, i.same.devices)) gone.0 gone.1 in
     let rest = no_more_there before.away mid.away before.devices i.stays.stay in
     let here = ap (devices_there after.away) same in
-    let there = ap (devices_there mid.away) i.devices in
-    let also = ap (devices_there after.away) i.devices in
+    let there = ap (devices_there mid.away) i.same.devices in
+    let also = ap (devices_there after.away) i.same.devices in
     omega (arith, less, rest, here, there, also)
 
 -- all are there
 pub returns-clause-carries : goal.returns-clause-carries
 returns-clause-carries g c = λ p until turns.
     let i = c.loop-device.invariant in
-    Carries-then (i.carried p until turns) (Carries-none _ _ _ (λ calls all. modems-ready all (omega (arith, i.devices))))
+    Carries-then (i.carried p until turns) (Carries-none _ _ _ (λ calls all. modems-ready all (omega (arith, i.same.devices))))

@@ -2,7 +2,7 @@ use Rattle.many_serving.specs.Proxy.{ManyProxy}
 use Rattle.std.proofs.Common.{◌≡◌, ◌≤◌, ℕ, []}
 use Rattle.hub_io.specs.declared.settings.Until.{Until}
 use Rattle.serving_loop.specs.Carrying.{Carries}
-use Rattle.serving_loop.specs.Cores.{IsKnown}
+use Rattle.serving_loop.specs.Same.{IsAsBefore}
 use Rattle.serving_loop.specs.Progress.{MayReopen}
 use Rattle.serving_loop.proofs.serving.reopen_all.Given as goal
 
@@ -11,11 +11,6 @@ invariant-loop-device g l = record {
   carried : (p : ManyProxy) (until : Until) (turns : ℕ) →
       Carries (g.H.ManyHub.calls l.initial.hub) (MayReopen g.C.ManyProxyCore.keeps g.C.ManyProxyCore.face p until turns (g.C.ManyProxyCore.face l.initial.server.core).away 0 l.initial.server) (g.H.ManyHub.calls l.hub) (MayReopen g.C.ManyProxyCore.keeps g.C.ManyProxyCore.face p until turns (g.C.ManyProxyCore.face l.server.core).away l.device l.server);
   asked : (g.C.ManyProxyCore.face l.server.core).dropped ≡ [];
-  known : IsKnown g.C.ManyProxyCore.keeps l.server.core;
-  devices : (g.C.ManyProxyCore.face l.server.core).devices ≡ (g.C.ManyProxyCore.face l.initial.server.core).devices;
+  same : IsAsBefore g.C.ManyProxyCore.keeps g.C.ManyProxyCore.face g.H.ManyHub.faults g.H.ManyHub.greatest g.H.ManyHub.devices l.initial.server.core l.server.core l.initial.hub l.hub;
   within : l.device ≤ (g.C.ManyProxyCore.face l.initial.server.core).devices;
-  greatest : (g.C.ManyProxyCore.face l.server.core).greatest ≡ (g.C.ManyProxyCore.face l.initial.server.core).greatest;
-  later : g.H.ManyHub.faults l.initial.hub ≤ g.H.ManyHub.faults l.hub;
-  names : g.H.ManyHub.greatest l.hub ≡ g.H.ManyHub.greatest l.initial.hub;
-  hub : g.H.ManyHub.devices l.hub ≡ g.H.ManyHub.devices l.initial.hub;
 }
