@@ -31,7 +31,7 @@ AllAsked requests = AllByRecursion Asked requests
 -- ---- keys ----
 
 abbrev pub key_under : (own : Bool) → (number : ℕ) → Key
-key_under own number = record { kind = if own then 1 else 3; client = 0; number = number }
+key_under own number = record { kind = if own then 1 else 3; cid = 0; number = number }
 
 query_key : (cid number : ℕ) → number < 2 ^ 32 → key_of (query cid number) ≡ key_under false number
 query_key cid number below = ap (key_under false) (query_number_is cid number below)
