@@ -1,3 +1,4 @@
 pub mod Placed
+pub mod Order
 pub mod Names
 pub mod Choices

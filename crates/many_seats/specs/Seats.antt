@@ -1,6 +1,7 @@
 -- Who is there at a proxy of several devices, and where.
 use Rattle.std.specs.Prelude.{◌≡◌, ℕ, ◌+◌, ◌<◌, ◌≤◌, List, [], ◌∷◌, nat_lt, length, set, get_or, Option, Some, None}
 use Rattle.std.specs.List.{AllByRecursion}
+use Rattle.kit_bytes.specs.Sorted.{IsInOrder}
 use Rattle.qmi_proxy.specs.Limits.{connection_limit}
 use Rattle.many_history.specs.Many.{Place, Undecided, At, Seat, joined_if, refused_unless}
 use Rattle.many_seats.specs.declared.chosen.Chosen.{Chosen}
@@ -52,6 +53,15 @@ undecided (seat ∷ seats) = one_undecided seat.place + undecided seats
 -- there are names for those who haven't
 abbrev pub HaveNames : (names : List ℕ) → List Seat → (greatest : ℕ) → Type 0
 HaveNames names seats greatest = AllByRecursion (λ name. name + undecided seats ≤ greatest) names
+
+-- names rise in order of joining
+abbrev pub AreRising : List Seat → Type 0
+AreRising seats = IsInOrder (λ k l. k.conn < l.conn) seats
+
+-- and up to the greatest so far
+pub record AreInOrder (seats : List Seat) (greatest : ℕ) : Type 0 where
+  pub rising : AreRising seats
+  pub known : AllByRecursion (λ seat. seat.conn ≤ greatest) seats
 
 -- the seat of a place in the list
 abbrev pub IsSeat : Seat → List Seat → ℕ → Type 0

@@ -2,7 +2,7 @@ ghost use Rattle.std.specs.Prelude.{◌≡◌, ◌≢◌, ◌+◌, ◌<◌, ◌�
 ghost use Rattle.std.specs.List.{AllByRecursion, remove};
 ghost use Rattle.many_history.specs.Many.{Undecided, place_of};
 ghost use Rattle.many_history.specs.Many.{Seat as ManySeat};
-ghost use Rattle.many_seats.specs.Seats.{IsSeat, chosen_in, chosen_by, said_in, first_conn, joins, moves, next_name, chooses_at};
+ghost use Rattle.many_seats.specs.Seats.{IsSeat, AreRising, chosen_in, chosen_by, said_in, first_conn, joins, moves, next_name, chooses_at};
 
 use crate::chosen::Chosen;
 use crate::gone::Gone;
@@ -33,7 +33,7 @@ pub struct Seats {
 
 impl Model for Seats {
     ghost use Rattle.std.specs.Prelude.{◌≡◌, ◌+◌, ◌<◌, ◌≤◌, ◌^◌, vec_len, vec_capacity};
-    ghost use Rattle.many_seats.specs.Seats.{Seating, HaveNames};
+    ghost use Rattle.many_seats.specs.Seats.{Seating, HaveNames, AreInOrder};
 
     ghost Value = { Seating };
 
@@ -46,6 +46,7 @@ impl Model for Seats {
       dropped_room : 65 ≤ vec_capacity s.dropped;
       free_room : 64 ≤ vec_capacity s.free;
       names : HaveNames s.names.items s.present.items s.greatest;
+      order : AreInOrder s.present.items s.greatest;
       fits : s.greatest < 2 ^ 64;
     } };
 }
@@ -92,7 +93,7 @@ impl Seats {
         ensures place { result ≡ position (λ seat. seat.conn == conn) self.now.seats }
         ensures within { IfSome result (λ place. place < length self.now.seats) }
     {
-        self.present.iter().position(|seat| seat.conn() == conn)
+        index_of(&self.present, conn)
     }
 
     /// How many are there.
@@ -231,6 +232,24 @@ fn zeros(alloc: Global, count: usize) -> Result<Vec<u64>, AllocError>
         names.push_reserved(0);
     }
     Ok(names)
+}
+
+// Where the connection of this name stands among those that are there.
+fn index_of(present: &[Seat], conn: ConnId) -> Option<usize>
+    requires { AreRising present.now }
+    ensures place { result ≡ position (λ seat. seat.conn == conn) present.now }
+    ensures within { IfSome result (λ place. place < length present.now) }
+{
+    let place = present.partition_point(|seat| seat.conn() < conn);
+    if place == present.len() {
+        return None;
+    }
+    let seat = &present[place];
+    if seat.conn() == conn {
+        Some(place)
+    } else {
+        None
+    }
 }
 
 // What the connection of this name chose, where the list has it.

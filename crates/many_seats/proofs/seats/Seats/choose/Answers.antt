@@ -2,6 +2,7 @@ use Rattle.std.proofs.Common.{◌≡◌, ℕ, ◌+◌, ◌<◌, List, length, ge
 use Rattle.many_history.specs.Many.{Seat}
 use Rattle.many_seats.specs.Seats.{Seating, chosen_in, one_undecided, HaveNames, IsSeat}
 use Rattle.many_seats.proofs.Placed.{undecided_set}
+use Rattle.many_seats.proofs.Order.{changed_in_order}
 use Rattle.many_seats.proofs.Names.{is_one, chosen_have}
 use Rattle.many_seats.proofs.seats.Seats.choose.Goals as goal
 
@@ -25,5 +26,6 @@ invariant_of-self c =
       dropped_room = c.self.invariant.dropped_room;
       free_room = c.self.invariant.free_room;
       names = subst (λ (n : ℕ). HaveNames (set names c.args.device n) after c.self.inside.greatest) (sym name) (chosen_have names seats after c.self.inside.greatest c.args.device 0 device (omega (arith, is_one seat.place none, same, later)) c.self.invariant.names);
+      order = changed_in_order seats c.self.inside.greatest c.self.invariant.order c.args.place seat new c.index_mut-seat.ensures.value (ap (λ (s : Seat). s.conn) c.choose.ensures);
       fits = c.self.invariant.fits;
     }

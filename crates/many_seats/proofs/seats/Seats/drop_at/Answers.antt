@@ -1,6 +1,7 @@
 use Rattle.std.proofs.Common.{List, sym, subst, arith}
 use Rattle.many_history.specs.Many.{Seat}
-use Rattle.many_seats.specs.Seats.{HaveNames}
+use Rattle.many_seats.specs.Seats.{HaveNames, AreInOrder}
+use Rattle.many_seats.proofs.Order.{removed_in_order}
 use Rattle.many_seats.proofs.Names.{removed_have}
 use Rattle.many_seats.proofs.seats.Seats.drop_at.Goals as goal
 
@@ -12,5 +13,6 @@ invariant_of-self c = record {
   dropped_room = omega (arith, c.self.invariant.dropped_room, c.push_reserved.ensures.capacity);
   free_room = omega (arith, c.self.invariant.free_room, c.push_reserved-2.ensures.capacity);
   names = subst (λ (l : List Seat). HaveNames c.self.inside.names.items l c.self.inside.greatest) (sym c.remove-seat.ensures.items) (removed_have c.self.inside.names.items c.self.inside.present.items c.self.inside.greatest c.args.place c.self.invariant.names);
+  order = subst (λ (l : List Seat). AreInOrder l c.self.inside.greatest) (sym c.remove-seat.ensures.items) (removed_in_order c.self.inside.present.items c.self.inside.greatest c.self.invariant.order c.args.place);
   fits = c.self.invariant.fits;
 }

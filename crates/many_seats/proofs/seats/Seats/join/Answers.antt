@@ -1,6 +1,7 @@
 use Rattle.std.proofs.Common.{◌≡◌, ◌<◌, List, length, ap, sym, ◌∙◌, subst, arith}
 use Rattle.many_history.specs.Many.{Seat}
-use Rattle.many_seats.specs.Seats.{Seating, HaveNames}
+use Rattle.many_seats.specs.Seats.{Seating, HaveNames, AreInOrder}
+use Rattle.many_seats.proofs.Order.{joined_in_order, refused_in_order}
 use Rattle.many_seats.proofs.Names.{still_have, joined_have}
 use Rattle.many_seats.proofs.seats.Seats.join.Goals as goal
 
@@ -15,6 +16,9 @@ invariant_of-self c =
       dropped_room = c.self.invariant.dropped_room;
       free_room = omega (arith, c.self.invariant.free_room, c.pop.ensures.capacity);
       names = subst (λ (l : List Seat). HaveNames c.self.inside.names.items l c.args.conn) (sym c.push_reserved.ensures.items) (joined_have c.self.inside.names.items c.self.inside.present.items c.begin.result c.self.inside.greatest c.args.conn newer c.self.invariant.names);
+      order =
+          subst (λ (l : List Seat). AreInOrder l c.args.conn) (sym c.push_reserved.ensures.items)
+          (joined_in_order c.self.inside.present.items c.self.inside.greatest c.self.invariant.order c.begin.result c.args.conn newer (ap (λ (s : Seat). s.conn) c.begin.ensures));
       fits = omega (arith, c.ranges.conn.fits);
     }
 
@@ -29,5 +33,6 @@ invariant_of-self-in-None c =
       dropped_room = omega (arith, c.self.invariant.dropped_room, c.push_reserved-in-None.ensures.capacity);
       free_room = omega (arith, c.self.invariant.free_room, c.pop.ensures.capacity);
       names = still_have c.self.inside.names.items c.self.inside.present.items c.self.inside.present.items c.self.inside.greatest c.args.conn (omega (arith, newer)) c.self.invariant.names;
+      order = refused_in_order c.self.inside.present.items c.self.inside.greatest c.self.invariant.order c.args.conn newer;
       fits = omega (arith, c.ranges.conn.fits);
     }

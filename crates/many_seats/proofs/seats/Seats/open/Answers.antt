@@ -1,6 +1,7 @@
 use Rattle.std.proofs.Common.{subst, sym, arith, List}
 use Rattle.many_history.specs.Many.{Seat}
-use Rattle.many_seats.specs.Seats.{HaveNames}
+use Rattle.many_seats.specs.Seats.{HaveNames, AreInOrder}
+use Rattle.many_seats.proofs.Order.{none_in_order}
 use Rattle.many_seats.proofs.Names.{zeros_have}
 use Rattle.many_seats.proofs.seats.Seats.open.Goals as goal
 
@@ -12,5 +13,6 @@ invariant_of-result c = record {
   dropped_room = c.in_ok-with_capacity-2.ensures.capacity;
   free_room = c.in_ok-open_all.ensures.capacity;
   names = subst (λ (l : List Seat). HaveNames c.in_ok-zeros.field-0.items l 0) (sym c.in_ok-with_capacity.ensures.items) (zeros_have c.in_ok-zeros.field-0.items c.in_ok-zeros.ensures.zeros);
+  order = subst (λ (l : List Seat). AreInOrder l 0) (sym c.in_ok-with_capacity.ensures.items) none_in_order;
   fits = omega arith;
 }

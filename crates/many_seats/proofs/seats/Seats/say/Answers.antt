@@ -2,6 +2,7 @@ use Rattle.std.proofs.Common.{◌≡◌, ◌<◌, List, length, set, ap, sym, su
 use Rattle.many_history.specs.Many.{Seat}
 use Rattle.many_seats.specs.Seats.{Seating, chosen_in, one_undecided, IsSeat}
 use Rattle.many_seats.proofs.Placed.{undecided_set}
+use Rattle.many_seats.proofs.Order.{changed_in_order}
 use Rattle.many_seats.proofs.Names.{still_have, is_one}
 use Rattle.many_seats.proofs.seats.Seats.say.Goals as goal
 
@@ -22,5 +23,6 @@ invariant_of-self c =
       dropped_room = c.self.invariant.dropped_room;
       free_room = c.self.invariant.free_room;
       names = still_have c.self.inside.names.items seats (set seats c.args.place new) c.self.inside.greatest c.self.inside.greatest (omega (arith, one, same, later)) c.self.invariant.names;
+      order = changed_in_order seats c.self.inside.greatest c.self.invariant.order c.args.place seat new c.index_mut-seat.ensures.value (ap (λ (s : Seat). s.conn) c.say.ensures);
       fits = c.self.invariant.fits;
     }
