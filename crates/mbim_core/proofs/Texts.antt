@@ -26,9 +26,12 @@ use Rattle.mbim_core.specs.State.{IsDoneWith, IsIndicationWith, tells_opened, in
 
 -- ---- answers ----
 
-pub done_text_is : (body m : List ℕ) → IsDoneWith body m → (client : Client) (command : CommandName) → split (kind_number CommandDone) command.number client.fragment body ≡ response_text (known_by client) (ask_by command) m
-done_text_is body m D client command =
-    sym (ap (λ (n : ℕ). if n == kind_number FunctionError then with_number command.number m else split n command.number client.fragment (body_of m)) D.kind
+pub done_text_is : (body m : List ℕ) → IsDoneWith body m → (client : Client) (command : CommandName) (kind max : ℕ) → kind ≡ kind_number CommandDone → max ≡ client.fragment
+    → split kind command.number max body ≡ response_text (known_by client) (ask_by command) m
+done_text_is body m D client command kind max kind_is max_is =
+    ap (λ (k : ℕ). split k command.number max body) kind_is
+    ∙ ap (λ (n : ℕ). split (kind_number CommandDone) command.number n body) max_is
+    ∙ sym (ap (λ (n : ℕ). if n == kind_number FunctionError then with_number command.number m else split n command.number client.fragment (body_of m)) D.kind
     ∙ ap (λ (l : List ℕ). split (kind_number CommandDone) command.number client.fragment l) D.carries)
 
 pub error_text_is : (m : List ℕ) → kind_of m ≡ kind_number FunctionError → (client : Client) (command : CommandName) → with_number command.number m ≡ response_text (known_by client) (ask_by command) m
@@ -66,16 +69,6 @@ indication_text body client = split (kind_number IndicateStatus) 0 client.fragme
 pub indication_written : (body : List ℕ) (client : Client) (bytes written : List ℕ) (kind fragment : ℕ) → bytes ≡ written → written ≡ split kind 0 fragment body → kind ≡ kind_number IndicateStatus → fragment ≡ client.fragment
     → bytes ≡ indication_text body client
 indication_written body client bytes written kind fragment is made by_kind by_fragment = is ∙ made ∙ ap (λ (n : ℕ). split n 0 fragment body) by_kind ∙ ap (λ (n : ℕ). split (kind_number IndicateStatus) 0 n body) by_fragment
-
--- it is open and wants it
-abbrev pub is_receiver : IndicationHead → Client → Bool
-is_receiver head client = client.opened && wants client.list head.uuid head.cid
-
-pub opened_not : (head : IndicationHead) (client : Client) → client.opened ≡ false → is_receiver head client ≡ false
-opened_not head client shut = ap (λ (b : Bool). b && wants client.list head.uuid head.cid) shut
-
-pub opened_wants : (head : IndicationHead) (client : Client) → client.opened ≡ true → (b : Bool) → wants client.list head.uuid head.cid ≡ b → is_receiver head client ≡ b
-opened_wants head client there b is = ap (λ (o : Bool). o && wants client.list head.uuid head.cid) there ∙ is
 
 -- who is open, and of those who wants it
 chosen_twice : (head : IndicationHead) (side : ModemSide) (present : List (Connection Client)) → chosen (wants_in head) side present ≡ receivers_in head.uuid head.cid present

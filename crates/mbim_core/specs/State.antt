@@ -48,8 +48,12 @@ tells_opened s status c x = tell s (OpenedWith status) c x
 
 -- ---- from place to place ----
 
+-- the client is open and wants the indication with this head
+abbrev pub is_receiver : IndicationHead → Client → Bool
+is_receiver head client = client.opened && wants client.list head.uuid head.cid
+
 abbrev pub wants_in : IndicationHead → ModemSide → Connection Client → Bool
-wants_in head side k = k.client.opened && wants k.client.list head.uuid head.cid
+wants_in head side k = is_receiver head k.client
 
 -- those from this place on that are open and want the indication get it
 abbrev pub indicated_from : IndicationHead → (body : List ℕ) → ℕ → MbimState → MbimState

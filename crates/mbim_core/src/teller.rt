@@ -6,7 +6,6 @@ ghost use Rattle.mbim_frame.specs.Frame.{size_of};
 ghost use Rattle.mbim_frame.specs.Head.{kind_of};
 ghost use Rattle.mbim_frame.specs.Kinds.{kind_number};
 ghost use Rattle.mbim_frame.specs.Writing.{unsplit};
-ghost use Rattle.mbim_fragments.specs.Splitting.{split};
 ghost use Rattle.mbim_proxy.specs.Setup.{Setup};
 ghost use Rattle.mbim_proxy.specs.FromModem.{heard_if, IsDone, IsIndication};
 ghost use Rattle.proxy_state.specs.Chosen.{StandsAt};
@@ -16,7 +15,7 @@ ghost use Rattle.mbim_state.specs.Core.{Client as TableClient, setup_of};
 ghost use Rattle.mbim_state.specs.Transitions.{give_up, mbim_handlers, tell_answer, tell_refusal, ends_opening, hear_as, hear_modem, refuse_as, expire, shut_all, lose, tick, finish};
 ghost use Rattle.mbim_core.specs.Answer.{heard_of};
 ghost use Rattle.mbim_core.specs.Hand.{hand_of, nobody_at_hand, joined, left, left_unless, subscriber_at, Follows, IsOf};
-ghost use Rattle.mbim_core.specs.State.{state_of, tells_opened, indicated_from, Settles, IsDoneWith, IsIndicationWith};
+ghost use Rattle.mbim_core.specs.State.{state_of, tells_opened, is_receiver, indicated_from, Settles, IsDoneWith, IsIndicationWith};
 
 use crate::answer::Answer;
 use connections::Connections;
@@ -310,7 +309,8 @@ impl Teller {
         }
     }
 
-    // A client gets the answer with this body to its command, under its own number.
+    // A client gets the answer with this body to its command, under its own number and in fragments
+    // that it takes.
     fn tell_done(
         &mut self,
         connections: &mut Connections<Mbim, Client>,
@@ -328,16 +328,13 @@ impl Teller {
             return;
         };
         let max = connections.client_at(place).fragment();
-        let stays = put_done(
-            connections,
-            side,
-            &mut self.writer,
-            place,
-            name,
-            command.number,
-            max,
-            body,
-        );
+        let kind = MessageKind::CommandDone.number();
+        let Some(head) = unsplit_head(kind, command.number, max, body) else {
+            self.writer.split(kind, command.number, max, body);
+            let stays = put(connections, side, name, self.writer.text());
+            return self.leave_unless(stays, name);
+        };
+        let stays = put_at(connections, side, place, name, &head, body);
         self.leave_unless(stays, name);
     }
 
@@ -497,10 +494,7 @@ impl Teller {
     {
         let name = connections.name_at(index);
         let client = connections.client_at(index);
-        if !client.opened() {
-            return index + 1;
-        }
-        if !client.wants(head.uuid, head.cid) {
+        if !is_receiver(client, head) {
             return index + 1;
         }
         let max = client.fragment();
@@ -558,6 +552,13 @@ fn settle(side: &mut ModemSide, answer: Answer, number: u32) -> Option<(u64, Ask
     Some((name, asked))
 }
 
+// Whether the client is open and wants the indication with this head.
+fn is_receiver(client: &Client, head: &IndicationHead) -> bool
+    ensures { result ≡ is_receiver head.now client.now }
+{
+    client.opened() && client.wants(head.uuid, head.cid)
+}
+
 // A client gets these bytes, or is dropped where they find no room. Says whether it wasn't dropped.
 fn put(
     connections: &mut Connections<Mbim, Client>,
@@ -600,34 +601,4 @@ fn put_at(
     }
     side.give_up(name);
     false
-}
-
-// The client of this name, which stands at this place, gets the answer with this body under this number, in
-// fragments of at most `max` bytes, or is dropped where it finds no room. Says whether it wasn't dropped.
-fn put_done(
-    connections: &mut Connections<Mbim, Client>,
-    side: &mut ModemSide,
-    writer: &mut Writer,
-    place: usize,
-    name: ConnId,
-    number: u32,
-    max: u32,
-    body: &[u8],
-) -> bool
-    requires stands { Some place ≡ position (λ k. name == k.name) connections.old.present }
-    requires least { 64 ≤ max }
-    requires most { max ≤ 4096 }
-    requires short { length body.now ≤ LONGEST_BODY }
-    ensures told { state_of connections.new side.new ≡ tell give_up (λ _. split (kind_number CommandDone) number max body.now) (λ client. client) name (state_of connections.old side.old) }
-    ensures stays { result ≡ finds_room (split (kind_number CommandDone) number max body.now) (connection_in name connections.old.present) }
-    ensures limit { connections.new.limit ≡ connections.old.limit }
-    ensures setup { setup_of side.new ≡ setup_of side.old }
-    ensures list { side.new.last_list ≡ side.old.last_list }
-{
-    let kind = MessageKind::CommandDone.number();
-    let Some(head) = unsplit_head(kind, number, max, body) else {
-        writer.split(kind, number, max, body);
-        return put(connections, side, name, writer.text());
-    };
-    put_at(connections, side, place, name, &head, body)
 }
