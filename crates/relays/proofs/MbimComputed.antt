@@ -15,7 +15,7 @@ use Rattle.proxy_history.specs.History.{add_all, history}
 use Rattle.proxy_history.specs.Streams.{stream, modem_stream}
 use Rattle.proxy_history.specs.Connections.{present, message_count}
 use Rattle.proxy_history.specs.Requests.{in_use, pending, forward_count, last_number, free_from}
-use Rattle.proxy_history.specs.Modem.{now, is_away, to_modem, modem_drained}
+use Rattle.proxy_history.specs.Modem.{now, is_away, to_modem, modem_taken_count}
 use Rattle.proxy_history.specs.View.{view}
 use Rattle.proxy_history.specs.Rendering.{render}
 use Rattle.proxy_history.specs.Noting.{end_overfull}
@@ -24,7 +24,7 @@ use Rattle.modem_profile.proofs.Within.{default-within}
 use Rattle.relays.specs.MbimExamples.{Relays, PremisesAreMet}
 
 pub relays : Relays
-unfolding encode_utf8 cut_from marks_from piece_marks each_seen ending ask layout_for command_message verdict session_at heard_from state askers last_list told_by add_all history stream modem_stream present message_count in_use pending forward_count last_number free_from now is_away to_modem modem_drained view render end_overfull sent_for asked_then hear_each relayed asked_by
+unfolding encode_utf8 cut_from marks_from piece_marks each_seen ending ask layout_for command_message verdict session_at heard_from state askers last_list told_by add_all history stream modem_stream present message_count in_use pending forward_count last_number free_from now is_away to_modem modem_taken_count view render end_overfull sent_for asked_then hear_each relayed asked_by
 relays = record { radio_is_asked = refl; radio_is_switched = refl; message_is_asked = refl }
 
 pub premises_are_met : PremisesAreMet

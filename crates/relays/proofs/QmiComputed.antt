@@ -16,7 +16,7 @@ use Rattle.proxy_history.specs.Streams.{stream, modem_stream}
 use Rattle.proxy_history.specs.Connections.{present, message_count}
 use Rattle.proxy_history.specs.Requests.{in_use, pending, forward_count, last_number, free_from}
 use Rattle.proxy_history.specs.ClientIds.{held}
-use Rattle.proxy_history.specs.Modem.{now, is_away, to_modem, modem_drained}
+use Rattle.proxy_history.specs.Modem.{now, is_away, to_modem, modem_taken_count}
 use Rattle.proxy_history.specs.View.{view}
 use Rattle.proxy_history.specs.Rendering.{render}
 use Rattle.proxy_history.specs.Noting.{end_overfull}
@@ -25,7 +25,7 @@ use Rattle.modem_profile.proofs.Within.{default-within}
 use Rattle.relays.specs.QmiExamples.{Relays, PremisesAreMet}
 
 pub relays : Relays
-unfolding encode_utf8 cut_from head_text row_at marks_from piece_marks each_seen ending ask message_of reads succeeds session_at client_ids told_by add_all history stream modem_stream present message_count in_use pending forward_count last_number free_from held now is_away to_modem modem_drained view render end_overfull sent_for asked_then hear_each relayed asked_by
+unfolding encode_utf8 cut_from head_text row_at marks_from piece_marks each_seen ending ask message_of reads succeeds session_at client_ids told_by add_all history stream modem_stream present message_count in_use pending forward_count last_number free_from held now is_away to_modem modem_taken_count view render end_overfull sent_for asked_then hear_each relayed asked_by
 relays = record { model_is_asked = refl; id_is_refused = refl }
 
 pub premises_are_met : PremisesAreMet

@@ -18,7 +18,7 @@ use Rattle.proxy_history.specs.Streams.{stream, modem_stream}
 use Rattle.proxy_history.specs.Connections.{present, dropped, message_count}
 use Rattle.proxy_history.specs.Requests.{in_use, pending, forward_count, last_number, free_from}
 use Rattle.proxy_history.specs.ClientIds.{held}
-use Rattle.proxy_history.specs.Modem.{now, is_away, to_modem, modem_drained}
+use Rattle.proxy_history.specs.Modem.{now, is_away, to_modem, modem_taken_count}
 use Rattle.proxy_history.specs.View.{view}
 use Rattle.proxy_history.specs.Rendering.{render}
 use Rattle.proxy_history.specs.Noting.{end_overfull, each_pending}
@@ -28,5 +28,5 @@ use Rattle.rig_runs.specs.Stage.{clients_take, ask_all, arrive_each}
 use Rattle.rig_runs.specs.Counts.{refused}
 
 unfoldable pub computed : ⊤
-unfolding digits encode_utf8 cut_from head_text row_at message_of layout_for command_message heard_from state askers last_list client_ids told_by add_all history stream modem_stream present dropped message_count in_use pending forward_count last_number free_from held now is_away to_modem modem_drained view render end_overfull each_pending alone.pieces_of alone.meet_pieces alone.hear_all alone.meet_parts alone.solo next turns_after clients_take ask_all arrive_each refused
+unfolding digits encode_utf8 cut_from head_text row_at message_of layout_for command_message heard_from state askers last_list client_ids told_by add_all history stream modem_stream present dropped message_count in_use pending forward_count last_number free_from held now is_away to_modem modem_taken_count view render end_overfull each_pending alone.pieces_of alone.meet_pieces alone.hear_all alone.meet_parts alone.solo next turns_after clients_take ask_all arrive_each refused
 computed = tt

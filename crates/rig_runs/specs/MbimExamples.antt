@@ -4,7 +4,7 @@ use Rattle.std.specs.Prelude.{◌≡◌, ℕ, List, [], ◌∷◌, ◌++◌, rev
 use Rattle.kit_bytes.specs.Hex.{hex}
 use Rattle.proxy_history.specs.Events.{Event, Joined, Piece, ModemPiece, Now, Took, ModemTook}
 use Rattle.mbim_proxy.specs.History.{history}
-use Rattle.mbim_examples.specs.Trace as trace
+use Rattle.mbim_examples.specs.Story as story
 use Rattle.mbim_examples.specs.Openings.{unconfigured}
 use Rattle.mbim_solo.specs.Premises.{asks_too_often}
 use Rattle.mbim_solo.specs.Solo.{solo}
@@ -107,5 +107,5 @@ pub record TwoClients : Type 0 where
 
 -- an OPEN of a client that named no device, and a command of one that isn't open; and a command for which no number is left
 pub record Refusals : Type 0 where
-  pub unopened : refused trace.setup (history trace.setup unconfigured) ≡ 2
-  pub full : refused trace.small (history trace.small asks_too_often) ≡ 1
+  pub unopened : refused story.setup (history story.setup unconfigured) ≡ 2
+  pub full : refused story.small (history story.small asks_too_often) ≡ 1

@@ -2,7 +2,7 @@
 use Rattle.std.specs.Prelude.{◌≡◌, ℕ, false, List, [], ◌∷◌, codes}
 use Rattle.kit_bytes.specs.Hex.{hex}
 use Rattle.proxy_history.specs.Events.{Joined, Piece, Left, ModemPiece, ModemGone, ModemBack, Now, Took, ModemTook}
-use Rattle.proxy_examples.specs.Trace.{open_device, get_model, get_model_as_2, model, model_to_2}
+use Rattle.proxy_examples.specs.Story.{open_device, get_model, get_model_as_2, model, model_to_2}
 use Rattle.rig_trace.specs.declared.rows.Row.{Row}
 use Rattle.rig_trace.specs.Rows.{Ledger, none, empty, said_by, follow}
 use Rattle.rig_trace.specs.Trace.{met_by}

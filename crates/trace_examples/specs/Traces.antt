@@ -2,7 +2,7 @@
 use Rattle.std.specs.Prelude.{◌≡◌, ℕ, List, [], ◌∷◌, codes}
 use Rattle.kit_bytes.specs.Hex.{hex}
 use Rattle.qmi_proxy.specs.Proxy.{proxy_of}
-use Rattle.proxy_examples.specs.Trace.{opened}
+use Rattle.proxy_examples.specs.Story.{opened}
 use Rattle.rig_runs.specs.Qmi.{setup}
 use Rattle.rig_runs.specs.Examples.{open_device, allocate, id_1, id_2, home_network, serving_system, network_scan, home_network_to_1, serving_system_to, network_scan_to, number_1, number_2, number_3, two_clients, first_alone, second_alone}
 use Rattle.rig_trace.specs.Rows.{none, ledger_of}
