@@ -1,2 +1,4 @@
 pub mod Directions
-pub mod Marks
+pub mod Marking
+pub mod Pieces
+pub mod Telling

@@ -6,7 +6,9 @@ use Rattle.message_tables.specs.Messages.{MessageForm}
 use Rattle.link_io.specs.Target.{Address, AtSocket, AtBridge}
 use Rattle.link_io.specs.Calls.{Opened, Sent, Took}
 use Rattle.watched_link.specs.Notes.{Event, Called, Said}
-use Rattle.dissect.specs.Stream.{lines}
+use Rattle.framing.specs.declared.framing.Size.{Size}
+use Rattle.stream_lines.specs.Lines.{Showing, lines_by}
+use Rattle.dissect.specs.Stream.{size_by, shown_by}
 
 -- ---- what is told ----
 
@@ -16,26 +18,26 @@ pub data Part : Type 0 where
   Came : (lines : List ℕ) → Part
   Fault : (path words : List ℕ) → Part
 
--- the lines that a stream has more with a piece behind it, as `dissect` shows it
-abbrev pub added : Kind → List MessageForm → (before piece : List ℕ) → List ℕ
-added kind tables before piece = drop (length (lines kind tables before)) (lines kind tables (before ++ piece))
+-- the lines that a stream has more with a piece behind it
+abbrev pub added : (List ℕ → Size) → Showing → (before piece : List ℕ) → List ℕ
+added size shown before piece = drop (length (lines_by size shown before)) (lines_by size shown (before ++ piece))
 
 abbrev pub path_of : Address → List ℕ
 path_of (AtSocket path) = path
 path_of (AtBridge path) = path
 
 -- what events come to on a link that was opened to a path, behind what was sent and what was taken since then; a `send` that failed adds nothing, since nobody knows how much of it went
-abbrev pub parts_from : Kind → List MessageForm → (path sent taken : List ℕ) → List Event → List Part
-parts_from kind tables path sent taken [] = []
-parts_from kind tables path sent taken (Called (Opened address ok) ∷ events) = parts_from kind tables (path_of address) [] [] events
-parts_from kind tables path sent taken (Called (Sent bytes true) ∷ events) = Went (added kind tables sent bytes) ∷ parts_from kind tables path (sent ++ bytes) taken events
-parts_from kind tables path sent taken (Called (Took bytes) ∷ events) = Came (added kind tables taken bytes) ∷ parts_from kind tables path sent (taken ++ bytes) events
-parts_from kind tables path sent taken (Said words ∷ events) = Fault path words ∷ parts_from kind tables path sent taken events
-parts_from kind tables path sent taken (_ ∷ events) = parts_from kind tables path sent taken events
+abbrev pub parts_from : (List ℕ → Size) → Showing → (path sent taken : List ℕ) → List Event → List Part
+parts_from size shown path sent taken [] = []
+parts_from size shown path sent taken (Called (Opened address ok) ∷ events) = parts_from size shown (path_of address) [] [] events
+parts_from size shown path sent taken (Called (Sent bytes true) ∷ events) = Went (added size shown sent bytes) ∷ parts_from size shown path (sent ++ bytes) taken events
+parts_from size shown path sent taken (Called (Took bytes) ∷ events) = Came (added size shown taken bytes) ∷ parts_from size shown path sent (taken ++ bytes) events
+parts_from size shown path sent taken (Said words ∷ events) = Fault path words ∷ parts_from size shown path sent taken events
+parts_from size shown path sent taken (_ ∷ events) = parts_from size shown path sent taken events
 
 -- what all events of a link come to
 abbrev pub parts : Kind → List MessageForm → List Event → List Part
-parts kind tables events = parts_from kind tables [] [] [] events
+parts kind tables events = parts_from (size_by kind) (shown_by kind tables) [] [] [] events
 
 -- ---- in lines ----
 

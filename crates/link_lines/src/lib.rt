@@ -2,5 +2,12 @@
 //! why a call failed.
 #![tactic(auto)]
 
+mod direction;
 pub mod examples;
 pub mod laws;
+mod marks;
+mod push;
+mod shower;
+mod streams;
+
+pub use push::push_lines;

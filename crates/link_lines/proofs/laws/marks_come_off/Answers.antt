@@ -1,5 +1,5 @@
 use Rattle.std.proofs.Common.{true}
-use Rattle.link_lines.proofs.Marks.{marks_off}
+use Rattle.link_lines.proofs.Marking.{marks_off}
 use Rattle.link_lines.proofs.laws.marks_come_off.Goals as goal
 
 pub returns : goal.returns

@@ -13,3 +13,7 @@ marks_off mark true [] = refl
 marks_off mark false [] = refl
 marks_off mark true (byte ∷ text) = mark_off (length mark) mark (byte ∷ marked_from mark (byte == 10) text) ∙ ap (λ (l : List ℕ). byte ∷ l) (marks_off mark (byte == 10) text)
 marks_off mark false (byte ∷ text) = ap (λ (l : List ℕ). byte ∷ l) (marks_off mark (byte == 10) text)
+
+pub marked_none : (mark : List ℕ) (begins : Bool) → marked_from mark begins [] ≡ []
+marked_none mark true = refl
+marked_none mark false = refl
