@@ -59,17 +59,18 @@ fn tell(
     false
 }
 
-// A client gets these bytes, or is dropped where they find no room.
+// A client gets these bytes, or is dropped where they find no room. Says whether it wasn't dropped.
 fn send(
     connections: &mut Connections<Qmux, Client>,
     side: &mut ModemSide,
     name: ConnId,
     bytes: &[u8],
-)
+) -> bool
     ensures told { state_of connections.new side.new ≡ tell name bytes.now (state_of connections.old side.old) }
+    ensures stays { result ≡ finds_room bytes.now (connection_in name connections.old.present) }
     ensures limit { connections.new.limit ≡ connections.old.limit }
 {
-    tell(connections, side, name, bytes, &[]);
+    tell(connections, side, name, bytes, &[])
 }
 
 // Whether the connection of this place is one of those that an indication is for.
@@ -126,7 +127,7 @@ fn tell_at(
     if !is_chosen(connections, side, audience, index) {
         return index + 1;
     }
-    if tell(connections, side, name, bytes, &[]) {
+    if send(connections, side, name, bytes) {
         return index + 1;
     }
     index
@@ -259,14 +260,15 @@ fn respond(connections: &mut Connections<Qmux, Client>, side: &mut ModemSide, me
     ensures told { state_of connections.new side.new ≡ responds message.now (state_of connections.old side.old) }
     ensures limit { connections.new.limit ≡ connections.old.limit }
 {
-    let Some((name, asked, waits)) = side.traffic.look(message.is_control(), message.number())
-    else {
+    let control = message.is_control();
+    let number = message.number();
+    let Some((name, asked, waits)) = side.traffic.look(control, number) else {
         return;
     };
     if !asked.fits(message.service(), message.cid()) {
         return;
     }
-    side.traffic.free(message.is_control(), message.number());
+    side.traffic.free(control, number);
     if waits {
         answer(connections, side, name, &asked, message);
     }
