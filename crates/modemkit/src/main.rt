@@ -12,7 +12,6 @@ use core_bench::Cores;
 use file_io::{Files, StdFiles};
 use hub_io::Hub;
 use kit_io::{Sink, StdSink};
-use link_io::Link;
 use many_io::ManyHub;
 use mio_hub::{MioHub, MioManyHub};
 use program::{Status, device_count, give_up, refuse, run};
@@ -24,6 +23,7 @@ use std::os::fd::{AsFd, BorrowedFd, OwnedFd};
 use std::process::ExitCode;
 use std::{env, io};
 use unix_link::UnixLink;
+use watched_link::{Watch, Watched};
 
 /// How many bytes are kept of what is to go to the standard error: more than almost every line has.
 const LINE_ROOM: usize = 1_024;
@@ -75,7 +75,10 @@ fn run_beside<O: Sink, E: Sink, P: Spawner>(
         return give_up(err);
     };
     let socket = Cell::new(-1);
-    let mut link = UnixLink::new(rt, rt.alloc(), &socket);
+    let link = UnixLink::new(rt, rt.alloc(), &socket);
+    let Ok(mut link) = Watched::new(rt.alloc(), link) else {
+        return give_up(err);
+    };
     let mut files = StdFiles::new(rt, &socket);
     let status = run_read(rt, out, err, &mut link, &mut hub, spawner, &mut files);
     drop(hub);
@@ -94,7 +97,7 @@ fn tell_complaints(rt: &HostRuntime, spawner: &mut StdSpawner<'_, HostRuntime>) 
 }
 
 // The same, where the outside is open.
-fn run_read<O: Sink, E: Sink, L: Link, H: Hub, P: Spawner, F: Files>(
+fn run_read<O: Sink, E: Sink, L: Watch, H: Hub, P: Spawner, F: Files>(
     rt: &HostRuntime,
     out: &mut O,
     err: &mut E,
@@ -110,7 +113,7 @@ fn run_read<O: Sink, E: Sink, L: Link, H: Hub, P: Spawner, F: Files>(
 }
 
 // Does what the words ask, with a hub for as many devices as they name.
-fn run_words<O: Sink, E: Sink, L: Link, H: Hub, P: Spawner, F: Files>(
+fn run_words<O: Sink, E: Sink, L: Watch, H: Hub, P: Spawner, F: Files>(
     rt: &HostRuntime,
     words: &[String],
     out: &mut O,
@@ -142,7 +145,7 @@ fn run_words<O: Sink, E: Sink, L: Link, H: Hub, P: Spawner, F: Files>(
 }
 
 // The same, with a bench of its own.
-fn run_on_bench<O: Sink, E: Sink, L: Link, H: Hub, M: ManyHub, P: Spawner, F: Files>(
+fn run_on_bench<O: Sink, E: Sink, L: Watch, H: Hub, M: ManyHub, P: Spawner, F: Files>(
     alloc: Global,
     words: &[String],
     out: &mut O,

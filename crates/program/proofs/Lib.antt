@@ -2,3 +2,4 @@ pub mod Ends
 pub mod Forms
 pub mod Opened
 pub mod Several
+pub mod Told

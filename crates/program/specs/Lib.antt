@@ -8,3 +8,4 @@ pub mod Pumping
 pub mod Rigging
 pub mod Telling
 pub mod Laws
+pub mod Watching

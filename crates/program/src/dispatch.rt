@@ -5,26 +5,27 @@ ghost use Rattle.tool_words.specs.Command.{command_in};
 ghost use Rattle.tool_words.specs.Rig.{IsWithinLimits};
 ghost use Rattle.program.specs.Running.{CommandFailsOnLink, CommandLeavesAlone, FailsOnLink, LeavesAlone, Runs, RunsCommand};
 ghost use Rattle.program.specs.Several.{FailsOnHub, HasRoom, LeavesSeveralAlone, ServesIfSeveral};
-ghost use Rattle.program.specs.Status.{line_of};
+ghost use Rattle.program.specs.Watching.{Reported, kind_in};
 
 use crate::dissecting::dissect_capture;
 use crate::proxies::proxy_modems;
-use crate::report::report;
+use crate::report::{give_up, refuse_for};
 use crate::status::Status;
 use crate::telling::tell_version;
 use crate::tools::{
     run_command_of_proxy, run_command_of_pump, run_command_of_rig, run_command_of_simulator,
     run_command_of_tool,
 };
+use crate::watching::{report_behind, told_kind};
 use child_io::Spawner;
 use core_bench::Bench;
 use file_io::Files;
 use hub_io::Hub;
 use kit_io::Sink;
-use link_io::Link;
 use many_io::ManyHub;
 use std::alloc::Global;
 use tool_words::{ToolCommand, WordFault, command_of};
+use watched_link::Watch;
 
 /// Does all that the program does: what the words ask, as a tool, a proxy, a simulated modem, a pump
 /// or a rig, showing a captured stream, or telling its version. The program ends with the status.
@@ -32,7 +33,7 @@ use tool_words::{ToolCommand, WordFault, command_of};
 /// The hub of several devices has room for as many as the words name, where they name several
 /// (`device_count`).
 #[tactic(auto, using(crate::proofs::Several::untouched))]
-pub fn run<O: Sink, E: Sink, L: Link, H: Hub, M: ManyHub, P: Spawner, F: Files, B: Bench>(
+pub fn run<O: Sink, E: Sink, L: Watch, H: Hub, M: ManyHub, P: Spawner, F: Files, B: Bench>(
     alloc: Global,
     words: &[String],
     out: &mut O,
@@ -66,20 +67,24 @@ pub fn run<O: Sink, E: Sink, L: Link, H: Hub, M: ManyHub, P: Spawner, F: Files, 
     ensures read_fault { result ≡ Status.ReadFault → Rose (F.read_faults files.old) (F.read_faults files.new) }
     ensures write_fault { result ≡ Status.WriteFault → Rose (O.faults out.old) (O.faults out.new) ⊎ Rose (F.write_faults files.old) (F.write_faults files.new) }
 
-    // A line tells of an error, unless it can't be written.
-    ensures line { ¬ Rose (E.faults err.old) (E.faults err.new) → Grows (E.taken err.old) (line_of result) (E.taken err.new) }
+    // A line tells of an error, behind the lines of what went over the link where the words want them,
+    // unless it can't be written.
+    ensures line { ¬ Rose (E.faults err.old) (E.faults err.new) → Reported (kind_in (command_in (map string_bytes words.now))) (L.notes link.new).recorded result (E.taken err.old) (E.taken err.new) }
 {
-    let status = match command_of(alloc, words) {
-        Ok(command) => run_command(alloc, command, out, link, hub, many, spawner, files, bench),
-        Err(WordFault::Usage(kind)) => Status::Usage { kind },
-        Err(WordFault::OutOfMemory) => Status::OutOfMemory,
-    };
-    report(&status, err);
-    status
+    match command_of(alloc, words) {
+        Ok(command) => {
+            let kind = told_kind(&command);
+            let status = run_command(alloc, command, out, link, hub, many, spawner, files, bench);
+            report_behind(alloc, kind, link, &status, err);
+            status
+        }
+        Err(WordFault::Usage(kind)) => refuse_for(kind, err),
+        Err(WordFault::OutOfMemory) => give_up(err),
+    }
 }
 
 // Does what a command asks.
-fn run_command<O: Sink, L: Link, H: Hub, M: ManyHub, P: Spawner, F: Files, B: Bench>(
+fn run_command<O: Sink, L: Watch, H: Hub, M: ManyHub, P: Spawner, F: Files, B: Bench>(
     alloc: Global,
     command: ToolCommand,
     out: &mut O,

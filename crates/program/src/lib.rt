@@ -16,6 +16,7 @@ mod tables;
 mod telling;
 mod tool;
 mod tools;
+mod watching;
 
 pub use dispatch::run;
 pub use laws::statuses_agree;

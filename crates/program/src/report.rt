@@ -19,9 +19,15 @@ pub fn refuse<E: Sink>(err: &mut E) -> Status
     ensures status { result ≡ Status.Usage UsageKind.Words }
     ensures line { ¬ Rose (E.faults err.old) (E.faults err.new) → Grows (E.taken err.old) (line_of result) (E.taken err.new) }
 {
-    let status = Status::Usage {
-        kind: UsageKind::Words,
-    };
+    refuse_for(UsageKind::Words, err)
+}
+
+/// Refuses words for a reason.
+pub fn refuse_for<E: Sink>(kind: UsageKind, err: &mut E) -> Status
+    ensures status { result ≡ Status.Usage kind }
+    ensures line { ¬ Rose (E.faults err.old) (E.faults err.new) → Grows (E.taken err.old) (line_of result) (E.taken err.new) }
+{
+    let status = Status::Usage { kind };
     report(&status, err);
     status
 }
@@ -37,7 +43,8 @@ pub fn give_up<E: Sink>(err: &mut E) -> Status
 
 /// Writes the line that tells how a run ended. A fault of the sink changes nothing.
 pub fn report<E: Sink>(status: &Status, err: &mut E)
-    ensures { ¬ Rose (E.faults err.old) (E.faults err.new) → Grows (E.taken err.old) (line_of status.now) (E.taken err.new) }
+    ensures line { ¬ Rose (E.faults err.old) (E.faults err.new) → Grows (E.taken err.old) (line_of status.now) (E.taken err.new) }
+    ensures later { E.faults err.old ≤ E.faults err.new }
 {
     let _ = write_line(status, err);
 }

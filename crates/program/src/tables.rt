@@ -13,13 +13,12 @@ ghost use Rattle.program.specs.Tables.{AsksByTables, FollowsByTables, follow_pla
 ghost use Rattle.program.specs.Routes.{Asks, Follows, route_to};
 
 use crate::status::Status;
-use crate::tool::{ask_device, route_to};
+use crate::tool::{ask_device, route_to, watch_if};
 use child_io::Spawner;
 use file_io::Files;
 use following_runs::{follow_modem, indications_in_file};
 use json_requests::Asked;
 use kit_io::Sink;
-use link_io::Link;
 use message_tables::Message;
 use modem_routes::Route;
 use qmux_frame::LONGEST_TLVS;
@@ -29,10 +28,11 @@ use std::alloc::Global;
 use table_following::FollowPlan;
 use table_requests::{TablePlan, request_in_file};
 use tool_words::{LinkSettings, RequestTask};
+use watched_link::Watch;
 
 // Asks a QMI modem for a message that a file describes, and prints its answer by the same description,
 // and, where the words want them, the indications that come behind it.
-pub fn ask_by_tables<O: Sink, L: Link, P: Spawner, F: Files>(
+pub fn ask_by_tables<O: Sink, L: Watch, P: Spawner, F: Files>(
     alloc: Global,
     task: RequestTask,
     out: &mut O,
@@ -63,7 +63,7 @@ pub fn ask_by_tables<O: Sink, L: Link, P: Spawner, F: Files>(
 }
 
 // Asks the modem with the request that the file gives.
-fn ask_with<O: Sink, L: Link, P: Spawner>(
+fn ask_with<O: Sink, L: Watch, P: Spawner>(
     alloc: Global,
     task: RequestTask,
     asked: Asked,
@@ -93,7 +93,7 @@ fn ask_with<O: Sink, L: Link, P: Spawner>(
 }
 
 // Reads the indications that the file tells, and follows them behind the answer.
-fn follow_by_tables<O: Sink, L: Link, P: Spawner, F: Files>(
+fn follow_by_tables<O: Sink, L: Watch, P: Spawner, F: Files>(
     alloc: Global,
     task: RequestTask,
     turns: u64,
@@ -129,7 +129,7 @@ fn follow_by_tables<O: Sink, L: Link, P: Spawner, F: Files>(
 }
 
 // Follows them behind the answer to this request.
-fn follow_with<O: Sink, L: Link, P: Spawner>(
+fn follow_with<O: Sink, L: Watch, P: Spawner>(
     alloc: Global,
     task: RequestTask,
     asked: Asked,
@@ -152,6 +152,10 @@ fn follow_with<O: Sink, L: Link, P: Spawner>(
     ensures start_fault { result ≡ Status.StartFault → Rose (P.faults spawner.old) (P.faults spawner.new) }
     ensures write_fault { result ≡ Status.WriteFault → Rose (O.faults out.old) (O.faults out.new) }
 {
+    if watch_if(task.link.verbose, link).is_err() {
+        drop((task, asked, told));
+        return Status::OutOfMemory;
+    }
     let Ok(route) = route_to(alloc, &task.device, &task.link) else {
         drop((task, asked, told));
         return Status::OutOfMemory;
@@ -165,7 +169,7 @@ fn follow_with<O: Sink, L: Link, P: Spawner>(
 }
 
 // Follows them on this route.
-fn follow_on<O: Sink, L: Link, P: Spawner>(
+fn follow_on<O: Sink, L: Watch, P: Spawner>(
     alloc: Global,
     route: &Route,
     plan: &FollowPlan,

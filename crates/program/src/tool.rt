@@ -1,4 +1,4 @@
-ghost use Rattle.std.specs.Prelude.{◌≡◌, IfOk, IsTrue};
+ghost use Rattle.std.specs.Prelude.{◌≡◌, false, IfOk, IsTrue};
 ghost use Rattle.std.specs.Option.{option_copied};
 ghost use Rattle.std.specs.Str.{encode_utf8_all};
 ghost use Rattle.kit_io.specs.Causes.{Rose};
@@ -19,7 +19,6 @@ use device_core::QmiPlan;
 use file_io::Files;
 use kit_bytes::{Kind, PathText, ShortText, Text};
 use kit_io::Sink;
-use link_io::Link;
 use mbim_session::MbimPlan;
 use modem_routes::Route;
 use sms_print::Decoding;
@@ -28,6 +27,7 @@ use tool_runs::{
     JsonPlan, JsonSession, Session, TunnelPlan, ask, describe_file, mbim_decoding, submit,
 };
 use tool_words::{AnswerForm, LinkSettings, MbimTask, QmiTask};
+use watched_link::Watch;
 
 // The route of a tool to the device of its modem.
 pub fn route_to(
@@ -48,7 +48,7 @@ pub fn route_to(
 
 // Asks a QMI modem what the words of `qmicli` want, over the link that leads to it, or to the MBIM modem
 // that carries its messages.
-pub fn ask_qmi<O: Sink, L: Link, P: Spawner>(
+pub fn ask_qmi<O: Sink, L: Watch, P: Spawner>(
     alloc: Global,
     task: QmiTask,
     out: &mut O,
@@ -77,7 +77,7 @@ pub fn ask_qmi<O: Sink, L: Link, P: Spawner>(
 }
 
 // Asks a QMI modem at a device of its own, or inside the MBIM modem at one.
-fn ask_of_kind<O: Sink, L: Link, P: Spawner>(
+fn ask_of_kind<O: Sink, L: Watch, P: Spawner>(
     alloc: Global,
     plan: QmiPlan,
     settings: &LinkSettings,
@@ -117,7 +117,7 @@ fn ask_of_kind<O: Sink, L: Link, P: Spawner>(
 }
 
 // Asks an MBIM modem what the words of `mbimcli` want, over the link that leads to it.
-pub fn ask_mbim<O: Sink, L: Link, P: Spawner>(
+pub fn ask_mbim<O: Sink, L: Watch, P: Spawner>(
     alloc: Global,
     task: MbimTask,
     out: &mut O,
@@ -150,7 +150,7 @@ pub fn ask_mbim<O: Sink, L: Link, P: Spawner>(
 }
 
 // Asks the modem at a device, and prints its answer in a form; where that tells what messages say, so.
-fn ask_in_form<S: JsonSession, O: Sink, L: Link, P: Spawner>(
+fn ask_in_form<S: JsonSession, O: Sink, L: Watch, P: Spawner>(
     alloc: Global,
     device: &PathText,
     settings: &LinkSettings,
@@ -184,7 +184,7 @@ fn ask_in_form<S: JsonSession, O: Sink, L: Link, P: Spawner>(
 }
 
 // Asks the modem at a device, which is reached as the words of a tool say, and prints its answer.
-pub fn ask_device<S: Session, O: Sink, L: Link, P: Spawner>(
+pub fn ask_device<S: Session, O: Sink, L: Watch, P: Spawner>(
     alloc: Global,
     device: &PathText,
     settings: &LinkSettings,
@@ -203,14 +203,31 @@ pub fn ask_device<S: Session, O: Sink, L: Link, P: Spawner>(
     ensures start_fault { result ≡ Status.StartFault → Rose (P.faults spawner.old) (P.faults spawner.new) }
     ensures write_fault { result ≡ Status.WriteFault → Rose (O.faults out.old) (O.faults out.new) }
 {
+    if watch_if(settings.verbose, link).is_err() {
+        return Status::OutOfMemory;
+    }
     let Ok(route) = route_to(alloc, device, settings) else {
         return Status::OutOfMemory;
     };
     ask_modem(alloc, &route, plan, decoding, out, link, spawner)
 }
 
+// What is done on the link is noted, if that is wanted. Else nothing is.
+pub fn watch_if<L: Watch>(verbose: bool, link: &mut L) -> Result<(), AllocError>
+    ensures calls { L.calls link.new ≡ L.calls link.old }
+    ensures made { L.made link.new ≡ L.made link.old }
+    ensures faults { L.faults link.new ≡ L.faults link.old }
+    ensures open_faults { L.open_faults link.new ≡ L.open_faults link.old }
+    ensures unwatched { verbose ≡ false → link.new ≡ link.old }
+{
+    if verbose {
+        return link.watch();
+    }
+    Ok(())
+}
+
 // Asks a modem on this route, and prints its answer.
-fn ask_modem<S: Session, O: Sink, L: Link, P: Spawner>(
+fn ask_modem<S: Session, O: Sink, L: Watch, P: Spawner>(
     alloc: Global,
     route: &Route,
     plan: &S,

@@ -6,15 +6,17 @@ ghost use Rattle.tool_words.specs.Command.{command_in};
 ghost use Rattle.tool_words.specs.Rig.{IsWithinLimits};
 ghost use Rattle.program.specs.Running.{Absent, FailsOnLink, LeavesAlone, Runs, RunsWords, is_of_proxy, is_of_pump, is_of_rig, is_of_simulator, is_of_tool, words_for};
 ghost use Rattle.program.specs.Status.{line_of};
+ghost use Rattle.program.specs.Watching.{Reported, kind_in};
 
 use crate::proxy::proxy_modem;
 use crate::pumping::pump_bytes;
-use crate::report::report;
+use crate::report::{give_up, refuse_for, report};
 use crate::rigging::{print_rig, print_transparency};
 use crate::simulator::{keep_modem, simulate_modem, simulate_ruled_modem};
 use crate::status::Status;
 use crate::tables::ask_by_tables;
 use crate::tool::{ask_mbim, ask_qmi, print_description, submit_text};
+use crate::watching::{report_behind, told_kind};
 use child_io::Spawner;
 use core_bench::Bench;
 use file_io::Files;
@@ -23,6 +25,7 @@ use kit_io::Sink;
 use link_io::Link;
 use std::alloc::Global;
 use tool_words::{ToolCommand, UsageKind, WordFault, command_of};
+use watched_link::Watch;
 
 // The words are those of another tool.
 pub fn other_tool() -> Status
@@ -35,7 +38,7 @@ pub fn other_tool() -> Status
 
 /// What `qmicli` and `mbimcli` do: as `run` with their words. The words of other tools are refused, as those of an
 /// unknown one.
-pub fn run_tool<O: Sink, E: Sink, L: Link, P: Spawner, F: Files>(
+pub fn run_tool<O: Sink, E: Sink, L: Watch, P: Spawner, F: Files>(
     alloc: Global,
     words: &[String],
     out: &mut O,
@@ -55,19 +58,22 @@ pub fn run_tool<O: Sink, E: Sink, L: Link, P: Spawner, F: Files>(
     ensures start_fault { result ≡ Status.StartFault → Rose (P.faults spawner.old) (P.faults spawner.new) }
     ensures read_fault { result ≡ Status.ReadFault → Rose (F.read_faults files.old) (F.read_faults files.new) }
     ensures write_fault { result ≡ Status.WriteFault → Rose (O.faults out.old) (O.faults out.new) }
-    ensures line { ¬ Rose (E.faults err.old) (E.faults err.new) → Grows (E.taken err.old) (line_of result) (E.taken err.new) }
+    ensures line { ¬ Rose (E.faults err.old) (E.faults err.new) → Reported (kind_in (words_for is_of_tool (command_in (map string_bytes words.now)))) (L.notes link.new).recorded result (E.taken err.old) (E.taken err.new) }
 {
-    let status = match command_of(alloc, words) {
-        Ok(command) => run_command_of_tool(alloc, command, out, link, spawner, files),
-        Err(WordFault::Usage(kind)) => Status::Usage { kind },
-        Err(WordFault::OutOfMemory) => Status::OutOfMemory,
-    };
-    report(&status, err);
-    status
+    match command_of(alloc, words) {
+        Ok(command) => {
+            let kind = told_kind(&command);
+            let status = run_command_of_tool(alloc, command, out, link, spawner, files);
+            report_behind(alloc, kind, link, &status, err);
+            status
+        }
+        Err(WordFault::Usage(kind)) => refuse_for(kind, err),
+        Err(WordFault::OutOfMemory) => give_up(err),
+    }
 }
 
 // What a command of `qmicli` or `mbimcli` asks is done, and those of other tools are refused.
-pub fn run_command_of_tool<O: Sink, L: Link, P: Spawner, F: Files>(
+pub fn run_command_of_tool<O: Sink, L: Watch, P: Spawner, F: Files>(
     alloc: Global,
     command: ToolCommand,
     out: &mut O,

@@ -13,6 +13,7 @@ use program::{
 };
 use std::alloc::{AllocError, Global};
 use std::mem::replace;
+use watched_link::Watched;
 
 /// What a run of the program left behind.
 #[derive(Drop)]
@@ -20,7 +21,7 @@ pub struct Ran {
     pub status: Status,
     pub out: MemSink,
     pub err: MemSink,
-    pub link: MemLink,
+    pub link: Watched<MemLink>,
     pub hub: MemHub,
     // that of several devices
     pub many: MemManyHub<MemHub>,
@@ -68,7 +69,7 @@ fn outside_of(alloc: Global, row: &ToolRow<'_>, whole: bool) -> Result<Ran, Allo
 // The standard output, and that of faults.
 fn sinks_of(alloc: Global, row: &ToolRow<'_>) -> Result<(MemSink, MemSink), AllocError> {
     let out = MemSink::new(alloc, Vec::from_slice(alloc, &row.sink)?, 10_000)?;
-    let err = MemSink::new(alloc, Vec::from_slice(alloc, &row.err_sink)?, 1_000)?;
+    let err = MemSink::new(alloc, Vec::from_slice(alloc, &row.err_sink)?, 10_000)?;
     Ok((out, err))
 }
 
@@ -96,8 +97,8 @@ fn others_of(
     alloc: Global,
     row: &ToolRow<'_>,
     whole: bool,
-) -> Result<(MemLink, MemSpawner, MemFiles), AllocError> {
-    let link = link_of(alloc, &row.calls, whole)?;
+) -> Result<(Watched<MemLink>, MemSpawner, MemFiles), AllocError> {
+    let link = Watched::new(alloc, link_of(alloc, &row.calls, whole)?)?;
     let kids = row.kids.spawner(alloc)?;
     let files = row.files.files(alloc)?;
     Ok((link, kids, files))

@@ -368,7 +368,7 @@ fn link_as_told<R: Print>(
     whole: bool,
 ) -> Result<bool, RowFault> {
     let calls = told_calls(alloc, &told.calls, whole, !told.ends.stays_open)?;
-    let made = made_calls(alloc, ran.link.log(), whole)?;
+    let made = made_calls(alloc, ran.link.link().log(), whole)?;
     Ok(are_calls(rt, place, &calls, &made))
 }
 

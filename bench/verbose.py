@@ -1,0 +1,176 @@
+"""Has the tools tell what goes over their links, and prints a line for each point. `verbose.sh` starts it: FOLDER PROGRAM PART.."""
+import os
+import socket
+import subprocess
+import sys
+import threading
+import time
+
+folder, program, parts = sys.argv[1], sys.argv[2], sys.argv[3:]
+os.chdir(folder)
+failed = 0
+NOBODY = 65534
+DENIED, LINK_FAULT, LINK_END = 1, 3, 4
+
+
+def point(name, holds, more=""):
+    """A line for what is to hold."""
+    global failed
+    failed += not holds
+    print(f"{'ok' if holds else 'FAILED':6} {name}{more and not holds and f' ({more})' or ''}", flush=True)
+
+
+def wait_for(path):
+    ends = time.monotonic() + 20
+    while not os.path.exists(path) and time.monotonic() < ends:
+        time.sleep(0.01)
+
+
+def run(*words, **how):
+    done = subprocess.run([program, *words], capture_output=True, timeout=60, **how)
+    return done.returncode, done.stdout.decode(), done.stderr.decode()
+
+
+def marked(text, mark):
+    """The lines behind this mark, without it."""
+    return "".join(line[len(mark):] for line in text.splitlines(True) if line.startswith(mark))
+
+
+# ---- what went over a socket ----
+
+class Tap:
+    """Stands between a tool and a modem's socket, and keeps what went over the one connection that it takes, by direction."""
+
+    def __init__(self, path, modem):
+        self.went, self.came = b"", b""
+        self.listener = socket.socket(socket.AF_UNIX)
+        self.listener.bind(path)
+        self.listener.listen(1)
+        self.modem = modem
+        self.carrier = threading.Thread(target=self.carry, daemon=True)
+        self.carrier.start()
+
+    def carry(self):
+        tool, _ = self.listener.accept()
+        modem = socket.socket(socket.AF_UNIX)
+        modem.connect(self.modem)
+        back = threading.Thread(target=self.carry_back, args=(modem, tool), daemon=True)
+        back.start()
+        while octets := tool.recv(65536):
+            self.went += octets
+            modem.sendall(octets)
+        modem.shutdown(socket.SHUT_WR)
+        back.join(5)
+
+    def carry_back(self, modem, tool):
+        # (one byte, and then the rest: a message is told with the take that completes it)
+        while octets := modem.recv(65536):
+            self.came += octets
+            try:
+                tool.sendall(octets[:1])
+                tool.sendall(octets[1:])
+            except OSError:
+                return
+
+    def end(self):
+        self.carrier.join(10)
+        self.listener.close()
+
+
+def dissected(kind, octets):
+    with open("capture", "wb") as file:
+        file.write(octets)
+    return run("dissect", f"--kind={kind}", "capture")[1]
+
+
+taps = 0
+
+
+def told(name, kind, modem, words, proxied=False):
+    """One command with `-v` and without, each at a tap of its own, or at a proxy that is."""
+    global taps
+    seen = []
+    for more in (["-v"], []):
+        taps += 1
+        path = f"tap{taps}"
+        tap = Tap(path, modem)
+        way = ["-p", f"--socket={path}", "-d", "of-modem"] if proxied else ["-d", path]
+        seen.append(run(f"{kind}cli" if kind == "mbim" else "qmicli", *more, *way, *words))
+        tap.end()
+        if more:
+            went, came = tap.went, tap.came
+    (status, out, err), without = seen
+    lines = [line for line in err.splitlines(True) if not line.startswith(("> ", "< "))]
+    point(f"{name}: what was sent is told as dissect shows it", went and marked(err, "> ") == dissected(kind, went), err)
+    point(f"{name}: what was taken is told as dissect shows it", came and marked(err, "< ") == dissected(kind, came), err)
+    point(f"{name}: the rest is what it is without -v", (status, out, "".join(lines)) == without and err.endswith("".join(lines)), f"{seen}")
+
+
+SIGNAL = '[{"name": "Get Device Model ID", "type": "Message", "service": "DMS", "id": "0x0022", "output": [{"name": "Model", "id": "0x01", "format": "string"}]}]'
+
+
+def try_told():
+    modems = []
+    for kind in ("qmi", "mbim"):
+        modems.append(subprocess.Popen([program, "modem-sim", f"--kind={kind}", f"--socket=of-{kind}"]))
+        wait_for(f"of-{kind}")
+    modems.append(subprocess.Popen([program, "qmi-proxy", "--socket=proxy", "--device=of-qmi"]))
+    wait_for("proxy")
+    with open("dms.json", "w") as file:
+        file.write(SIGNAL)
+    told("qmicli", "qmi", "of-qmi", ["--dms-get-model"])
+    told("qmicli in JSON", "qmi", "of-qmi", ["--get-service-version-info", "--json"])
+    told("qmicli by tables", "qmi", "of-qmi", ["--tables=dms.json", "--request=Get Device Model ID"])
+    told("qmicli that is refused", "qmi", "of-qmi", ["--tables=dms.json", "--request=Get Device Model ID", "--client-cid=77"])
+    told("mbimcli", "mbim", "of-mbim", ["--query-device-caps"])
+    told("mbimcli in JSON", "mbim", "of-mbim", ["--query-signal-state", "--json"])
+    for modem in modems:
+        modem.terminate()
+        modem.wait(10)
+
+
+# ---- calls that fail ----
+
+def fails(name, path, words, status=LINK_FAULT, **how):
+    ended = run("qmicli", "-v", "-d", path, "--dms-get-model", **how)
+    line = {LINK_FAULT: "error: link fault\n"}[status]
+    point(f"{name}: {words}", ended == (status, "", f"! {path}: {words}\n{line}"), f"{ended}")
+
+
+def try_faults():
+    fails("a socket that isn't there", "away", "No such file or directory")
+    listener = socket.socket(socket.AF_UNIX)
+    listener.bind("deserted")
+    listener.close()
+    fails("a socket that nobody listens at", "deserted", "Connection refused")
+    os.mkdir("shut", 0o700)
+    if os.geteuid():
+        os.chmod("shut", 0)
+        fails("a socket that may not be opened", "shut/modem", "Permission denied")
+        os.chmod("shut", 0o700)
+    else:
+        os.chmod(folder, 0o711)
+        fails("a socket that may not be opened", "shut/modem", "Permission denied", user=NOBODY, group=NOBODY)
+    try_reset()
+
+
+def try_reset():
+    """The modem's end is closed with bytes unread."""
+    listener = socket.socket(socket.AF_UNIX)
+    listener.bind("reset")
+    listener.listen(1)
+
+    def reset():
+        connection, _ = listener.accept()
+        connection.recv(1)
+        connection.close()
+
+    threading.Thread(target=reset, daemon=True).start()
+    status, out, err = run("qmicli", "-v", "-d", "reset", "--dms-get-model")
+    lines = "".join(line for line in err.splitlines(True) if not line.startswith("> "))
+    point("a socket that is reset: Connection reset by peer", (status, out, lines) == (LINK_FAULT, "", "! reset: Connection reset by peer\nerror: link fault\n"), f"{(status, out, err)}")
+
+
+for part in parts:
+    {"told": try_told, "faults": try_faults}[part]()
+sys.exit(failed > 0)
