@@ -1,9 +1,12 @@
 -- The lines of requests that are commands of a tool: each prints the same.
-use Rattle.std.proofs.Common.{◌≡◌, ℕ, List, [], ◌∷◌, Option, codes, sym, ◌∙◌, ap, subst}
+use Rattle.std.proofs.Common.{◌≡◌, ℕ, Bool, true, false, ◌&&◌, List, [], ◌∷◌, Option, codes, refl, sym, ◌∙◌, ap, subst}
+use Rattle.std.proofs.lemmas.Bool.{and_parts}
 use Rattle.core_bench.specs.Runs.{Run}
 use Rattle.printed_ends.specs.declared.printed.Printed.{Printed}
 use Rattle.mbim_requests.specs.declared.MbimRequest.{MbimRequest}
+use Rattle.mbim_requests.specs.declared.MbimRequest.TheVariants.{ProxyConfiguration}
 use Rattle.qmi_requests.specs.declared.QmiRequest.{QmiRequest}
+use Rattle.qmi_requests.specs.declared.QmiRequest.TheVariants.{ProxyOpen, Allocate, Release}
 use Rattle.tool_words.specs.Commands.{CommandLine}
 use Rattle.tool_words.specs.declared.mbim_commands.MbimCommand.{MbimCommand}
 use Rattle.tool_words.specs.declared.qmi_commands.QmiCommand.{QmiCommand}
@@ -50,13 +53,43 @@ shows_equal trial line commands are given requests lines old new same made shown
 
 -- ---- the two tools ----
 
+-- all requests pass a test, which commands pass alone
+abbrev all_pass : {R : Type 0} → (R → Bool) → List (Named R) → Bool
+all_pass test [] = true
+all_pass test (named ∷ requests) = test named.asked && all_pass test requests
+
+are_commands : {R : Type 0} (trial : Trial R) (test : R → Bool) → ((asked : R) → test asked ≡ true → trial.IsCommand asked) → (requests : List (Named R)) → all_pass test requests ≡ true → AreCommands trial requests
+are_commands trial test passes [] all = tt
+are_commands trial test passes (named ∷ requests) all =
+    let parts = and_parts (test named.asked) (all_pass test requests) all in (passes named.asked parts.0, are_commands trial test passes requests parts.1)
+
+abbrev is_qmi_command : QmiRequest → Bool
+is_qmi_command (ProxyOpen path) = false
+is_qmi_command (Allocate service) = false
+is_qmi_command (Release service cid) = false
+is_qmi_command _ = true
+
+qmi_passes : (asked : QmiRequest) → is_qmi_command asked ≡ true → qmi_trial.IsCommand asked
+qmi_passes (ProxyOpen path) passes = absurd (cc)
+qmi_passes (Allocate service) passes = absurd (cc)
+qmi_passes (Release service cid) passes = absurd (cc)
+qmi_passes _ passes = tt
+
 are_qmi_commands : AreCommands qmi_trial (plain_requests qmi_line qmi_commands)
 unfolding plain_requests qmi_commands
-are_qmi_commands = (tt, (tt, (tt, (tt, (tt, (tt, (tt, (tt, (tt, (tt, (tt, (tt, (tt, (tt, (tt, tt)))))))))))))))
+are_qmi_commands = are_commands qmi_trial is_qmi_command qmi_passes (plain_requests qmi_line qmi_commands) refl
+
+abbrev is_mbim_command : MbimRequest → Bool
+is_mbim_command (ProxyConfiguration path) = false
+is_mbim_command _ = true
+
+mbim_passes : (asked : MbimRequest) → is_mbim_command asked ≡ true → mbim_trial.IsCommand asked
+mbim_passes (ProxyConfiguration path) passes = absurd (cc)
+mbim_passes _ passes = tt
 
 are_mbim_commands : AreCommands mbim_trial (plain_requests mbim_line mbim_commands)
 unfolding plain_requests mbim_commands
-are_mbim_commands = (tt, (tt, (tt, (tt, (tt, (tt, (tt, (tt, (tt, (tt, (tt, (tt, (tt, (tt, (tt, (tt, (tt, (tt, (tt, tt)))))))))))))))))))
+are_mbim_commands = are_commands mbim_trial is_mbim_command mbim_passes (plain_requests mbim_line mbim_commands) refl
 
 pub qmi_shows_equal : (given : List QmiCommand) (requests : List (Named QmiRequest)) (lines : List ℕ) (old new : Option (List Run))
     → given ≡ qmi_commands → requests ≡ plain_requests qmi_line given → Shown qmi_trial requests lines old new → ShowsEqual qmi_trial (plain_requests qmi_line qmi_commands) lines old new
