@@ -10,7 +10,7 @@ folder, program, parts = sys.argv[1], sys.argv[2], sys.argv[3:]
 os.chdir(folder)
 failed = 0
 NOBODY = 65534
-DENIED, LINK_FAULT, LINK_END = 1, 3, 4
+LINK_FAULT = 3
 
 
 def point(name, holds, more=""):
@@ -94,8 +94,8 @@ def told(name, kind, modem, words, proxied=False):
         taps += 1
         path = f"tap{taps}"
         tap = Tap(path, modem)
-        way = ["-p", f"--socket={path}", "-d", "of-modem"] if proxied else ["-d", path]
-        seen.append(run(f"{kind}cli" if kind == "mbim" else "qmicli", *more, *way, *words))
+        way = ["-p", f"--socket={path}", "-d", "of-qmi"] if proxied else ["-d", path]
+        seen.append(run(f"{kind}cli", *more, *way, *words))
         tap.end()
         if more:
             went, came = tap.went, tap.came
@@ -106,7 +106,7 @@ def told(name, kind, modem, words, proxied=False):
     point(f"{name}: the rest is what it is without -v", (status, out, "".join(lines)) == without and err.endswith("".join(lines)), f"{seen}")
 
 
-SIGNAL = '[{"name": "Get Device Model ID", "type": "Message", "service": "DMS", "id": "0x0022", "output": [{"name": "Model", "id": "0x01", "format": "string"}]}]'
+MODEL = '[{"name": "Get Device Model ID", "type": "Message", "service": "DMS", "id": "0x0022", "output": [{"name": "Model", "id": "0x01", "format": "string"}]}]'
 
 
 def try_told():
@@ -117,11 +117,12 @@ def try_told():
     modems.append(subprocess.Popen([program, "qmi-proxy", "--socket=proxy", "--device=of-qmi"]))
     wait_for("proxy")
     with open("dms.json", "w") as file:
-        file.write(SIGNAL)
+        file.write(MODEL)
     told("qmicli", "qmi", "of-qmi", ["--dms-get-model"])
     told("qmicli in JSON", "qmi", "of-qmi", ["--get-service-version-info", "--json"])
     told("qmicli by tables", "qmi", "of-qmi", ["--tables=dms.json", "--request=Get Device Model ID"])
     told("qmicli that is refused", "qmi", "of-qmi", ["--tables=dms.json", "--request=Get Device Model ID", "--client-cid=77"])
+    told("qmicli through our proxy", "qmi", "proxy", ["--dms-get-model"], proxied=True)
     told("mbimcli", "mbim", "of-mbim", ["--query-device-caps"])
     told("mbimcli in JSON", "mbim", "of-mbim", ["--query-signal-state", "--json"])
     for modem in modems:
@@ -131,10 +132,9 @@ def try_told():
 
 # ---- calls that fail ----
 
-def fails(name, path, words, status=LINK_FAULT, **how):
+def fails(name, path, words, **how):
     ended = run("qmicli", "-v", "-d", path, "--dms-get-model", **how)
-    line = {LINK_FAULT: "error: link fault\n"}[status]
-    point(f"{name}: {words}", ended == (status, "", f"! {path}: {words}\n{line}"), f"{ended}")
+    point(f"{name}: {words}", ended == (LINK_FAULT, "", f"! {path}: {words}\nerror: link fault\n"), f"{ended}")
 
 
 def try_faults():
