@@ -1,4 +1,4 @@
-ghost use Rattle.std.specs.Prelude.{◌≡◌, OnOk, Some};
+ghost use Rattle.std.specs.Prelude.{◌≡◌, ◌≤◌, OnOk, Some};
 ghost use Rattle.kit_io.specs.Causes.{Rose, HasCause};
 ghost use Rattle.kit_io.specs.Growth.{Grows};
 ghost use Rattle.program.specs.Status.{denied_text, error_line, input_line, line_of, message_line, object_line, profile_line, rules_line, tables_line};
