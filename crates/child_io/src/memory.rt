@@ -7,7 +7,7 @@ use kit_io::{Failed, Faults, Log};
 use std::alloc::{AllocError, Global};
 
 /// What a spawner in memory answers to one call.
-#[derive(Clone, Copy, Debug, PartialEq, Eq)]
+#[derive(Clone, Copy, PartialEq, Eq)]
 pub enum SpawnerAnswer {
     /// The call does what it is to do; a child ended with status 0.
     Does,
@@ -33,7 +33,7 @@ pub enum Made {
 
 /// A spawner in memory. It answers by its script, and behind the script's end each call does what
 /// it is to do. The children are named from 1 on, in the order of their starts.
-#[derive(Debug, Drop)]
+#[derive(Drop)]
 pub struct MemSpawner {
     // The answers still to come, the next one last.
     script: Vec<SpawnerAnswer>,

@@ -13,7 +13,7 @@ use std::alloc::{AllocError, Global};
 use std::mem::replace;
 
 /// What was done on a bench in memory. Its bytes stand beside it: the device's path, or a piece.
-#[derive(Clone, Copy, Debug, PartialEq, Eq)]
+#[derive(Clone, Copy, PartialEq, Eq)]
 pub enum BenchNote {
     /// A core was opened.
     Opened { kind: Kind, limits: Limits },

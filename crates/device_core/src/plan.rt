@@ -2,7 +2,7 @@ use kit_bytes::PathText;
 use qmi_requests::QmiRequest;
 
 /// What a session with a QMI modem is to do.
-#[derive(Debug, Drop)]
+#[derive(Drop)]
 pub struct QmiPlan {
     /// The path of the device.
     pub device: PathText,

@@ -5,7 +5,7 @@ use link_session::{Awaits, Meaning};
 use qmux_frame::{Head, Qmux};
 
 /// The service, the client id and the number that an answer has.
-#[derive(Clone, Copy, Debug, PartialEq, Eq)]
+#[derive(Clone, Copy, PartialEq, Eq)]
 pub struct Wanted {
     pub service: u8,
     pub cid: u8,

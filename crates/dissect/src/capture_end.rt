@@ -6,7 +6,7 @@ use std::alloc::AllocError;
 use stream_lines::DissectEnd;
 
 /// How dissecting a capture ended, with tables that were looked for before.
-#[derive(Clone, Copy, Debug, PartialEq, Eq)]
+#[derive(Clone, Copy, PartialEq, Eq)]
 pub enum CaptureEnd {
     /// The capture was shown, until this.
     Shown(DissectEnd),

@@ -6,7 +6,7 @@ use kit_io::{Failed, Faults, Log};
 use std::alloc::{AllocError, Global};
 
 /// What files in memory answer to one call.
-#[derive(Debug, Drop)]
+#[derive(Drop)]
 pub enum FileAnswer {
     /// The call does what it is to do: a read finds the end, and a write takes all.
     Does,
@@ -32,7 +32,7 @@ pub enum Made {
 
 /// Files in memory. They answer by their script, and behind the script's end each call does what it
 /// is to do.
-#[derive(Debug, Drop)]
+#[derive(Drop)]
 pub struct MemFiles {
     // The answers still to come, the next one last.
     script: Vec<FileAnswer>,

@@ -12,7 +12,7 @@ use std::alloc::{AllocError, Global};
 pub const FILE_LIMIT: usize = 16_777_216;
 
 /// Why a file wasn't read whole.
-#[derive(Clone, Copy, Debug, PartialEq, Eq)]
+#[derive(Clone, Copy, PartialEq, Eq)]
 pub enum FileFault {
     /// It couldn't be opened, or a read failed.
     ReadFault,

@@ -3,7 +3,7 @@ ghost use Rattle.framing.specs.declared.framing.Size.{Size};
 ghost use Rattle.framing.specs.Framing.{AreBytes, IsKept, IsPartial, IsPositive, IsWithin};
 
 /// What the first bytes of a message say of its length.
-#[derive(Clone, Copy, Debug, PartialEq, Eq)]
+#[derive(Clone, Copy, PartialEq, Eq)]
 pub enum Size {
     /// They are too few to tell.
     Unknown,

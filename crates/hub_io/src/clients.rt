@@ -36,7 +36,7 @@ pub fn name_after(last: u64, place: usize) -> Option<u64>
 
 /// The names of the clients that are there, and the greatest that was told. Of names that are 128
 /// apart only the one that came last is there.
-#[derive(Debug, Drop)]
+#[derive(Drop)]
 pub struct Names {
     greatest: u64,
     by_place: Vec<Option<u64>>,
@@ -111,7 +111,7 @@ impl Names {
 
 /// How many sends to each client have failed, by the place of its name. At its type's end a count
 /// stands still.
-#[derive(Debug, Drop)]
+#[derive(Drop)]
 pub struct ConnFaults {
     counts: Vec<u64>,
 }

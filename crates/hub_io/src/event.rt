@@ -1,7 +1,7 @@
 use kit_bytes::ConnId;
 
 /// What happens to a proxy. Connections have names, and no two have the same.
-#[derive(Clone, Copy, Debug)]
+#[derive(Clone, Copy)]
 pub enum Event<'a> {
     /// A client connected.
     Joined(ConnId),

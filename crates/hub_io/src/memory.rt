@@ -15,7 +15,7 @@ use link_io::Target;
 use std::alloc::{AllocError, Global};
 
 /// What a hub in memory answers to one `next`.
-#[derive(Debug, Drop)]
+#[derive(Drop)]
 pub enum HubTurn {
     /// It tells an event that brings no bytes.
     Tells(HubEvent),
@@ -28,7 +28,7 @@ pub enum HubTurn {
 }
 
 /// What a hub in memory answers to one opening, pairing, send or reopening.
-#[derive(Clone, Copy, Debug, PartialEq, Eq)]
+#[derive(Clone, Copy, PartialEq, Eq)]
 pub enum HubAnswer {
     /// The call does what it is to do; a send takes at most so many bytes.
     Takes(usize),
@@ -64,7 +64,7 @@ pub enum HubCall {
 /// A `next` also fails where its turn can't be told: the name of who joins doesn't rise, a client that
 /// isn't there tells something, or a piece has no bytes. Of clients whose names are 128 apart only
 /// the one that joined last is there.
-#[derive(Debug, Drop)]
+#[derive(Drop)]
 pub struct MemHub {
     // What is still to come of each script, the next one last.
     turns: Vec<HubTurn>,

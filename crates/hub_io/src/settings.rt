@@ -1,7 +1,7 @@
 use kit_bytes::Text;
 
 /// The limits that one proxy is opened with.
-#[derive(Clone, Copy, Debug, PartialEq, Eq)]
+#[derive(Clone, Copy, PartialEq, Eq)]
 pub struct Limits {
     /// How long a request waits for its answer, in milliseconds.
     pub time: u64,
@@ -11,7 +11,7 @@ pub struct Limits {
 }
 
 /// When a serving ends by itself.
-#[derive(Clone, Copy, Debug, PartialEq, Eq)]
+#[derive(Clone, Copy, PartialEq, Eq)]
 pub struct Until {
     /// Once nobody has been connected for so many milliseconds.
     pub empty: Option<u64>,
@@ -20,7 +20,7 @@ pub struct Until {
 }
 
 /// How a proxy is served.
-#[derive(Debug, Drop)]
+#[derive(Drop)]
 pub struct Settings {
     /// The path of the device, by which clients open it.
     pub device: Text,

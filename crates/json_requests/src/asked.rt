@@ -17,7 +17,7 @@ use qmux_frame::LONGEST_TLVS;
 use std::alloc::Global;
 
 /// A message of tables, and the TLVs of a request of it.
-#[derive(Debug, Drop)]
+#[derive(Drop)]
 pub struct Asked {
     pub message: Message,
     pub tlvs: Octets,

@@ -4,7 +4,7 @@ ghost use Rattle.kit_io.specs.Counts.{one_more};
 use std::marker::Model;
 
 /// How many calls were made on an object. At its type's end the count stands still.
-#[derive(Debug, Drop)]
+#[derive(Drop)]
 pub struct CallCount {
     count: u64,
 }

@@ -4,11 +4,11 @@ ghost use Rattle.kit_io.specs.Causes.{Rose};
 use std::marker::Model;
 
 /// A call on the outside failed, and its object's count of faults has risen.
-#[derive(Clone, Copy, Debug, PartialEq, Eq)]
+#[derive(Clone, Copy, PartialEq, Eq)]
 pub struct Failed;
 
 /// How many calls on an object have failed. At its type's end the count stands still.
-#[derive(Debug, Drop)]
+#[derive(Drop)]
 pub struct Faults {
     count: u64,
 }

@@ -5,7 +5,7 @@ use std::alloc::{AllocError, Global};
 use std::marker::Model;
 
 /// What happened, and which of a log's bytes went with it.
-#[derive(Clone, Copy, Debug, PartialEq, Eq)]
+#[derive(Clone, Copy, PartialEq, Eq)]
 pub struct Note<K> {
     pub kind: K,
     pub bytes: Span,
@@ -13,7 +13,7 @@ pub struct Note<K> {
 
 /// A list of what happened, each with its bytes, which grows within the room that it is made with.
 /// Once a note doesn't fit, it tells nothing any more.
-#[derive(Debug, Drop)]
+#[derive(Drop)]
 pub struct Log<K> {
     notes: Vec<Note<K>>,
     bytes: Vec<u8>,

@@ -5,7 +5,7 @@ use crate::{CallCount, Failed, Faults, Record, Sink};
 use std::alloc::{AllocError, Global};
 
 /// What a sink in memory answers to one call.
-#[derive(Clone, Copy, Debug, PartialEq, Eq)]
+#[derive(Clone, Copy, PartialEq, Eq)]
 pub enum SinkAnswer {
     /// It takes at most so many bytes, but at least one.
     Takes(usize),

@@ -6,7 +6,7 @@ use std::marker::Model;
 
 /// A list that grows within the room that it is made with. Once something doesn't fit, it tells
 /// nothing any more.
-#[derive(Debug, Drop)]
+#[derive(Drop)]
 pub struct Record<T> {
     entries: Vec<T>,
     tells: bool,

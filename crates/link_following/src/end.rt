@@ -1,5 +1,5 @@
 /// How a following ends.
-#[derive(Clone, Copy, Debug, PartialEq, Eq)]
+#[derive(Clone, Copy, PartialEq, Eq)]
 pub enum FollowEnd {
     /// The other side has ended the link.
     LinkEnd,

@@ -10,7 +10,7 @@ use kit_io::Failed;
 pub const TAKE_ROOM: usize = 16_384;
 
 /// Where a link leads.
-#[derive(Debug, Drop)]
+#[derive(Drop)]
 pub enum Target {
     /// A Unix socket, by its path.
     Socket(Text),
@@ -20,7 +20,7 @@ pub enum Target {
 }
 
 /// What a take gives.
-#[derive(Clone, Copy, Debug, PartialEq, Eq)]
+#[derive(Clone, Copy, PartialEq, Eq)]
 pub enum Taken {
     /// So many bytes stand at the front of the buffer.
     Bytes(usize),

@@ -9,7 +9,7 @@ use kit_io::{CallCount, Failed, Faults, Log};
 use std::alloc::{AllocError, Global};
 
 /// What a link in memory answers to one call.
-#[derive(Debug, Drop)]
+#[derive(Drop)]
 pub enum LinkAnswer {
     /// The call does what it is to do; a take gives nothing.
     Does,
@@ -38,7 +38,7 @@ pub enum Made {
 }
 
 /// A link in memory. It answers by its script, and behind the script's end a take finds the end.
-#[derive(Debug, Drop)]
+#[derive(Drop)]
 pub struct MemLink {
     // The answers still to come, the next one last.
     script: Vec<LinkAnswer>,

@@ -9,7 +9,7 @@ use std::alloc::{AllocError, Global};
 use std::marker::Model;
 
 /// A message that has come in.
-#[derive(Clone, Copy, Debug, PartialEq, Eq)]
+#[derive(Clone, Copy, PartialEq, Eq)]
 pub struct Found {
     /// Where it begins in the stream.
     pub place: u64,
@@ -18,7 +18,7 @@ pub struct Found {
 }
 
 /// What comes next in the stream.
-#[derive(Clone, Copy, Debug, PartialEq, Eq)]
+#[derive(Clone, Copy, PartialEq, Eq)]
 pub(crate) enum Next {
     Message(Found),
     /// Bytes that begin no message, from this place on.

@@ -9,7 +9,7 @@ use kit_io::Failed;
 use link_io::{Link, TAKE_ROOM, Taken};
 
 /// What a session notices, one after the other.
-#[derive(Clone, Copy, Debug, PartialEq, Eq)]
+#[derive(Clone, Copy, PartialEq, Eq)]
 pub enum Mark {
     Message(Found),
     /// Bytes that begin no message, from this place on.

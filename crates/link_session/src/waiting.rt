@@ -15,7 +15,7 @@ use link_io::Link;
 const MOST_MESSAGES: u32 = 65_536;
 
 /// What a message is to the one who waits for an answer.
-#[derive(Clone, Copy, Debug, PartialEq, Eq)]
+#[derive(Clone, Copy, PartialEq, Eq)]
 pub enum Meaning {
     /// It isn't the answer, or not the last message of it.
     NoAnswer,

@@ -2,7 +2,7 @@ use kit_bytes::ConnId;
 
 /// What happens to a proxy of several devices. Connections have names, and no two have the same;
 /// devices are counted from 0.
-#[derive(Clone, Copy, Debug)]
+#[derive(Clone, Copy)]
 pub enum ManyEvent<'a> {
     /// A client connected.
     Joined(ConnId),

@@ -11,7 +11,7 @@ use link_io::Target;
 
 /// What a hub of several devices tells of its clients, its modems and the time. Devices are counted
 /// from 0.
-#[derive(Clone, Copy, Debug, PartialEq, Eq)]
+#[derive(Clone, Copy, PartialEq, Eq)]
 pub enum ManyHubEvent {
     /// A client came.
     Joined(ConnId),

@@ -13,7 +13,7 @@ use many_io::ManyHub;
 use modem_routes::{Pumps, start_more_pumps};
 
 /// Why the devices weren't opened.
-#[derive(Clone, Copy, Debug, PartialEq, Eq)]
+#[derive(Clone, Copy, PartialEq, Eq)]
 pub enum NotOpened {
     /// A call on the hub failed.
     Hub,

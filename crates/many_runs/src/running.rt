@@ -14,7 +14,7 @@ use many_served::{ManySettings, serve_many};
 use std::alloc::{AllocError, Global};
 
 /// How a proxy of several devices ended.
-#[derive(Clone, Copy, Debug, PartialEq, Eq)]
+#[derive(Clone, Copy, PartialEq, Eq)]
 pub enum ManyEnd {
     /// It served, and ended for this reason.
     Served(ServeEnd),
@@ -24,7 +24,7 @@ pub enum ManyEnd {
 }
 
 /// How it ended, and whether each child that it had started was stopped.
-#[derive(Clone, Copy, Debug, PartialEq, Eq)]
+#[derive(Clone, Copy, PartialEq, Eq)]
 pub struct ManyRun {
     pub end: ManyEnd,
     pub stopped: bool,

@@ -6,7 +6,7 @@ use kit_bytes::ConnId;
 use std::marker::Model;
 
 /// A connection that was dropped and is to be hung up.
-#[derive(Debug, Drop)]
+#[derive(Drop)]
 pub struct Gone {
     conn: ConnId,
     // none where it was never let in

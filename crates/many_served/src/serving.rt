@@ -13,7 +13,7 @@ use serving_loop::serve_devices;
 use std::alloc::{AllocError, Global};
 
 /// How a proxy of several devices is served.
-#[derive(Clone, Copy, Debug)]
+#[derive(Clone, Copy)]
 pub struct ManySettings<'a> {
     /// The paths of the devices, by which clients open them.
     pub devices: &'a [PathText],

@@ -6,7 +6,7 @@ ghost use Rattle.mbim_core.specs.Answer.{heard_of};
 use mbim_state::Asked;
 
 /// Which answer the modem gives.
-#[derive(Clone, Copy, Debug, PartialEq, Eq)]
+#[derive(Clone, Copy, PartialEq, Eq)]
 pub enum Answer {
     /// A COMMAND_DONE.
     Done,

@@ -9,7 +9,7 @@ use crate::memory::VALUE_FOOTPRINT;
 use crate::value::count_in;
 
 /// What always takes the same number of bytes.
-#[derive(Clone, Copy, Debug, PartialEq, Eq)]
+#[derive(Clone, Copy, PartialEq, Eq)]
 pub enum Fixed {
     /// A number in 4 bytes, little endian.
     U32,

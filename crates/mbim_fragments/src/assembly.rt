@@ -24,7 +24,7 @@ pub enum Took {
 }
 
 /// How far a message has come.
-#[derive(Clone, Copy, Debug, PartialEq, Eq)]
+#[derive(Clone, Copy, PartialEq, Eq)]
 struct Progress {
     // The number and the total of its fragments.
     number: u32,

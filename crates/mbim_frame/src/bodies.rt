@@ -6,7 +6,7 @@ use kit_bytes::{u32_at, uuid_at};
 use uuid::Uuid;
 
 /// The fields at the head of a command's body.
-#[derive(Clone, Copy, Debug, PartialEq, Eq)]
+#[derive(Clone, Copy, PartialEq, Eq)]
 pub struct CommandHead {
     /// The UUID of the service.
     pub uuid: Uuid,
@@ -45,7 +45,7 @@ impl CommandHead {
 }
 
 /// The fields at the head of the body of an answer to a command.
-#[derive(Clone, Copy, Debug, PartialEq, Eq)]
+#[derive(Clone, Copy, PartialEq, Eq)]
 pub struct DoneHead {
     /// The UUID of the service.
     pub uuid: Uuid,
@@ -79,7 +79,7 @@ impl DoneHead {
 }
 
 /// The fields at the head of an indication's body.
-#[derive(Clone, Copy, Debug, PartialEq, Eq)]
+#[derive(Clone, Copy, PartialEq, Eq)]
 pub struct IndicationHead {
     /// The UUID of the service.
     pub uuid: Uuid,

@@ -4,7 +4,7 @@ ghost use Rattle.mbim_frame.specs.Fragment.{body_of, fragment_head_of};
 use kit_bytes::u32_at;
 
 /// The fields of the head that a fragment has behind the head of a message.
-#[derive(Clone, Copy, Debug, PartialEq, Eq)]
+#[derive(Clone, Copy, PartialEq, Eq)]
 pub struct FragmentHead {
     /// How many fragments the message has.
     pub total: u32,

@@ -6,7 +6,7 @@ use crate::kind::MessageKind;
 use kit_bytes::{u32_at, u32_bytes};
 
 /// The fields at the head of a message.
-#[derive(Clone, Copy, Debug, PartialEq, Eq)]
+#[derive(Clone, Copy, PartialEq, Eq)]
 pub struct MHead {
     /// The number of the message's kind.
     pub kind: u32,

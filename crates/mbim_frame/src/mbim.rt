@@ -4,7 +4,7 @@ use framing::{Framing, Size};
 use kit_bytes::u32_at;
 
 /// The framing of MBIM.
-#[derive(Clone, Copy, Debug, PartialEq, Eq)]
+#[derive(Clone, Copy, PartialEq, Eq)]
 pub struct Mbim;
 
 impl Framing for Mbim {

@@ -61,7 +61,7 @@ pub fn plain_done(number: u32, uuid: Uuid, cid: u32, status: u32) -> [u8; 48]
 }
 
 /// A fragment that is to be written, but for its part of the body.
-#[derive(Clone, Copy, Debug, PartialEq, Eq)]
+#[derive(Clone, Copy, PartialEq, Eq)]
 pub struct NewFragment {
     /// The number of the message's kind.
     pub kind: u32,

@@ -2,7 +2,7 @@ use kit_bytes::Octets;
 use uuid::Uuid;
 
 /// A command for a modem or its proxy.
-#[derive(Debug, Drop)]
+#[derive(Drop)]
 pub struct Command {
     /// The UUID of its service.
     pub uuid: Uuid,

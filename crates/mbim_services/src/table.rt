@@ -10,7 +10,7 @@ use std::alloc::{AllocError, Global};
 use uuid::Uuid;
 
 /// A service, which is a set of commands.
-#[derive(Clone, Copy, Debug, PartialEq, Eq)]
+#[derive(Clone, Copy, PartialEq, Eq)]
 pub enum Service {
     /// The modem, its SIM, and its connections.
     BasicConnect,
@@ -27,7 +27,7 @@ pub enum Service {
 }
 
 /// What a buffer is of.
-#[derive(Clone, Copy, Debug, PartialEq, Eq)]
+#[derive(Clone, Copy, PartialEq, Eq)]
 pub enum Way {
     /// A command that asks.
     Query,

@@ -6,7 +6,7 @@ use mbim_requests::MbimRequest;
 use mbim_services::MbimAnswer;
 
 /// What a session with an MBIM modem is to do.
-#[derive(Debug, Drop)]
+#[derive(Drop)]
 pub struct MbimPlan {
     /// The path of the device.
     pub device: PathText,

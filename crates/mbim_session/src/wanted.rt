@@ -14,7 +14,7 @@ pub(crate) fn is_of(kind: MessageKind, number: u32, message: &[u8]) -> bool
 }
 
 /// The kind of DONE and the number that the answer to an OPEN or to a CLOSE has.
-#[derive(Clone, Copy, Debug, PartialEq, Eq)]
+#[derive(Clone, Copy, PartialEq, Eq)]
 pub(crate) struct Wanted {
     pub(crate) done: MessageKind,
     pub(crate) number: u32,

@@ -1,7 +1,7 @@
 use uuid::Uuid;
 
 /// What is kept of a command of a client that went to the modem: as much as its answer needs.
-#[derive(Clone, Copy, Debug, PartialEq, Eq)]
+#[derive(Clone, Copy, PartialEq, Eq)]
 pub struct CommandName {
     /// The client's own transaction number.
     pub number: u32,
@@ -12,7 +12,7 @@ pub struct CommandName {
 }
 
 /// What is kept of a request that went to the modem.
-#[derive(Clone, Copy, Debug, PartialEq, Eq)]
+#[derive(Clone, Copy, PartialEq, Eq)]
 pub enum Asked {
     /// The proxy's own request to open the modem.
     Open,

@@ -3,7 +3,7 @@ use crate::tlvs::{has_twice, nest_well};
 use kit_bytes::Text;
 
 /// A message or an indication of a service.
-#[derive(Debug, Drop)]
+#[derive(Drop)]
 pub struct Message {
     pub name: Text,
     pub service: u8,
@@ -16,7 +16,7 @@ pub struct Message {
 }
 
 /// What tells a message from the others.
-#[derive(Debug, PartialEq, Eq, Hash, Drop)]
+#[derive(PartialEq, Eq, Hash, Drop)]
 pub(crate) struct MessageKey {
     pub(crate) service: u8,
     pub(crate) id: u16,

@@ -5,7 +5,7 @@ use std::alloc::{AllocError, Global};
 use std::marker::Model;
 
 /// A list of messages, each found by its service, its id and its kind.
-#[derive(Debug, Drop)]
+#[derive(Drop)]
 pub struct Tables {
     messages: IndexMap<MessageKey, Message>,
 }

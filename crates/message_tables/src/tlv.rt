@@ -11,7 +11,7 @@ pub struct TlvShape {
 }
 
 /// A list of TLVs.
-#[derive(Debug, Drop)]
+#[derive(Drop)]
 pub struct TlvShapes {
     tlvs: Vec<TlvShape>,
 }

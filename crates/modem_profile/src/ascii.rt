@@ -10,7 +10,7 @@ use std::alloc::{AllocError, Global};
 use std::marker::Model;
 
 /// A text of at most 100 characters, all of ASCII, each of which is one byte.
-#[derive(Debug, Drop)]
+#[derive(Drop)]
 pub struct AsciiText {
     text: Text,
 }

@@ -10,7 +10,7 @@ use serde_json::Value;
 use std::alloc::{AllocError, Global};
 
 /// What a profile says of the device.
-#[derive(Debug, Drop)]
+#[derive(Drop)]
 pub(crate) struct DeviceTexts {
     pub(crate) manufacturer: AsciiText,
     pub(crate) model: AsciiText,
@@ -51,7 +51,7 @@ impl DeviceTexts {
 }
 
 /// What a profile says of the subscriber and of the network.
-#[derive(Debug, Drop)]
+#[derive(Drop)]
 pub(crate) struct NetworkTexts {
     pub(crate) msisdn: AsciiText,
     pub(crate) imei: AsciiText,
@@ -92,7 +92,7 @@ impl NetworkTexts {
 }
 
 /// The numbers of a profile.
-#[derive(Clone, Copy, Debug)]
+#[derive(Clone, Copy)]
 pub(crate) struct Numbers {
     pub(crate) mcc: u16,
     pub(crate) mnc: u16,

@@ -6,7 +6,7 @@ use kit_bytes::Text;
 use std::alloc::{AllocError, Global};
 
 /// An entry of a phone book.
-#[derive(Debug, Drop)]
+#[derive(Drop)]
 pub struct PhonebookEntry {
     pub number: Text,
     pub name: Text,

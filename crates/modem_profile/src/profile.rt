@@ -28,7 +28,7 @@ const NUMBERS: Numbers = Numbers {
 };
 
 /// What a simulated modem tells of itself and of its network.
-#[derive(Debug, Drop)]
+#[derive(Drop)]
 pub struct Profile {
     pub(crate) device: DeviceTexts,
     pub(crate) network: NetworkTexts,

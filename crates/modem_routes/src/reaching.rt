@@ -15,7 +15,7 @@ use link_io::{Link, Target};
 const FURTHER_OPENINGS: u32 = 19;
 
 /// Why a modem wasn't reached.
-#[derive(Clone, Copy, Debug, PartialEq, Eq)]
+#[derive(Clone, Copy, PartialEq, Eq)]
 pub enum ReachFault {
     /// A call on the link failed.
     LinkFault,

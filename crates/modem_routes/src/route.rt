@@ -8,14 +8,14 @@ use link_io::Target;
 use std::alloc::{AllocError, Global};
 
 /// The words with which the pumps of a node are started.
-#[derive(Debug, Drop)]
+#[derive(Drop)]
 pub struct Pumps {
     pub(crate) reads: Vec<String>,
     pub(crate) writes: Vec<String>,
 }
 
 /// Where a device is.
-#[derive(Debug, Drop)]
+#[derive(Drop)]
 pub enum Device {
     /// At a socket.
     AtOnce(Target),
@@ -24,7 +24,7 @@ pub enum Device {
 }
 
 /// How a modem is reached.
-#[derive(Debug, Drop)]
+#[derive(Drop)]
 pub enum Route {
     Direct(Device),
     /// At the socket of a proxy, which is started with these words where none is there.

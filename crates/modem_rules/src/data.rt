@@ -8,7 +8,7 @@ use std::marker::Model;
 pub const LONGEST_DATA: usize = 60_000;
 
 /// The TLVs or the buffer of a rule: at most 60,000 bytes.
-#[derive(Debug, Drop)]
+#[derive(Drop)]
 pub struct RuleData {
     octets: Octets,
 }

@@ -10,7 +10,7 @@ use serde_json::Value;
 use uuid::Uuid;
 
 /// A kind of request: all requests of one message or command.
-#[derive(Clone, Copy, Debug, PartialEq, Eq, Hash)]
+#[derive(Clone, Copy, PartialEq, Eq, Hash)]
 pub enum RequestKind {
     /// The message of a QMI service.
     Message { service: u8, message: u16 },

@@ -1,14 +1,14 @@
 use crate::{RequestKind, RuleData};
 
 /// Each request of a kind is answered by a success with these TLVs or this buffer.
-#[derive(Debug, Drop)]
+#[derive(Drop)]
 pub struct AnswerRule {
     pub kind: RequestKind,
     pub data: RuleData,
 }
 
 /// How a request fails.
-#[derive(Clone, Copy, Debug, PartialEq, Eq)]
+#[derive(Clone, Copy, PartialEq, Eq)]
 pub enum Failure {
     /// It is refused by this error of QMI or this status of MBIM.
     Refused(u32),
@@ -21,7 +21,7 @@ pub enum Failure {
 }
 
 /// One request of a kind fails.
-#[derive(Clone, Copy, Debug, PartialEq, Eq)]
+#[derive(Clone, Copy, PartialEq, Eq)]
 pub struct FaultRule {
     pub kind: RequestKind,
     /// Which of the requests of the kind it is, counted from 1.
@@ -30,7 +30,7 @@ pub struct FaultRule {
 }
 
 /// When an indication is sent.
-#[derive(Clone, Copy, Debug, PartialEq, Eq)]
+#[derive(Clone, Copy, PartialEq, Eq)]
 pub enum When {
     /// Behind each request of this kind.
     After(RequestKind),
@@ -39,7 +39,7 @@ pub enum When {
 }
 
 /// An indication is sent, again and again.
-#[derive(Debug, Drop)]
+#[derive(Drop)]
 pub struct IndicationRule {
     pub when: When,
     /// What it is an indication of.
@@ -49,7 +49,7 @@ pub struct IndicationRule {
 }
 
 /// What a simulated modem does otherwise than by itself.
-#[derive(Debug, Drop)]
+#[derive(Drop)]
 pub struct Rules {
     pub answers: Vec<AnswerRule>,
     pub faults: Vec<FaultRule>,

@@ -5,7 +5,7 @@ use mbim_frame::Mbim;
 use qmux_frame::Qmux;
 
 /// The framing of what a modem's node is written: messages of QMUX and of MBIM.
-#[derive(Clone, Copy, Debug, PartialEq, Eq)]
+#[derive(Clone, Copy, PartialEq, Eq)]
 pub struct NodeMessage;
 
 impl Framing for NodeMessage {

@@ -16,7 +16,7 @@ use std::alloc::{AllocError, Global};
 use std::marker::Model;
 
 /// A number in use.
-#[derive(Clone, Copy, Debug, PartialEq, Eq)]
+#[derive(Clone, Copy, PartialEq, Eq)]
 pub struct Row<T> {
     pub number: u32,
     /// The connection that it was given to.
@@ -30,7 +30,7 @@ pub struct Row<T> {
 }
 
 /// What an answer with some number finds.
-#[derive(Clone, Copy, Debug, PartialEq, Eq)]
+#[derive(Clone, Copy, PartialEq, Eq)]
 pub enum Found<T> {
     /// The connection and the note that wait for it.
     Pending(u64, T),

@@ -3,7 +3,7 @@ ghost use Rattle.std.specs.Option.{option_copied};
 ghost use Rattle.print_text.specs.Words.{shown_word};
 
 /// Whether numbers stand with the words that they have.
-#[derive(Clone, Copy, Debug, PartialEq, Eq)]
+#[derive(Clone, Copy, PartialEq, Eq)]
 pub enum Wording {
     WithWords,
     NumbersAlone,

@@ -14,7 +14,7 @@ use link_io::Target;
 use modem_routes::{Device, Pumps, start_pumps};
 
 // Why a device wasn't opened.
-#[derive(Clone, Copy, Debug, PartialEq, Eq)]
+#[derive(Clone, Copy, PartialEq, Eq)]
 pub enum OpenFault {
     // A call on the hub failed.
     Hub,

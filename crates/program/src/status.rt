@@ -17,7 +17,7 @@ use tool_runs::RunEnd;
 use tool_words::UsageKind;
 
 /// How a run of the program ended.
-#[derive(Debug, Drop)]
+#[derive(Drop)]
 pub enum Status {
     Done,
     /// The modem refused the request with this code, by a function error or in its answer; or the

@@ -1,5 +1,5 @@
 /// How a pump ends.
-#[derive(Clone, Copy, Debug, PartialEq, Eq)]
+#[derive(Clone, Copy, PartialEq, Eq)]
 pub enum PumpEnd {
     /// The side that it takes bytes from has ended.
     Ended,

@@ -18,7 +18,7 @@ use tlv_codec::{outcome_in, tlv_value};
 use tlv_values::read_value;
 
 /// A value that an answer gives.
-#[derive(Debug, Drop)]
+#[derive(Drop)]
 pub struct Field {
     pub name: Text,
     pub shape: Shape,
@@ -26,7 +26,7 @@ pub struct Field {
 }
 
 /// A list of fields.
-#[derive(Debug, Drop)]
+#[derive(Drop)]
 pub struct Fields {
     fields: Vec<Field>,
 }
@@ -61,7 +61,7 @@ impl From<Vec<Field>> for Fields {
 }
 
 /// What an answer says.
-#[derive(Debug, Drop)]
+#[derive(Drop)]
 pub enum QmiAnswer {
     /// The values of the table's TLVs that are there, in the order of the table.
     Success(Fields),
@@ -70,7 +70,7 @@ pub enum QmiAnswer {
 }
 
 /// How a session with a QMI modem ended.
-#[derive(Debug, Drop)]
+#[derive(Drop)]
 pub struct QmiEnd {
     /// The command's answer, or the failure before it.
     pub answer: QmiAnswer,

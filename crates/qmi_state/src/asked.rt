@@ -8,7 +8,7 @@ use qmux_frame::{Head, Reply, control};
 
 /// What is kept of a request that went to the modem: as much of the sender's message as its answer
 /// needs.
-#[derive(Clone, Copy, Debug, PartialEq, Eq)]
+#[derive(Clone, Copy, PartialEq, Eq)]
 pub struct Asked {
     /// The first bytes of the message: service, client id, number and message id are among them.
     pub head: [u8; 12],

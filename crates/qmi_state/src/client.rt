@@ -4,7 +4,7 @@ use connections::Renews;
 use std::alloc::{AllocError, Global};
 
 /// What the proxy keeps of a client.
-#[derive(Clone, Copy, Debug, PartialEq, Eq)]
+#[derive(Clone, Copy, PartialEq, Eq)]
 pub struct Client {
     /// Whether it has opened the device.
     pub opened: bool,

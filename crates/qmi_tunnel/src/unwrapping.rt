@@ -6,7 +6,7 @@ use framing::{Framing, Size};
 use qmux_frame::{Head, Qmux};
 
 /// A buffer isn't one whole QMUX message.
-#[derive(Clone, Copy, Debug, PartialEq, Eq)]
+#[derive(Clone, Copy, PartialEq, Eq)]
 pub struct Ragged {
     /// Where it isn't: behind its first message, and at its start where it begins with none.
     pub place: usize,

@@ -5,7 +5,7 @@ use crate::kind::MessageKind;
 use kit_bytes::u16_at;
 
 /// The fields at the head of a message.
-#[derive(Clone, Copy, Debug, PartialEq, Eq)]
+#[derive(Clone, Copy, PartialEq, Eq)]
 pub struct Head {
     pub service: u8,
     /// The client id.

@@ -4,7 +4,7 @@ use framing::{Framing, Size};
 use kit_bytes::u16_at;
 
 /// The framing of QMUX.
-#[derive(Clone, Copy, Debug, PartialEq, Eq)]
+#[derive(Clone, Copy, PartialEq, Eq)]
 pub struct Qmux;
 
 impl Framing for Qmux {

@@ -3,7 +3,7 @@ ghost use Rattle.std.specs.Prelude.{◌≡◌, ◌+◌, ◌≤◌, [], ◌++◌,
 use std::marker::Model;
 
 /// Up to 20 bytes of a message. They take no memory.
-#[derive(Clone, Copy, Debug)]
+#[derive(Clone, Copy)]
 pub struct ShortBytes {
     bytes: [u8; 20],
     count: usize,

@@ -9,7 +9,7 @@ use std::alloc::{AllocError, Global};
 pub const LONGEST_TLVS: usize = 65_523;
 
 /// Who sends a message.
-#[derive(Clone, Copy, Debug, PartialEq, Eq)]
+#[derive(Clone, Copy, PartialEq, Eq)]
 pub enum Sender {
     Host,
     Modem,
@@ -27,7 +27,7 @@ impl Sender {
 }
 
 /// A message that is to be written, but for its TLVs.
-#[derive(Clone, Copy, Debug, PartialEq, Eq)]
+#[derive(Clone, Copy, PartialEq, Eq)]
 pub struct NewMessage {
     pub sender: Sender,
     pub service: u8,

@@ -1,5 +1,5 @@
 /// The client id of a request.
-#[derive(Clone, Copy, Debug, PartialEq, Eq)]
+#[derive(Clone, Copy, PartialEq, Eq)]
 pub struct Client {
     /// Of service 0, which has no client ids, it is 0.
     pub id: u8,
@@ -8,7 +8,7 @@ pub struct Client {
 }
 
 /// What asking for the modem and for a client id comes to.
-#[derive(Clone, Copy, Debug, PartialEq, Eq)]
+#[derive(Clone, Copy, PartialEq, Eq)]
 pub enum Access {
     Client(Client),
     /// The proxy or the modem refused with this error.

@@ -2,7 +2,7 @@ use kit_bytes::Octets;
 use tlv_codec::Outcome;
 
 /// An answer.
-#[derive(Debug, Drop)]
+#[derive(Drop)]
 pub struct TlvAnswer {
     /// What its Result TLV says.
     pub outcome: Outcome,
@@ -11,7 +11,7 @@ pub struct TlvAnswer {
 }
 
 /// How a session ends.
-#[derive(Debug, Drop)]
+#[derive(Drop)]
 pub enum RequestEnd {
     /// The proxy or the modem refused what the request needs first, with this error.
     NotSent(u16),

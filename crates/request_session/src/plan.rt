@@ -2,7 +2,7 @@ use crate::request::TlvRequest;
 use kit_bytes::PathText;
 
 /// What a session for a request is to do.
-#[derive(Debug, Drop)]
+#[derive(Drop)]
 pub struct RequestPlan {
     /// The path of the device.
     pub device: PathText,

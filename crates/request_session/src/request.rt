@@ -8,7 +8,7 @@ use qmux_frame::{LONGEST_TLVS, MessageKind, NewMessage, Sender};
 use std::alloc::{AllocError, Global};
 
 /// A request of any service, given by its bytes.
-#[derive(Debug, Drop)]
+#[derive(Drop)]
 pub struct TlvRequest {
     pub service: u8,
     /// The message id: which of the service's messages it is.

@@ -6,7 +6,7 @@ use link_session::{Awaits, Meaning};
 use qmux_frame::{Head, Qmux};
 
 /// The service, the client id, the number and the message id that an answer has.
-#[derive(Clone, Copy, Debug, PartialEq, Eq)]
+#[derive(Clone, Copy, PartialEq, Eq)]
 pub struct WantedAnswer {
     pub wanted: Wanted,
     /// The message id.

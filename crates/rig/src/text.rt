@@ -8,7 +8,7 @@ use rig_trace::Counts;
 use std::alloc::{AllocError, Global};
 
 /// What a rig came to.
-#[derive(Clone, Copy, Debug)]
+#[derive(Clone, Copy)]
 pub(crate) struct Outcome {
     pub counts: Counts,
     /// How many of the clients took the same bytes alone.

@@ -16,7 +16,7 @@ use rig_trace::Key;
 use std::alloc::{AllocError, Global};
 
 /// How the messages of MBIM are read.
-#[derive(Clone, Copy, Debug, PartialEq, Eq)]
+#[derive(Clone, Copy, PartialEq, Eq)]
 pub struct MbimReading;
 
 impl Reading for MbimReading {

@@ -9,7 +9,7 @@ use rig_trace::Key;
 use std::alloc::{AllocError, Global};
 
 /// How the messages of QMI are read.
-#[derive(Clone, Copy, Debug, PartialEq, Eq)]
+#[derive(Clone, Copy, PartialEq, Eq)]
 pub struct QmiReading;
 
 impl Reading for QmiReading {

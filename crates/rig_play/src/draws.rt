@@ -2,7 +2,7 @@ ghost use Rattle.std.specs.Prelude.{◌≡◌, ◌<◌};
 ghost use Rattle.rig_runs.specs.Draws.{drawn, next};
 
 /// Numbers that are drawn one after another, by the linear congruential generator of MMIX.
-#[derive(Clone, Copy, Debug)]
+#[derive(Clone, Copy)]
 pub(crate) struct Draws {
     x: u64,
 }

@@ -1,7 +1,7 @@
 use kit_bytes::ConnId;
 
 /// What a request, as the modem sees it, and its answer have in common.
-#[derive(Clone, Copy, Debug, PartialEq, Eq)]
+#[derive(Clone, Copy, PartialEq, Eq)]
 pub struct Key {
     /// What tells requests of one number apart: a service, or the kind of a message.
     pub kind: u32,
@@ -12,7 +12,7 @@ pub struct Key {
 }
 
 /// A request whose number is in use.
-#[derive(Clone, Copy, Debug, PartialEq, Eq)]
+#[derive(Clone, Copy, PartialEq, Eq)]
 pub struct Row {
     /// Counts the requests from 1.
     pub serial: u64,
@@ -28,7 +28,7 @@ pub struct Row {
 }
 
 /// What became of the clients' requests.
-#[derive(Clone, Copy, Debug, PartialEq, Eq)]
+#[derive(Clone, Copy, PartialEq, Eq)]
 pub struct Counts {
     pub forwarded: u64,
     /// Those that were answered while their senders waited.

@@ -7,7 +7,7 @@ use kit_bytes::Octets;
 use std::alloc::AllocError;
 
 /// What a modem does at a message.
-#[derive(Debug, Drop)]
+#[derive(Drop)]
 pub struct Reply {
     /// What it sends, one message behind the other.
     pub messages: Octets,

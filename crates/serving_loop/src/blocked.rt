@@ -12,7 +12,7 @@ pub const MOST_BLOCKED: usize = 64;
 
 /// The clients whose sockets take nothing now, by their names, or the modems that take nothing, by
 /// their devices: all of them, unless they are more than are remembered. This takes no memory.
-#[derive(Debug, Drop)]
+#[derive(Drop)]
 pub struct Blocked {
     names: ArrayVec<ConnId, MOST_BLOCKED>,
 }

@@ -8,7 +8,7 @@ use kit_bytes::ConnId;
 use many_io::{ManyEvent, ManyHubEvent};
 
 /// What a hub told.
-#[derive(Clone, Copy, Debug)]
+#[derive(Clone, Copy)]
 pub enum ToldEvent<'a> {
     /// Something for the proxy to meet.
     Event(ManyEvent<'a>),

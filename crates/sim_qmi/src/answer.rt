@@ -7,7 +7,7 @@ use qmi_values::Val;
 use std::alloc::{AllocError, Global};
 
 /// What a request is answered.
-#[derive(Debug, Drop)]
+#[derive(Drop)]
 pub(crate) enum Answer {
     /// This error.
     Failure(u16),

@@ -17,7 +17,7 @@ use std::alloc::{AllocError, Global};
 use tlv_values::{list, sequence};
 
 /// What a request to service 0 asks.
-#[derive(Clone, Copy, Debug, PartialEq, Eq)]
+#[derive(Clone, Copy, PartialEq, Eq)]
 pub(crate) enum CtlRequest {
     GetVersionInfo,
     /// A client id of this service.

@@ -23,7 +23,7 @@ const DATA_SERVICE_CS: u64 = 1;
 const SIM_SUPPORTED: u64 = 2;
 
 /// What a request to service 2 asks.
-#[derive(Clone, Copy, Debug, PartialEq, Eq)]
+#[derive(Clone, Copy, PartialEq, Eq)]
 pub(crate) enum DmsRequest {
     GetCapabilities,
     GetManufacturer,

@@ -29,7 +29,7 @@ const NETWORK_3GPP: u64 = 2;
 const DRX: u64 = 6;
 
 /// What a request to service 3 asks.
-#[derive(Clone, Copy, Debug, PartialEq, Eq)]
+#[derive(Clone, Copy, PartialEq, Eq)]
 pub(crate) enum NasRequest {
     GetSignalStrength,
     NetworkScan,

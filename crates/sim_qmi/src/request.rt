@@ -14,7 +14,7 @@ const MAIN_INPUT: u8 = 0x01;
 const INDEX_INPUT: u8 = 0x10;
 
 /// What a request asks.
-#[derive(Clone, Copy, Debug, PartialEq, Eq)]
+#[derive(Clone, Copy, PartialEq, Eq)]
 pub(crate) enum Request {
     Ctl(CtlRequest),
     Wds(WdsRequest),

@@ -16,7 +16,7 @@ use std::alloc::{AllocError, Global};
 use std::marker::Model;
 
 /// What the modem keeps from one request to the next.
-#[derive(Debug, Drop)]
+#[derive(Drop)]
 pub(crate) struct ModemState {
     /// The client ids that are given.
     clients: Vec<ClientId>,

@@ -16,7 +16,7 @@ use std::alloc::{AllocError, Global};
 use tlv_values::sequence;
 
 /// What a request to service 1 asks.
-#[derive(Clone, Copy, Debug, PartialEq, Eq)]
+#[derive(Clone, Copy, PartialEq, Eq)]
 pub(crate) enum WdsRequest {
     StartNetwork,
     /// To end the connection with this packet data handle.

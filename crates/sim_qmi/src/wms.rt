@@ -24,7 +24,7 @@ const TAG: u64 = 0;
 const POINT_TO_POINT: u64 = 6;
 
 /// What a request to service 5 asks.
-#[derive(Clone, Copy, Debug, PartialEq, Eq)]
+#[derive(Clone, Copy, PartialEq, Eq)]
 pub(crate) enum WmsRequest {
     RawSend,
     RawRead { index: u32 },

@@ -6,7 +6,7 @@ use modem_profile::ProfileFault;
 use modem_rules::RulesFault;
 
 /// How simulating a modem ended.
-#[derive(Clone, Copy, Debug, PartialEq, Eq)]
+#[derive(Clone, Copy, PartialEq, Eq)]
 pub enum SimEnd {
     /// Its clients were served, until this.
     Served(ServeEnd),

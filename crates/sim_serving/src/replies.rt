@@ -9,7 +9,7 @@ use std::marker::Model;
 use std::mem::replace;
 
 /// Messages that go in so many ticks of the clock.
-#[derive(Debug, Drop)]
+#[derive(Drop)]
 pub struct Late {
     pub ticks: u32,
     pub messages: Octets,

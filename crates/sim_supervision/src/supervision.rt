@@ -12,7 +12,7 @@ use kit_io::Failed;
 use std::alloc::{AllocError, Global};
 
 /// How supervising a simulated modem ended.
-#[derive(Clone, Copy, Debug, PartialEq, Eq)]
+#[derive(Clone, Copy, PartialEq, Eq)]
 pub enum SupervisionEnd {
     /// It ended with this status: with 0, or so often that it isn't started anew.
     Ended(i32),

@@ -7,7 +7,7 @@ use crate::PduFault;
 use crate::coding::octets_of;
 
 /// So many octets from a start on.
-#[derive(Clone, Copy, Debug, PartialEq, Eq)]
+#[derive(Clone, Copy, PartialEq, Eq)]
 pub struct Field {
     pub start: usize,
     pub size: usize,

@@ -5,14 +5,14 @@ use kit_bytes::Text;
 use std::marker::Model;
 
 /// A whole message: who sent it, or to whom it goes, and what it says.
-#[derive(Debug, Drop)]
+#[derive(Drop)]
 pub struct Joined {
     pub address: Text,
     pub text: Text,
 }
 
 /// Messages that may be parts of longer ones, in any order.
-#[derive(Debug, Drop)]
+#[derive(Drop)]
 pub struct Pdus {
     pdus: Vec<Pdu>,
 }
@@ -43,7 +43,7 @@ impl From<Vec<Pdu>> for Pdus {
 }
 
 /// Whole messages.
-#[derive(Debug, Drop)]
+#[derive(Drop)]
 pub struct JoinedList {
     messages: Vec<Joined>,
 }

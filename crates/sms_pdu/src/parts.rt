@@ -28,7 +28,7 @@ impl From<AllocError> for SubmitFault {
 }
 
 /// The bodies of messages, in the order in which they are sent.
-#[derive(Debug, Drop)]
+#[derive(Drop)]
 pub struct PduList {
     pdus: Vec<Octets>,
 }

@@ -6,7 +6,7 @@ use std::alloc::AllocError;
 use thiserror::Error;
 
 /// A short message, as its body tells it.
-#[derive(Debug, Drop)]
+#[derive(Drop)]
 pub struct Pdu {
     /// Whether it came from the network (DELIVER), or goes to it (SUBMIT).
     pub deliver: bool,
@@ -21,7 +21,7 @@ pub struct Pdu {
 }
 
 /// Which part of a longer message it is.
-#[derive(Clone, Copy, Debug, PartialEq, Eq)]
+#[derive(Clone, Copy, PartialEq, Eq)]
 pub struct Part {
     /// What the parts of one message have in common.
     pub reference: u16,
@@ -33,7 +33,7 @@ pub struct Part {
 }
 
 /// What a message says.
-#[derive(Debug, Drop)]
+#[derive(Drop)]
 pub enum Body {
     Written(Text),
     /// Octets that are no text.

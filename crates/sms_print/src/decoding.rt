@@ -7,7 +7,7 @@ use kit_bytes::Octets;
 use std::alloc::{AllocError, Global};
 
 /// How far a tool tells what the messages say that an answer holds.
-#[derive(Clone, Copy, Debug, PartialEq, Eq)]
+#[derive(Clone, Copy, PartialEq, Eq)]
 pub enum Decoding {
     /// Not at all.
     Nothing,

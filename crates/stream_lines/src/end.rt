@@ -2,7 +2,7 @@ ghost use Rattle.std.specs.Prelude.{◌≡◌};
 ghost use Rattle.stream_lines.specs.Capture.{end_by};
 
 /// How the showing of a captured stream ends.
-#[derive(Clone, Copy, Debug, PartialEq, Eq)]
+#[derive(Clone, Copy, PartialEq, Eq)]
 pub enum DissectEnd {
     /// The file has ended behind a whole message.
     Done,

@@ -1,7 +1,7 @@
 use link_following::FollowEnd;
 
 /// How a session ends whose indications are followed.
-#[derive(Clone, Copy, Debug, PartialEq, Eq)]
+#[derive(Clone, Copy, PartialEq, Eq)]
 pub enum FollowedEnd {
     /// The proxy or the modem refused with this error.
     Refused(u16),

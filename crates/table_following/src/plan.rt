@@ -5,7 +5,7 @@ use std::marker::Model;
 use table_requests::TablePlan;
 
 /// What a session is to do whose indications are followed.
-#[derive(Debug, Drop)]
+#[derive(Drop)]
 pub struct FollowPlan {
     request: TablePlan,
     /// The indications that its file tells.

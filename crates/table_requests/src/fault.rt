@@ -9,7 +9,7 @@ use named_messages::NamedFault;
 use std::alloc::{AllocError, Global};
 
 /// Why JSON gives no values to a request.
-#[derive(Debug, Drop)]
+#[derive(Drop)]
 pub enum InputFault {
     /// It isn't an object.
     Json,
@@ -22,7 +22,7 @@ pub enum InputFault {
 }
 
 /// Why a file and JSON give no request.
-#[derive(Debug, Drop)]
+#[derive(Drop)]
 pub enum NoRequest {
     /// The file couldn't be read.
     ReadFault,

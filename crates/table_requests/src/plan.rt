@@ -8,7 +8,7 @@ use request_session::RequestPlan;
 use std::marker::Model;
 
 /// What a session for a request by tables is to do.
-#[derive(Debug, Drop)]
+#[derive(Drop)]
 pub struct TablePlan {
     session: RequestPlan,
     /// The message whose request it is.

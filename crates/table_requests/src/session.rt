@@ -13,7 +13,7 @@ use request_session::{RequestEnd, TlvAnswer, request_session};
 use std::alloc::{AllocError, Global};
 
 /// How a session for a request by tables ends.
-#[derive(Debug, Drop)]
+#[derive(Drop)]
 pub enum TableEnd {
     /// The proxy or the modem refused with this error.
     Refused(u16),

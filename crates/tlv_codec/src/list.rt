@@ -4,7 +4,7 @@ use crate::Tlv;
 use std::marker::Model;
 
 /// A list of TLVs.
-#[derive(Debug, Drop)]
+#[derive(Drop)]
 pub struct Tlvs {
     tlvs: Vec<Tlv>,
 }

@@ -7,7 +7,7 @@ use crate::read::tlv_at;
 use crate::{Tlv, Tlvs};
 
 /// What a look for the first TLV of a kind gives.
-#[derive(Clone, Copy, Debug, PartialEq, Eq)]
+#[derive(Clone, Copy, PartialEq, Eq)]
 pub enum First {
     /// The first of the kind.
     Found(Tlv),

@@ -8,7 +8,7 @@ use kit_bytes::u16_at;
 const RESULT: u8 = 0x02;
 
 /// What the Result TLV says: a status, which is 0 for success, and an error.
-#[derive(Clone, Copy, Debug, PartialEq, Eq)]
+#[derive(Clone, Copy, PartialEq, Eq)]
 pub struct Outcome {
     pub status: u16,
     pub error: u16,

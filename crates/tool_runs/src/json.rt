@@ -24,7 +24,7 @@ pub trait JsonSession: Session {
 }
 
 /// A plan whose answer is printed so, and nothing of the messages that it holds.
-#[derive(Debug, Drop)]
+#[derive(Drop)]
 pub struct JsonPlan<'a, S> {
     pub asked: &'a S,
 }

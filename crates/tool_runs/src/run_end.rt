@@ -7,7 +7,7 @@ use modem_routes::ReachFault;
 use named_messages::NamedFault;
 
 /// How a command ended.
-#[derive(Clone, Copy, Debug, PartialEq, Eq)]
+#[derive(Clone, Copy, PartialEq, Eq)]
 pub enum RunEnd {
     /// Its text was printed.
     Done,

@@ -11,7 +11,7 @@ use link_session::SessionFault;
 use std::alloc::{AllocError, Global};
 
 /// How a modem, or its driver, refused what it was asked.
-#[derive(Clone, Copy, Debug, PartialEq, Eq)]
+#[derive(Clone, Copy, PartialEq, Eq)]
 pub struct Refusal {
     /// Whether by a function error, which no command is answered with.
     pub function: bool,

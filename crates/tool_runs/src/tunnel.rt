@@ -13,7 +13,7 @@ use std::marker::Model;
 use tunnel_session::{TunnelEnd, tunnel_session};
 
 /// What a session is to do with a QMI modem that an MBIM modem carries messages to.
-#[derive(Debug, Drop)]
+#[derive(Drop)]
 pub struct TunnelPlan {
     pub qmi: QmiPlan,
 }

@@ -94,7 +94,7 @@ pub enum ToolCommand {
 }
 
 /// A tool that has options, which the first word names.
-#[derive(Clone, Copy, Debug, PartialEq, Eq)]
+#[derive(Clone, Copy, PartialEq, Eq)]
 enum Tool {
     Qmicli,
     Mbimcli,

@@ -14,7 +14,7 @@ use kit_bytes::Kind;
 use std::alloc::{AllocError, Global};
 
 /// An option of what shows a capture.
-#[derive(Clone, Copy, Debug, PartialEq, Eq)]
+#[derive(Clone, Copy, PartialEq, Eq)]
 pub enum DissectOption {
     Kind,
     Tables,

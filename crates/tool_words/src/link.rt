@@ -13,7 +13,7 @@ use kit_bytes::{Kind, PathText};
 use std::alloc::Global;
 
 /// An option that says how a tool reaches its modem, how long it waits for it, or whether it tells what goes over its link.
-#[derive(Clone, Copy, Debug, PartialEq, Eq)]
+#[derive(Clone, Copy, PartialEq, Eq)]
 pub enum LinkOption {
     Device,
     DeviceOpenProxy,

@@ -13,7 +13,7 @@ use mbim_requests::{ContextIpType, MbimRequest};
 use std::alloc::Global;
 
 /// An option of `mbimcli` that says what is asked for.
-#[derive(Clone, Copy, Debug, PartialEq, Eq)]
+#[derive(Clone, Copy, PartialEq, Eq)]
 pub enum MbimCommand {
     QueryDeviceCaps,
     QuerySubscriberReadyStatus,

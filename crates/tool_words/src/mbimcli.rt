@@ -31,7 +31,7 @@ pub struct MbimTask {
 }
 
 /// An option of `mbimcli` that says how its command is run, beside those of the link.
-#[derive(Clone, Copy, Debug, PartialEq, Eq)]
+#[derive(Clone, Copy, PartialEq, Eq)]
 pub enum MbimSetting {
     NoClose,
     DecodeSms,

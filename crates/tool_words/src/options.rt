@@ -2,7 +2,7 @@ ghost use Rattle.std.specs.Prelude.{◌≡◌};
 ghost use Rattle.tool_words.specs.Spelling.{Spelling, flag, or_letter, spelled, valued};
 
 /// How the words spell an option.
-#[derive(Clone, Copy, Debug)]
+#[derive(Clone, Copy)]
 pub struct OptionSpelling {
     /// Its name, which stands behind two dashes.
     pub name: &'static str,

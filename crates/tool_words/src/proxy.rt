@@ -57,7 +57,7 @@ pub struct ProxySettings {
 }
 
 /// An option of a proxy.
-#[derive(Clone, Copy, Debug, PartialEq, Eq)]
+#[derive(Clone, Copy, PartialEq, Eq)]
 pub enum ProxyOption {
     Device,
     Socket,

@@ -12,7 +12,7 @@ use qmi_requests::QmiRequest;
 use std::alloc::Global;
 
 /// An option of `qmicli` that says what is asked for.
-#[derive(Clone, Copy, Debug, PartialEq, Eq)]
+#[derive(Clone, Copy, PartialEq, Eq)]
 pub enum QmiCommand {
     GetServiceVersionInfo,
     DmsGetCapabilities,

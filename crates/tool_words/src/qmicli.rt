@@ -62,7 +62,7 @@ pub struct RequestTask {
 }
 
 /// An option of `qmicli` that says how its command is run, beside those of the link.
-#[derive(Clone, Copy, Debug, PartialEq, Eq)]
+#[derive(Clone, Copy, PartialEq, Eq)]
 pub enum QmiSetting {
     DeviceOpenMbim,
     ClientCid,

@@ -15,7 +15,7 @@ use kit_bytes::Kind;
 use std::alloc::{AllocError, Global};
 
 /// An option of a simulated modem.
-#[derive(Clone, Copy, Debug, PartialEq, Eq)]
+#[derive(Clone, Copy, PartialEq, Eq)]
 pub enum SimulatorOption {
     Kind,
     Socket,

@@ -4,7 +4,7 @@ ghost use Rattle.tool_words.specs.Sole.{and_if, at_most_one, one_command, sole_a
 use crate::UsageKind;
 
 /// What there is of things that may be there any number of times.
-#[derive(Debug, Drop)]
+#[derive(Drop)]
 pub enum Sole<T> {
     Nothing,
     One(T),

@@ -21,7 +21,7 @@ pub trait Shows {
 }
 
 /// No words, and lists of bytes with their elements.
-#[derive(Clone, Copy, Debug)]
+#[derive(Clone, Copy)]
 pub struct Plainly;
 
 impl Shows for Plainly {
@@ -42,7 +42,7 @@ impl Shows for Plainly {
 }
 
 /// As `qmicli` prints them: with a word, or an IPv4 address.
-#[derive(Clone, Copy, Debug)]
+#[derive(Clone, Copy)]
 pub struct AsPrinted;
 
 impl Shows for AsPrinted {

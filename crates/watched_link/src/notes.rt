@@ -15,7 +15,7 @@ pub const BYTES_ROOM: usize = 4_194_304;
 
 /// The notes of all that was done on a link, once they are kept and as long as they fit. Behind the
 /// first that doesn't fit nothing more is noted.
-#[derive(Debug, Drop)]
+#[derive(Drop)]
 pub struct Notes {
     log: Log<LinkNote>,
     /// All that was done is noted.
