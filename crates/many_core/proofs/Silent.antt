@@ -1,11 +1,12 @@
 -- Those for whom nothing waits at a device.
-use Rattle.std.proofs.Common.{◌≡◌, ℕ, zero, suc, ◌+◌, Bool, true, false, cond, ◌==◌, nat_lt, List, [], ◌∷◌, length, drop, map, position, slice_get, refl, ap, sym, ◌∙◌, arith, Option, Some, None}
+use Rattle.std.proofs.Common.{◌≡◌, ℕ, zero, suc, ◌+◌, ◌<◌, Bool, true, false, cond, ◌==◌, nat_lt, List, [], ◌∷◌, length, map, position, slice_get, refl, ap, sym, ◌∙◌, arith, Option, Some, None}
 use Rattle.std.specs.List.{AllByRecursion, position_from}
 use Rattle.std.specs.Option.{option_map}
 use Rattle.std.proofs.lemmas.Bool.Decides.{nat_tests}
 use Rattle.std.proofs.lemmas.Iterator.Adapters.{position_from-zero}
-use Rattle.kit_bytes.proofs.Lists.{all_found}
-use Rattle.connections.specs.Table.{Connection, connection_in, waiting_or, has_waiting, first_waiting}
+use Rattle.kit_bytes.specs.Sorted.{IsInOrder}
+use Rattle.kit_bytes.proofs.Lists.{all_weaker, all_found}
+use Rattle.connections.specs.Table.{Connection, AreRising, connection_in, waiting_or, has_waiting, first_waiting}
 use Rattle.many_core.proofs.Waits.{wait}
 
 -- ---- the first that passes a test ----
@@ -30,49 +31,45 @@ module _ {X : Type 0} (p : X → Bool) where
   none_passes : (xs : List X) → position p xs ≡ None → AllByRecursion (λ x. p x ≡ false) xs
   none_passes xs none = none_from xs 0 (sym (position_from-zero p xs) ∙ none)
 
--- ---- nobody but one ----
+-- ---- nobody of a lower name ----
 
 no_bytes : (bytes : List ℕ) → wait bytes ≡ false → bytes ≡ []
 no_bytes [] none = refl
 no_bytes (byte ∷ bytes) none = absurd (let some : nat_lt 0 (length (byte ∷ bytes)) ≡ true = grind (arith, nat_tests) in cc)
 
 module _ {T : Type 0} where
-  -- nothing waits but for one of this name
-  abbrev pub AreSilentBut : ℕ → List (Connection T) → Type 0
-  AreSilentBut name present = AllByRecursion (λ k. (k.name == name) ≡ false → has_waiting k ≡ false) present
+  -- nothing waits for one of a lower name
+  abbrev pub AreSilentBefore : ℕ → List (Connection T) → Type 0
+  AreSilentBefore name present = AllByRecursion (λ k. k.name < name → has_waiting k ≡ false) present
 
-  all_but : (name : ℕ) (present : List (Connection T)) → AllByRecursion (λ k. has_waiting k ≡ false) present → AreSilentBut name present
-  all_but name [] all = tt
-  all_but name (k ∷ present) all = (λ other. all.0, all_but name present all.1)
-
-  but_one : (name : ℕ) (present : List (Connection T)) (start i : ℕ) → position_from has_waiting start present ≡ Some (start + i) → position has_waiting (drop (i + 1) present) ≡ None → slice_get (map (λ (k : Connection T). k.name) present) i ≡ Some name → AreSilentBut name present
-  but_one name [] start i first none at = tt
-  but_one name (k ∷ present) start zero first none at =
-      let same : k.name ≡ name = cc in
-      (λ other. absurd (let is : (k.name == name) ≡ true = grind (arith, nat_tests, same) in cc), all_but name present (none_passes has_waiting present none))
-  but_one name (k ∷ present) start (suc i) first none at = by (λ is. but_one name present (start + 1) i is rest at) (has_waiting k) refl first
+  before_first : (name : ℕ) (present : List (Connection T)) (start i : ℕ) → AreRising present → position_from has_waiting start present ≡ Some (start + i) → slice_get (map (λ (k : Connection T). k.name) present) i ≡ Some name → AreSilentBefore name present
+  unfolding IsInOrder
+  before_first name [] start i rising first at = tt
+  before_first name (k ∷ present) start zero rising first at =
+      let same : k.name ≡ name = cc in (
+        λ low. absurd (omega (arith, same, low)),
+        all_weaker (λ (l : Connection T). k.name < l.name) (λ (l : Connection T). l.name < name → has_waiting l ≡ false) (λ l later low. absurd (omega (arith, same, later, low))) present rising.0,
+      )
+  before_first name (k ∷ present) start (suc i) rising first at = by (λ is. before_first name present (start + 1) i rising.1 is at) (has_waiting k) refl first
     where
-      rest : position has_waiting (drop (i + 1) present) ≡ None
-      rest = (let same : suc (i + 1) ≡ suc i + 1 = omega arith in ap (λ (n : ℕ). position has_waiting (drop n (k ∷ present))) same ∙ none)
-
-      by : (position_from has_waiting (start + 1) present ≡ Some (start + 1 + i) → AreSilentBut name present) → (b : Bool) → has_waiting k ≡ b → cond b (Some start) (position_from has_waiting (start + 1) present) ≡ Some (start + suc i) → AreSilentBut name (k ∷ present)
+      by : (position_from has_waiting (start + 1) present ≡ Some (start + 1 + i) → AreSilentBefore name present) → (b : Bool) → has_waiting k ≡ b → cond b (Some start) (position_from has_waiting (start + 1) present) ≡ Some (start + suc i) → AreSilentBefore name (k ∷ present)
       by later true here is = absurd (let same : start ≡ start + suc i = cc in omega (arith, same))
-      by later false here is = (λ other. here, later (is ∙ ap (λ (n : ℕ). Some n) (omega arith)))
+      by later false here is = (λ low. here, later (is ∙ ap (λ (n : ℕ). Some n) (omega arith)))
 
-  others_are_silent : (name other : ℕ) (present : List (Connection T)) → AreSilentBut name present → (other == name) ≡ false → waiting_or [] (connection_in other present) ≡ []
-  others_are_silent name other [] all differs = refl
-  others_are_silent name other (k ∷ present) all differs = by (others_are_silent name other present all.1 differs) (other == k.name) refl
+  lower_are_silent : (name other : ℕ) (present : List (Connection T)) → AreSilentBefore name present → other < name → waiting_or [] (connection_in other present) ≡ []
+  lower_are_silent name other [] all low = refl
+  lower_are_silent name other (k ∷ present) all low = by (lower_are_silent name other present all.1 low) (other == k.name) refl
     where
       by : waiting_or [] (connection_in other present) ≡ [] → (b : Bool) → (other == k.name) ≡ b → waiting_or [] (cond b (Some k) (connection_in other present)) ≡ []
-      by rest true is = no_bytes k.outbox.bytes (all.0 (grind (arith, nat_tests, is, differs)))
+      by rest true is = no_bytes k.outbox.bytes (all.0 (let same : other ≡ k.name = grind (arith, nat_tests, is) in omega (arith, same, low)))
       by rest false is = rest
 
-  -- where the first is the last as well
-  pub silent_but_one : (name other first : ℕ) (present : List (Connection T)) → Some first ≡ first_waiting 0 present → None ≡ first_waiting (first + 1) present → slice_get (map (λ (k : Connection T). k.name) present) first ≡ Some name → (other == name) ≡ false → waiting_or [] (connection_in other present) ≡ []
-  silent_but_one name other first present is none at differs =
-      others_are_silent name other present
-      (but_one name present 0 first (sym (position_from-zero has_waiting present) ∙ mapped_some (position has_waiting present) first is ∙ ap (λ (n : ℕ). Some n) (omega arith)) (mapped_none (λ (i : ℕ). (first + 1) + i) (position has_waiting (drop (first + 1) present)) none) at)
-      differs
+  -- the first for whom something waits has the least name of them all
+  pub silent_before : (name other first : ℕ) (present : List (Connection T)) → AreRising present → Some first ≡ first_waiting 0 present → slice_get (map (λ (k : Connection T). k.name) present) first ≡ Some name → other < name → waiting_or [] (connection_in other present) ≡ []
+  silent_before name other first present rising is at low =
+      lower_are_silent name other present
+      (before_first name present 0 first rising (sym (position_from-zero has_waiting present) ∙ mapped_some (position has_waiting present) first is ∙ ap (λ (n : ℕ). Some n) (omega arith)) at)
+      low
 
   -- where nothing waits for anybody
   pub all_silent : (other : ℕ) (present : List (Connection T)) → None ≡ first_waiting 0 present → waiting_or [] (connection_in other present) ≡ []

@@ -1,5 +1,5 @@
 -- What a core of a proxy of several QMI devices keeps, and what it stands for. Lists of events have the newest first.
-use Rattle.std.specs.Prelude.{◌≡◌, ℕ, ◌+◌, ◌≤◌, Bool, false, ◌==◌, nat_lt, List, [], ◌∷◌, ◌++◌, length, drop, position, slice_get, Option, Some, None, is_some}
+use Rattle.std.specs.Prelude.{◌≡◌, ℕ, ◌+◌, ◌<◌, ◌≤◌, Bool, false, ◌==◌, nat_lt, List, [], ◌∷◌, ◌++◌, length, drop, position, slice_get, Option, Some, None, is_some}
 use Rattle.std.specs.Option.{option_map}
 use Rattle.hub_io.specs.declared.settings.Limits.{Limits}
 use Rattle.proxy_history.specs.Modem.{now, is_away}
@@ -80,10 +80,9 @@ abbrev pub is_at : ℕ → Place → Bool
 is_at d (Undecided bytes) = false
 is_at d (At e name) = e == d
 
--- of those who are there for a device, bytes wait for this one at most, where one is named
-abbrev pub NobodyElseWaits : Option ℕ → QmiCore → Type 0
-NobodyElseWaits None core = Unit {0}
-NobodyElseWaits (Some name) core = (other : ℕ) → (other == name) ≡ false → several.queue_under qmi_handlers other (Some core) ≡ []
+-- of those who are there for a device, bytes wait for none of a lower name
+abbrev pub NobodyWaitsBefore : ℕ → QmiCore → Type 0
+NobodyWaitsBefore name core = (other : ℕ) → other < name → several.queue_under qmi_handlers other (Some core) ≡ []
 
 -- for the modem of a device, as the definitions say
 abbrev pub modem_queue : ManyCore → ℕ → List ManyEvent → List ℕ

@@ -1,6 +1,6 @@
 ghost use Rattle.std.specs.Prelude.{◌≡◌, ◌<◌, ◌≤◌, ◌++◌, ◌==◌, ◌&&◌, ℕ, List, [], ◌∷◌, false, true, nat_lt, length, drop, map, position, None, Some, IfOk, IfSome, IsNone, IsTrue};
 ghost use Rattle.std.specs.List.{AllByRecursion};
-ghost use Rattle.connections.specs.Table.{first_waiting as first_waiting_in};
+ghost use Rattle.connections.specs.Table.{IsRegular, first_waiting as first_waiting_in};
 ghost use Rattle.outbox.specs.Fronts.{IsFrontOf};
 ghost use Rattle.proxy_state.specs.Stands as state;
 ghost use Rattle.proxy_solo.specs.Cores.{hung_up};
@@ -16,7 +16,7 @@ ghost use Rattle.many_seats.specs.Seats.{IsSeat, IsPlaceOf, chosen_in, first_con
 ghost use Rattle.many_cores.specs.Cores.{IsCore, HasNoFewer, at_place};
 ghost use Rattle.many_cores.specs.Cores.{met as met_one};
 ghost use Rattle.many_io.specs.Events.{event_of};
-ghost use Rattle.many_core.specs.Core.{Stands, StandsAfter, MayMeet, IsBounded, with_cores, met, settled, step, MovesNobody, waiting_for, text_for, is_owed, is_at, has_waiting, first_waiting, NobodyElseWaits, modem_queue, time_in, time_at, is_away_at};
+ghost use Rattle.many_core.specs.Core.{Stands, StandsAfter, MayMeet, IsBounded, with_cores, met, settled, step, MovesNobody, waiting_for, text_for, is_owed, is_at, has_waiting, first_waiting, NobodyWaitsBefore, modem_queue, time_in, time_at, is_away_at};
 
 use framing::LONGEST_PIECE;
 use hub_io::{Event, Limits};
@@ -414,10 +414,10 @@ impl ManyCore {
         let Some(first) = core.waiting_from(0) else {
             return end;
         };
-        let only = only_waiting(core, first);
+        let least = least_waiting(core, first);
         let mut place = from;
         while place < end {
-            if self.waits_at(place, device, only) {
+            if self.waits_at(place, device, least) {
                 return place;
             }
             place += 1;
@@ -425,46 +425,44 @@ impl ManyCore {
         end
     }
 
-    // Whether the connection of this place is at this device, and bytes wait for it. Where a name is
-    // given, they wait for nobody else there.
-    fn waits_at(&self, place: usize, device: usize, only: Option<u64>) -> bool
+    // Whether the connection of this place is at this device, and bytes wait for it. They wait under no
+    // name there that is lower than this one.
+    fn waits_at(&self, place: usize, device: usize, least: ConnId) -> bool
         requires place { place < length self.now.core.seats }
         requires device { device < length self.now.core.cores }
-        requires only { (core : CoreValue) → IsCore core self.now.core.cores device → NobodyElseWaits only core }
+        requires least { (core : CoreValue) → IsCore core self.now.core.cores device → NobodyWaitsBefore least core }
         ensures { (seat : ManySeat) → IsSeat seat self.now.core.seats place → result ≡ (is_at device seat.place && has_waiting self.now.core.cores seat) }
     {
         match self.seats.chosen_at(place) {
             Some(chosen) if chosen.device == device => {
-                waits(self.cores.at(device), chosen.name, place, only)
+                waits(self.cores.at(device), chosen.name, place, least)
             }
             _ => false,
         }
     }
 }
 
-// Where bytes wait for nobody else at a device than for the first of them, its name.
-fn only_waiting(core: &QmiCore, first: usize) -> Option<u64>
+// The name of the first for whom bytes wait at a device: they wait under no lower one, since names rise
+// there in order of joining.
+fn least_waiting(core: &QmiCore, first: usize) -> ConnId
     requires first { Some first ≡ first_waiting_in 0 core.now.state.table.present }
     requires within { first < length core.now.state.table.present }
-    requires fits { first < usize.MAX }
-    ensures { NobodyElseWaits result core.now }
+    requires regular { IsRegular core.now.state.table }
+    ensures { NobodyWaitsBefore result core.now }
 {
-    match core.waiting_from(first + 1) {
-        Some(_) => None,
-        None => Some(core.conn_at(first)),
-    }
+    core.conn_at(first)
 }
 
-// Whether bytes wait for one that is there for its device, likely at this place. Where a name is given,
-// they wait for nobody else there.
-fn waits(core: &QmiCore, name: ConnId, place: usize, only: Option<u64>) -> bool
-    requires { NobodyElseWaits only core.now }
+// Whether bytes wait for one that is there for its device, likely at this place. They wait under no name
+// there that is lower than the last one.
+fn waits(core: &QmiCore, name: ConnId, place: usize, least: ConnId) -> bool
+    requires { NobodyWaitsBefore least core.now }
     ensures { result ≡ nat_lt 0 (length (queue_under qmi_handlers name (Some core.now))) }
 {
-    match only {
-        Some(other) => name == other && !queued_in(core, name, place).is_empty(),
-        None => !queued_in(core, name, place).is_empty(),
+    if name < least {
+        return false;
     }
+    !queued_in(core, name, place).is_empty()
 }
 
 // Whether somebody of this name is there for a device, likely at this place.

@@ -3,7 +3,7 @@ ghost use Rattle.std.specs.Str.{encode_utf8_all};
 ghost use Rattle.framing.specs.Cutting.{cut};
 ghost use Rattle.framing.specs.Framing.{IsPartial, is_invalid};
 ghost use Rattle.outbox.specs.Fronts.{IsFrontOf};
-ghost use Rattle.connections.specs.Table.{first_waiting};
+ghost use Rattle.connections.specs.Table.{IsRegular, first_waiting};
 ghost use Rattle.hub_io.specs.Events.{event_of};
 ghost use Rattle.proxy_history.specs.Events as history;
 ghost use Rattle.proxy_history.specs.Events.{greatest_after};
@@ -252,6 +252,7 @@ impl<P: Protocol> Core<P> {
         ensures place { result ≡ first_waiting from self.now.state.table.present }
         ensures within { IfSome result (λ place. (from ≤ place) × (place < length self.now.state.table.present)) }
         ensures fits { IfSome result (λ place. place < usize.MAX) }
+        ensures regular { IsRegular self.now.state.table }
     {
         self.connections.waiting_from(from)
     }
