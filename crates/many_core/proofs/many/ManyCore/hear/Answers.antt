@@ -1,13 +1,11 @@
-use Rattle.std.proofs.Common.{rules, ◌≡◌, ℕ, ◌+◌, ◌-◌, ◌<◌, ◌++◌, ◌==◌, List, [], length, map, take, get_or, set, position, refl, ap, sym, ◌∙◌, subst, arith, Option, Some, None}
+use Rattle.std.proofs.Common.{rules, ◌≡◌, ℕ, ◌+◌, ◌-◌, ◌<◌, ◌++◌, List, length, map, take, get_or, set, ap, sym, ◌∙◌, subst, arith, Some, None}
 use Rattle.std.proofs.lemmas.List.{length-append}
 use Rattle.kit_bytes.proofs.Lists.{all_set}
 use Rattle.qmi_state.specs.Core.{QmiCore}
 use Rattle.many_history.specs.Events.{Piece}
-use Rattle.many_history.specs.Devices.{choice_on}
 use Rattle.many_history.specs.Many.{Undecided, At, Seat, arrival}
 use Rattle.many_state.specs.Core.{names_of}
-use Rattle.qmi_many.specs.Devices.{qmi_devices}
-use Rattle.many_seats.specs.Seats.{Seating, IsSeat, IsPlaceOf, chosen_in, said_in, next_name}
+use Rattle.many_seats.specs.Seats.{Seating, IsPlaceOf, said_in, next_name}
 use Rattle.many_cores.specs.Cores.{after, at_place}
 use Rattle.many_cores.proofs.Places.{some_at, got_at, at_place_set, at_place_length}
 use Rattle.many_core.specs.Core.{ManyCore, MovesNobody}
