@@ -72,8 +72,8 @@ impl Cores {
         meet(core, event)
     }
 
-    /// Each core is told the time, and whom it dropped before has been hung up. Says whether one has
-    /// fewer connections then.
+    /// Each core is told the time, and whom it dropped before has been hung up. Says false only where
+    /// none has fewer connections then.
     pub fn tick(&mut self, time: u64) -> bool
         ensures met { self.new ≡ map (met (history.Now time)) self.old }
         ensures fewer { result ≡ false → (device : ℕ) → HasNoFewer device (history.Now time) self.old }

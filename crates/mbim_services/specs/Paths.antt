@@ -9,6 +9,7 @@ use Rattle.mbim_services.specs.Table.{configuration}
 -- a buffer is a configuration whose path has these bytes in UTF-16
 pub record HasPath (buffer path : List ℕ) : Type 0 where
   pub chars : List ℕ
+  -- in seconds
   pub timeout : ℕ
   pub fields : Fields (layout_of configuration) (text_of chars ∷ number timeout ∷ []) buffer
   pub spelled : utf16_bytes chars ≡ path

@@ -69,10 +69,10 @@ abbrev pub Numbers : Type 0
 Numbers = Table Asked
 
 pub record ModemSide : Type 0 where
-  -- the characters of the device's path, and how long a request waits for its answer
+  -- the characters of the device's path, and how long a request waits for its answer, in milliseconds
   pub device : List ℕ
   pub time_limit : ℕ
-  -- what the clock shows
+  -- what the clock shows, in milliseconds
   pub time : ℕ
   -- whether the modem is away, and whether it is open for the proxy
   pub away : Bool

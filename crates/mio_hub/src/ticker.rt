@@ -13,7 +13,7 @@ pub(crate) struct Ticker {
     now: u64,
     /// The same time in microseconds.
     micros: u64,
-    /// When the time is to be told.
+    /// When the time is to be told, in milliseconds.
     due: u64,
 }
 

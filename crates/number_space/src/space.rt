@@ -23,7 +23,7 @@ pub struct Row<T> {
     pub conn: ConnId,
     /// What that connection is to get back.
     pub note: T,
-    /// The time from which on the number expires.
+    /// The time from which on the number expires, in milliseconds.
     pub deadline: u64,
     /// Whether somebody still waits for the answer.
     pub pending: bool,

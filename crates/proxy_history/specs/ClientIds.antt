@@ -22,7 +22,7 @@ held (Reset ∷ past) = []
 held (ModemLost ∷ past) = []
 held (_ ∷ past) = held past
 
--- an id whose holder went, and when that was
+-- an id whose holder went, and when that was, in milliseconds
 pub record KeptId : Type 0 where
   pub service : ℕ
   pub cid : ℕ

@@ -45,6 +45,7 @@ pub record Request : Type 0 where
   pub number : ℕ
   -- the sender's bytes, with the sender's own number
   pub message : List ℕ
+  -- the time from which on nobody waits for the answer, in milliseconds
   pub deadline : ℕ
 
 pub data Fact : Type 0 where

@@ -18,11 +18,11 @@ use Rattle.qmi_state.specs.Traffic.{Traffic, traffic_of}
 pub record ModemSide : Type 0 where
   -- the path of the device
   pub device : List ℕ
-  -- how long a request waits for its answer
+  -- how long a request waits for its answer, in milliseconds
   pub time_limit : ℕ
-  -- after what time it releases a client id whose holder went; never where it has none
+  -- after how many milliseconds it releases a client id whose holder went; never where it has none
   pub release : Option ℕ
-  -- what the clock shows
+  -- what the clock shows, in milliseconds
   pub time : ℕ
   -- whether the modem is away
   pub away : Bool
