@@ -1,5 +1,5 @@
 -- The messages of a piece, one at a time.
-use Rattle.std.proofs.Common.{◌≡◌, ℕ, Bool, true, false, List, [], ◌∷◌, ap, sym, ◌∙◌, refl}
+use Rattle.std.proofs.Common.{◌≡◌, ℕ, Bool, true, false, List, [], ◌∷◌, ap, sym, ◌∙◌}
 use Rattle.framing.specs.declared.framing.Size.{Size}
 use Rattle.framing.specs.Cutting.{Cutting, cut}
 use Rattle.outbox.specs.Queue.{Queue}

@@ -1,5 +1,5 @@
 -- The next piece of a client's stream, as the protocol hears it.
-use Rattle.std.specs.Prelude.{ℕ, Bool, true, false, not, ◌&&◌, List, [], ◌∷◌, ◌++◌, Option, Some, None}
+use Rattle.std.specs.Prelude.{◌≡◌, ℕ, Bool, true, false, not, ◌&&◌, List, [], ◌∷◌, ◌++◌, Option, Some, None}
 use Rattle.framing.specs.declared.framing.Size.{Size}
 use Rattle.framing.specs.Framing.{is_invalid}
 use Rattle.framing.specs.Cutting.{Cutting, cut}
@@ -23,6 +23,14 @@ hears_all hears name [] client outbox beside = record { client = client; outbox 
 hears_all hears name (m ∷ messages) client outbox beside =
     let one = hears name m client outbox beside in
     elim one.has_room [ true ↦ hears_all hears name messages one.client one.outbox one.beside | false ↦ one ]
+
+-- what hearing the cut messages of a stream left, where this is what it made of the client and this is left of the stream:
+-- whether it goes on (all found room, and the stream didn't go bad), the client, its outbox and what is beside
+pub record IsLeft {T S : Type 0} (size : List ℕ → Size) (h : Hearing T S) (rest : List ℕ) (on : Bool) (its : T) (queue : Queue) (next : S) : Type 0 where
+  pub goes_on : on ≡ (h.has_room && not (is_invalid (size rest)))
+  pub client : its ≡ h.client
+  pub outbox : queue ≡ h.outbox
+  pub beside : next ≡ h.beside
 
 -- the cut of what was left of its stream and the piece
 abbrev pub cut_of : {T : Type 0} → (List ℕ → Size) → List ℕ → Connection T → Cutting

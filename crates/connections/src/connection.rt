@@ -3,7 +3,7 @@ ghost use Rattle.framing.specs.Cutting.{cut};
 ghost use Rattle.framing.specs.Framing.{IsPartial, is_invalid};
 ghost use Rattle.outbox.specs.Queue.{has_room};
 ghost use Rattle.connections.specs.Table.{joined, puts, took, has_waiting};
-ghost use Rattle.connections.specs.Hearing.{hearing_of, goes_on, heard, hears_all};
+ghost use Rattle.connections.specs.Hearing.{hearing_of, goes_on, heard, hears_all, IsLeft};
 ghost use Rattle.outbox.specs.Fronts.{IsFrontOf};
 
 use crate::hears::Hears;
@@ -146,10 +146,7 @@ fn hear_all<F: Framing, T, S: Hears<F, T>>(
     outbox: &mut Outbox,
     beside: &mut S,
 ) -> bool
-    ensures goes_on { result ≡ ((hears_all S.hears name (cut F.size stream.old.rest).messages client.old outbox.old beside.old).has_room && not (is_invalid (F.size (cut F.size stream.old.rest).rest))) }
-    ensures client { client.new ≡ (hears_all S.hears name (cut F.size stream.old.rest).messages client.old outbox.old beside.old).client }
-    ensures outbox { outbox.new ≡ (hears_all S.hears name (cut F.size stream.old.rest).messages client.old outbox.old beside.old).outbox }
-    ensures beside { beside.new ≡ (hears_all S.hears name (cut F.size stream.old.rest).messages client.old outbox.old beside.old).beside }
+    ensures left { IsLeft F.size (hears_all S.hears name (cut F.size stream.old.rest).messages client.old outbox.old beside.old) (cut F.size stream.old.rest).rest result client.new outbox.new beside.new }
     ensures rest { result ≡ true → (stream.new.rest ≡ (cut F.size stream.old.rest).rest) × IsPartial F.size stream.new.rest }
     ensures capacity { outbox.new.capacity ≡ outbox.old.capacity }
 {

@@ -42,10 +42,12 @@ returns-then-not-hear g c =
     ∙ sym (ap (λ (l : List (List ℕ)). hears_all g.S.Hears.hears c.args.name l c.loop-span.client c.loop-span.outbox c.loop-span.beside) messages)
     ∙ c.loop-span.invariant.hears
     in record {
-      goes_on = ap (λ (b : Bool). b && not (is_invalid (g.F.Framing.size (cut g.F.Framing.size c.args.stream.now.rest).rest))) (over ∙ ap (λ h. h.has_room) all);
-      client = c.hear.ensures.client ∙ ap (λ h. h.client) all;
-      outbox = c.hear.ensures.outbox ∙ ap (λ h. h.outbox) all;
-      beside = c.hear.ensures.beside ∙ ap (λ h. h.beside) all;
+      left = record {
+        goes_on = ap (λ (b : Bool). b && not (is_invalid (g.F.Framing.size (cut g.F.Framing.size c.args.stream.now.rest).rest))) (over ∙ ap (λ h. h.has_room) all);
+        client = c.hear.ensures.client ∙ ap (λ h. h.client) all;
+        outbox = c.hear.ensures.outbox ∙ ap (λ h. h.outbox) all;
+        beside = c.hear.ensures.beside ∙ ap (λ h. h.beside) all;
+      };
       rest = λ e. absurd (false≢true e);
       capacity = ap (λ q. q.capacity) c.hear.ensures.outbox ∙ g.met.S.Hears.capacity c.args.name c.bytes.result.now c.loop-span.client c.loop-span.outbox c.loop-span.beside ∙ c.loop-span.invariant.capacity;
     }
@@ -57,12 +59,14 @@ returns-in-NeedMore g c =
     let rest : c.loop-span.stream.rest ≡ (cut g.F.Framing.size c.args.stream.now.rest).rest = sym (ap (λ (k : Cutting). k.rest) part) ∙ c.loop-span.invariant.rest in
     let good : is_invalid (g.F.Framing.size (cut g.F.Framing.size c.args.stream.now.rest).rest) ≡ false = sym (ap (λ (l : List ℕ). is_invalid (g.F.Framing.size l)) rest) ∙ partial_is _ _ c.in-NeedMore.ensures.next.0 in
     record {
-      goes_on =
-          ap (λ h. h.has_room && true) all
-          ∙ sym (ap (λ (b : Bool). (hears_all g.S.Hears.hears c.args.name (cut g.F.Framing.size c.args.stream.now.rest).messages c.args.client.now c.args.outbox.now c.args.beside.now).has_room && not b) good);
-      client = ap (λ h. h.client) all;
-      outbox = ap (λ h. h.outbox) all;
-      beside = ap (λ h. h.beside) all;
+      left = record {
+        goes_on =
+            ap (λ h. h.has_room && true) all
+            ∙ sym (ap (λ (b : Bool). (hears_all g.S.Hears.hears c.args.name (cut g.F.Framing.size c.args.stream.now.rest).messages c.args.client.now c.args.outbox.now c.args.beside.now).has_room && not b) good);
+        client = ap (λ h. h.client) all;
+        outbox = ap (λ h. h.outbox) all;
+        beside = ap (λ h. h.beside) all;
+      };
       rest = λ _. (ap (λ r. r.rest) c.in-NeedMore.ensures.next.1 ∙ rest, rw c.in-NeedMore.ensures.next.1 c.in-NeedMore.ensures.next.0);
       capacity = c.loop-span.invariant.capacity;
     }
@@ -74,12 +78,14 @@ returns-in-Bad g c =
     let rest : c.loop-span.stream.rest ≡ (cut g.F.Framing.size c.args.stream.now.rest).rest = sym (ap (λ (k : Cutting). k.rest) part) ∙ c.loop-span.invariant.rest in
     let bad : is_invalid (g.F.Framing.size (cut g.F.Framing.size c.args.stream.now.rest).rest) ≡ true = sym (ap (λ (l : List ℕ). is_invalid (g.F.Framing.size l)) rest) ∙ ap is_invalid c.in-Bad.ensures.next.0 in
     record {
-      goes_on =
-          ap (λ h. h.has_room && false) all
-          ∙ sym (ap (λ (b : Bool). (hears_all g.S.Hears.hears c.args.name (cut g.F.Framing.size c.args.stream.now.rest).messages c.args.client.now c.args.outbox.now c.args.beside.now).has_room && not b) bad);
-      client = ap (λ h. h.client) all;
-      outbox = ap (λ h. h.outbox) all;
-      beside = ap (λ h. h.beside) all;
+      left = record {
+        goes_on =
+            ap (λ h. h.has_room && false) all
+            ∙ sym (ap (λ (b : Bool). (hears_all g.S.Hears.hears c.args.name (cut g.F.Framing.size c.args.stream.now.rest).messages c.args.client.now c.args.outbox.now c.args.beside.now).has_room && not b) bad);
+        client = ap (λ h. h.client) all;
+        outbox = ap (λ h. h.outbox) all;
+        beside = ap (λ h. h.beside) all;
+      };
       rest = λ e. absurd (false≢true e);
       capacity = c.loop-span.invariant.capacity;
     }
