@@ -5,7 +5,7 @@ use Rattle.kit_bytes.specs.Utf16.{utf16_bytes}
 use Rattle.std.proofs.lemmas.List.{get_or_default, take_more, drop_more, map_push}
 use Rattle.mbim_fields.specs.Layout.{Fixed, Form, Layout, field}
 use Rattle.mbim_fields.specs.View.{layout_of, field_view, form_view, shape_view, value_view}
-use Rattle.mbim_fields.specs.Encoding.{IsMisfit}
+use Rattle.mbim_fields.specs.Encoding.{Adds, IsMisfit}
 use Rattle.mbim_fields.specs.declared.fault.EncodeFault.{EncodeFault}
 use Rattle.mbim_fields.specs.declared.fault.EncodeFault.TheVariants.{Misfit, OutOfMemory}
 use Rattle.mbim_fields.specs.declared.layout.Field.{Field, out-Field}
@@ -13,7 +13,7 @@ use Rattle.mbim_fields.specs.declared.layout.FieldShape.{FieldShape, out-FieldSh
 use Rattle.mbim_fields.specs.declared.value.FieldValue.{FieldValue}
 use Rattle.mbim_fields.proofs.Views.{view-form, view-shape}
 use Rattle.mbim_fields.specs.Value.{Value, Values, no_more, first, list_of, values_of, room}
-use Rattle.mbim_fields.specs.Canon.{Laid, nothing, prefixed_in, run_bytes, point, lay_text, lay_each, counted_list, rooms, bytes_of, lay_form, lay_fields, canon}
+use Rattle.mbim_fields.specs.Canon.{Laid, nothing, add, prefixed_in, run_bytes, point, lay_text, lay_each, counted_list, rooms, bytes_of, lay_form, lay_fields, canon}
 use Rattle.mbim_fields.proofs.Readings.{list_of-values_of}
 
 pub listed : (values : Values) (items : List Value) → values_of items ≡ values → list_of values ≡ items
@@ -27,6 +27,13 @@ counted_list-not count values isnt = search rules
 
 pub lay_text-is : (begin : ℕ) (laid : Laid) (chars : List ℕ) → all_scalars chars ≡ true → lay_text begin laid chars ≡ point begin laid (utf16_bytes chars)
 lay_text-is begin laid chars are = search rules
+
+-- bytes that were added to those in place were added to what is laid out
+pub in_place_is : (laid next : Laid) (stated : Option (List ℕ)) → next.back ≡ laid.back → Adds stated laid.front next.front → option_map (add laid) stated ≡ Some next
+in_place_is laid next None same adds = let none : None ≡ Some next.front = adds in absurd (cc)
+in_place_is laid next (Some bytes) same adds =
+    let front : laid.front ++ bytes ≡ next.front = cc in
+    ap (λ (f : List ℕ). let l : Laid = record { front = f; back = laid.back } in Some l) front ∙ ap (λ (b : List ℕ). let l : Laid = record { front = next.front; back = b } in Some l) (sym same)
 
 -- a number and an address are two values
 pub prefixed-not : (count : ℕ) (values : Values) → length (list_of values) ≢ 2 → prefixed_in count values ≡ None

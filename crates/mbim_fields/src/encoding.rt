@@ -92,7 +92,11 @@ fn add_prefixed(out: &mut Octets, count: usize, value: &FieldValue) -> Result<()
     add_octets(out, count, address)
 }
 
-fn add_fixed(out: &mut Octets, fixed: Fixed, value: &FieldValue) -> Result<(), EncodeFault>
+pub(crate) fn add_fixed(
+    out: &mut Octets,
+    fixed: Fixed,
+    value: &FieldValue,
+) -> Result<(), EncodeFault>
     ensures ok { OnOk result (Adds (spec.fixed_bytes (fixed_view fixed) (value_view value.now)) out.old out.new) }
     ensures err { IfErr result (IsMisfit (spec.fixed_bytes (fixed_view fixed) (value_view value.now))) }
 {
@@ -199,11 +203,7 @@ fn lay_item(
     ensures err { IfErr result (IsMisfit (spec.lay_item (item_view item.now) begin laid.old (value_view value.now))) }
 {
     match item {
-        Item::InPlace(fixed) => {
-            let bytes = fixed_bytes(alloc, *fixed, value)?;
-            laid.add(bytes.as_slice())?;
-            Ok(())
-        }
+        Item::InPlace(fixed) => laid.add_fixed(*fixed, value),
         Item::Text => match value.as_text() {
             Some(text) => lay_text(alloc, laid, begin, text),
             None => Err(EncodeFault::Misfit),
@@ -299,7 +299,7 @@ fn structure_bytes(
     let Some(begin) = rooms(fields, values) else {
         return Err(EncodeFault::OutOfMemory);
     };
-    let mut laid = Laid::new(alloc);
+    let mut laid = Laid::begin(alloc, begin)?;
     for (index, Field(_, form)) in fields.iter().enumerate() {
         let before = &values[..index];
         lay_form(alloc, &mut laid, begin, form, before, &values[index])?;

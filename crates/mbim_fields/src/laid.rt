@@ -1,12 +1,17 @@
-ghost use Rattle.std.specs.Prelude.{◌≡◌, Some, OnOk, IfOk, IfErr};
+ghost use Rattle.std.specs.Prelude.{◌≡◌, Some, option_map, OnOk, IfOk, IfErr};
 ghost use Rattle.mbim_fields.specs.Canon as spec;
 ghost use Rattle.mbim_fields.specs.Encoding.{IsMisfit};
+ghost use Rattle.mbim_fields.specs.View.{fixed_view, value_view};
 
-use crate::EncodeFault;
+use crate::encoding::add_fixed;
 use crate::numbers::four_bytes;
+use crate::{EncodeFault, FieldValue, Fixed};
 use kit_bytes::Octets;
 use std::alloc::{AllocError, Global};
 use std::marker::Model;
+
+// So many bytes are taken at once for the fields of a structure, however many it is said to have.
+const ROOM_AT_ONCE: usize = 1_024;
 
 // What is laid out of a structure so far: its fields in place, and the data that they point at.
 #[derive(Drop)]
@@ -24,13 +29,15 @@ impl Model for Laid {
 }
 
 impl Laid {
-    pub(crate) fn new(alloc: Global) -> Self
-        ensures { result ≡ spec.nothing }
+    // Nothing yet, with room for fields that take so many bytes in place; at most `ROOM_AT_ONCE` of
+    // it is taken before they come.
+    pub(crate) fn begin(alloc: Global, room: usize) -> Result<Self, AllocError>
+        ensures { IfOk result (λ laid. laid ≡ spec.nothing) }
     {
-        Laid {
-            front: Octets::new(alloc),
+        Ok(Laid {
+            front: Octets::from(Vec::with_capacity(alloc, room.min(ROOM_AT_ONCE))?),
             back: Octets::new(alloc),
-        }
+        })
     }
 
     // The bytes of the structure.
@@ -43,10 +50,19 @@ impl Laid {
     }
 
     // Adds bytes in place.
-    pub(crate) fn add(&mut self, bytes: &[u8]) -> Result<(), AllocError>
+    fn add(&mut self, bytes: &[u8]) -> Result<(), AllocError>
         ensures { OnOk result (self.new ≡ spec.add self.old bytes.now) }
     {
         self.front.extend_from_slice(bytes)
+    }
+
+    // Adds a value of one size in place.
+    #[tactic(auto, using(crate::proofs::Writings::in_place_is))]
+    pub(crate) fn add_fixed(&mut self, fixed: Fixed, value: &FieldValue) -> Result<(), EncodeFault>
+        ensures ok { OnOk result (option_map (spec.add self.old) (spec.fixed_bytes (fixed_view fixed) (value_view value.now)) ≡ Some self.new) }
+        ensures err { IfErr result (IsMisfit (spec.fixed_bytes (fixed_view fixed) (value_view value.now))) }
+    {
+        add_fixed(&mut self.front, fixed, value)
     }
 
     // Adds data, filled up with zeros to a multiple of 4.

@@ -20,7 +20,7 @@ pub structure_bytes-returns-in_err-lay_form-clause-err : goal.structure_bytes-re
 structure_bytes-returns-in_err-lay_form-clause-err t c =
     let fields = (out-FieldShape c.args.shape.now).0.now in
     let in_values : c.loop-index.index < length c.args.values.now = omega (arith, c.loop-index-test.true, c.if-fields-values.false) in
-    let p = err_from_is_err_and c.from_residual.result c.from_residual.ensures.1 in
+    let p = err_from_is_err_and c.from_residual-in_err-lay_form.result c.from_residual-in_err-lay_form.ensures.1 in
     rw (p.1, p.2, view-shape c.args.shape.now)
     (FieldsLaid-misfit (layout_of (map field_view fields)) fields c.args.values.now c.loop-index.index c.in-Some.begin _ c.index-values-index.result c.loop-index.laid c.in_err-lay_form.field-0.0
     c.loop-index-test.true in_values c.index-values-index.is c.in-Some.ensures.some c.loop-index.invariant c.in_err-lay_form.ensures.err)
