@@ -1,7 +1,7 @@
-ghost use Rattle.std.specs.Prelude.{◌≡◌, ◌≤◌, [], Some, IfOk};
+ghost use Rattle.std.specs.Prelude.{◌≡◌, ◌≤◌, [], Some, IfOk, codes};
 ghost use Rattle.file_io.specs.Made.{calls_of};
 
-use crate::{Files, Side};
+use crate::{Complain, Files, Side};
 use kit_io::{Failed, Faults, Log};
 use std::alloc::{AllocError, Global};
 
@@ -128,5 +128,13 @@ impl Files for MemFiles {
     #[tactic(auto, using(kit_io::proofs::Growth::growing))]
     fn close(&mut self) {
         self.log.note(Made::Closed, &[]);
+    }
+}
+
+impl Complain for MemFiles {
+    ghost words = { λ _. codes "as its script says" };
+
+    fn words(&self) -> &str {
+        "as its script says"
     }
 }

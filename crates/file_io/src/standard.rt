@@ -1,16 +1,20 @@
-ghost use Rattle.std.specs.Prelude.{None};
+ghost use Rattle.std.specs.Prelude.{◌≡◌, ◌<◌, ◌≤◌, None, IfOk, length, string_bytes};
 
-use crate::{Files, Side};
+use crate::{Complain, Files, Side};
 use kit_io::{Failed, Faults};
 use libc::STDIN_FILENO;
 use libc::net::{POLLERR, POLLHUP, POLLIN, POLLNVAL, POLLOUT, poll};
 use libc::types::pollfd;
+use std::alloc::{AllocError, Global};
 use std::cell::Cell;
 use std::fs::{self, File, OpenFile, OpenOptions, TryLockError};
 use std::io::{self, ErrorKind, Read, Write};
 use std::os::fd::{AsFd, AsRawFd, RawFd};
 use std::os::unix::fs::FileTypeExt;
 use std::os::unix::net::UnixStream;
+
+// The number of the system's error for what is in use.
+const EBUSY: i32 = 16;
 
 /// The files of the file system. They tell no content.
 ///
@@ -23,26 +27,99 @@ use std::os::unix::net::UnixStream;
 #[derive(Drop)]
 pub struct StdFiles<'a, R: fs::Files> {
     rt: &'a R,
+    alloc: Global,
     /// The descriptor of the link, or -1 where none is open.
     link: &'a Cell<RawFd>,
     file: Option<R::File>,
     is_node: bool,
     read_faults: Faults,
     write_faults: Faults,
+    /// What the system says of the call that failed last, as far as there is memory for it.
+    words: String,
 }
 
 impl<'a, R: fs::Files> StdFiles<'a, R> {
     /// The files of a file system, none of them open, beside a link whose descriptor stands in the
     /// cell, or -1 where it isn't open.
-    pub fn new(rt: &'a R, link: &'a Cell<RawFd>) -> Self {
+    pub fn new(rt: &'a R, alloc: Global, link: &'a Cell<RawFd>) -> Self {
         StdFiles {
             rt,
+            alloc,
             link,
             file: None,
             is_node: false,
             read_faults: Faults::none(),
             write_faults: Faults::none(),
+            words: String::new(alloc),
         }
+    }
+}
+
+impl<R: fs::Files<File = File>> StdFiles<'_, R> {
+    // Reads the file that is open.
+    fn read_open(&mut self, buffer: &mut [u8]) -> io::Result<usize>
+        ensures within { IfOk result (λ count. count ≤ length buffer.old) }
+        ensures len { length buffer.new ≡ length buffer.old }
+        ensures read_faults { self.new.read_faults ≡ self.old.read_faults }
+        ensures write_faults { self.new.write_faults ≡ self.old.write_faults }
+    {
+        let Some(file) = &mut self.file else {
+            return Err(ErrorKind::NotConnected.into());
+        };
+        for _ in 0..u64::MAX {
+            if self.is_node && is_abandoned(file.as_raw_fd(), self.link.get(), POLLIN) {
+                return Ok(0);
+            }
+            match file.read(buffer) {
+                Err(error) if comes_again(&error) => {}
+                read => return read,
+            }
+        }
+        Err(ErrorKind::TimedOut.into())
+    }
+
+    // Writes some of the bytes to the file that is open.
+    fn write_open(&mut self, bytes: &[u8]) -> io::Result<usize>
+        ensures within { IfOk result (λ count. count ≤ length bytes.now) }
+        ensures some { IfOk result (λ count. 0 < length bytes.now → 0 < count) }
+        ensures read_faults { self.new.read_faults ≡ self.old.read_faults }
+        ensures write_faults { self.new.write_faults ≡ self.old.write_faults }
+    {
+        let Some(file) = &mut self.file else {
+            return Err(ErrorKind::NotConnected.into());
+        };
+        for _ in 0..u64::MAX {
+            match file.write(bytes) {
+                Ok(count) if count > 0 || bytes.is_empty() => return Ok(count),
+                Ok(_) => return Err(ErrorKind::WriteZero.into()),
+                Err(error) if comes_again(&error) => {}
+                Err(error) => return Err(error),
+            }
+            if self.is_node && is_abandoned(file.as_raw_fd(), self.link.get(), POLLOUT) {
+                return Err(ErrorKind::BrokenPipe.into());
+            }
+        }
+        Err(ErrorKind::TimedOut.into())
+    }
+}
+
+// What the system says of an error, without the number that stands behind it.
+fn words_of(alloc: Global, error: io::Error) -> Result<String, AllocError> {
+    let words = error.to_string(alloc)?;
+    String::from_str(alloc, front_of(&words))
+}
+
+fn front_of(words: &str) -> &str {
+    match words.split_once(" (os error ") {
+        Some((front, _)) => front,
+        None => words,
+    }
+}
+
+fn words_or_none(alloc: Global, error: io::Error) -> String {
+    match words_of(alloc, error) {
+        Ok(words) => words,
+        Err(AllocError) => String::new(alloc),
     }
 }
 
@@ -65,7 +142,7 @@ fn hold(node: &File, side: Side) -> io::Result<()> {
     if side == Side::Read
         && let Err(TryLockError::WouldBlock) = node.try_lock()
     {
-        return Err(ErrorKind::WouldBlock.into());
+        return Err(io::Error::from_raw_os_error(EBUSY));
     }
     // std sets this for sockets alone; it is the same for whatever a descriptor leads to
     let node = UnixStream::from(node.as_fd().try_clone_to_owned()?);
@@ -118,49 +195,48 @@ impl<R: fs::Files<File = File>> Files for StdFiles<'_, R> {
 
     fn open(&mut self, path: &str, side: Side) -> Result<(), Failed> {
         self.file = None;
-        if let Ok((file, is_node)) = open_held(self.rt, path, side, self.link.get()) {
-            self.file = Some(file);
-            self.is_node = is_node;
-            return Ok(());
+        match open_held(self.rt, path, side, self.link.get()) {
+            Ok((file, is_node)) => {
+                self.file = Some(file);
+                self.is_node = is_node;
+                Ok(())
+            }
+            Err(error) => {
+                self.words = words_or_none(self.alloc, error);
+                Err(self.read_faults.fail())
+            }
         }
-        Err(self.read_faults.fail())
     }
 
     fn read(&mut self, buffer: &mut [u8]) -> Result<usize, Failed> {
-        let Some(file) = &mut self.file else {
-            return Err(self.read_faults.fail());
-        };
-        for _ in 0..u64::MAX {
-            if self.is_node && is_abandoned(file.as_raw_fd(), self.link.get(), POLLIN) {
-                return Ok(0);
-            }
-            match file.read(buffer) {
-                Ok(count) => return Ok(count),
-                Err(error) if comes_again(&error) => {}
-                Err(_) => break,
+        match self.read_open(buffer) {
+            Ok(count) => Ok(count),
+            Err(error) => {
+                self.words = words_or_none(self.alloc, error);
+                Err(self.read_faults.fail())
             }
         }
-        Err(self.read_faults.fail())
     }
 
     fn write(&mut self, bytes: &[u8]) -> Result<usize, Failed> {
-        let Some(file) = &mut self.file else {
-            return Err(self.write_faults.fail());
-        };
-        for _ in 0..u64::MAX {
-            match file.write(bytes) {
-                Ok(count) if count > 0 || bytes.is_empty() => return Ok(count),
-                Err(error) if comes_again(&error) => {}
-                Ok(_) | Err(_) => break,
-            }
-            if self.is_node && is_abandoned(file.as_raw_fd(), self.link.get(), POLLOUT) {
-                break;
+        match self.write_open(bytes) {
+            Ok(count) => Ok(count),
+            Err(error) => {
+                self.words = words_or_none(self.alloc, error);
+                Err(self.write_faults.fail())
             }
         }
-        Err(self.write_faults.fail())
     }
 
     fn close(&mut self) {
         self.file = None;
+    }
+}
+
+impl<R: fs::Files<File = File>> Complain for StdFiles<'_, R> {
+    ghost words = { λ s. string_bytes s.words };
+
+    fn words(&self) -> &str {
+        self.words.as_str()
     }
 }

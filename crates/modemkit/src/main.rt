@@ -79,7 +79,7 @@ fn run_beside<O: Sink, E: Sink, P: Spawner>(
     let Ok(mut link) = Watched::new(rt.alloc(), link) else {
         return give_up(err);
     };
-    let mut files = StdFiles::new(rt, &socket);
+    let mut files = StdFiles::new(rt, rt.alloc(), &socket);
     let status = run_read(rt, out, err, &mut link, &mut hub, spawner, &mut files);
     drop(hub);
     drop(files);

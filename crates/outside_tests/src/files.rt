@@ -1,4 +1,4 @@
-use file_io::{Files, READ_ROOM, Side, StdFiles};
+use file_io::{Complain, Files, READ_ROOM, Side, StdFiles};
 use kit_io::Failed;
 use std::cell::Cell;
 use std::fs;
@@ -20,9 +20,11 @@ fn has<F: Files>(files: &mut F, wanted: [u8; 4]) -> bool {
         && files.read(&mut buffer) == Ok(0)
 }
 
-/// A file that isn't there is neither read nor made.
-fn misses<F: Files>(files: &mut F) -> bool {
-    files.open("f.bin", Side::Read).is_err() && write(files, b"new").is_err()
+/// A file that isn't there is neither read nor made, and that is why.
+fn misses<F: Complain>(files: &mut F) -> bool {
+    files.open("f.bin", Side::Read).is_err()
+        && write(files, b"new").is_err()
+        && files.words() == "No such file or directory"
 }
 
 /// None is open any more once it was closed.
@@ -34,7 +36,7 @@ fn closes<F: Files>(files: &mut F) -> bool {
 #[test]
 fn a_file_of_the_file_system_is_written_and_read(rt: HostRuntime) {
     let no_link = Cell::new(-1);
-    let mut files = StdFiles::new(&rt, &no_link);
+    let mut files = StdFiles::new(&rt, rt.alloc(), &no_link);
     assert!(rt; misses(&mut files));
     fs::write(&rt, "f.bin", "text").expect(&rt, "a new file");
     assert!(rt; write(&mut files, b"new") == Ok(3));
