@@ -6,7 +6,7 @@ use Rattle.std.proofs.lemmas.Bool.Decides.{nat_tests}
 use Rattle.std.proofs.lemmas.List.{get_or_default}
 use Rattle.kit_bytes.specs.Sorted.{IsInOrder}
 use Rattle.kit_bytes.proofs.Lists.{all_weaker, all_push, all_remove, all_set}
-use Rattle.kit_bytes.proofs.Sorted.{in_order_push, in_order_remove, in_order_set, partitioned, searched_here, searched_end, searched_other}
+use Rattle.kit_bytes.proofs.Sorted.{position_is, in_order_at, in_order_push, in_order_remove, in_order_set, partitioned, searched_here, searched_end, searched_other}
 use Rattle.many_history.specs.Many.{Seat}
 use Rattle.many_seats.specs.Seats.{IsSeat, AreRising, AreInOrder}
 use Rattle.many_seats.proofs.Placed.{is_named}
@@ -75,3 +75,12 @@ module _ (conn : ℕ) where
       pub found_other : is_named conn seat ≡ false → AllWithin (λ k. is_before k ≡ false) seats place (length seats) → AreRising seats → None ≡ position (is_named conn) seats
       found_other other rest rising =
           sym (searched_other joined_before (is_named conn) is_before apart ahead seats place lower rest rising within (λ d. ap (is_named conn) (get_or_default seats place d seat within ∙ sym at) ∙ other))
+
+  pub found_in_order : (seats : List Seat) → AreRising seats → (place : ℕ) (seat : Seat) → place < length seats → IsSeat seat seats place → is_named conn seat ≡ true → Some place ≡ position (is_named conn) seats
+  found_in_order seats rising place seat within at named =
+      let here : is_named conn (get_or seats place seat) ≡ true = ap (is_named conn) (sym at) ∙ named in
+      let apart_from : (k : ℕ) → k < place → is_named conn (get_or seats k seat) ≡ false = λ k earlier.
+      let rises : (get_or seats k seat).conn < (get_or seats place seat).conn = in_order_at joined_before seats k place seat rising earlier within in
+      apart (get_or seats k seat) (ahead (get_or seats k seat) (get_or seats place seat) rises here)
+      in
+      sym (position_is (is_named conn) seats place seat apart_from within here)

@@ -1,4 +1,4 @@
-ghost use Rattle.std.specs.Prelude.{◌≡◌, ◌≢◌, ◌+◌, ◌<◌, ◌≤◌, ◌==◌, ◌++◌, ◌∷◌, ℕ, [], None, length, drop, position, vec_len, vec_capacity, IfOk, IfSome};
+ghost use Rattle.std.specs.Prelude.{◌≡◌, ◌≢◌, ◌+◌, ◌<◌, ◌≤◌, ◌==◌, ◌++◌, ◌∷◌, ℕ, [], None, Some, length, drop, position, vec_len, vec_capacity, IfOk, IfSome};
 ghost use Rattle.std.specs.List.{AllByRecursion, remove};
 ghost use Rattle.many_history.specs.Many.{Undecided, place_of};
 ghost use Rattle.many_history.specs.Many.{Seat as ManySeat};
@@ -240,6 +240,9 @@ fn index_of(present: &[Seat], conn: ConnId) -> Option<usize>
     ensures place { result ≡ position (λ seat. seat.conn == conn) present.now }
     ensures within { IfSome result (λ place. place < length present.now) }
 {
+    if let Some(place) = likely_index(present, conn) {
+        return Some(place);
+    }
     let place = present.partition_point(|seat| seat.conn() < conn);
     if place == present.len() {
         return None;
@@ -250,6 +253,23 @@ fn index_of(present: &[Seat], conn: ConnId) -> Option<usize>
     } else {
         None
     }
+}
+
+// Where it stands if everybody is still there who joined from the first on to it.
+fn likely_index(present: &[Seat], conn: ConnId) -> Option<usize>
+    requires { AreRising present.now }
+    ensures place { IfSome result (λ place. Some place ≡ position (λ seat. seat.conn == conn) present.now) }
+    ensures within { IfSome result (λ place. place < length present.now) }
+{
+    let first = present.first()?;
+    let place = conn.checked_sub(first.conn())? as usize;
+    if place < present.len() {
+        let seat = &present[place];
+        if seat.conn() == conn {
+            return Some(place);
+        }
+    }
+    None
 }
 
 // What the connection of this name chose, where the list has it.
