@@ -1,5 +1,5 @@
 -- The pairs of events, and the events of pairs.
-use Rattle.std.proofs.Common.{◌≡◌, ℕ, nat_lt, if◌then◌else◌, Bool, true, false, ◌==◌, List, [], ◌∷◌, ◌++◌, length, take, drop, map, Some, None, is_some, option_and_then, refl, sym, ap, ◌∙◌, arith, append_assoc, append-nil}
+use Rattle.std.proofs.Common.{◌≡◌, ◌<◌, ◌≤◌, ℕ, nat_lt, if◌then◌else◌, Bool, true, false, ◌==◌, List, [], ◌∷◌, ◌++◌, length, take, drop, map, Some, None, option_and_then, refl, sym, ap, ◌∙◌, arith, append_assoc, append-nil, length-append}
 use Rattle.std.proofs.lemmas.Bool.Decides.{nat_tests}
 use Rattle.kit_bytes.specs.Subscriptions.{Pair, by_service}
 use Rattle.mbim_fields.specs.Value.{Value}
@@ -11,16 +11,26 @@ use Rattle.sim_mbim.specs.BasicConnect.{if_few, list_taken}
 
 -- ---- reading ----
 
-if_taken : (pairs : List Pair) (many : Bool) → is_some (if many then None else Some pairs) ≡ true → (if many then None else Some pairs) ≡ Some pairs
-if_taken pairs true taken = absurd (cc)
-if_taken pairs false taken = refl
+if_few-all : (pairs : List Pair) (many : Bool) → many ≡ false → (if many then None else Some pairs) ≡ Some pairs
+if_few-all pairs true few = absurd (cc)
+if_few-all pairs false few = refl
 
--- what is spelled is taken, if anything is
-pub taken_is : (buffer : List ℕ) (pairs : List Pair) → list_of_buffer buffer ≡ Some pairs → is_some (list_taken buffer) ≡ true → list_taken buffer ≡ Some pairs
-taken_is buffer pairs spelled taken = ap (option_and_then if_few) spelled ∙ if_taken pairs (nat_lt LONGEST_LIST (length pairs)) (sym (ap (λ list. is_some (option_and_then if_few list)) spelled) ∙ taken)
+if_few-none : (pairs : List Pair) (many : Bool) → many ≡ true → (if many then None else Some pairs) ≡ None
+if_few-none pairs true many = refl
+if_few-none pairs false many = absurd (cc)
 
-pub all_taken : (all pairs left : List Pair) → pairs ++ left ≡ all → left ≡ [] → pairs ≡ all
-all_taken all pairs left so_far none = sym (append-nil pairs) ∙ ap (λ l. pairs ++ l) (sym none) ∙ so_far
+-- where nothing is left and no more were read than a list may have, all were read
+pub taken_is : (buffer : List ℕ) (all pairs left : List Pair) → list_of_buffer buffer ≡ Some all → pairs ++ left ≡ all → left ≡ [] → length pairs ≤ 1920 → list_taken buffer ≡ Some pairs
+taken_is buffer all pairs left spelled so_far none few =
+    let same : all ≡ pairs = sym so_far ∙ ap (λ l. pairs ++ l) none ∙ append-nil pairs in
+    ap (option_and_then if_few) (spelled ∙ ap Some same) ∙ if_few-all pairs (nat_lt LONGEST_LIST (length pairs)) (grind (arith, nat_tests, few))
+
+-- where one comes behind as many as a list may have, none is taken
+pub not_taken : (buffer : List ℕ) (all pairs left rest : List Pair) (pair : Pair) → list_of_buffer buffer ≡ Some all → pairs ++ left ≡ all → left ≡ pair ∷ rest → length pairs ≡ 1920 → list_taken buffer ≡ None
+not_taken buffer all pairs left rest pair spelled so_far more full =
+    let same : all ≡ pairs ++ pair ∷ rest = sym so_far ∙ ap (λ l. pairs ++ l) more in
+    let many : 1920 < length all = omega (arith, ap length same, length-append pairs (pair ∷ rest), full) in
+    ap (option_and_then if_few) spelled ∙ if_few-none all (nat_lt LONGEST_LIST (length all)) (grind (arith, nat_tests, many))
 
 -- ---- writing ----
 

@@ -1,6 +1,6 @@
 -- What the values of a buffer's fields say, by the places of the fields, which are counted from 0, and values of answers.
 use Rattle.std.specs.Prelude.{ℕ, List, [], get_or, length, replicate, unwrap_or}
-use Rattle.mbim_fields.specs.Value.{Value, number, absent, elements, members, no_more, list_of, values_of, as_number, as_uuid, as_octets, as_text, as_elements, as_members}
+use Rattle.mbim_fields.specs.Value.{Value, number, absent, elements, members, values_of, as_number, as_octets, as_text}
 
 -- ---- of a command; what is no such value is 0 or empty ----
 

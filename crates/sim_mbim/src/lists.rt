@@ -69,12 +69,14 @@ pub fn takes_list(buffer: &[u8]) -> bool
 pub(crate) fn read_list(alloc: Global, buffer: &[u8]) -> Result<Option<Vec<Pair>>, AllocError>
     ensures { IfOk result (λ list. option_map (λ pairs. pairs.items) list ≡ option_map normal_form (list_taken buffer.now)) }
 {
-    if !takes_list(buffer) {
+    let Some(mut events) = Events::read(buffer) else {
         return Ok(None);
-    }
-    let mut events = Events::read(buffer).unwrap();
+    };
     let mut pairs = Vec::new(alloc);
     'events: while let Some(pair) = events.next() {
+        if pairs.len() == LONGEST_LIST {
+            return Ok(None);
+        }
         pairs.push(pair)?;
     }
     normalize(&mut pairs);
