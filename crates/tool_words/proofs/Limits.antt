@@ -20,7 +20,7 @@ use Rattle.tool_words.specs.ModemTools.{asked_by, modem_tool_asked}
 use Rattle.tool_words.specs.Paths.{devices_in}
 use Rattle.tool_words.specs.Proxies.{proxies_asked, proxies_if_given, proxies_values}
 use Rattle.tool_words.specs.Proxy.{proxy_asked, proxy_spelling, proxy_values, settings_in}
-use Rattle.tool_words.specs.Pump.{pump_asked, pump_if_named, pump_values, reads_named}
+use Rattle.tool_words.specs.Pump.{is_verbose, pump_asked, pump_if_named, pump_values, reads_named}
 use Rattle.tool_words.specs.QmiCommands.{makes_messages, qmi_asks, qmi_line, qmi_spelling, takes_tables}
 use Rattle.tool_words.specs.Qmicli.{asked_for, asked_with, described, fits_tables, follow_in, form_given, modem_kind, qmi_asked, qmi_setting_spelling, qmicli_asked, qmicli_values, reference_in, requested, sent_to, submitted}
 use Rattle.tool_words.specs.Reading.{is_refused}
@@ -131,9 +131,9 @@ proxies-fits texts rows =
     Fits-each _ (settings_in kind.Qmi rows) (λ settings _.
     Fits-each _ (devices_in texts) (λ devices _. tt))
 
-pump-fits : (read : Bool) (node bridge : List ℕ) → Fits (pump_values read node bridge)
+pump-fits : (read : Bool) (node bridge : List ℕ) (verbose : Bool) → Fits (pump_values read node bridge verbose)
 unfolding pump_values
-pump-fits read node bridge = grind arith
+pump-fits read node bridge verbose = grind arith
 
 -- ---- a text that is sent ----
 
@@ -250,9 +250,9 @@ named-fits (Some tool) words =
     (λ _. tt) (λ _. tool-fits tool (matches_of (tool_app tool) words))
 named-fits None words = tt
 
-pump-named-fits : (read : Option Bool) (node bridge : List ℕ) → IsFitting (pump_if_named read node bridge)
-pump-named-fits (Some read) node bridge = IsFitting-value (pump_values read node bridge) (pump-fits read node bridge)
-pump-named-fits None node bridge = tt
+pump-named-fits : (read : Option Bool) (node bridge : List ℕ) (verbose : Bool) → IsFitting (pump_if_named read node bridge verbose)
+pump-named-fits (Some read) node bridge verbose = IsFitting-value (pump_values read node bridge verbose) (pump-fits read node bridge verbose)
+pump-named-fits None node bridge verbose = tt
 
 pump-asked-fits : (words : List Text) → IsFitting (pump_asked words)
 unfolding pump_asked
@@ -260,8 +260,11 @@ pump-asked-fits [] = tt
 pump-asked-fits (a ∷ []) = tt
 pump-asked-fits (a ∷ b ∷ []) = tt
 pump-asked-fits (a ∷ b ∷ c ∷ []) = tt
-pump-asked-fits (name ∷ way ∷ node ∷ bridge ∷ []) = pump-named-fits (reads_named way) node bridge
-pump-asked-fits (a ∷ b ∷ c ∷ d ∷ e ∷ more) = tt
+pump-asked-fits (name ∷ way ∷ node ∷ bridge ∷ []) = pump-named-fits (reads_named way) node bridge false
+pump-asked-fits (name ∷ way ∷ node ∷ bridge ∷ more ∷ []) =
+    cond_both (is_verbose more) (pump_if_named (reads_named way) node bridge true) (Err usage.Words) IsFitting
+    (λ _. pump-named-fits (reads_named way) node bridge true) (λ _. tt)
+pump-asked-fits (a ∷ b ∷ c ∷ d ∷ e ∷ f ∷ more) = tt
 
 version-asked-fits : (words : List Text) → IsFitting (version_asked words)
 unfolding version_asked

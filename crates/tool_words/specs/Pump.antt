@@ -17,17 +17,22 @@ reads_named word =
     else None
 
 -- the pump between these paths, if each of them reads
-unfoldable pub pump_values : Bool → List ℕ → List ℕ → Option ToolCommand
-pump_values read node bridge = do
+unfoldable pub pump_values : (read : Bool) → (node bridge : List ℕ) → (verbose : Bool) → Option ToolCommand
+pump_values read node bridge verbose = do
   node_path ← path_in node
   bridge_path ← path_in bridge
-  Some (Pump read node_path bridge_path)
+  Some (Pump read node_path bridge_path verbose)
 
-abbrev pub pump_if_named : Option Bool → List ℕ → List ℕ → Result ToolCommand UsageKind
-pump_if_named (Some read) node bridge = or_value (pump_values read node bridge)
-pump_if_named None node bridge = Err usage.Words
+abbrev pub pump_if_named : Option Bool → (node bridge : List ℕ) → (verbose : Bool) → Result ToolCommand UsageKind
+pump_if_named (Some read) node bridge verbose = or_value (pump_values read node bridge verbose)
+pump_if_named None node bridge verbose = Err usage.Words
 
--- pump read NODE BRIDGE, or pump write NODE BRIDGE
+-- whether the word behind a pump's others has it tell why its node failed
+unfoldable pub is_verbose : List ℕ → Bool
+is_verbose word = bytes_eq word (codes "-v")
+
+-- pump read NODE BRIDGE, or pump write NODE BRIDGE, and -v behind that where it is to tell why its node failed
 unfoldable pub pump_asked : List Text → Result ToolCommand UsageKind
-pump_asked (name ∷ way ∷ node ∷ bridge ∷ []) = pump_if_named (reads_named way) node bridge
+pump_asked (name ∷ way ∷ node ∷ bridge ∷ []) = pump_if_named (reads_named way) node bridge false
+pump_asked (name ∷ way ∷ node ∷ bridge ∷ more ∷ []) = if is_verbose more then pump_if_named (reads_named way) node bridge true else Err usage.Words
 pump_asked _ = Err usage.Words

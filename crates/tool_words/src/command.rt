@@ -65,6 +65,8 @@ pub enum ToolCommand {
         node: PathText,
         /// The socket that the other end listens on.
         bridge: PathText,
+        /// Whether it tells why its node failed.
+        verbose: bool,
     },
     /// Runs a proxy's core with many clients, and with each of them alone.
     Rig {
