@@ -1,5 +1,5 @@
 -- The routes to a modem.
-use Rattle.std.specs.Prelude.{ℕ, Bool, nat_eq, List, [], ◌∷◌, ◌++◌, codes, map, string_bytes, if◌then◌else◌}
+use Rattle.std.specs.Prelude.{ℕ, Bool, true, false, nat_eq, List, [], ◌∷◌, ◌++◌, codes, map, string_bytes, if◌then◌else◌}
 use Rattle.std.specs.List.{starts_with}
 use Rattle.kit_bytes.specs.declared.Kind.{Kind}
 use Rattle.kit_bytes.specs.declared.Kind.TheVariants as kind
@@ -37,8 +37,18 @@ pump_words side node bridge = codes "pump" ∷ side ∷ node ∷ bridge ∷ []
 abbrev pub pumps_of : (node bridge : List ℕ) → PumpWords
 pumps_of node bridge = record { reads = pump_words (codes "read") node bridge; writes = pump_words (codes "write") node bridge }
 
+-- pumps that tell why their node failed
+abbrev pub telling : PumpWords → PumpWords
+telling pumps = record { reads = pumps.reads ++ codes "-v" ∷ []; writes = pumps.writes ++ codes "-v" ∷ [] }
+
 unfoldable pub place_of : (device bridge : List ℕ) → Place
 place_of device bridge = if is_node device then BehindPumps (AtBridge bridge) (pumps_of device bridge) else AtOnce (AtSocket device)
+
+-- the same place, with pumps that tell why their node failed where that is wanted
+abbrev pub place_telling : (verbose : Bool) → Place → Place
+place_telling false place = place
+place_telling true (AtOnce address) = AtOnce address
+place_telling true (BehindPumps address pumps) = BehindPumps address (telling pumps)
 
 abbrev pub proxy_name : Kind → List ℕ
 proxy_name kind.Qmi = codes "qmi-proxy"

@@ -1,5 +1,5 @@
-ghost use Rattle.std.specs.Prelude.{◌≡◌, codes, IfOk};
-ghost use Rattle.modem_routes.specs.Routes.{Direct, ByProxy, is_node, path_in, place_in, place_of, proxy_words, pumps_of, words_in};
+ghost use Rattle.std.specs.Prelude.{◌≡◌, true, codes, IfOk, OnOk};
+ghost use Rattle.modem_routes.specs.Routes.{Direct, ByProxy, is_node, path_in, place_in, place_of, place_telling, proxy_words, pumps_of, telling, words_in};
 ghost use Rattle.link_io.specs.Target.{AtSocket};
 
 use crate::words::{proxy_words, pump_words};
@@ -47,6 +47,17 @@ fn pumps_of(alloc: Global, node: &str, bridge: &str) -> Result<Pumps, AllocError
     Ok(Pumps { reads, writes })
 }
 
+impl Pumps {
+    // Has them tell why their node failed.
+    fn tell(&mut self, alloc: Global) -> Result<(), AllocError>
+        ensures { OnOk result (words_in self.new ≡ telling (words_in self.old)) }
+    {
+        self.reads.push(String::from_str(alloc, "-v")?)?;
+        self.writes.push(String::from_str(alloc, "-v")?)?;
+        Ok(())
+    }
+}
+
 impl Device {
     /// The device of this path: a node is behind pumps that meet at the path of the bridge.
     #[tactic(auto, unfolding(crate::specs::Routes::place_of))]
@@ -59,14 +70,33 @@ impl Device {
         }
         Ok(Device::AtOnce(Target::Socket(Text::from_str(alloc, path)?)))
     }
+
+    // Has the pumps of a node tell why it failed.
+    fn tell(&mut self, alloc: Global) -> Result<(), AllocError>
+        ensures { OnOk result (place_in self.new ≡ place_telling true (place_in self.old)) }
+    {
+        match self {
+            Device::AtOnce(_) => Ok(()),
+            Device::BehindPumps(_, pumps) => pumps.tell(alloc),
+        }
+    }
 }
 
 impl Route {
-    /// To the device itself.
-    pub fn direct(alloc: Global, device: &str, bridge: &str) -> Result<Self, AllocError>
-        ensures { IfOk result (λ route. path_in route ≡ Direct (place_of device.now bridge.now)) }
+    /// To the device itself. The pumps of a node tell why it failed where that is wanted.
+    pub fn direct(
+        alloc: Global,
+        device: &str,
+        bridge: &str,
+        verbose: bool,
+    ) -> Result<Self, AllocError>
+        ensures { IfOk result (λ route. path_in route ≡ Direct (place_telling verbose (place_of device.now bridge.now))) }
     {
-        Ok(Route::Direct(Device::at(alloc, device, bridge)?))
+        let mut device = Device::at(alloc, device, bridge)?;
+        if verbose {
+            device.tell(alloc)?;
+        }
+        Ok(Route::Direct(device))
     }
 
     /// To the proxy at a socket, which is there for a device, or is to be.
