@@ -1,21 +1,20 @@
 -- One that is there, at a place in the order of joining.
-use Rattle.std.proofs.Common.{◌≡◌, ℕ, ◌<◌, ◌==◌, List, [], length, position, refl, ap, sym, ◌∙◌, subst, Some, None}
+use Rattle.std.proofs.Common.{◌≡◌, ℕ, ◌<◌, ◌==◌, List, [], length, position, ap, sym, ◌∙◌, subst, Some, None}
 use Rattle.std.specs.List.{remove}
-use Rattle.hub_io.specs.declared.settings.Limits.{Limits}
 use Rattle.proxy_history.specs.Events as one
 use Rattle.qmi_state.specs.Transitions.{qmi_handlers}
 use Rattle.many_history.specs.Events.{Piece, Left, Took}
 use Rattle.many_history.specs.Many.{Seat, At, place_of}
 use Rattle.many_state.specs.Core.{queue_at}
 use Rattle.many_seats.specs.declared.chosen.Chosen.{Chosen}
-use Rattle.many_seats.specs.Seats.{Seating, IsSeat, chosen_in, said_in}
+use Rattle.many_seats.specs.Seats.{IsSeat, chosen_in, said_in}
 use Rattle.many_seats.proofs.Placed.{none_is, place_is}
 use Rattle.many_seats.proofs.Names.{first_of}
 use Rattle.many_cores.specs.Cores.{met, at_place, HasNoFewer}
 use Rattle.many_core.specs.Core.{ManyCore, MovesNobody, with_cores}
 use Rattle.many_core.specs.Core as many
 use Rattle.many_core.proofs.Inside.{PlacesFit, of_chosen, of_none, device_fits}
-use Rattle.many_core.proofs.Meeting.{value, seating_of}
+use Rattle.many_core.proofs.Meeting.{seating_of}
 use Rattle.many_core.proofs.Moving.{strange_piece_is, strange_piece_moves, strange_taking_is, strange_taking_moves, strange_leaving_is, strange_leaving_moves, piece_is, piece_moves, taking_is, taking_moves, idle_taking_is, idle_taking_moves, leaving_is, early_leaving_is}
 
 -- whoever has chosen is at a device that there is

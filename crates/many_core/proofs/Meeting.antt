@@ -1,5 +1,5 @@
 -- What each event makes of a core of several QMI devices.
-use Rattle.std.proofs.Common.{◌≡◌, ℕ, ◌+◌, ◌<◌, ◌≤◌, Bool, true, false, ◌==◌, List, [], ◌∷◌, ◌++◌, length, map, slice_get, refl, ap, sym, ◌∙◌, subst, arith, Some}
+use Rattle.std.proofs.Common.{◌≡◌, ℕ, ◌≤◌, Bool, true, false, ◌==◌, List, [], ◌∷◌, length, map, slice_get, refl, ap, sym, ◌∙◌, subst, arith, Some}
 use Rattle.std.proofs.lemmas.Bool.{eqb-true}
 use Rattle.hub_io.specs.declared.settings.Limits.{Limits}
 use Rattle.proxy_history.specs.Events.{Event}
@@ -7,7 +7,7 @@ use Rattle.proxy_history.specs.Events as one
 use Rattle.proxy_solo.specs.Cores.{core_after}
 use Rattle.qmi_state.specs.Core.{QmiCore}
 use Rattle.qmi_state.specs.Transitions.{qmi_handlers}
-use Rattle.many_history.specs.Events.{ManyEvent, Joined, Piece, Left, Took, ModemPiece, ModemGone, ModemBack, ModemTook, Now}
+use Rattle.many_history.specs.Events.{ManyEvent, Now}
 use Rattle.many_history.specs.Devices.{Devices}
 use Rattle.many_history.specs.Many.{Place, Undecided, Seat, only_at, events_if, parts, refused}
 use Rattle.many_state.specs.Core.{each_from, core_behind, names_of, greatest_after, cores_after, seats_before}

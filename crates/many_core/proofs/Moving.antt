@@ -8,9 +8,9 @@ use Rattle.proxy_history.specs.Events as one
 use Rattle.qmi_state.specs.Core.{QmiCore}
 use Rattle.qmi_state.specs.Transitions.{qmi_handlers}
 use Rattle.qmi_proxy.specs.Limits.{connection_limit}
-use Rattle.many_history.specs.Events.{ManyEvent, Joined, Piece, Left, Took}
+use Rattle.many_history.specs.Events.{Joined, Piece, Left, Took}
 use Rattle.many_history.specs.Devices.{Devices, choice_on}
-use Rattle.many_history.specs.Many.{Place, Undecided, At, Seat, place_of, placed, without, arrival, only_at, on_choice, on_piece, on_leaving, on_taking, parts, joined_if, chosen_if, said_by}
+use Rattle.many_history.specs.Many.{Place, Undecided, At, Seat, place_of, placed, arrival, only_at, on_choice, on_piece, on_leaving, on_taking, parts, joined_if, chosen_if, said_by}
 use Rattle.many_state.specs.Core.{names_of, seats_before}
 use Rattle.many_state.specs.Laws.{AreAll}
 use Rattle.qmi_many.specs.Devices.{qmi_devices}

@@ -1,5 +1,5 @@
 -- What a core of a proxy of several QMI devices keeps, and what it stands for. Lists of events have the newest first.
-use Rattle.std.specs.Prelude.{◌≡◌, ℕ, ◌+◌, ◌<◌, ◌≤◌, Bool, false, ◌==◌, nat_lt, List, [], ◌∷◌, ◌++◌, length, drop, position, slice_get, Option, Some, None, is_some}
+use Rattle.std.specs.Prelude.{◌≡◌, ℕ, ◌+◌, ◌<◌, ◌≤◌, Bool, false, ◌==◌, nat_lt, List, [], ◌∷◌, ◌++◌, length, drop, position, slice_get, Option, Some, is_some}
 use Rattle.std.specs.Option.{option_map}
 use Rattle.hub_io.specs.declared.settings.Limits.{Limits}
 use Rattle.proxy_history.specs.Modem.{now, is_away}

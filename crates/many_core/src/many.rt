@@ -292,13 +292,30 @@ impl ManyCore {
     pub fn queued_there(&self, conn: ConnId) -> &[u8]
         ensures { IsFrontOf result.now (queue_at qmi_handlers self.now.core.cores (place_of conn self.now.core.seats)) }
     {
-        let Some(place) = self.seats.find(conn) else {
-            return &[];
-        };
+        match self.seats.find(conn) {
+            Some(place) => self.queued_at(place),
+            None => &[],
+        }
+    }
+
+    // The first of the bytes that wait for the connection of this place; none only where none wait.
+    fn queued_at(&self, place: usize) -> &[u8]
+        requires { place < length self.now.core.seats }
+        ensures { (seat : ManySeat) → IsSeat seat self.now.core.seats place → IsFrontOf result.now (queue_at qmi_handlers self.now.core.cores (Some seat.place)) }
+    {
         match self.seats.chosen_at(place) {
             Some(chosen) => queued_in(self.cores.at(chosen.device), chosen.name, place),
             None => &[],
         }
+    }
+
+    // Whether there is a connection at this place, and bytes wait for it.
+    fn has_waiting_at(&self, place: usize) -> bool
+        ensures within { result ≡ true → place < length self.now.core.seats }
+        ensures fits { result ≡ true → place < usize.MAX }
+        ensures waits { result ≡ true → (seat : ManySeat) → IsSeat seat self.now.core.seats place → has_waiting self.now.core.cores seat ≡ true }
+    {
+        place < self.seats.present() && !self.queued_at(place).is_empty()
     }
 
     /// All the bytes that wait for a connection that is there, or that was dropped and wasn't asked for
@@ -387,6 +404,9 @@ impl ManyCore {
         ensures within { IfSome result (λ place. (from ≤ place) × (place < length self.now.core.seats)) }
         ensures fits { IfSome result (λ place. place < usize.MAX) }
     {
+        if self.has_waiting_at(from) {
+            return Some(from);
+        }
         let mut first = self.seats.present();
         let mut device = 0;
         while device < self.cores.count() {

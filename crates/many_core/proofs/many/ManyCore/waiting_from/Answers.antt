@@ -46,3 +46,10 @@ returns-else-first-present-clause-place c =
     of_all x.core.cores x.core.seats c.args.from l.first l.invariant.within fit (subst (λ (n : ℕ). NoneOfFirst x.core.cores x.core.seats c.args.from n l.first) all l.invariant.none)
     in
     nobody_first (has_waiting x.core.cores) x.core.seats c.args.from l.first c.requires (omega (arith, c.if-first-present.false, c.present.ensures, ap (λ (v : ManyCore). length v.core.seats) c.self.view_is)) none
+
+pub returns-then-has_waiting_at-clause-place : goal.returns-then-has_waiting_at-clause-place
+returns-then-has_waiting_at-clause-place c =
+    let x = c.args.self.now in
+    let within : c.args.from < length x.core.seats = c.has_waiting_at.ensures.within c.if-has_waiting_at.true in
+    let found = first_of x.core.seats c.args.from within in
+    first_here (has_waiting x.core.cores) x.core.seats c.args.from c.args.from found.0 (omega arith) within (λ k seat low high at. absurd (omega (arith, low, high))) found.1 (c.has_waiting_at.ensures.waits c.if-has_waiting_at.true found.0 found.1)
