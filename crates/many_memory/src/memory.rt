@@ -10,7 +10,7 @@ use std::alloc::{AllocError, Global};
 
 /// The calls on a hub of several devices, and the device of each. One that is of no device, or of all,
 /// is of device 0.
-#[derive(Debug, Drop)]
+#[derive(Drop)]
 pub struct DeviceCalls {
     calls: Log<HubCall>,
     devices: Log<usize>,
@@ -21,7 +21,7 @@ pub struct DeviceCalls {
 /// is told of a device that there isn't.
 ///
 /// Its calls are told to whoever compares them, by its log, and not to proofs.
-#[derive(Debug, Drop)]
+#[derive(Drop)]
 pub struct MemManyHub<H> {
     devices: usize,
     hub: H,
