@@ -12,6 +12,7 @@ use Rattle.link_session.specs.Asking.{Asked}
 use Rattle.device_core.specs.Requests.{Request, message_of}
 use Rattle.mbim_session.specs.Requests.{judge_command, longest_sent}
 use Rattle.qmi_tunnel.specs.Tunnel.{wrapped}
+use Rattle.tunnel_session.specs.declared.request.CarriedRequest.{CarriedRequest}
 
 -- of each of them
 abbrev pub head : CommandHead
@@ -20,6 +21,10 @@ head = record { uuid = (wrapped []).uuid; cid = (wrapped []).cid; set = (wrapped
 -- the messages of the command that carries a message
 unfoldable pub carried_message : (message : List ℕ) → (number : ℕ) → List ℕ
 carried_message message number = split (kind_number kind.Command) number longest_sent (command_text head message)
+
+-- what is asked, whose body is lent
+abbrev pub request_of : CarriedRequest → Request
+request_of request = record { body = request.body.now; cid = request.cid; number = request.number }
 
 -- a request to the QMI modem, in the command with this number, with so many seconds for its answer
 abbrev pub carrying : Request → (number seconds : ℕ) → Asked

@@ -7,6 +7,7 @@ mod ends;
 pub mod examples;
 mod laws;
 mod message;
+mod request;
 mod session;
 
 pub use ends::TunnelEnd;

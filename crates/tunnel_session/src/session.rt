@@ -12,6 +12,7 @@ ghost use Rattle.tunnel_session.specs.Session.{Allocates, Chooses, Closes, Comma
 use crate::carried::{Carried, Message};
 use crate::carrying::carry;
 use crate::ends::{TunnelEnd, refusal, refusal_of_open};
+use crate::request::CarriedRequest;
 use device_core::{QmiPlan, allocated, command_number, failed, failure, read};
 use link_io::Link;
 use link_session::{Incoming, SessionFault};
@@ -134,7 +135,12 @@ fn allocate<L: Link>(
     ensures later_open { L.open_faults link.old ≤ L.open_faults link.new }
 {
     let body = QmiRequest::Allocate(service);
-    let reply = carry(alloc, link, incoming, &body, 0, 1, number, plan.timeout);
+    let request = CarriedRequest {
+        body: &body,
+        cid: 0,
+        number: 1,
+    };
+    let reply = carry(alloc, link, incoming, request, number, plan.timeout);
     drop(body);
     let reply = reply?;
     match reply.answer {
@@ -193,17 +199,12 @@ fn run_command<L: Link>(
     ensures later_open { L.open_faults link.old ≤ L.open_faults link.new }
 {
     let body = &plan.request;
-    let qmi_number = command_number(body, client.control);
-    let reply = carry(
-        alloc,
-        link,
-        incoming,
+    let request = CarriedRequest {
         body,
-        client.id,
-        qmi_number,
-        number,
-        plan.timeout,
-    )?;
+        cid: client.id,
+        number: command_number(body, client.control),
+    };
+    let reply = carry(alloc, link, incoming, request, number, plan.timeout)?;
     match reply.answer {
         Carried::Message(message) => {
             read_command(alloc, link, incoming, plan, client, &message, number + 1)
@@ -289,17 +290,12 @@ fn release<L: Link>(
     ensures later_open { L.open_faults link.old ≤ L.open_faults link.new }
 {
     let body = QmiRequest::Release(service_of(&plan.request), client.id);
-    let control = client.control;
-    let reply = carry(
-        alloc,
-        link,
-        incoming,
-        &body,
-        0,
-        control,
-        number,
-        plan.timeout,
-    );
+    let request = CarriedRequest {
+        body: &body,
+        cid: 0,
+        number: client.control,
+    };
+    let reply = carry(alloc, link, incoming, request, number, plan.timeout);
     drop(body);
     let reply = match reply {
         Ok(reply) => reply,
