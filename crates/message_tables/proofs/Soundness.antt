@@ -17,7 +17,7 @@ use Rattle.message_tables.specs.declared.format.Format.TheVariants.{Unsigned, Si
 use Rattle.message_tables.specs.Reading.{Reading, faulty, unknown, known, reading_map, and_then, required}
 use Rattle.message_tables.specs.Members.{member_text, value_in, text_in, is_object, are_objects}
 use Rattle.message_tables.specs.Numbers.{size_of, in_range, integer_of}
-use Rattle.message_tables.specs.Formats.{number_named, other_named, first_format, format_named, is_plain, format_of, count_named, number_size, prefix_by, stated_prefix}
+use Rattle.message_tables.specs.Formats.{format_named, is_plain, format_of, count_named, number_size, prefix_by, stated_prefix}
 use Rattle.message_tables.specs.Definitions.{Definition, Names, referred}
 use Rattle.message_tables.specs.Forms.{inside, inside_prefix, field_for, field_by, field_with, form_in, form_by, form_with, some_items, form_of, element_in, fields_in, fields_at, fields_listed}
 
@@ -128,38 +128,27 @@ IsGood Sequence = Unit {0}
 abbrev MayBeGood : Option Format → Type 0
 MayBeGood o = IfSome o IsGood
 
-number_named-good : (name : List ℕ) → MayBeGood (number_named name)
-number_named-good name =
+format-good : (name : List ℕ) → MayBeGood (format_named name)
+unfolding format_named
+format-good name =
     let one : IsSize 1 = (omega arith, omega arith) in
     let two : IsSize 2 = (omega arith, omega arith) in
     let four : IsSize 4 = (omega arith, omega arith) in
     let eight : IsSize 8 = (omega arith, omega arith) in
+    let others =
+    or_else IsGood (bytes_eq name (codes "guint-sized")) Sized tt
+    (or_else IsGood (bytes_eq name (codes "string")) Text tt
+    (or_else IsGood (bytes_eq name (codes "array")) Array tt
+    (or_else IsGood (bytes_eq name (codes "sequence") || bytes_eq name (codes "struct")) Sequence tt (no_more IsGood)))) in
     let signed_ones =
     or_else IsGood (bytes_eq name (codes "gint8")) (Signed 1) one
     (or_else IsGood (bytes_eq name (codes "gint16")) (Signed 2) two
-    (or_else IsGood (bytes_eq name (codes "gint32")) (Signed 4) four (or_else IsGood (bytes_eq name (codes "gint64")) (Signed 8) eight (no_more IsGood)))) in
+    (or_else IsGood (bytes_eq name (codes "gint32")) (Signed 4) four (or_else IsGood (bytes_eq name (codes "gint64")) (Signed 8) eight others))) in
     let all =
     or_else IsGood (bytes_eq name (codes "guint8")) (Unsigned 1) one
     (or_else IsGood (bytes_eq name (codes "guint16")) (Unsigned 2) two
     (or_else IsGood (bytes_eq name (codes "guint32")) (Unsigned 4) four (or_else IsGood (bytes_eq name (codes "guint64")) (Unsigned 8) eight signed_ones))) in
     all.holds
-
-other_named-good : (name : List ℕ) → MayBeGood (other_named name)
-other_named-good name =
-    let all =
-    or_else IsGood (bytes_eq name (codes "guint-sized")) Sized tt
-    (or_else IsGood (bytes_eq name (codes "string")) Text tt
-    (or_else IsGood (bytes_eq name (codes "array")) Array tt
-    (or_else IsGood (bytes_eq name (codes "sequence") || bytes_eq name (codes "struct")) Sequence tt (no_more IsGood)))) in
-    all.holds
-
-first-good : (first other : Option Format) → MayBeGood first → MayBeGood other → MayBeGood (first_format first other)
-first-good (Some format) other good rest = good
-first-good None other good rest = rest
-
-format-good : (name : List ℕ) → MayBeGood (format_named name)
-unfolding format_named
-format-good name = first-good (number_named name) (other_named name) (number_named-good name) (other_named-good name)
 
 -- ---- forms ----
 

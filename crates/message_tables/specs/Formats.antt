@@ -13,8 +13,9 @@ use Rattle.message_tables.specs.Reading.{Reading, known, reading_map, required}
 use Rattle.message_tables.specs.Members.{value_in}
 use Rattle.message_tables.specs.Numbers.{size_of}
 
-abbrev pub number_named : List ℕ → Option Format
-number_named name =
+-- the format of a name
+unfoldable pub format_named : List ℕ → Option Format
+format_named name =
     if bytes_eq name (codes "guint8") then Some (Unsigned 1)
     else if bytes_eq name (codes "guint16") then Some (Unsigned 2)
     else if bytes_eq name (codes "guint32") then Some (Unsigned 4)
@@ -23,23 +24,11 @@ number_named name =
     else if bytes_eq name (codes "gint16") then Some (Signed 2)
     else if bytes_eq name (codes "gint32") then Some (Signed 4)
     else if bytes_eq name (codes "gint64") then Some (Signed 8)
-    else None
-
-abbrev pub other_named : List ℕ → Option Format
-other_named name =
-    if bytes_eq name (codes "guint-sized") then Some Sized
+    else if bytes_eq name (codes "guint-sized") then Some Sized
     else if bytes_eq name (codes "string") then Some Text
     else if bytes_eq name (codes "array") then Some Array
     else if bytes_eq name (codes "sequence") || bytes_eq name (codes "struct") then Some Sequence
     else None
-
-abbrev pub first_format : Option Format → Option Format → Option Format
-first_format (Some format) other = Some format
-first_format None other = other
-
--- the format of a name
-unfoldable pub format_named : List ℕ → Option Format
-format_named name = first_format (number_named name) (other_named name)
 
 -- numbers have their lowest byte first, as they have where nothing is said
 abbrev pub is_little : Option Data → Bool

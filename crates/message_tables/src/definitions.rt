@@ -116,21 +116,18 @@ impl Definitions {
             (tlv_for (referred (names_in self.now) (view reference.now))) }
     {
         let definition = self.referred(reference)?;
-        let name = definition.copy_name(alloc)?;
-        let Some(kind) = definition.id else {
-            return Err(ObjectFault::Member(MemberName::Id));
-        };
-        let shape = copy_shape(alloc, &self.allowance, &definition.shape)?;
-        Ok(TlvShape { kind, name, shape })
+        let tlv = definition.copy_tlv(alloc, &self.allowance)?;
+        Ok(tlv)
     }
 }
 
 impl Definition {
-    ghost use Rattle.std.specs.Prelude.{◌≡◌, IfOk};
+    ghost use Rattle.std.specs.Prelude.{◌≡◌, Some, IfOk};
     ghost use Rattle.message_tables.specs.Definitions.{operation_result};
     ghost use Rattle.message_tables.specs.Reading.{required};
     ghost use Rattle.message_tables.specs.Reads.{Gets, same};
-    ghost use Rattle.message_tables.specs.View.{definition_view};
+    ghost use Rattle.message_tables.specs.Tlvs.{tlv_for};
+    ghost use Rattle.message_tables.specs.View.{definition_view, tlv_view};
 
     // The TLV in which each answer tells its result.
     fn operation_result(alloc: Global) -> Result<Definition, AllocError>
@@ -145,6 +142,17 @@ impl Definition {
             id: Some(0x02),
             shape: Shape::Seq(ShapeFields::from(fields)),
         })
+    }
+
+    fn copy_tlv(&self, alloc: Global, allowance: &Allowance) -> Result<TlvShape, ObjectFault>
+        ensures { Gets tlv_view result (tlv_for (Some (definition_view self.now))) }
+    {
+        let name = self.copy_name(alloc)?;
+        let Some(kind) = self.id else {
+            return Err(ObjectFault::Member(MemberName::Id));
+        };
+        let shape = copy_shape(alloc, allowance, &self.shape)?;
+        Ok(TlvShape { kind, name, shape })
     }
 
     fn copy_name(&self, alloc: Global) -> Result<Text, ObjectFault>

@@ -47,13 +47,10 @@ fn digit_value(base: u16, digit: u8) -> Option<u16>
 fn digit_of(digit: u8) -> Option<u8>
     ensures { result ≡ digit_of digit }
 {
-    if b'0' <= digit && digit <= b'9' {
-        Some(digit - b'0')
-    } else if b'a' <= digit && digit <= b'f' {
-        Some(digit - 87)
-    } else if b'A' <= digit && digit <= b'F' {
-        Some(digit - 55)
-    } else {
-        None
+    match digit {
+        b'0'..=b'9' => Some(digit - b'0'),
+        b'a'..=b'f' => Some(digit - 87),
+        b'A'..=b'F' => Some(digit - 55),
+        _ => None,
     }
 }

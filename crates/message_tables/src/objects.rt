@@ -132,18 +132,13 @@ fn defines(object: &Value) -> bool
 fn service_named(name: &str) -> Option<u8>
     ensures { result ≡ service_named name.now }
 {
-    if name == "CTL" {
-        Some(0)
-    } else if name == "WDS" {
-        Some(1)
-    } else if name == "DMS" {
-        Some(2)
-    } else if name == "NAS" {
-        Some(3)
-    } else if name == "WMS" {
-        Some(5)
-    } else {
-        None
+    match name {
+        "CTL" => Some(0),
+        "WDS" => Some(1),
+        "DMS" => Some(2),
+        "NAS" => Some(3),
+        "WMS" => Some(5),
+        _ => None,
     }
 }
 

@@ -73,13 +73,10 @@ fn in_range(most: u16, size: u64) -> Option<u16>
 fn count_named(name: &str) -> Option<u8>
     ensures { result ≡ count_named name.now }
 {
-    if name == "guint8" {
-        Some(1)
-    } else if name == "guint16" {
-        Some(2)
-    } else if name == "guint32" {
-        Some(4)
-    } else {
-        None
+    match name {
+        "guint8" => Some(1),
+        "guint16" => Some(2),
+        "guint32" => Some(4),
+        _ => None,
     }
 }
