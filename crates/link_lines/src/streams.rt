@@ -37,9 +37,37 @@ pub(crate) fn begin<S: Shower>(
 {
     Ok(Streams {
         path: Octets::from_slice(alloc, path)?,
-        sent: Direction::open(alloc, shower.begin(alloc)?)?,
-        taken: Direction::open(alloc, shower.begin(alloc)?)?,
+        sent: direction(alloc, shower)?,
+        taken: direction(alloc, shower)?,
     })
+}
+
+// One of its directions.
+fn direction<S: Shower>(alloc: Global, shower: &S) -> Result<Direction<S::Lines>, AllocError>
+    requires { S.serves shower.now }
+    ensures stands { IfOk result (λ direction. StandsFor S.Lines.Frames.size S.Lines.shows (S.shown shower.now) [] direction.good direction.stream.cutter direction.stream.state direction.stream.place) }
+    ensures ready { IfOk result (λ direction. IsReady S.Lines.Frames.size direction.good direction.stream.cutter) }
+{
+    let lines = shower.begin(alloc)?;
+    Direction::open(alloc, lines)
+}
+
+// The same, in place of what went over it before.
+fn begin_again<S: Shower>(
+    alloc: Global,
+    shower: &S,
+    streams: &mut Streams<S::Lines>,
+    path: &[u8],
+) -> Result<(), AllocError>
+    requires { S.serves shower.now }
+    ensures path { OnOk result (streams.new.path ≡ path.now) }
+    ensures sent { OnOk result (StandsFor S.Lines.Frames.size S.Lines.shows (S.shown shower.now) [] streams.new.sent.good streams.new.sent.stream.cutter streams.new.sent.stream.state streams.new.sent.stream.place) }
+    ensures taken { OnOk result (StandsFor S.Lines.Frames.size S.Lines.shows (S.shown shower.now) [] streams.new.taken.good streams.new.taken.stream.cutter streams.new.taken.stream.state streams.new.taken.stream.place) }
+    ensures sent_ready { OnOk result (IsReady S.Lines.Frames.size streams.new.sent.good streams.new.sent.stream.cutter) }
+    ensures taken_ready { OnOk result (IsReady S.Lines.Frames.size streams.new.taken.good streams.new.taken.stream.cutter) }
+{
+    *streams = begin(alloc, shower, path)?;
+    Ok(())
 }
 
 /// Adds the lines that tell what was noted.
@@ -60,14 +88,8 @@ pub(crate) fn tell<S: Shower>(
         → Telling S.Lines.Frames.size S.Lines.shows (S.shown shower.now) whole events text.new streams.new.path streams.new.sent.good streams.new.sent.stream.cutter streams.new.sent.stream.state streams.new.sent.stream.place streams.new.taken.good streams.new.taken.stream.cutter streams.new.taken.stream.state streams.new.taken.stream.place) }
 {
     match note {
-        LinkNote::Called(made) => {
-            tell_call(alloc, shower, streams, made, bytes, text)?;
-            Ok(())
-        }
-        LinkNote::Said => {
-            push_fault(text, streams.path.as_slice(), bytes)?;
-            Ok(())
-        }
+        LinkNote::Called(made) => tell_call(alloc, shower, streams, made, bytes, text),
+        LinkNote::Said => push_fault(text, streams.path.as_slice(), bytes),
     }
 }
 
@@ -90,17 +112,10 @@ fn tell_call<S: Shower>(
 {
     match made {
         Made::Opened { .. } | Made::OpenedBridge { .. } => {
-            *streams = begin(alloc, shower, bytes)?;
-            Ok(())
+            begin_again(alloc, shower, streams, bytes)
         }
-        Made::Sent { ok: true } => {
-            push_shown(alloc, &mut streams.sent, b"> ", bytes, text)?;
-            Ok(())
-        }
-        Made::Took => {
-            push_shown(alloc, &mut streams.taken, b"< ", bytes, text)?;
-            Ok(())
-        }
+        Made::Sent { ok: true } => push_shown(alloc, &mut streams.sent, b"> ", bytes, text),
+        Made::Took => push_shown(alloc, &mut streams.taken, b"< ", bytes, text),
         Made::Paired { .. }
         | Made::Sent { ok: false }
         | Made::WasQuiet
