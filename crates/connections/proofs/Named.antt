@@ -7,7 +7,7 @@ use Rattle.std.proofs.lemmas.Bool.{eqb-true}
 use Rattle.std.proofs.lemmas.List.{get_or_default}
 use Rattle.std.proofs.lemmas.List.Quantifiers.{position-Some}
 use Rattle.kit_bytes.proofs.Lists.{find_first, find_none}
-use Rattle.kit_bytes.proofs.Sorted.{partitioned, searched_here, searched_end, searched_other}
+use Rattle.kit_bytes.proofs.Sorted.{position_is, in_order_at, partitioned, searched_here, searched_end, searched_other}
 use Rattle.connections.specs.Table.{Connection, AreRising, connection_in, changed, without}
 
 module _ {T : Type 0} (name : ℕ) where
@@ -41,6 +41,16 @@ module _ {T : Type 0} (name : ℕ) where
     named_other k within at other rest rising =
         searched_other (λ (k l : Connection T). k.name < l.name) is_named is_before apart ahead present place lower rest rising within
         (λ d. ap is_named (get_or_default present place d k within ∙ sym at) ∙ other)
+
+  -- names rise, so that it is nobody before whom this one is
+  pub named_in_order : (present : List (Connection T)) (place : ℕ) → AreRising present → (k : Connection T) → place < length present → k ≡ get_or present place k → name ≡ k.name → position is_named present ≡ Some place
+  named_in_order present place rising k within at named =
+      let here : is_named k ≡ true = grind (arith, nat_tests, named) in
+      let found : is_named (get_or present place k) ≡ true = ap is_named (sym at) ∙ here in
+      let earlier : (j : ℕ) → j < place → is_named (get_or present j k) ≡ false = λ j less.
+      apart (get_or present j k) (ahead (get_or present j k) (get_or present place k) (in_order_at (λ (k l : Connection T). k.name < l.name) present j place k rising less within) found)
+      in
+      position_is is_named present place k earlier within found
 
   -- ---- what is done to it is done at its place ----
 

@@ -316,6 +316,9 @@ fn index_of<F: Framing, T>(connections: &[Connection<F, T>], name: ConnId) -> Op
     requires { AreRising connections.now }
     ensures { result ≡ position (λ k. name == k.name) connections.now }
 {
+    if let Some(place) = likely_index(connections, name) {
+        return Some(place);
+    }
     let place = connections.partition_point(|connection| connection.name() < name);
     if place == connections.len() {
         return None;
@@ -326,6 +329,22 @@ fn index_of<F: Framing, T>(connections: &[Connection<F, T>], name: ConnId) -> Op
     } else {
         None
     }
+}
+
+// Its place if everybody is still there who joined from the first on to it.
+fn likely_index<F: Framing, T>(connections: &[Connection<F, T>], name: ConnId) -> Option<usize>
+    requires { AreRising connections.now }
+    ensures { IfSome result (λ place. Some place ≡ position (λ k. name == k.name) connections.now) }
+{
+    let first = connections.first()?;
+    let place = name.checked_sub(first.name())? as usize;
+    if place < connections.len() {
+        let connection = &connections[place];
+        if name == connection.name() {
+            return Some(place);
+        }
+    }
+    None
 }
 
 // Where the first connection stands for which bytes wait.
