@@ -10,45 +10,40 @@ use crate::status::Status;
 use child_io::Spawner;
 use file_io::Files;
 use hub_io::Hub;
-use kit_bytes::{Kind, PathText};
+use kit_bytes::PathText;
 use sim_runs::{simulate, simulate_by_rules};
 use sim_supervision::supervise_simulator;
+use sim_task::SimTask;
 use std::alloc::Global;
 
 // Simulates a modem to the clients of a socket.
 pub fn simulate_modem<H: Hub, F: Files>(
     alloc: Global,
-    kind: Kind,
-    socket: &PathText,
-    profile: Option<&PathText>,
-    turns: u64,
+    task: &SimTask,
     hub: &mut H,
     files: &mut F,
 ) -> Status
-    ensures simulates { EndsAs status_of_sim result (λ ends. Simulates (option_copied profile.entry) (asked_in kind socket.now turns)
+    ensures simulates { EndsAs status_of_sim result (λ ends. Simulates task.now.profile (asked_in task.now.kind task.now.socket task.now.turns)
         (record { files = F.calls files.old; hub = H.calls hub.old })
         (record { files = F.calls files.new; hub = H.calls hub.new })
         ends) }
-    ensures apart { option_copied profile.entry ≡ None → files.new ≡ files.old }
+    ensures apart { task.now.profile ≡ None → files.new ≡ files.old }
     ensures own { IsOfSimulator result }
     ensures hub_fault { result ≡ Status.HubFault → Rose (H.faults hub.old) (H.faults hub.new) }
     ensures read_fault { result ≡ Status.ReadFault → Rose (F.read_faults files.old) (F.read_faults files.new) }
 {
-    Status::from(simulate(alloc, kind, socket, profile, turns, hub, files))
+    Status::from(simulate(alloc, task, hub, files))
 }
 
 // Simulates one that goes by the rules of a file.
 pub fn simulate_ruled_modem<H: Hub, F: Files>(
     alloc: Global,
-    kind: Kind,
-    socket: &PathText,
-    profile: Option<&PathText>,
+    task: &SimTask,
     rules: &PathText,
-    turns: u64,
     hub: &mut H,
     files: &mut F,
 ) -> Status
-    ensures simulates { EndsAs status_of_sim result (λ ends. SimulatesByRules rules.now (option_copied profile.entry) kind socket.now turns
+    ensures simulates { EndsAs status_of_sim result (λ ends. SimulatesByRules rules.now task.now.profile task.now.kind task.now.socket task.now.turns
         (record { files = F.calls files.old; hub = H.calls hub.old })
         (record { files = F.calls files.new; hub = H.calls hub.new })
         ends) }
@@ -56,24 +51,20 @@ pub fn simulate_ruled_modem<H: Hub, F: Files>(
     ensures hub_fault { result ≡ Status.HubFault → Rose (H.faults hub.old) (H.faults hub.new) }
     ensures read_fault { result ≡ Status.ReadFault → Rose (F.read_faults files.old) (F.read_faults files.new) }
 {
-    let ends = simulate_by_rules(alloc, kind, socket, profile, rules, turns, hub, files);
-    Status::from(ends)
+    Status::from(simulate_by_rules(alloc, task, rules, hub, files))
 }
 
 // Supervises a simulated modem, as a child that is started so often at most.
 pub fn keep_modem<P: Spawner>(
     alloc: Global,
-    kind: Kind,
-    socket: &PathText,
-    profile: Option<&PathText>,
+    task: &SimTask,
     rules: Option<&PathText>,
-    turns: u64,
     most: u8,
     spawner: &mut P,
 ) -> Status
-    ensures keeps { EndsAs status_of_keeping result (λ ends. SupervisesOrLacksMemory (start_words kind socket.now turns (option_copied profile.entry) (option_copied rules.entry)) most (P.calls spawner.old) ends (P.calls spawner.new)) }
+    ensures keeps { EndsAs status_of_keeping result (λ ends. SupervisesOrLacksMemory (start_words task.now.kind task.now.socket task.now.turns task.now.profile (option_copied rules.entry)) most (P.calls spawner.old) ends (P.calls spawner.new)) }
     ensures own { IsOfKeeping result }
     ensures start_fault { result ≡ Status.StartFault → Rose (P.faults spawner.old) (P.faults spawner.new) }
 {
-    Status::from(supervise_simulator(alloc, kind, socket, profile, rules, turns, most, spawner))
+    Status::from(supervise_simulator(alloc, task, rules, most, spawner))
 }

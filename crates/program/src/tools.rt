@@ -23,6 +23,7 @@ use file_io::Files;
 use hub_io::Hub;
 use kit_io::Sink;
 use link_io::Link;
+use sim_task::SimTask;
 use std::alloc::Global;
 use tool_words::{ToolCommand, UsageKind, WordFault, command_of};
 use watched_link::Watch;
@@ -235,31 +236,19 @@ pub fn run_command_of_simulator<H: Hub, P: Spawner, F: Files>(
             rules,
             turns,
             keep,
-        } => match (keep, rules) {
-            (None, None) => {
-                simulate_modem(alloc, kind, &socket, profile.as_ref(), turns, hub, files)
+        } => {
+            let task = SimTask {
+                kind,
+                socket,
+                profile,
+                turns,
+            };
+            match (keep, rules) {
+                (None, None) => simulate_modem(alloc, &task, hub, files),
+                (None, Some(rules)) => simulate_ruled_modem(alloc, &task, &rules, hub, files),
+                (Some(most), rules) => keep_modem(alloc, &task, rules.as_ref(), most, spawner),
             }
-            (None, Some(rules)) => simulate_ruled_modem(
-                alloc,
-                kind,
-                &socket,
-                profile.as_ref(),
-                &rules,
-                turns,
-                hub,
-                files,
-            ),
-            (Some(most), rules) => keep_modem(
-                alloc,
-                kind,
-                &socket,
-                profile.as_ref(),
-                rules.as_ref(),
-                turns,
-                most,
-                spawner,
-            ),
-        },
+        }
         other => {
             drop(other);
             other_tool()

@@ -1,5 +1,5 @@
 -- What simulating a modem does to its files and its hub. The hub's calls have the newest first.
-use Rattle.std.specs.Prelude.{◌≡◌, ◌⊎◌, ℕ, Bool, true, false, List, [], ◌∷◌, ◌++◌, Option, Some, None, option_map, Result, Ok, Err}
+use Rattle.std.specs.Prelude.{◌≡◌, ◌⊎◌, ℕ, Bool, true, false, List, [], ◌∷◌, ◌++◌, Option, Some, None, Result, Ok, Err}
 use Rattle.std.specs.Str.{encode_utf8_all}
 use Rattle.kit_bytes.specs.declared.Kind.{Kind}
 use Rattle.kit_bytes.specs.declared.Kind.TheVariants as kind
@@ -22,7 +22,7 @@ use Rattle.modem_profile.specs.Reading.{profile_in}
 use Rattle.modem_profile.specs.declared.fault.ProfileFault.{ProfileFault}
 use Rattle.modem_profile.specs.declared.fault.ProfileFault.TheVariants as profile_fault
 use Rattle.modem_rules.specs.Reading.{rules_in}
-use Rattle.modem_rules.specs.Rules.{Rules, rules_view}
+use Rattle.modem_rules.specs.Rules.{Rules}
 use Rattle.modem_rules.specs.declared.fault.RulesFault.{RulesFault}
 use Rattle.modem_rules.specs.declared.fault.RulesFault.TheVariants as rules_fault
 use Rattle.ruled_modem.specs.Ruled.{conduct_by}
@@ -32,7 +32,7 @@ use Rattle.sim_serving.specs.Core.{LacksMemory, TakesMemory}
 use Rattle.sim_serving.specs.Proxy.{proxy_of, served}
 use Rattle.sim_qmi.specs.Modem as qmi
 use Rattle.sim_tunnel.specs.Carrying as mbim
-use Rattle.sim_runs.specs.declared.manner.Manner.{Manner}
+use Rattle.sim_task.specs.declared.SimTask.{SimTask}
 use Rattle.sim_runs.specs.declared.sim_end.SimEnd.{SimEnd}
 use Rattle.sim_runs.specs.declared.sim_end.SimEnd.TheVariants as sim
 
@@ -49,9 +49,9 @@ pub record Asked : Type 0 where
 abbrev pub asked_in : Kind → List ℕ → ℕ → Asked
 asked_in kind socket turns = record { kind = kind; socket = socket; rules = None; turns = turns }
 
--- one that behaves so
-abbrev pub asked_of : Manner → List ℕ → ℕ → Asked
-asked_of manner socket turns = record { kind = manner.kind; socket = socket; rules = option_map rules_view manner.rules; turns = turns }
+-- one that goes by the rules, if any were given
+abbrev pub asked_of : SimTask → Option Rules → Asked
+asked_of task rules = record { kind = task.kind; socket = task.socket; rules = rules; turns = task.turns }
 
 abbrev pub asked_by : Rules → Kind → List ℕ → ℕ → Asked
 asked_by rules kind socket turns = record { kind = kind; socket = socket; rules = Some rules; turns = turns }

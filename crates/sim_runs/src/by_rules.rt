@@ -1,32 +1,29 @@
 ghost use Rattle.std.specs.Prelude.{◌≡◌, ◌≤◌};
-ghost use Rattle.std.specs.Option.{option_copied};
 ghost use Rattle.kit_io.specs.Causes.{Rose};
 ghost use Rattle.modem_rules.specs.Reading.{rules_in};
 ghost use Rattle.sim_runs.specs.Simulating.{IsHubFault, SimulatesByRules, SimulatesByText, end_of_rules_file};
 
+use crate::SimEnd;
 use crate::simulating::simulate_so;
-use crate::{Manner, SimEnd};
 use file_io::{FileFault, Files, read_file};
 use hub_io::{Hub, ServeEnd};
-use kit_bytes::{Kind, PathText};
+use kit_bytes::PathText;
 use modem_rules::read_rules;
+use sim_task::SimTask;
 use std::alloc::Global;
 
-/// Simulates a modem of a kind that goes by the rules of the file at a path.
+/// Simulates a modem that goes by the rules of the file at a path.
 ///
 /// The rules are read first. Where they can't be read or aren't rules for a modem of this kind,
 /// nothing else is touched. Else it goes on as without them.
 pub fn simulate_by_rules<H: Hub, F: Files>(
     alloc: Global,
-    kind: Kind,
-    socket: &PathText,
-    profile: Option<&PathText>,
+    task: &SimTask,
     rules: &PathText,
-    turns: u64,
     hub: &mut H,
     files: &mut F,
 ) -> SimEnd
-    ensures simulates { SimulatesByRules rules.now (option_copied profile.entry) kind socket.now turns
+    ensures simulates { SimulatesByRules rules.now task.now.profile task.now.kind task.now.socket task.now.turns
         (record { files = F.calls files.old; hub = H.calls hub.old })
         (record { files = F.calls files.new; hub = H.calls hub.new })
         result }
@@ -35,16 +32,7 @@ pub fn simulate_by_rules<H: Hub, F: Files>(
     ensures never_lost { ¬ (result ≡ SimEnd.Served ServeEnd.Lost) }
 {
     match read_file(alloc, files, rules.value().as_str()) {
-        Ok(text) => by_text(
-            alloc,
-            kind,
-            socket,
-            profile,
-            text.as_slice(),
-            turns,
-            hub,
-            files,
-        ),
+        Ok(text) => by_text(alloc, task, text.as_slice(), hub, files),
         Err(fault) => end_of_rules_file(fault),
     }
 }
@@ -52,15 +40,12 @@ pub fn simulate_by_rules<H: Hub, F: Files>(
 // Simulates a modem that goes by the rules of a text.
 fn by_text<H: Hub, F: Files>(
     alloc: Global,
-    kind: Kind,
-    socket: &PathText,
-    profile: Option<&PathText>,
+    task: &SimTask,
     text: &[u8],
-    turns: u64,
     hub: &mut H,
     files: &mut F,
 ) -> SimEnd
-    ensures simulates { SimulatesByText (rules_in kind text.now) (option_copied profile.entry) kind socket.now turns
+    ensures simulates { SimulatesByText (rules_in task.now.kind text.now) task.now.profile task.now.kind task.now.socket task.now.turns
         (record { files = F.calls files.old; hub = H.calls hub.old })
         (record { files = F.calls files.new; hub = H.calls hub.new })
         result }
@@ -69,14 +54,8 @@ fn by_text<H: Hub, F: Files>(
     ensures read_later { F.read_faults files.old ≤ F.read_faults files.new }
     ensures never_lost { ¬ (result ≡ SimEnd.Served ServeEnd.Lost) }
 {
-    match read_rules(alloc, kind, text) {
-        Ok(rules) => {
-            let manner = Manner {
-                kind,
-                rules: Some(rules),
-            };
-            simulate_so(alloc, manner, socket, profile, turns, hub, files)
-        }
+    match read_rules(alloc, task.kind, text) {
+        Ok(rules) => simulate_so(alloc, task, Some(rules), hub, files),
         Err(fault) => SimEnd::from(fault),
     }
 }

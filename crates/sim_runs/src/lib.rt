@@ -2,12 +2,10 @@
 #![tactic(auto)]
 
 mod by_rules;
-mod manner;
 mod serving;
 mod sim_end;
 mod simulating;
 
 pub use by_rules::simulate_by_rules;
-pub use manner::Manner;
 pub use sim_end::SimEnd;
 pub use simulating::simulate;

@@ -8,7 +8,7 @@ ghost use Rattle.sim_serving.specs.Core.{LacksMemory, TakesMemory};
 ghost use Rattle.sim_serving.specs.Proxy.{proxy_of, served};
 ghost use Rattle.sim_runs.specs.Simulating.{IsHubFault, Serves, ServesProfile, asked_of, lacks_by, served_by};
 
-use crate::{Manner, SimEnd};
+use crate::SimEnd;
 use hub_io::{Hub, ServeEnd};
 use kit_bytes::{Kind, PathText};
 use kit_io::Failed;
@@ -19,30 +19,31 @@ use served_sim::ServedSim;
 use sim_modem::Sim;
 use sim_qmi::QmiSim;
 use sim_serving::{serve_sim, serve_so};
+use sim_task::SimTask;
 use sim_tunnel::TunnelSim;
 use std::alloc::{AllocError, Global};
 
-// Serves the clients of a simulated modem that has this profile and behaves so.
+// Serves the clients of a simulated modem that has this profile, and goes by the rules, if any were given.
 pub fn serve_profile<H: Hub>(
     alloc: Global,
-    manner: Manner,
-    socket: &PathText,
+    task: &SimTask,
+    rules: Option<Rules>,
     profile: &Profile,
-    turns: u64,
     hub: &mut H,
 ) -> SimEnd
-    ensures serves { Since (H.calls hub.old) (H.calls hub.new) (ServesProfile (asked_of manner socket.now turns) profile.now result) }
+    ensures serves { Since (H.calls hub.old) (H.calls hub.new) (ServesProfile (asked_of task.now (option_map rules_view rules)) profile.now result) }
     ensures own { ¬ (result ≡ SimEnd.ReadFault) }
     ensures never_lost { ¬ (result ≡ SimEnd.Served ServeEnd.Lost) }
     ensures hub_fault { IsHubFault result → Rose (H.faults hub.old) (H.faults hub.new) }
 {
-    match manner.kind {
+    let (socket, turns) = (&task.socket, task.turns);
+    match task.kind {
         Kind::Qmi => match QmiSim::open(alloc, profile) {
-            Ok(sim) => serve_by(alloc, Kind::Qmi, manner.rules, socket, sim, turns, hub),
+            Ok(sim) => serve_by(alloc, Kind::Qmi, rules, socket, sim, turns, hub),
             Err(AllocError) => SimEnd::OutOfMemory,
         },
         Kind::Mbim => match TunnelSim::open(alloc, profile) {
-            Ok(sim) => serve_by(alloc, Kind::Mbim, manner.rules, socket, sim, turns, hub),
+            Ok(sim) => serve_by(alloc, Kind::Mbim, rules, socket, sim, turns, hub),
             Err(AllocError) => SimEnd::OutOfMemory,
         },
     }

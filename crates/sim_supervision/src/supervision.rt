@@ -7,8 +7,9 @@ ghost use Rattle.sim_supervision.specs.Words.{start_words};
 
 use crate::words::start_words;
 use child_io::{Kids, Spawner};
-use kit_bytes::{Kind, PathText};
+use kit_bytes::PathText;
 use kit_io::Failed;
+use sim_task::SimTask;
 use std::alloc::{AllocError, Global};
 
 /// How supervising a simulated modem ended.
@@ -25,24 +26,19 @@ pub enum SupervisionEnd {
 /// Starts a simulated modem as a child, waits for its end, and starts it again while it ends with
 /// another status than 0 and fewer than so many were started.
 ///
-/// It is a modem of a kind, to whose socket clients connect, with the profile of the file at a path,
-/// or the default one where no file is named, and goes by the rules of another file, if one is named.
-/// It serves for so many turns at most.
+/// It goes by the rules of a file, if one is named.
 pub fn supervise_simulator<P: Spawner>(
     alloc: Global,
-    kind: Kind,
-    socket: &PathText,
-    profile: Option<&PathText>,
+    task: &SimTask,
     rules: Option<&PathText>,
-    turns: u64,
     most: u8,
     spawner: &mut P,
 ) -> SupervisionEnd
-    ensures keeps { SupervisesOrLacksMemory (start_words kind socket.now turns (option_copied profile.entry) (option_copied rules.entry)) most (P.calls spawner.old) result (P.calls spawner.new) }
+    ensures keeps { SupervisesOrLacksMemory (start_words task.now.kind task.now.socket task.now.turns task.now.profile (option_copied rules.entry)) most (P.calls spawner.old) result (P.calls spawner.new) }
     // It doesn't give up by itself.
     ensures start_fault { result ≡ SupervisionEnd.StartFault → Rose (P.faults spawner.old) (P.faults spawner.new) }
 {
-    match start_words(alloc, kind, socket, turns, profile, rules) {
+    match start_words(alloc, task, rules) {
         Ok(words) => supervise(words.as_slice(), most, spawner),
         Err(AllocError) => SupervisionEnd::OutOfMemory,
     }

@@ -4,6 +4,7 @@ ghost use Rattle.sim_supervision.specs.Words.{default_words, kind_word, profile_
 
 use itoa::Buffer;
 use kit_bytes::{Kind, PathText};
+use sim_task::SimTask;
 use std::alloc::{AllocError, Global};
 
 // The name of a kind of modem.
@@ -33,40 +34,32 @@ fn add(words: &mut Vec<String>, word: String) -> Result<(), AllocError>
 }
 
 // The words that start a simulated modem with the default profile.
-fn default_words(
-    alloc: Global,
-    kind: Kind,
-    socket: &PathText,
-    turns: u64,
-) -> Result<Vec<String>, AllocError>
-    ensures { IfOk result (λ words. map string_bytes words.items ≡ default_words kind socket.now turns) }
+fn default_words(alloc: Global, task: &SimTask) -> Result<Vec<String>, AllocError>
+    ensures { IfOk result (λ words. map string_bytes words.items ≡ default_words task.now.kind task.now.socket task.now.turns) }
 {
     let mut words = Vec::new(alloc);
     add(&mut words, String::from_str(alloc, "modem-sim")?)?;
-    add(&mut words, option_word(alloc, "--kind=", kind_word(kind))?)?;
     add(
         &mut words,
-        option_word(alloc, "--socket=", socket.value().as_str())?,
+        option_word(alloc, "--kind=", kind_word(task.kind))?,
     )?;
     add(
         &mut words,
-        option_word(alloc, "--turns=", Buffer::new().format(turns))?,
+        option_word(alloc, "--socket=", task.socket.value().as_str())?,
+    )?;
+    add(
+        &mut words,
+        option_word(alloc, "--turns=", Buffer::new().format(task.turns))?,
     )?;
     Ok(words)
 }
 
 // The words that start a simulated modem that goes by no rules.
-fn profile_words(
-    alloc: Global,
-    kind: Kind,
-    socket: &PathText,
-    turns: u64,
-    profile: Option<&PathText>,
-) -> Result<Vec<String>, AllocError>
-    ensures { IfOk result (λ words. map string_bytes words.items ≡ profile_words kind socket.now turns (option_copied profile.entry)) }
+fn profile_words(alloc: Global, task: &SimTask) -> Result<Vec<String>, AllocError>
+    ensures { IfOk result (λ words. map string_bytes words.items ≡ profile_words task.now.kind task.now.socket task.now.turns task.now.profile) }
 {
-    let mut words = default_words(alloc, kind, socket, turns)?;
-    let Some(file) = profile else {
+    let mut words = default_words(alloc, task)?;
+    let Some(file) = &task.profile else {
         return Ok(words);
     };
     let word = option_word(alloc, "--profile=", file.value().as_str())?;
@@ -77,15 +70,12 @@ fn profile_words(
 /// The words that start a simulated modem.
 pub fn start_words(
     alloc: Global,
-    kind: Kind,
-    socket: &PathText,
-    turns: u64,
-    profile: Option<&PathText>,
+    task: &SimTask,
     rules: Option<&PathText>,
 ) -> Result<Vec<String>, AllocError>
-    ensures { IfOk result (λ words. map string_bytes words.items ≡ start_words kind socket.now turns (option_copied profile.entry) (option_copied rules.entry)) }
+    ensures { IfOk result (λ words. map string_bytes words.items ≡ start_words task.now.kind task.now.socket task.now.turns task.now.profile (option_copied rules.entry)) }
 {
-    let mut words = profile_words(alloc, kind, socket, turns, profile)?;
+    let mut words = profile_words(alloc, task)?;
     let Some(file) = rules else {
         return Ok(words);
     };

@@ -4,4 +4,4 @@ use Rattle.program.proofs.Ends.{is_of_simulator}
 use Rattle.program.proofs.simulator.simulate_ruled_modem.Goals as goal
 
 pub returns-clause-own : goal.returns-clause-own
-returns-clause-own g c = subst IsOfSimulator (sym c.from.ensures) (is_of_simulator _ c.simulate_by_rules-ends.ensures.never_lost)
+returns-clause-own g c = subst IsOfSimulator (sym c.from.ensures) (is_of_simulator _ c.simulate_by_rules.ensures.never_lost)
