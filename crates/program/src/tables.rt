@@ -13,7 +13,7 @@ ghost use Rattle.program.specs.Tables.{AsksByTables, FollowsByTables, follow_pla
 ghost use Rattle.program.specs.Routes.{Asks, Follows, route_to};
 
 use crate::status::Status;
-use crate::tool::{ask_device, route_to, watch_if};
+use crate::tool::{Destination, ask_device, route_to, watch_if};
 use child_io::Spawner;
 use file_io::Files;
 use following_runs::{follow_modem, indications_in_file};
@@ -27,6 +27,7 @@ use sms_print::Decoding;
 use std::alloc::Global;
 use table_following::FollowPlan;
 use table_requests::{TablePlan, request_in_file};
+use tool_runs::ShownPlan;
 use tool_words::{LinkSettings, RequestTask};
 use watched_link::Watch;
 
@@ -84,10 +85,15 @@ fn ask_with<O: Sink, L: Watch, P: Spawner>(
     ensures write_fault { result ≡ Status.WriteFault → Rose (O.faults out.old) (O.faults out.new) }
 {
     let (settings, plan) = plan_of(task, asked);
-    let (device, decoding) = (&plan.session().device, Decoding::Nothing);
-    let status = ask_device(
-        alloc, device, &settings, &plan, decoding, out, link, spawner,
-    );
+    let to = Destination {
+        device: &plan.session().device,
+        settings: &settings,
+    };
+    let asked = ShownPlan {
+        plan: &plan,
+        decoding: Decoding::Nothing,
+    };
+    let status = ask_device(alloc, to, &asked, out, link, spawner);
     drop(plan);
     status
 }
@@ -120,7 +126,15 @@ fn follow_by_tables<O: Sink, L: Watch, P: Spawner, F: Files>(
         }
     };
     match request_in_file(alloc, files, &task.tables, &task.message, &task.input) {
-        Ok(asked) => follow_with(alloc, task, asked, told, turns, out, link, spawner),
+        Ok(asked) => {
+            let following = FollowTask {
+                task,
+                asked,
+                told,
+                turns,
+            };
+            follow_with(alloc, following, out, link, spawner)
+        }
         Err(none) => {
             drop((task, told));
             Status::from(none)
@@ -128,41 +142,48 @@ fn follow_by_tables<O: Sink, L: Watch, P: Spawner, F: Files>(
     }
 }
 
-// Follows them behind the answer to this request.
-fn follow_with<O: Sink, L: Watch, P: Spawner>(
-    alloc: Global,
+// What the words ask for, the request that the file gives for it, and the indications that are
+// followed behind its answer, for so many turns.
+#[derive(Drop)]
+struct FollowTask {
     task: RequestTask,
     asked: Asked,
     told: Vec<Message>,
     turns: u64,
+}
+
+// Follows them behind the answer to this request.
+fn follow_with<O: Sink, L: Watch, P: Spawner>(
+    alloc: Global,
+    following: FollowTask,
     out: &mut O,
     link: &mut L,
     spawner: &mut P,
 ) -> Status
-    requires short { length asked.tlvs ≤ LONGEST_TLVS }
-    requires sound { IsSoundMessage (message_view asked.message) }
-    requires told_sound { AllByRecursion IsSoundMessage (messages_in told.items) }
-    ensures follows { Follows (route_to task.device task.link) (follow_plan task asked told.items turns)
+    requires short { length following.asked.tlvs ≤ LONGEST_TLVS }
+    requires sound { IsSoundMessage (message_view following.asked.message) }
+    requires told_sound { AllByRecursion IsSoundMessage (messages_in following.told.items) }
+    ensures follows { Follows (route_to following.task.device following.task.link) (follow_plan following.task following.asked following.told.items following.turns)
         (record { link = L.calls link.old; spawner = P.calls spawner.old; out = O.taken out.old; made = together (L.made link.old) (O.made out.old) })
         (record { link = L.calls link.new; spawner = P.calls spawner.new; out = O.taken out.new; made = together (L.made link.new) (O.made out.new) })
         result }
     ensures own { IsOfTool result }
     ensures read_fault { ¬ (result ≡ Status.ReadFault) }
-    ensures link_fault { result ≡ Status.LinkFault → LinkFails (route_to task.device task.link) L.faults L.open_faults link.old link.new }
+    ensures link_fault { result ≡ Status.LinkFault → LinkFails (route_to following.task.device following.task.link) L.faults L.open_faults link.old link.new }
     ensures start_fault { result ≡ Status.StartFault → Rose (P.faults spawner.old) (P.faults spawner.new) }
     ensures write_fault { result ≡ Status.WriteFault → Rose (O.faults out.old) (O.faults out.new) }
 {
-    if watch_if(task.link.verbose, link).is_err() {
-        drop((task, asked, told));
+    if watch_if(following.task.link.verbose, link).is_err() {
+        drop(following);
         return Status::OutOfMemory;
     }
-    let Ok(route) = route_to(alloc, &task.device, &task.link) else {
-        drop((task, asked, told));
+    let Ok(route) = route_to(alloc, &following.task.device, &following.task.link) else {
+        drop(following);
         return Status::OutOfMemory;
     };
-    let (settings, plan) = plan_of(task, asked);
+    let (settings, plan) = plan_of(following.task, following.asked);
     drop(settings);
-    let plan = FollowPlan::new(plan, told, turns);
+    let plan = FollowPlan::new(plan, following.told, following.turns);
     let status = follow_on(alloc, &route, &plan, out, link, spawner);
     drop(plan);
     status

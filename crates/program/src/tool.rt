@@ -24,10 +24,18 @@ use modem_routes::Route;
 use sms_print::Decoding;
 use std::alloc::{AllocError, Global};
 use tool_runs::{
-    JsonPlan, JsonSession, Session, TunnelPlan, ask, describe_file, mbim_decoding, submit,
+    JsonPlan, JsonSession, Session, ShownPlan, TunnelPlan, ask, describe_file, mbim_decoding,
+    submit,
 };
 use tool_words::{AnswerForm, LinkSettings, MbimTask, QmiTask};
 use watched_link::Watch;
+
+// Where the modem is that a tool asks.
+#[derive(Clone, Copy)]
+pub struct Destination<'a> {
+    pub device: &'a PathText,
+    pub settings: &'a LinkSettings,
+}
 
 // The route of a tool to the device of its modem.
 pub fn route_to(
@@ -97,19 +105,29 @@ fn ask_of_kind<O: Sink, L: Watch, P: Spawner>(
 {
     match settings.kind {
         Kind::Qmi => {
-            let (device, decoding) = (&plan.device, Decoding::Each);
-            let status = ask_in_form(
-                alloc, device, settings, &plan, form, decoding, out, link, spawner,
-            );
+            let to = Destination {
+                device: &plan.device,
+                settings,
+            };
+            let asked = ShownPlan {
+                plan: &plan,
+                decoding: Decoding::Each,
+            };
+            let status = ask_in_form(alloc, to, &asked, form, out, link, spawner);
             drop(plan);
             status
         }
         Kind::Mbim => {
             let plan = TunnelPlan { qmi: plan };
-            let (device, decoding) = (&plan.qmi.device, Decoding::Each);
-            let status = ask_in_form(
-                alloc, device, settings, &plan, form, decoding, out, link, spawner,
-            );
+            let to = Destination {
+                device: &plan.qmi.device,
+                settings,
+            };
+            let asked = ShownPlan {
+                plan: &plan,
+                decoding: Decoding::Each,
+            };
+            let status = ask_in_form(alloc, to, &asked, form, out, link, spawner);
             drop(plan);
             status
         }
@@ -141,10 +159,15 @@ pub fn ask_mbim<O: Sink, L: Watch, P: Spawner>(
         timeout: settings.timeout,
         request: task.request,
     };
-    let (device, decoding) = (&plan.device, mbim_decoding(true, &plan.request));
-    let status = ask_in_form(
-        alloc, device, &settings, &plan, form, decoding, out, link, spawner,
-    );
+    let to = Destination {
+        device: &plan.device,
+        settings: &settings,
+    };
+    let asked = ShownPlan {
+        plan: &plan,
+        decoding: mbim_decoding(true, &plan.request),
+    };
+    let status = ask_in_form(alloc, to, &asked, form, out, link, spawner);
     drop(plan);
     status
 }
@@ -152,33 +175,39 @@ pub fn ask_mbim<O: Sink, L: Watch, P: Spawner>(
 // Asks the modem at a device, and prints its answer in a form; where that tells what messages say, so.
 fn ask_in_form<S: JsonSession, O: Sink, L: Watch, P: Spawner>(
     alloc: Global,
-    device: &PathText,
-    settings: &LinkSettings,
-    plan: &S,
+    to: Destination<'_>,
+    asked: &ShownPlan<'_, S>,
     form: AnswerForm,
-    decoding: Decoding,
     out: &mut O,
     link: &mut L,
     spawner: &mut P,
 ) -> Status
-    ensures asks { Asks (route_to device.now settings.now) (asked_in_form form decoding S.session S.refused S.printed S.bodies S.line plan.now)
+    ensures asks { Asks (route_to to.entry.device.now to.entry.settings.now) (asked_in_form form asked.now.decoding S.session S.refused S.printed S.bodies S.line asked.now.plan.now)
         (record { link = L.calls link.old; spawner = P.calls spawner.old; out = O.taken out.old; made = together (L.made link.old) (O.made out.old) })
         (record { link = L.calls link.new; spawner = P.calls spawner.new; out = O.taken out.new; made = together (L.made link.new) (O.made out.new) })
         result }
     ensures own { IsOfTool result }
-    ensures link_fault { result ≡ Status.LinkFault → LinkFails (route_to device.now settings.now) L.faults L.open_faults link.old link.new }
+    ensures link_fault { result ≡ Status.LinkFault → LinkFails (route_to to.entry.device.now to.entry.settings.now) L.faults L.open_faults link.old link.new }
     ensures start_fault { result ≡ Status.StartFault → Rose (P.faults spawner.old) (P.faults spawner.new) }
     ensures write_fault { result ≡ Status.WriteFault → Rose (O.faults out.old) (O.faults out.new) }
 {
-    let nothing = Decoding::Nothing;
+    let decoding = Decoding::Nothing;
     match form {
-        AnswerForm::Lines => ask_device(alloc, device, settings, plan, nothing, out, link, spawner),
-        AnswerForm::Decoded => ask_device(
-            alloc, device, settings, plan, decoding, out, link, spawner,
-        ),
+        AnswerForm::Lines => {
+            let bare = ShownPlan {
+                plan: asked.plan,
+                decoding,
+            };
+            ask_device(alloc, to, &bare, out, link, spawner)
+        }
+        AnswerForm::Decoded => ask_device(alloc, to, asked, out, link, spawner),
         AnswerForm::Json => {
-            let plan = JsonPlan { asked: plan };
-            ask_device(alloc, device, settings, &plan, nothing, out, link, spawner)
+            let plan = JsonPlan { asked: asked.plan };
+            let bare = ShownPlan {
+                plan: &plan,
+                decoding,
+            };
+            ask_device(alloc, to, &bare, out, link, spawner)
         }
     }
 }
@@ -186,30 +215,28 @@ fn ask_in_form<S: JsonSession, O: Sink, L: Watch, P: Spawner>(
 // Asks the modem at a device, which is reached as the words of a tool say, and prints its answer.
 pub fn ask_device<S: Session, O: Sink, L: Watch, P: Spawner>(
     alloc: Global,
-    device: &PathText,
-    settings: &LinkSettings,
-    plan: &S,
-    decoding: Decoding,
+    to: Destination<'_>,
+    asked: &ShownPlan<'_, S>,
     out: &mut O,
     link: &mut L,
     spawner: &mut P,
 ) -> Status
-    ensures asks { Asks (route_to device.now settings.now) (asked_of S.session S.refused (shown decoding S.printed S.bodies) plan.now)
+    ensures asks { Asks (route_to to.entry.device.now to.entry.settings.now) (asked_of S.session S.refused (shown asked.now.decoding S.printed S.bodies) asked.now.plan.now)
         (record { link = L.calls link.old; spawner = P.calls spawner.old; out = O.taken out.old; made = together (L.made link.old) (O.made out.old) })
         (record { link = L.calls link.new; spawner = P.calls spawner.new; out = O.taken out.new; made = together (L.made link.new) (O.made out.new) })
         result }
     ensures own { IsOfTool result }
-    ensures link_fault { result ≡ Status.LinkFault → LinkFails (route_to device.now settings.now) L.faults L.open_faults link.old link.new }
+    ensures link_fault { result ≡ Status.LinkFault → LinkFails (route_to to.entry.device.now to.entry.settings.now) L.faults L.open_faults link.old link.new }
     ensures start_fault { result ≡ Status.StartFault → Rose (P.faults spawner.old) (P.faults spawner.new) }
     ensures write_fault { result ≡ Status.WriteFault → Rose (O.faults out.old) (O.faults out.new) }
 {
-    if watch_if(settings.verbose, link).is_err() {
+    if watch_if(to.settings.verbose, link).is_err() {
         return Status::OutOfMemory;
     }
-    let Ok(route) = route_to(alloc, device, settings) else {
+    let Ok(route) = route_to(alloc, to.device, to.settings) else {
         return Status::OutOfMemory;
     };
-    ask_modem(alloc, &route, plan, decoding, out, link, spawner)
+    ask_modem(alloc, &route, asked, out, link, spawner)
 }
 
 // What is done on the link is noted, if that is wanted. Else nothing is.
@@ -230,13 +257,12 @@ pub fn watch_if<L: Watch>(verbose: bool, link: &mut L) -> Result<(), AllocError>
 fn ask_modem<S: Session, O: Sink, L: Watch, P: Spawner>(
     alloc: Global,
     route: &Route,
-    plan: &S,
-    decoding: Decoding,
+    asked: &ShownPlan<'_, S>,
     out: &mut O,
     link: &mut L,
     spawner: &mut P,
 ) -> Status
-    ensures asks { EndsAs status_of result (λ ends. AsksModem (path_in route.now) (asked_of S.session S.refused (shown decoding S.printed S.bodies) plan.now)
+    ensures asks { EndsAs status_of result (λ ends. AsksModem (path_in route.now) (asked_of S.session S.refused (shown asked.now.decoding S.printed S.bodies) asked.now.plan.now)
         (record { link = L.calls link.old; spawner = P.calls spawner.old; out = O.taken out.old; made = together (L.made link.old) (O.made out.old) })
         (record { link = L.calls link.new; spawner = P.calls spawner.new; out = O.taken out.new; made = together (L.made link.new) (O.made out.new) })
         ends) }
@@ -245,7 +271,7 @@ fn ask_modem<S: Session, O: Sink, L: Watch, P: Spawner>(
     ensures start_fault { result ≡ Status.StartFault → Rose (P.faults spawner.old) (P.faults spawner.new) }
     ensures write_fault { result ≡ Status.WriteFault → Rose (O.faults out.old) (O.faults out.new) }
 {
-    Status::from(ask(alloc, route, plan, decoding, out, link, spawner))
+    Status::from(ask(alloc, route, asked, out, link, spawner))
 }
 
 // Prints the bodies of the messages that carry a text to a number.

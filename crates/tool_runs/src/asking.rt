@@ -15,18 +15,24 @@ use modem_routes::{Route, reach};
 use sms_print::{Decoding, push_decoded};
 use std::alloc::{AllocError, Global};
 
+/// A plan, and how much is told of the messages that the end of its session holds.
+#[derive(Drop)]
+pub struct ShownPlan<'a, S> {
+    pub plan: &'a S,
+    pub decoding: Decoding,
+}
+
 /// Goes the route to a modem, has the session of a plan with it, prints its end, and stops whatever
 /// was started.
 pub fn ask<S: Session, O: Sink, L: Link, P: Spawner>(
     alloc: Global,
     route: &Route,
-    plan: &S,
-    decoding: Decoding,
+    asked: &ShownPlan<'_, S>,
     out: &mut O,
     link: &mut L,
     spawner: &mut P,
 ) -> RunEnd
-    ensures asks { AsksModem (path_in route.now) (asked_of S.session S.refused (shown decoding S.printed S.bodies) plan.now)
+    ensures asks { AsksModem (path_in route.now) (asked_of S.session S.refused (shown asked.now.decoding S.printed S.bodies) asked.now.plan.now)
         (record { link = L.calls link.old; spawner = P.calls spawner.old; out = O.taken out.old; made = together (L.made link.old) (O.made out.old) })
         (record { link = L.calls link.new; spawner = P.calls spawner.new; out = O.taken out.new; made = together (L.made link.new) (O.made out.new) })
         result }
@@ -36,7 +42,7 @@ pub fn ask<S: Session, O: Sink, L: Link, P: Spawner>(
     ensures write_fault { result ≡ RunEnd.WriteFault → Rose (O.faults out.old) (O.faults out.new) }
 {
     let mut kids = Kids::none();
-    let end = ask_on_route(alloc, route, plan, decoding, out, link, spawner, &mut kids);
+    let end = ask_on_route(alloc, route, asked, out, link, spawner, &mut kids);
     let made = link.made().saturating_add(out.made());
     let stopped = kids.stop_all(spawner, made).is_ok();
     end.with_stops(stopped)
@@ -46,15 +52,14 @@ pub fn ask<S: Session, O: Sink, L: Link, P: Spawner>(
 fn ask_on_route<S: Session, O: Sink, L: Link, P: Spawner>(
     alloc: Global,
     route: &Route,
-    plan: &S,
-    decoding: Decoding,
+    asked: &ShownPlan<'_, S>,
     out: &mut O,
     link: &mut L,
     spawner: &mut P,
     kids: &mut Kids,
 ) -> RunEnd
     requires { kids.old ≡ [] }
-    ensures comes { ReachesBy (Comes (path_in route.now) (asked_of S.session S.refused (shown decoding S.printed S.bodies) plan.now) (O.taken out.old) result (O.taken out.new)) (L.calls link.old) (P.calls spawner.old) kids.new (L.calls link.new) (P.calls spawner.new) }
+    ensures comes { ReachesBy (Comes (path_in route.now) (asked_of S.session S.refused (shown asked.now.decoding S.printed S.bodies) asked.now.plan.now) (O.taken out.old) result (O.taken out.new)) (L.calls link.old) (P.calls spawner.old) kids.new (L.calls link.new) (P.calls spawner.new) }
     ensures link_fault { result ≡ RunEnd.LinkFault → LinkFails (path_in route.now) L.faults L.open_faults link.old link.new }
     ensures start_fault { result ≡ RunEnd.StartFault → Rose (P.faults spawner.old) (P.faults spawner.new) }
     ensures write_fault { result ≡ RunEnd.WriteFault → Rose (O.faults out.old) (O.faults out.new) }
@@ -62,7 +67,7 @@ fn ask_on_route<S: Session, O: Sink, L: Link, P: Spawner>(
     ensures later_starts { P.faults spawner.old ≤ P.faults spawner.new }
 {
     match reach(route, link, spawner, kids) {
-        Ok(()) => visit(alloc, plan, decoding, out, link),
+        Ok(()) => visit(alloc, asked.plan, asked.decoding, out, link),
         Err(fault) => RunEnd::from(fault),
     }
 }

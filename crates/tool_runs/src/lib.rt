@@ -14,7 +14,7 @@ mod submitting;
 mod tables;
 mod tunnel;
 
-pub use asking::ask;
+pub use asking::{ShownPlan, ask};
 pub use json::{JsonPlan, JsonSession};
 pub use laws::links_are_closed_once;
 pub use mbim::mbim_decoding;

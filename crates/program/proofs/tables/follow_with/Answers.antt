@@ -15,10 +15,10 @@ pub returns-clause-follows : goal.returns-clause-follows
 returns-clause-follows g c =
     let before : asking.Told = record { link = g.L.Link.calls c.watch_if.new.link; spawner = g.P.Spawner.calls c.args.spawner.now; out = g.O.Sink.taken c.args.out.now; made = together (g.L.Link.made c.watch_if.new.link) (g.O.Sink.made c.args.out.now) } in
     let after : asking.Told = record { link = g.L.Link.calls c.follow_on-status.new.link; spawner = g.P.Spawner.calls c.follow_on-status.new.spawner; out = g.O.Sink.taken c.follow_on-status.new.out; made = together (g.L.Link.made c.follow_on-status.new.link) (g.O.Sink.made c.follow_on-status.new.out) } in
-    let plan_with : Plan → following.Plan = λ p. record { request = p; indications = c.args.told.items; turns = c.args.turns } in
-    let plan_is : c.new-plan.result ≡ follow_plan c.args.task c.args.asked c.args.told.items c.args.turns = c.new-plan.ensures ∙ ap plan_with c.plan_of-settings.ensures.plan in
+    let plan_with : Plan → following.Plan = λ p. record { request = p; indications = c.args.following.told.items; turns = c.args.following.turns } in
+    let plan_is : c.new-plan.result ≡ follow_plan c.args.following.task c.args.following.asked c.args.following.told.items c.args.following.turns = c.new-plan.ensures ∙ ap plan_with c.plan_of-settings.ensures.plan in
     rw (← c.watch_if.ensures.calls, ← c.watch_if.ensures.made)
-    (subst (λ (p : following.Plan). Follows (route_to c.args.task.device c.args.task.link) p before after c.follow_on-status.result) plan_is
+    (subst (λ (p : following.Plan). Follows (route_to c.args.following.task.device c.args.following.task.link) p before after c.follow_on-status.result) plan_is
     (subst (λ (path : Path). Follows path c.new-plan.result before after c.follow_on-status.result) c.in-Ok.ensures (inl c.follow_on-status.ensures.follows)))
 
 pub returns-clause-link_fault : goal.returns-clause-link_fault
