@@ -20,6 +20,14 @@ use qmi_core::QmiHand;
 use std::alloc::{AllocError, Global};
 use tool_words::ProxyTask;
 
+// What a proxy is to be: one for modems of a kind, to whose socket clients connect, with these settings.
+#[derive(Clone, Copy)]
+struct ServeTask<'a> {
+    kind: Kind,
+    socket: &'a PathText,
+    settings: &'a Settings,
+}
+
 // How the words of a proxy want it.
 fn settings_of(alloc: Global, task: &ProxyTask) -> Result<Settings, AllocError>
     ensures { IfOk result (λ settings. asked_with task.now.socket settings ≡ asked_in task.now) }
@@ -52,8 +60,12 @@ pub fn proxy_modem<H: Hub, P: Spawner>(
 {
     match settings_of(alloc, task) {
         Ok(settings) => {
-            let (socket, bridge) = (&task.socket, &task.bridge);
-            serve(alloc, task.kind, socket, bridge, &settings, hub, spawner)
+            let serving = ServeTask {
+                kind: task.kind,
+                socket: &task.socket,
+                settings: &settings,
+            };
+            serve(alloc, &serving, &task.bridge, hub, spawner)
         }
         Err(AllocError) => Status::OutOfMemory,
     }
@@ -63,20 +75,22 @@ pub fn proxy_modem<H: Hub, P: Spawner>(
 #[tactic(auto, using(crate::proofs::Opened::without_memory))]
 fn serve<H: Hub, P: Spawner>(
     alloc: Global,
-    kind: Kind,
-    socket: &PathText,
+    task: &ServeTask<'_>,
     bridge: &PathText,
-    settings: &Settings,
     hub: &mut H,
     spawner: &mut P,
 ) -> Status
-    ensures serves { ServesProxy kind (asked_with socket.now settings.now) (place_of (encode_utf8_all settings.now.device) (encode_utf8_all bridge.now)) (H.calls hub.old) (P.calls spawner.old) result (H.calls hub.new) (H.made hub.new) (P.calls spawner.new) }
+    ensures serves { ServesProxy task.now.kind (asked_with task.now.socket.now task.now.settings.now) (place_of (encode_utf8_all task.now.settings.now.device) (encode_utf8_all bridge.now)) (H.calls hub.old) (P.calls spawner.old) result (H.calls hub.new) (H.made hub.new) (P.calls spawner.new) }
     ensures own { IsOfProxy result }
     ensures hub_fault { result ≡ Status.HubFault → Rose (H.faults hub.old) (H.faults hub.new) }
     ensures start_fault { result ≡ Status.StartFault → Rose (P.faults spawner.old) (P.faults spawner.new) }
 {
-    match Device::at(alloc, settings.device.as_str(), bridge.value().as_str()) {
-        Ok(device) => serve_device(alloc, kind, socket, &device, settings, hub, spawner),
+    match Device::at(
+        alloc,
+        task.settings.device.as_str(),
+        bridge.value().as_str(),
+    ) {
+        Ok(device) => serve_device(alloc, task, &device, hub, spawner),
         Err(AllocError) => Status::OutOfMemory,
     }
 }
@@ -84,22 +98,18 @@ fn serve<H: Hub, P: Spawner>(
 // Serves a device, and stops whatever was started.
 fn serve_device<H: Hub, P: Spawner>(
     alloc: Global,
-    kind: Kind,
-    socket: &PathText,
+    task: &ServeTask<'_>,
     device: &Device,
-    settings: &Settings,
     hub: &mut H,
     spawner: &mut P,
 ) -> Status
-    ensures serves { ServesProxy kind (asked_with socket.now settings.now) (place_in device.now) (H.calls hub.old) (P.calls spawner.old) result (H.calls hub.new) (H.made hub.new) (P.calls spawner.new) }
+    ensures serves { ServesProxy task.now.kind (asked_with task.now.socket.now task.now.settings.now) (place_in device.now) (H.calls hub.old) (P.calls spawner.old) result (H.calls hub.new) (H.made hub.new) (P.calls spawner.new) }
     ensures own { IsOfProxy result }
     ensures hub_fault { result ≡ Status.HubFault → Rose (H.faults hub.old) (H.faults hub.new) }
     ensures start_fault { result ≡ Status.StartFault → Rose (P.faults spawner.old) (P.faults spawner.new) }
 {
     let mut kids = Kids::none();
-    let end = serve_kept(
-        alloc, kind, socket, device, settings, hub, spawner, &mut kids,
-    );
+    let end = serve_kept(alloc, task, device, hub, spawner, &mut kids);
     let stopped = kids.stop_all(spawner, hub.made()).is_ok();
     end.with_stops(stopped)
 }
@@ -107,23 +117,21 @@ fn serve_device<H: Hub, P: Spawner>(
 // The same, but that the children are kept.
 fn serve_kept<H: Hub, P: Spawner>(
     alloc: Global,
-    kind: Kind,
-    socket: &PathText,
+    task: &ServeTask<'_>,
     device: &Device,
-    settings: &Settings,
     hub: &mut H,
     spawner: &mut P,
     kids: &mut Kids,
 ) -> Status
     requires { kids.old ≡ [] }
-    ensures serves { StartsBy (Serves kind (asked_with socket.now settings.now) (place_in device.now) (H.calls hub.old) (H.calls hub.new) result) (P.calls spawner.old) kids.new (P.calls spawner.new) }
+    ensures serves { StartsBy (Serves task.now.kind (asked_with task.now.socket.now task.now.settings.now) (place_in device.now) (H.calls hub.old) (H.calls hub.new) result) (P.calls spawner.old) kids.new (P.calls spawner.new) }
     ensures own { IsOfProxy result }
     ensures hub_fault { result ≡ Status.HubFault → Rose (H.faults hub.old) (H.faults hub.new) }
     ensures start_fault { result ≡ Status.StartFault → Rose (P.faults spawner.old) (P.faults spawner.new) }
     ensures later_starts { P.faults spawner.old ≤ P.faults spawner.new }
 {
-    match open_device(socket.value().as_str(), device, hub, spawner, kids) {
-        Ok(()) => Status::from(serve_opened(alloc, kind, settings, hub)),
+    match open_device(task.socket.value().as_str(), device, hub, spawner, kids) {
+        Ok(()) => Status::from(serve_opened(alloc, task.kind, task.settings, hub)),
         Err(fault) => Status::from(fault),
     }
 }
