@@ -22,6 +22,7 @@ use std::alloc::Global;
 ///     out: LINE                        what is printed then
 #[derive(Clone, Copy)]
 struct FormatRow<'a> {
+    row: &'a Row<'a>,
     bytes: &'a str,
     value: Option<&'a str>,
     fault: Option<&'a str>,
@@ -41,13 +42,14 @@ pub fn is_format<R: Print>(
     let told = read_format_row(row)?;
     let bytes = rows.bytes_of(told.bytes)?;
     let tables = described(alloc, row.first.value)?;
-    let same = are_read_so(rt, alloc, place, row, told, &bytes, &tables);
+    let same = are_read_so(rt, alloc, place, told, &bytes, &tables);
     drop(tables);
     same
 }
 
-fn read_format_row<'a>(row: &Row<'a>) -> Result<FormatRow<'a>, RowFault> {
+fn read_format_row<'a>(row: &'a Row<'a>) -> Result<FormatRow<'a>, RowFault> {
     let mut told = FormatRow {
+        row,
         bytes: "",
         value: None,
         fault: None,
@@ -76,7 +78,6 @@ fn are_read_so<R: Print>(
     rt: &R,
     alloc: Global,
     place: Place<'_>,
-    row: &Row<'_>,
     told: FormatRow<'_>,
     bytes: &[u8],
     tables: &Tables,
@@ -86,7 +87,7 @@ fn are_read_so<R: Print>(
     let shape = shape_in(tables).ok_or(RowFault::new("no format"))?;
     match decode(alloc, shape, bytes) {
         Ok(val) => {
-            let same = is_value(rt, alloc, place, row, told, bytes, shape, &val);
+            let same = is_value(rt, alloc, place, told, bytes, shape, &val);
             drop(val);
             same
         }
@@ -131,7 +132,6 @@ fn is_value<R: Print>(
     rt: &R,
     alloc: Global,
     place: Place<'_>,
-    row: &Row<'_>,
     told: FormatRow<'_>,
     bytes: &[u8],
     shape: &Shape,
@@ -141,8 +141,8 @@ fn is_value<R: Print>(
 {
     let is_told = is_shown(rt, alloc, place, told.value, val)?;
     let is_spelled = is_spelled(rt, alloc, place, bytes, shape, val)?;
-    let misfits = is_misfit(rt, alloc, place, row, val)?;
-    let is_printed = told.name.is_empty() || is_printed(rt, alloc, place, row, told, shape, val)?;
+    let misfits = is_misfit(rt, alloc, place, told.row, val)?;
+    let is_printed = told.name.is_empty() || is_printed(rt, alloc, place, told, shape, val)?;
     Ok(is_told && is_spelled && misfits && is_printed)
 }
 
@@ -204,7 +204,6 @@ fn is_printed<R: Print>(
     rt: &R,
     alloc: Global,
     place: Place<'_>,
-    row: &Row<'_>,
     told: FormatRow<'_>,
     shape: &Shape,
     val: &Val,
@@ -214,7 +213,7 @@ fn is_printed<R: Print>(
         Some(format) => print_in(alloc, &mut text, told, format, val)?,
         None => print(alloc, &mut text, told, shape, val)?,
     }
-    let lines = lines_of(alloc, row, "out")?;
+    let lines = lines_of(alloc, told.row, "out")?;
     let found = text_of(text.as_slice());
     Ok(is(rt, place, "out", lines.as_str(), found))
 }
