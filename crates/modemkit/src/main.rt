@@ -9,7 +9,7 @@ ghost use Rattle.tool_words.specs.Command.{command_in};
 
 use child_io::{Spawner, StdSpawner};
 use core_bench::Cores;
-use file_io::{Files, StdFiles};
+use file_io::{Complain, StdFiles};
 use hub_io::Hub;
 use kit_io::{Sink, StdSink};
 use many_io::ManyHub;
@@ -97,7 +97,7 @@ fn tell_complaints(rt: &HostRuntime, spawner: &mut StdSpawner<'_, HostRuntime>) 
 }
 
 // The same, where the outside is open.
-fn run_read<O: Sink, E: Sink, L: Watch, H: Hub, P: Spawner, F: Files>(
+fn run_read<O: Sink, E: Sink, L: Watch, H: Hub, P: Spawner, F: Complain>(
     rt: &HostRuntime,
     out: &mut O,
     err: &mut E,
@@ -113,7 +113,7 @@ fn run_read<O: Sink, E: Sink, L: Watch, H: Hub, P: Spawner, F: Files>(
 }
 
 // Does what the words ask, with a hub for as many devices as they name.
-fn run_words<O: Sink, E: Sink, L: Watch, H: Hub, P: Spawner, F: Files>(
+fn run_words<O: Sink, E: Sink, L: Watch, H: Hub, P: Spawner, F: Complain>(
     rt: &HostRuntime,
     words: &[String],
     out: &mut O,
@@ -145,7 +145,7 @@ fn run_words<O: Sink, E: Sink, L: Watch, H: Hub, P: Spawner, F: Files>(
 }
 
 // The same, with a bench of its own.
-fn run_on_bench<O: Sink, E: Sink, L: Watch, H: Hub, M: ManyHub, P: Spawner, F: Files>(
+fn run_on_bench<O: Sink, E: Sink, L: Watch, H: Hub, M: ManyHub, P: Spawner, F: Complain>(
     alloc: Global,
     words: &[String],
     out: &mut O,

@@ -134,7 +134,7 @@ RunsCommand (Simulator kind socket profile (Some rules) turns None) before after
     EndsAs status_of_sim result (λ ends. sim.SimulatesByRules rules profile kind socket turns (record { files = before.files; hub = before.hub }) (record { files = after.files; hub = after.hub }) ends)
 RunsCommand (Simulator kind socket profile rules turns (Some most)) before after result =
     EndsAs status_of_keeping result (λ ends. SupervisesOrLacksMemory (start_words kind socket turns profile rules) most before.spawner ends after.spawner)
-RunsCommand (Pump read node bridge) before after result = PumpsTo read node bridge before.link before.files result after.link after.files
+RunsCommand (Pump read node bridge verbose) before after result = PumpsTo read node bridge before.link before.files result after.link after.files
 RunsCommand (Rig kind clients messages number) before after result = RigsTo kind clients messages number before.bench before.out result after.bench after.out
 RunsCommand (Transparency kind) before after result = ShowsTransparency kind before.bench before.out result after.bench after.out
 RunsCommand (Dissect kind tables turns capture) before after result =
@@ -164,7 +164,7 @@ is_of_simulator (Simulator kind socket profile rules turns keep) = true
 is_of_simulator _ = false
 
 abbrev pub is_of_pump : ToolCommand → Bool
-is_of_pump (Pump read node bridge) = true
+is_of_pump (Pump read node bridge verbose) = true
 is_of_pump _ = false
 
 abbrev pub is_of_rig : ToolCommand → Bool
@@ -207,7 +207,7 @@ CommandLeavesAlone (Proxy task) before after = (after.link ≡ before.link) × (
 CommandLeavesAlone (Proxies task) before after = (after.link ≡ before.link) × (after.hub ≡ before.hub) × (after.files ≡ before.files) × (after.out ≡ before.out) × (after.bench ≡ before.bench)
 CommandLeavesAlone (Simulator kind socket profile rules turns None) before after = (after.link ≡ before.link) × (after.spawner ≡ before.spawner) × (profile ≡ None → rules ≡ None → after.files ≡ before.files) × (after.out ≡ before.out) × (after.bench ≡ before.bench)
 CommandLeavesAlone (Simulator kind socket profile rules turns (Some most)) before after = (after.link ≡ before.link) × (after.hub ≡ before.hub) × (after.files ≡ before.files) × (after.out ≡ before.out) × (after.bench ≡ before.bench)
-CommandLeavesAlone (Pump read node bridge) before after = (after.hub ≡ before.hub) × (after.spawner ≡ before.spawner) × (after.out ≡ before.out) × (after.bench ≡ before.bench)
+CommandLeavesAlone (Pump read node bridge verbose) before after = (after.hub ≡ before.hub) × (after.spawner ≡ before.spawner) × (after.out ≡ before.out) × (after.bench ≡ before.bench)
 CommandLeavesAlone (Rig kind clients messages number) before after = (after.link ≡ before.link) × (after.hub ≡ before.hub) × (after.spawner ≡ before.spawner) × (after.files ≡ before.files)
 CommandLeavesAlone (Transparency kind) before after = (after.link ≡ before.link) × (after.hub ≡ before.hub) × (after.spawner ≡ before.spawner) × (after.files ≡ before.files)
 CommandLeavesAlone (Dissect kind tables turns capture) before after = (after.link ≡ before.link) × (after.hub ≡ before.hub) × (after.spawner ≡ before.spawner) × (after.bench ≡ before.bench)
@@ -225,7 +225,7 @@ abbrev pub CommandFailsOnLink : {L : Type 0} → ToolCommand → (L → ℕ) →
 CommandFailsOnLink (Qmicli task) = LinkFails (route_to task.device task.link)
 CommandFailsOnLink (Mbimcli task) = LinkFails (route_to task.device task.link)
 CommandFailsOnLink (Request task) = LinkFails (route_to task.device task.link)
-CommandFailsOnLink (Pump read node bridge) = λ faults open_faults before after. Rose (open_faults before) (open_faults after) ⊎ Rose (faults before) (faults after)
+CommandFailsOnLink (Pump read node bridge verbose) = λ faults open_faults before after. Rose (open_faults before) (open_faults after) ⊎ Rose (faults before) (faults after)
 CommandFailsOnLink _ = λ faults open_faults before after. ⊥
 
 abbrev pub FailsOnLink : {L : Type 0} → Result ToolCommand UsageKind → (L → ℕ) → (L → ℕ) → L → L → Type 0

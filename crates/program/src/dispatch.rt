@@ -5,7 +5,7 @@ ghost use Rattle.tool_words.specs.Command.{command_in};
 ghost use Rattle.tool_words.specs.Rig.{IsWithinLimits};
 ghost use Rattle.program.specs.Running.{CommandFailsOnLink, CommandLeavesAlone, FailsOnLink, LeavesAlone, Runs, RunsCommand};
 ghost use Rattle.program.specs.Several.{FailsOnHub, HasRoom, LeavesSeveralAlone, ServesIfSeveral};
-ghost use Rattle.program.specs.Watching.{Reported, kind_in};
+ghost use Rattle.program.specs.Watching.{ReportedWhole};
 
 use crate::dissecting::dissect_capture;
 use crate::proxies::proxy_modems;
@@ -16,10 +16,10 @@ use crate::tools::{
     run_command_of_proxy, run_command_of_pump, run_command_of_rig, run_command_of_simulator,
     run_command_of_tool,
 };
-use crate::watching::{report_behind, told_kind};
+use crate::watching::{report_behind, tell_node, told_kind, told_node};
 use child_io::Spawner;
 use core_bench::Bench;
-use file_io::Files;
+use file_io::{Complain, Files};
 use hub_io::Hub;
 use kit_io::Sink;
 use many_io::ManyHub;
@@ -33,7 +33,7 @@ use watched_link::Watch;
 /// The hub of several devices has room for as many as the words name, where they name several
 /// (`device_count`).
 #[tactic(auto, using(crate::proofs::Several::untouched))]
-pub fn run<O: Sink, E: Sink, L: Watch, H: Hub, M: ManyHub, P: Spawner, F: Files, B: Bench>(
+pub fn run<O: Sink, E: Sink, L: Watch, H: Hub, M: ManyHub, P: Spawner, F: Complain, B: Bench>(
     alloc: Global,
     words: &[String],
     out: &mut O,
@@ -67,14 +67,20 @@ pub fn run<O: Sink, E: Sink, L: Watch, H: Hub, M: ManyHub, P: Spawner, F: Files,
     ensures read_fault { result ≡ Status.ReadFault → Rose (F.read_faults files.old) (F.read_faults files.new) }
     ensures write_fault { result ≡ Status.WriteFault → Rose (O.faults out.old) (O.faults out.new) ⊎ Rose (F.write_faults files.old) (F.write_faults files.new) }
 
-    // A line tells of an error, behind the lines of what went over the link where the words want them,
-    // unless it can't be written.
-    ensures line { ¬ Rose (E.faults err.old) (E.faults err.new) → Reported (kind_in (command_in (map string_bytes words.now))) (L.notes link.new).recorded result (E.taken err.old) (E.taken err.new) }
+    // A line tells of an error, behind the lines of what went over the link, or why a pump's node failed,
+    // where the words want them, unless it can't be written.
+    ensures line { ¬ Rose (E.faults err.old) (E.faults err.new) → ReportedWhole (command_in (map string_bytes words.now)) (L.notes link.new).recorded (F.words files.new) result (E.taken err.old) (E.taken err.new) }
 {
     match command_of(alloc, words) {
         Ok(command) => {
             let kind = told_kind(&command);
+            let Ok(node) = told_node(alloc, &command) else {
+                drop(command);
+                return give_up(err);
+            };
             let status = run_command(alloc, command, out, link, hub, many, spawner, files, bench);
+            tell_node(node.as_ref(), files, &status, err);
+            drop(node);
             report_behind(alloc, kind, link, &status, err);
             status
         }

@@ -51,7 +51,7 @@ pub fn route_to(
         let socket = settings.socket.value().as_str();
         return Route::by_proxy(alloc, settings.kind, device, socket, bridge);
     }
-    Route::direct(alloc, device, bridge)
+    Route::direct(alloc, device, bridge, settings.verbose)
 }
 
 // Asks a QMI modem what the words of `qmicli` want, over the link that leads to it, or to the MBIM modem

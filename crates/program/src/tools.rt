@@ -6,7 +6,7 @@ ghost use Rattle.tool_words.specs.Command.{command_in};
 ghost use Rattle.tool_words.specs.Rig.{IsWithinLimits};
 ghost use Rattle.program.specs.Running.{Absent, FailsOnLink, LeavesAlone, Runs, RunsWords, is_of_proxy, is_of_pump, is_of_rig, is_of_simulator, is_of_tool, words_for};
 ghost use Rattle.program.specs.Status.{line_of};
-ghost use Rattle.program.specs.Watching.{Reported, kind_in};
+ghost use Rattle.program.specs.Watching.{Reported, SaysOfNode, kind_in, node_in};
 
 use crate::proxy::proxy_modem;
 use crate::pumping::pump_bytes;
@@ -16,10 +16,10 @@ use crate::simulator::{keep_modem, simulate_modem, simulate_ruled_modem};
 use crate::status::Status;
 use crate::tables::ask_by_tables;
 use crate::tool::{ask_mbim, ask_qmi, print_description, submit_text};
-use crate::watching::{report_behind, told_kind};
+use crate::watching::{report_behind, tell_node, told_kind, told_node};
 use child_io::Spawner;
 use core_bench::Bench;
-use file_io::Files;
+use file_io::{Complain, Files};
 use hub_io::Hub;
 use kit_io::Sink;
 use link_io::Link;
@@ -257,7 +257,7 @@ pub fn run_command_of_simulator<H: Hub, P: Spawner, F: Files>(
 }
 
 /// What `pump` does: as `run` with its words. The words of other tools are refused, as those of an unknown one.
-pub fn run_pump<E: Sink, L: Link, F: Files>(
+pub fn run_pump<E: Sink, L: Link, F: Complain>(
     alloc: Global,
     words: &[String],
     err: &mut E,
@@ -274,15 +274,23 @@ pub fn run_pump<E: Sink, L: Link, F: Files>(
     ensures link_fault { result ≡ Status.LinkFault → FailsOnLink (words_for is_of_pump (command_in (map string_bytes words.now))) L.faults L.open_faults link.old link.new }
     ensures read_fault { result ≡ Status.ReadFault → Rose (F.read_faults files.old) (F.read_faults files.new) }
     ensures write_fault { result ≡ Status.WriteFault → Rose (F.write_faults files.old) (F.write_faults files.new) }
-    ensures line { ¬ Rose (E.faults err.old) (E.faults err.new) → Grows (E.taken err.old) (line_of result) (E.taken err.new) }
+    ensures line { ¬ Rose (E.faults err.old) (E.faults err.new) → SaysOfNode (node_in (command_in (map string_bytes words.now))) (F.words files.new) result (E.taken err.old) (E.taken err.new) }
 {
-    let status = match command_of(alloc, words) {
-        Ok(command) => run_command_of_pump(alloc, command, link, files),
-        Err(WordFault::Usage(kind)) => Status::Usage { kind },
-        Err(WordFault::OutOfMemory) => Status::OutOfMemory,
-    };
-    report(&status, err);
-    status
+    match command_of(alloc, words) {
+        Ok(command) => {
+            let Ok(node) = told_node(alloc, &command) else {
+                drop(command);
+                return give_up(err);
+            };
+            let status = run_command_of_pump(alloc, command, link, files);
+            tell_node(node.as_ref(), files, &status, err);
+            drop(node);
+            report(&status, err);
+            status
+        }
+        Err(WordFault::Usage(kind)) => refuse_for(kind, err),
+        Err(WordFault::OutOfMemory) => give_up(err),
+    }
 }
 
 // The same for a command of a pump.
@@ -306,9 +314,12 @@ pub fn run_command_of_pump<L: Link, F: Files>(
     ensures start_fault { ¬ (result ≡ Status.StartFault) }
 {
     match command {
-        ToolCommand::Pump { read, node, bridge } => {
-            pump_bytes(alloc, read, &node, &bridge, link, files)
-        }
+        ToolCommand::Pump {
+            read,
+            node,
+            bridge,
+            ..
+        } => pump_bytes(alloc, read, &node, &bridge, link, files),
         other => {
             drop(other);
             other_tool()

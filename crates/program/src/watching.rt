@@ -1,19 +1,21 @@
-ghost use Rattle.std.specs.Prelude.{◌≡◌, ◌≤◌, List, Some, map, IfOk};
-ghost use Rattle.kit_io.specs.Causes.{Rose};
+ghost use Rattle.std.specs.Prelude.{◌≡◌, ◌≤◌, List, Some, map, IfOk, OnOk};
+ghost use Rattle.std.specs.Option.{option_copied};
+ghost use Rattle.kit_io.specs.Causes.{HasCause, Rose};
 ghost use Rattle.kit_io.specs.Growth.{Grows};
 ghost use Rattle.kit_io.specs.Record.{Noted};
 ghost use Rattle.link_lines.specs.Directions.{AreShort};
-ghost use Rattle.link_lines.specs.Lines.{lines_of};
+ghost use Rattle.link_lines.specs.Lines.{Fault, lines_of, text_of};
 ghost use Rattle.qmi_services.specs.BuiltIn.{built_in};
 ghost use Rattle.watched_link.specs.declared.note.LinkNote.{LinkNote};
 ghost use Rattle.watched_link.specs.Notes.{event_of};
 ghost use Rattle.program.specs.Status.{line_of};
-ghost use Rattle.program.specs.Watching.{Reports, Tells, kind_if, told_kind};
+ghost use Rattle.program.specs.Watching.{Reports, Tells, kind_if, node_if, node_lines, told_kind, told_node};
 
 use crate::report::report;
 use crate::status::Status;
-use kit_bytes::{Kind, Octets};
-use kit_io::{Sink, write_all_to};
+use file_io::Complain;
+use kit_bytes::{Kind, Octets, PathText};
+use kit_io::{Sink, WriteFault, write_all_to};
 use link_lines::push_lines;
 use qmi_services::built_in;
 use std::alloc::{AllocError, Global};
@@ -38,6 +40,56 @@ fn kind_if(link: &LinkSettings) -> Option<Kind>
     if link.verbose { Some(link.kind) } else { None }
 }
 
+/// The node of a pump that is to tell why it failed, where the words want that.
+pub fn told_node(alloc: Global, command: &ToolCommand) -> Result<Option<PathText>, AllocError>
+    ensures { IfOk result (λ node. node ≡ told_node command.now) }
+{
+    match command {
+        ToolCommand::Pump { node, verbose, .. } => node_if(alloc, *verbose, node),
+        _ => Ok(None),
+    }
+}
+
+fn node_if(alloc: Global, verbose: bool, node: &PathText) -> Result<Option<PathText>, AllocError>
+    ensures { IfOk result (λ told. told ≡ node_if verbose node.now) }
+{
+    if !verbose {
+        return Ok(None);
+    }
+    Ok(Some(node.copy(alloc)?))
+}
+
+/// Writes why a node failed that is told of, where its pump ended by that. A fault of the sink changes nothing.
+pub fn tell_node<F: Complain, E: Sink>(
+    node: Option<&PathText>,
+    files: &F,
+    status: &Status,
+    err: &mut E,
+)
+    ensures told { ¬ Rose (E.faults err.old) (E.faults err.new) → Grows (E.taken err.old) (node_lines (option_copied node.entry) (F.words files.now) status.now) (E.taken err.new) }
+    ensures later { E.faults err.old ≤ E.faults err.new }
+{
+    if let Some(node) = node
+        && matches!(status, Status::ReadFault | Status::WriteFault)
+    {
+        let path = node.value().as_str().as_bytes();
+        let _ = write_fault(path, files.words().as_bytes(), err);
+    }
+}
+
+// Writes why a call failed on the way to a path.
+fn write_fault<E: Sink>(path: &[u8], words: &[u8], err: &mut E) -> Result<(), WriteFault>
+    ensures line { OnOk result (Grows (E.taken err.old) (text_of (Fault path.now words.now)) (E.taken err.new)) }
+    ensures cause { HasCause (E.faults err.old) (E.faults err.new) result }
+{
+    write_all_to(err, b"! ")?;
+    write_all_to(err, path)?;
+    write_all_to(err, b": ")?;
+    write_all_to(err, words)?;
+    write_all_to(err, b"\n")?;
+    Ok(())
+}
+
 /// Writes the line of a status, behind the lines of what went over the link where a kind is told. A fault
 /// of the sink changes nothing.
 pub fn report_behind<L: Watch, E: Sink>(
@@ -47,7 +99,8 @@ pub fn report_behind<L: Watch, E: Sink>(
     status: &Status,
     err: &mut E,
 )
-    ensures { ¬ Rose (E.faults err.old) (E.faults err.new) → Reports kind (L.notes link.now).recorded (line_of status.now) (E.taken err.old) (E.taken err.new) }
+    ensures line { ¬ Rose (E.faults err.old) (E.faults err.new) → Reports kind (L.notes link.now).recorded (line_of status.now) (E.taken err.old) (E.taken err.new) }
+    ensures later { E.faults err.old ≤ E.faults err.new }
 {
     let Some(kind) = kind else {
         report(status, err);

@@ -1,8 +1,8 @@
 use Rattle.std.proofs.Common.{arith}
 use Rattle.program.proofs.watching.report_behind.Goals as goal
 
-pub returns : goal.returns
-returns g c =
+pub returns-clause-line : goal.returns-clause-line
+returns-clause-line g c =
     rw (c.in-Some.is, ← c.notes.ensures.same)
     (λ none. (
       g.E.Sink.taken c.tell.new.err,
