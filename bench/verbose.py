@@ -1,8 +1,11 @@
 """Has the tools tell what goes over their links, and prints a line for each point. `verbose.sh` starts it: FOLDER PROGRAM PART.."""
+import fcntl
 import os
+import shutil
 import socket
 import subprocess
 import sys
+import tempfile
 import threading
 import time
 
@@ -171,6 +174,61 @@ def try_reset():
     point("a socket that is reset: Connection reset by peer", (status, out, lines) == (LINK_FAULT, "", "! reset: Connection reset by peer\nerror: link fault\n"), f"{(status, out, err)}")
 
 
+# ---- device nodes ----
+
+def node_fails(name, path, words, times=2, **how):
+    """Both pumps of a node, or one of them, say why it failed, and without `-v` they say only that it did."""
+    bridge = "open/bridge"
+    for more in (["-v"], []):
+        ended = run("qmicli", *more, "-d", path, f"--bridge={bridge}", "--dms-get-model", **how)
+        pump, tool = "error: read fault\n", "error: link fault\n"
+        if more:
+            pump, tool = f"! {path}: {words}\n{pump}", f"! {bridge}: timed out\n{tool}"
+        point(f"{name}{more and f': {words}' or ', without -v'}", ended == (LINK_FAULT, "", pump * times + tool), f"{ended}")
+
+
+def as_nobody():
+    """What runs a program that permissions hold for."""
+    return {} if os.geteuid() else {"user": NOBODY, "group": NOBODY}
+
+
+def try_nodes():
+    # (a path below /dev is that of a node, whatever stands there)
+    nodes = tempfile.mkdtemp(dir="/dev/shm")
+    os.chmod(nodes, 0o755)
+    os.chmod(folder, 0o711)
+    os.mkdir("open")
+    os.chmod("open", 0o777)
+    try:
+        try_nodes_in(nodes)
+    finally:
+        shutil.rmtree(nodes)
+
+
+def try_nodes_in(nodes):
+    node_fails("a node that isn't there", f"{nodes}/away", "No such file or directory")
+    for name, mode in (("shut", 0), ("read-only", 0o444)):
+        with open(f"{nodes}/{name}", "w"):
+            os.chmod(f"{nodes}/{name}", mode)
+    node_fails("a node that may not be opened", f"{nodes}/shut", "Permission denied", **as_nobody())
+    node_fails("a node that may not be written", f"{nodes}/read-only", "Permission denied", times=1, **as_nobody())
+    listener = socket.socket(socket.AF_UNIX)
+    listener.bind(f"{nodes}/socket")
+    node_fails("a node without a device", f"{nodes}/socket", "No such device or address")
+    listener.close()
+    node_fails("a node that is a folder", nodes, "Is a directory")
+    try_busy()
+
+
+def try_busy():
+    """A node that somebody else reads, and has locked: the pump that reads it fails alone."""
+    modem, node = os.openpty()
+    fcntl.flock(node, fcntl.LOCK_EX)
+    node_fails("a node that is in use", os.ttyname(node), "Device or resource busy", times=1)
+    os.close(node)
+    os.close(modem)
+
+
 for part in parts:
-    {"told": try_told, "faults": try_faults}[part]()
+    {"told": try_told, "faults": try_faults, "nodes": try_nodes}[part]()
 sys.exit(failed > 0)
