@@ -18,6 +18,13 @@ use qmi_shapes::{Shape, ShapeField};
 use qmi_values::Val;
 use std::alloc::{AllocError, Global};
 
+// How a field is told: in which wording, and how its value is shown.
+#[derive(Clone, Copy)]
+struct Style {
+    wording: Wording,
+    shown: Shown,
+}
+
 /// Adds the text of a field at a level, or nothing where the memory doesn't do for all of it.
 pub fn print_field(
     alloc: Global,
@@ -33,16 +40,11 @@ pub fn print_field(
     let name = name.as_str();
     let indent = vec![in alloc; b' '; 2 * usize::from(level)]?;
     let mut text = Octets::new(alloc);
-    print_value(
-        alloc,
-        Wording::WithWords,
-        shown_for(name),
-        &mut text,
-        &indent,
-        name,
-        shape,
-        val,
-    )?;
+    let style = Style {
+        wording: Wording::WithWords,
+        shown: shown_for(name),
+    };
+    print_value(alloc, style, &mut text, &indent, name, shape, val)?;
     out.extend_from_slice(text.as_slice())
 }
 
@@ -59,38 +61,32 @@ pub fn print_titled(
 ) -> Result<(), AllocError>
     ensures { OnOk result (out.new ≡ out.old ++ titled_text NumbersAlone (shape_view shape.now) (shown_as name.now) indent.now title.now (val_view val.now)) }
 {
-    print_value(
-        alloc,
-        Wording::NumbersAlone,
-        shown_for(name),
-        out,
-        indent,
-        title,
-        shape,
-        val,
-    )
+    let style = Style {
+        wording: Wording::NumbersAlone,
+        shown: shown_for(name),
+    };
+    print_value(alloc, style, out, indent, title, shape, val)
 }
 
 // Adds the text of a value.
 #[cycle(print)]
 fn print_value(
     alloc: Global,
-    wording: Wording,
-    shown: Shown,
+    style: Style,
     out: &mut Octets,
     indent: &[u8],
     title: &str,
     shape: &Shape,
     val: &Val,
 ) -> Result<(), AllocError>
-    ensures { OnOk result (out.new ≡ out.old ++ titled_text wording (shape_view shape.now) shown indent.now title.now (val_view val.now)) }
+    ensures { OnOk result (out.new ≡ out.old ++ titled_text style.wording (shape_view shape.now) style.shown indent.now title.now (val_view val.now)) }
 {
     match shape {
         Shape::U(_) => {
             let Some(number) = val.as_u64() else {
                 return Ok(());
             };
-            print_number(wording, shown, out, indent, title, number)
+            print_number(style, out, indent, title, number)
         }
         Shape::I(_) => {
             let Some(number) = val.as_i64() else {
@@ -108,16 +104,7 @@ fn print_value(
             let Some(vals) = val.as_list() else {
                 return Ok(());
             };
-            print_list(
-                alloc,
-                wording,
-                shown,
-                out,
-                indent,
-                title,
-                element,
-                vals.as_slice(),
-            )
+            print_list(alloc, style, out, indent, title, element, vals.as_slice())
         }
         Shape::Seq(fields) => {
             let Some(vals) = val.as_seq() else {
@@ -127,7 +114,7 @@ fn print_value(
             let indent = deeper(alloc, indent)?;
             print_fields(
                 alloc,
-                wording,
+                style.wording,
                 out,
                 indent.as_slice(),
                 fields.as_slice(),
@@ -140,17 +127,16 @@ fn print_value(
 // Adds the line of a number.
 #[tactic(auto, unfolding(print_text::specs::Lines::line))]
 fn print_number(
-    wording: Wording,
-    shown: Shown,
+    style: Style,
     out: &mut Octets,
     indent: &[u8],
     title: &str,
     number: u64,
 ) -> Result<(), AllocError>
-    ensures { OnOk result (out.new ≡ out.old ++ line indent.now title.now (number_text wording shown number)) }
+    ensures { OnOk result (out.new ≡ out.old ++ line indent.now title.now (number_text style.wording style.shown number)) }
 {
     push_front(out, indent, title)?;
-    push_number(out, wording, shown, number)?;
+    push_number(out, style.wording, style.shown, number)?;
     out.extend_from_slice(b"\n")
 }
 
@@ -183,23 +169,22 @@ fn print_bytes(out: &mut Octets, indent: &[u8], title: &str, vals: &[Val]) -> Re
 #[cycle(print)]
 fn print_list(
     alloc: Global,
-    wording: Wording,
-    shown: Shown,
+    style: Style,
     out: &mut Octets,
     indent: &[u8],
     title: &str,
     element: &Shape,
     vals: &[Val],
 ) -> Result<(), AllocError>
-    ensures { OnOk result (out.new ≡ out.old ++ list_text shown (titled_text wording (shape_view element.now) Plainly) indent.now title.now (map val_view vals.now)) }
+    ensures { OnOk result (out.new ≡ out.old ++ list_text style.shown (titled_text style.wording (shape_view element.now) Plainly) indent.now title.now (map val_view vals.now)) }
 {
-    if shown.is_bytes() {
+    if style.shown.is_bytes() {
         return print_bytes(out, indent, title, vals);
     }
     let mut count = Buffer::new();
     push_line(out, indent, title, count.format(vals.len()).as_bytes())?;
     let indent = deeper(alloc, indent)?;
-    print_elements(alloc, wording, out, indent.as_slice(), element, vals)
+    print_elements(alloc, style.wording, out, indent.as_slice(), element, vals)
 }
 
 // Adds the texts of a list's elements.
@@ -216,10 +201,13 @@ fn print_elements(
 {
     for (index, val) in vals.iter().enumerate() {
         let mut place = Buffer::new();
+        let style = Style {
+            wording,
+            shown: Shown::Plainly,
+        };
         print_value(
             alloc,
-            wording,
-            Shown::Plainly,
+            style,
             out,
             indent,
             place.format(index + 1),
@@ -245,16 +233,11 @@ fn print_fields(
     for index in 0..fields.len().min(vals.len()) {
         let field = &fields[index];
         let name = field.name.as_str();
-        print_value(
-            alloc,
+        let style = Style {
             wording,
-            shown_for(name),
-            out,
-            indent,
-            name,
-            &field.shape,
-            &vals[index],
-        )?;
+            shown: shown_for(name),
+        };
+        print_value(alloc, style, out, indent, name, &field.shape, &vals[index])?;
     }
     Ok(())
 }

@@ -31,12 +31,12 @@ print_fields-returns t c =
 pub print_value-returns-in-Some-as_list : goal.print_value-returns-in-Some-as_list
 print_value-returns-in-Some-as_list t c =
     let same =
-    titled_text-list c.args.wording c.in-List.field-0 (shape_view c.in-List.element.value) c.args.shown c.args.indent.now c.args.title.now c.as_slice-in-List.result.now _ (val_view c.args.val.now) c.in-Some-as_list.ensures c.as_slice-in-List.ensures in
+    titled_text-list c.args.style.wording c.in-List.field-0 (shape_view c.in-List.element.value) c.args.style.shown c.args.indent.now c.args.title.now c.as_slice-in-List.result.now _ (val_view c.args.val.now) c.in-Some-as_list.ensures c.as_slice-in-List.ensures in
     rw (c.in-List.is, view-List c.in-List.field-0 c.in-List.element, same) (rw c.deref.ensures at c.print_list.ensures)
 
 pub print_value-returns-in_ok-indent-in-Seq : goal.print_value-returns-in_ok-indent-in-Seq
 print_value-returns-in_ok-indent-in-Seq t c =
     let same =
-    titled_text-sequence c.args.wording (fields_view c.in-Seq.fields) c.args.shown c.args.indent.now c.as_slice-in-Seq.result.now c.args.title.now c.args.out.now c.push_heading.new.out c.as_slice-in-Seq-2.result.now c.as_slice-in-Seq-3.result.now _ (val_view c.args.val.now)
+    titled_text-sequence c.args.style.wording (fields_view c.in-Seq.fields) c.args.style.shown c.args.indent.now c.as_slice-in-Seq.result.now c.args.title.now c.args.out.now c.push_heading.new.out c.as_slice-in-Seq-2.result.now c.as_slice-in-Seq-3.result.now _ (val_view c.args.val.now)
     c.in-Some-as_seq.ensures c.as_slice-in-Seq-3.ensures c.as_slice-in-Seq-2.ensures (c.as_slice-in-Seq.ensures ∙ c.in_ok-indent-in-Seq.ensures) c.in_ok-push_heading-in-Seq.ensures in
     rw (c.in-Seq.is, view-Seq c.in-Seq.fields, same) c.print_fields.ensures
