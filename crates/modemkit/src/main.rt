@@ -42,21 +42,48 @@ fn main(rt: HostRuntime) -> ExitCode {
 
 // Does what the words ask. Its own lines go to the writer, which writes them in the end, and at once:
 // no other process's line stands in the midst of one, and those of its children stand before them.
+// Whoever is at the other end of its link finds that closed behind them.
 fn run_above<W: Write>(rt: &HostRuntime, lines: &mut W) -> Status {
+    let socket = Cell::new(-1);
+    let link = UnixLink::new(rt, rt.alloc(), &socket);
+    let Ok(mut link) = Watched::new(rt.alloc(), link) else {
+        return give_up(&mut StdSink::new(lines));
+    };
+    let mut files = StdFiles::new(rt, rt.alloc(), &socket);
+    let status = run_before(rt, lines, &mut link, &mut files);
+    let _ = lines.flush();
+    drop(files);
+    drop(link);
+    status
+}
+
+// The same, over a link and files that are there.
+fn run_before<W: Write, L: Watch, F: Complain>(
+    rt: &HostRuntime,
+    lines: &mut W,
+    link: &mut L,
+    files: &mut F,
+) -> Status {
     let mut out = StdSink::new(rt.stdout());
     let mut err = StdSink::new(lines);
     match stand_ins(rt) {
-        Ok(_kept) => run_over(rt, &mut out, &mut err),
+        Ok(_kept) => run_over(rt, &mut out, &mut err, link, files),
         Err(_) => give_up(&mut err),
     }
 }
 
 // Does what the words ask, over sockets, processes and files.
-fn run_over<O: Sink, E: Sink>(rt: &HostRuntime, out: &mut O, err: &mut E) -> Status {
+fn run_over<O: Sink, E: Sink, L: Watch, F: Complain>(
+    rt: &HostRuntime,
+    out: &mut O,
+    err: &mut E,
+    link: &mut L,
+    files: &mut F,
+) -> Status {
     let Ok(mut spawner) = spawner_of(rt) else {
         return give_up(err);
     };
-    let status = run_beside(rt, out, err, &mut spawner);
+    let status = run_beside(rt, out, err, link, &mut spawner, files);
     if !matches!(status, Status::Done | Status::Denied { .. }) {
         tell_complaints(rt, &mut spawner);
     }
@@ -65,25 +92,19 @@ fn run_over<O: Sink, E: Sink>(rt: &HostRuntime, out: &mut O, err: &mut E) -> Sta
 }
 
 // The same, where children can be started.
-fn run_beside<O: Sink, E: Sink, P: Spawner>(
+fn run_beside<O: Sink, E: Sink, L: Watch, P: Spawner, F: Complain>(
     rt: &HostRuntime,
     out: &mut O,
     err: &mut E,
+    link: &mut L,
     spawner: &mut P,
+    files: &mut F,
 ) -> Status {
     let Ok(mut hub) = MioHub::new(rt, rt.alloc()) else {
         return give_up(err);
     };
-    let socket = Cell::new(-1);
-    let link = UnixLink::new(rt, rt.alloc(), &socket);
-    let Ok(mut link) = Watched::new(rt.alloc(), link) else {
-        return give_up(err);
-    };
-    let mut files = StdFiles::new(rt, rt.alloc(), &socket);
-    let status = run_read(rt, out, err, &mut link, &mut hub, spawner, &mut files);
+    let status = run_read(rt, out, err, link, &mut hub, spawner, files);
     drop(hub);
-    drop(files);
-    drop(link);
     status
 }
 
