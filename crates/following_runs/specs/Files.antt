@@ -1,7 +1,7 @@
 -- What a file tells.
 use Rattle.std.specs.Prelude.{ℕ, List, Result}
 use Rattle.message_tables.specs.Messages.{MessageForm}
-use Rattle.indication_tables.specs.Told.{indications_in}
+use Rattle.named_messages.specs.Told.{indications_in}
 use Rattle.table_requests.specs.declared.fault.NoRequest.{NoRequest}
 use Rattle.table_requests.specs.Faults.{no_message}
 use Rattle.table_requests.specs.Files.{or_none}

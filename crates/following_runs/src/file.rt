@@ -8,9 +8,9 @@ ghost use Rattle.table_requests.specs.Files.{Gives, OfFile};
 ghost use Rattle.following_runs.specs.Files.{told_in};
 
 use file_io::{Files, read_file};
-use indication_tables::read_indications;
 use kit_bytes::PathText;
 use message_tables::Message;
+use named_messages::read_indications;
 use std::alloc::Global;
 use table_requests::NoRequest;
 

@@ -22,18 +22,18 @@ use Rattle.named_messages.specs.Named.{is_definition, is_named}
 use Rattle.named_messages.specs.Reading.{Definitions, defined_by, defined_with, defined_in, message_by, message_for, message_of_service, message_in, only, message_named, named_among, named_of, named_in}
 use Rattle.named_messages.specs.Services.{service_called}
 
-abbrev IsWellTlv : TlvForm → Type 0
+abbrev pub IsWellTlv : TlvForm → Type 0
 IsWellTlv tlv = IsWellMade tlv.form
 
 abbrev IsGoodPair : List ℕ × Definition → Type 0
 IsGoodPair definition = IsDefined definition.1
 
-abbrev IsSound : Result MessageForm NamedFault → Type 0
+abbrev pub IsSound : Result MessageForm NamedFault → Type 0
 IsSound message = IfOk message IsSoundMessage
 
 -- ---- definitions ----
 
-abbrev AreGood : Definitions → Type 0
+abbrev pub AreGood : Definitions → Type 0
 AreGood definitions = AreDefined (named_by definitions)
 
 defined_by-good : (earlier : Definitions) (reading : Reading (List ℕ × Definition)) → AreGood earlier → OnKnown IsGoodPair reading → AreGood (defined_by earlier reading)
@@ -45,7 +45,7 @@ defined_by-good earlier (known definition) good holds = by (nests_well definitio
     by true = defined-more definition earlier holds good
     by false = good
 
-defined_with-good : (earlier : Definitions) (entry : Data) → AreGood earlier → AreGood (defined_with earlier entry)
+pub defined_with-good : (earlier : Definitions) (entry : Data) → AreGood earlier → AreGood (defined_with earlier entry)
 defined_with-good earlier entry good = by (is_definition (sort_of entry))
   where
     by : (b : Bool) → AreGood (if b then defined_by earlier (definition_of (named_by earlier) entry) else earlier)
@@ -70,7 +70,7 @@ known-sound message well = by (has_twice message.input || has_twice message.outp
         let nest = and_parts (nest_well message.input) (nest_well message.output) (not-false _ flat) in
         record { input = sound-tlvs message.input well.0 nest.0; output = sound-tlvs message.output well.1 nest.1; input_once = once.0; output_once = once.1 }
 
-message_by-sound : (reading : Reading MessageForm) → OnKnown (λ m. AllByRecursion IsWellTlv m.input × AllByRecursion IsWellTlv m.output) reading → IsSound (message_by reading)
+pub message_by-sound : (reading : Reading MessageForm) → OnKnown (λ m. AllByRecursion IsWellTlv m.input × AllByRecursion IsWellTlv m.output) reading → IsSound (message_by reading)
 message_by-sound (faulty which) well = tt
 message_by-sound unknown well = tt
 message_by-sound (known message) well = known-sound message well

@@ -3,3 +3,4 @@ pub mod Named
 pub mod Reading
 pub mod Answers
 pub mod Faults
+pub mod Told

@@ -1,9 +1,10 @@
-ghost use Rattle.std.specs.Prelude.{◌≡◌, ◌<◌, Some, length, map, position, IfOk};
+ghost use Rattle.std.specs.Prelude.{◌≡◌, ◌<◌, Some, chars, length, map, position, IfOk};
 ghost use Rattle.serde_json.specs.View.{view};
 ghost use Rattle.message_tables.specs.View.{message_view, names_in};
 ghost use Rattle.message_tables.specs.WellMade.{IsSoundMessage};
 ghost use Rattle.message_tables.specs.Definitions.{named_by};
 ghost use Rattle.message_tables.specs.Members.{objects_in};
+ghost use Rattle.message_tables.specs.Messages.{message_with};
 ghost use Rattle.message_tables.specs.Reading.{known};
 ghost use Rattle.named_messages.specs.Answers.{Finds};
 ghost use Rattle.named_messages.specs.Named.{is_named};
@@ -107,13 +108,27 @@ fn message_in(
     let Some(service) = service_called(service) else {
         return Err(NamedFault::Member(MemberName::Service));
     };
+    message_of(definitions, alloc, object, false, name, service)
+}
+
+/// The message or the indication that an object describes, of this name and of the service of this number.
+pub(crate) fn message_of(
+    definitions: &Definitions,
+    alloc: Global,
+    object: &Value,
+    indication: bool,
+    name: &str,
+    service: u8,
+) -> Result<Message, NamedFault>
+    ensures { Finds (message_by (message_with (names_in definitions.now) (view object.now) indication (chars name.now) service)) result }
+{
     let name = Text::from_str(alloc, name)?;
-    let message = message_with(definitions, alloc, object, false, name, service)?;
+    let message = message_with(definitions, alloc, object, indication, name, service)?;
     checked(message)
 }
 
-/// What is refused of a message that reads.
-pub fn checked(message: Message) -> Result<Message, NamedFault>
+// What is refused of a message that reads.
+fn checked(message: Message) -> Result<Message, NamedFault>
     ensures { Finds (message_by (known (message_view message))) result }
 {
     if message.has_id_twice() {

@@ -65,7 +65,7 @@ pub(crate) fn definitions_in(alloc: Global, objects: &[Value]) -> Result<Definit
 }
 
 /// Takes in what one object more defines: one that can't be read defines nothing.
-pub fn take_in(
+pub(crate) fn take_in(
     definitions: &mut Definitions,
     alloc: Global,
     object: &Value,

@@ -3,7 +3,7 @@ ghost use Rattle.named_messages.specs.Services.{service_called};
 
 /// The number of a service that libqmi describes.
 #[tactic(auto, unfolding(crate::specs::Services::service_called))]
-pub fn service_called(name: &str) -> Option<u8>
+pub(crate) fn service_called(name: &str) -> Option<u8>
     ensures { result ≡ service_called name.now }
 {
     match name {

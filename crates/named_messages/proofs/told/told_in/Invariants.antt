@@ -2,8 +2,8 @@ use Rattle.std.proofs.Common.{◌≡◌, map, drop, fold}
 use Rattle.serde_json.specs.View.{view}
 use Rattle.message_tables.specs.Definitions.{named_by}
 use Rattle.message_tables.specs.View.{messages_in, names_in}
-use Rattle.indication_tables.specs.Told.{Told, nothing_told, told_with}
-use Rattle.indication_tables.proofs.told.told_in.Given as goal
+use Rattle.named_messages.specs.Told.{Told, nothing_told, told_with}
+use Rattle.named_messages.proofs.told.told_in.Given as goal
 
 abbrev pub invariant-loop-object : goal.invariant-loop-object
 invariant-loop-object l =

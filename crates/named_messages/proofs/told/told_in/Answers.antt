@@ -6,8 +6,8 @@ use Rattle.message_tables.specs.Definitions.{Names, named_by}
 use Rattle.message_tables.specs.Messages.{MessageForm}
 use Rattle.message_tables.specs.View.{messages_in}
 use Rattle.message_tables.proofs.Lists.{drop_item}
-use Rattle.indication_tables.specs.Told.{Told, nothing_told, told_by, told_in, told_with}
-use Rattle.indication_tables.proofs.told.told_in.Goals as goal
+use Rattle.named_messages.specs.Told.{Told, nothing_told, told_by, told_in, told_with}
+use Rattle.named_messages.proofs.told.told_in.Goals as goal
 
 pub loop-object-init : goal.loop-object-init
 loop-object-init c = (nothing_told, λ i name. c.in_ok-definitions.ensures name i, ap messages_in c.new-told.ensures.items, refl)

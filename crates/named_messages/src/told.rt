@@ -1,11 +1,12 @@
 ghost use Rattle.std.specs.Prelude.{◌≡◌, map, IfOk, OnOk};
 ghost use Rattle.serde_json.specs.View.{view};
 ghost use Rattle.message_tables.specs.View.{messages_in, names_in};
-ghost use Rattle.indication_tables.specs.Told.{is_memory, told_by, told_in};
+ghost use Rattle.named_messages.specs.Told.{is_memory, told_by, told_in};
 
+use crate::NamedFault;
 use crate::indication::{indication_in, is_indication};
+use crate::objects::take_in;
 use message_tables::{Definitions, Message};
-use named_messages::{NamedFault, take_in};
 use serde_json::Value;
 use std::alloc::{AllocError, Global};
 

@@ -5,7 +5,7 @@ use Rattle.message_tables.specs.declared.message.Message.{Message}
 use Rattle.named_messages.specs.Answers.{Finds}
 use Rattle.named_messages.specs.declared.fault.NamedFault.{NamedFault}
 use Rattle.named_messages.specs.declared.fault.NamedFault.TheVariants.{Json, Missing, Several, Member, Format, Twice, Deep, OutOfMemory}
-use Rattle.indication_tables.specs.Told.{is_memory, with_read}
+use Rattle.named_messages.specs.Told.{is_memory, with_read}
 
 -- an indication that can't be read is left out
 pub left_out : (earlier : List MessageForm) (stated : Result MessageForm NamedFault) (fault : NamedFault) → Finds stated (Err fault) → is_memory fault ≡ false → with_read earlier stated ≡ earlier

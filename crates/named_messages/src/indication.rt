@@ -3,11 +3,12 @@ ghost use Rattle.serde_json.specs.View.{view};
 ghost use Rattle.message_tables.specs.Objects.{sort_of};
 ghost use Rattle.message_tables.specs.View.{names_in};
 ghost use Rattle.named_messages.specs.Answers.{Finds};
-ghost use Rattle.indication_tables.specs.Told.{indication_in, is_indication};
+ghost use Rattle.named_messages.specs.Told.{indication_in, is_indication};
 
-use kit_bytes::Text;
-use message_tables::{Definitions, MemberName, Message, Sort, message_with, sort_of, text_member};
-use named_messages::{NamedFault, checked, service_called};
+use crate::NamedFault;
+use crate::named::message_of;
+use crate::services::service_called;
+use message_tables::{Definitions, MemberName, Message, Sort, sort_of, text_member};
 use serde_json::Value;
 use std::alloc::Global;
 
@@ -40,7 +41,5 @@ pub(crate) fn indication_in(
     let Some(service) = service_called(service) else {
         return Err(NamedFault::Member(MemberName::Service));
     };
-    let name = Text::from_str(alloc, name)?;
-    let message = message_with(definitions, alloc, object, true, name, service)?;
-    checked(message)
+    message_of(definitions, alloc, object, true, name, service)
 }

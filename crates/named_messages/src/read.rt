@@ -4,11 +4,11 @@ ghost use Rattle.serde_json.specs.View.{view};
 ghost use Rattle.message_tables.specs.Members.{objects_in};
 ghost use Rattle.message_tables.specs.View.{messages_in};
 ghost use Rattle.message_tables.specs.WellMade.{IsSoundMessage};
-ghost use Rattle.indication_tables.specs.Told.{Tells, indications_in, told_among};
+ghost use Rattle.named_messages.specs.Told.{Tells, indications_in, told_among};
 
+use crate::NamedFault;
 use crate::told::told_in;
 use message_tables::{Message, TableFault, json_value, objects_in, without_comments};
-use named_messages::NamedFault;
 use serde_json::Value;
 use std::alloc::Global;
 

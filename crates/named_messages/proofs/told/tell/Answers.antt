@@ -1,9 +1,9 @@
 use Rattle.std.proofs.Common.{◌∙◌, sym}
 use Rattle.message_tables.specs.View.{messages_in, names_in}
 use Rattle.serde_json.specs.View.{view}
-use Rattle.indication_tables.specs.Told.{indication_in}
-use Rattle.indication_tables.proofs.Telling.{left_out}
-use Rattle.indication_tables.proofs.told.tell.Goals as goal
+use Rattle.named_messages.specs.Told.{indication_in}
+use Rattle.named_messages.proofs.Telling.{left_out}
+use Rattle.named_messages.proofs.told.tell.Goals as goal
 
 pub returns-else-is_memory : goal.returns-else-is_memory
 returns-else-is_memory c =
