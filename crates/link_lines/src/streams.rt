@@ -11,6 +11,7 @@ use crate::shower::Shower;
 use kit_bytes::Octets;
 use link_io::Made;
 use std::alloc::{AllocError, Global};
+use std::mem::replace;
 use stream_lines::Shows;
 use watched_link::LinkNote;
 
@@ -66,7 +67,8 @@ fn begin_again<S: Shower>(
     ensures sent_ready { OnOk result (IsReady S.Lines.Frames.size streams.new.sent.good streams.new.sent.stream.cutter) }
     ensures taken_ready { OnOk result (IsReady S.Lines.Frames.size streams.new.taken.good streams.new.taken.stream.cutter) }
 {
-    *streams = begin(alloc, shower, path)?;
+    let begun = begin(alloc, shower, path)?;
+    drop(replace(streams, begun));
     Ok(())
 }
 
