@@ -7,7 +7,7 @@ use Rattle.link_io.specs.Target.{AtSocket}
 use Rattle.modem_routes.specs.Routes.{Path, Direct, ByProxy, place_of, place_telling, proxy_words}
 use Rattle.tool_words.specs.declared.link.LinkSettings.{LinkSettings}
 use Rattle.table_following.specs.Plan.{Plan}
-use Rattle.following_runs.specs.Following.{FollowsModem}
+use Rattle.table_following.specs.Following.{FollowsModem}
 use Rattle.tool_runs.specs.Asking.{AsksModem, Asked}
 use Rattle.tool_runs.specs.Asking as asking
 use Rattle.program.specs.declared.status.Status.{Status}

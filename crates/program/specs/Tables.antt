@@ -11,7 +11,7 @@ use Rattle.table_requests.specs.declared.fault.NoRequest.{NoRequest}
 use Rattle.table_requests.specs.Files.{OfFile, request_in}
 use Rattle.table_requests.specs.Plan.{Plan}
 use Rattle.table_following.specs.Plan as following
-use Rattle.following_runs.specs.Files.{told_in}
+use Rattle.table_following.specs.Files.{told_in}
 use Rattle.tool_words.specs.declared.qmicli.RequestTask.{RequestTask}
 use Rattle.tool_runs.specs.Asking as asking
 use Rattle.tool_runs.specs.Tables.{asked_by_tables}

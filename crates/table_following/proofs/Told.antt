@@ -15,7 +15,7 @@ use Rattle.link_following.specs.Hearing.{FollowsTo}
 use Rattle.request_session.specs.declared.client.Client.{Client}
 use Rattle.request_session.specs.declared.ends.TlvAnswer.{TlvAnswer}
 use Rattle.table_requests.specs.Answers.{answer_text}
-use Rattle.indication_lines.specs.Lines.{followed_lines}
+use Rattle.table_following.specs.Lines.{followed_lines}
 use Rattle.table_following.specs.Plan.{Plan, kept_by, watched}
 use Rattle.table_following.specs.Session.{denied, no_memory, shown, unwritten}
 use Rattle.table_following.specs.Hearing.{TellsTo}

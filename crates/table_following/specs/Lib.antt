@@ -1,3 +1,6 @@
+pub mod Files
+pub mod Following
+pub mod Hearing
+pub mod Lines
 pub mod Plan
 pub mod Session
-pub mod Hearing

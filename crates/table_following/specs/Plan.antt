@@ -4,7 +4,7 @@ use Rattle.message_tables.specs.declared.message.Message.{Message}
 use Rattle.request_session.specs.declared.client.Client.{Client}
 use Rattle.request_session.specs.declared.plan.RequestPlan.{RequestPlan}
 use Rattle.table_requests.specs.Plan as table
-use Rattle.indication_lines.specs.Lines.{Watched}
+use Rattle.table_following.specs.Lines.{Watched}
 
 pub record Plan : Type 0 where
   pub request : table.Plan

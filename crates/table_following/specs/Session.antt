@@ -16,7 +16,7 @@ use Rattle.request_session.specs.declared.client.Access.TheVariants as access
 use Rattle.request_session.specs.declared.ends.TlvAnswer.{TlvAnswer}
 use Rattle.request_session.specs.Session.{leave, reach, request}
 use Rattle.table_requests.specs.Answers.{answer_text}
-use Rattle.indication_lines.specs.Lines.{followed_lines}
+use Rattle.table_following.specs.Lines.{followed_lines}
 use Rattle.table_following.specs.Plan.{Plan, kept_by, watched}
 use Rattle.table_following.specs.declared.end.FollowedEnd.{FollowedEnd}
 use Rattle.table_following.specs.declared.end.FollowedEnd.TheVariants.{Refused, Followed}

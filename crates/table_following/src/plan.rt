@@ -1,4 +1,4 @@
-use indication_lines::Watch;
+use crate::watch::Watch;
 use message_tables::Message;
 use request_session::{Client, RequestPlan};
 use std::marker::Model;

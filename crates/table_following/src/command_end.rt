@@ -1,9 +1,9 @@
 ghost use Rattle.std.specs.Prelude.{◌≡◌};
 ghost use Rattle.tool_runs.specs.Asking.{with_stops};
-ghost use Rattle.following_runs.specs.Following.{end_of};
+ghost use Rattle.table_following.specs.Following.{end_of};
 
+use crate::end::FollowedEnd;
 use link_following::FollowEnd;
-use table_following::FollowedEnd;
 use tool_runs::RunEnd;
 
 /// How a command ends whose session ended so. One that has followed to its end was done.

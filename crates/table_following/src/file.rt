@@ -5,7 +5,7 @@ ghost use Rattle.kit_io.specs.Causes.{Rose};
 ghost use Rattle.message_tables.specs.View.{messages_in};
 ghost use Rattle.message_tables.specs.WellMade.{IsSoundMessage};
 ghost use Rattle.table_requests.specs.Files.{Gives, OfFile};
-ghost use Rattle.following_runs.specs.Files.{told_in};
+ghost use Rattle.table_following.specs.Files.{told_in};
 
 use file_io::{Files, read_file};
 use kit_bytes::PathText;

@@ -3,15 +3,16 @@ ghost use Rattle.kit_io.specs.Causes.{Rose};
 ghost use Rattle.kit_io.specs.Counts.{together};
 ghost use Rattle.modem_routes.specs.Reaching.{LinkFails};
 ghost use Rattle.modem_routes.specs.Routes.{path_in};
-ghost use Rattle.following_runs.specs.Following.{ComesBy, FollowsModem, VisitsBy};
+ghost use Rattle.table_following.specs.Following.{ComesBy, FollowsModem, VisitsBy};
 
-use crate::end::{end_of, with_stops};
+use crate::command_end::{end_of, with_stops};
+use crate::plan::FollowPlan;
+use crate::session::table_following;
 use child_io::{Kids, Spawner};
 use kit_io::Sink;
 use link_io::Link;
 use modem_routes::{Route, reach};
 use std::alloc::Global;
-use table_following::{FollowPlan, table_following};
 use tool_runs::RunEnd;
 
 /// Goes the route to a modem, has the session of a plan with it, which shows the indications that come,

@@ -1,6 +1,6 @@
 use Rattle.std.proofs.Common.{Ok, Err}
-use Rattle.following_runs.proofs.Visiting.{visited_so}
-use Rattle.following_runs.proofs.following.visit.Goals as goal
+use Rattle.table_following.proofs.Visiting.{visited_so}
+use Rattle.table_following.proofs.following.visit.Goals as goal
 
 pub returns-in-Ok-clause-visits : goal.returns-in-Ok-clause-visits
 returns-in-Ok-clause-visits g c = visited_so (Ok c.in-Ok.end) c.in-Ok.ensures.session c.close.ensures.calls c.end_of.ensures

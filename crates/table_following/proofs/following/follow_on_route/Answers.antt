@@ -1,7 +1,7 @@
 use Rattle.std.proofs.Common.{[], ◌++◌, refl}
 use Rattle.kit_io.proofs.Growth.{Grows-append, Grows-none}
-use Rattle.following_runs.specs.Following.{visited, not_reached}
-use Rattle.following_runs.proofs.following.follow_on_route.Goals as goal
+use Rattle.table_following.specs.Following.{visited, not_reached}
+use Rattle.table_following.proofs.following.follow_on_route.Goals as goal
 
 pub returns-in-Ok-clause-comes : goal.returns-in-Ok-clause-comes
 returns-in-Ok-clause-comes g c =

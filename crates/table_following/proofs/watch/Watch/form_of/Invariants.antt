@@ -3,7 +3,7 @@ use Rattle.std.specs.List.{AllByRecursion, find}
 use Rattle.message_tables.specs.Messages.{is_key}
 use Rattle.message_tables.specs.View.{message_view}
 use Rattle.message_tables.specs.WellMade.{IsSoundMessage}
-use Rattle.indication_lines.proofs.watch.Watch.form_of.Given as goal
+use Rattle.table_following.proofs.watch.Watch.form_of.Given as goal
 
 abbrev pub invariant-loop-form : goal.invariant-loop-form
 invariant-loop-form l = record {

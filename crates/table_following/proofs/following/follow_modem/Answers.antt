@@ -2,7 +2,7 @@ use Rattle.std.proofs.Common.{Bool, ◌∙◌, ap, sym, rules}
 use Rattle.modem_routes.proofs.Stopping.{each_is_stopped}
 use Rattle.tool_runs.specs.Asking.{with_stops}
 use Rattle.tool_runs.proofs.Ends.{start_fault_comes}
-use Rattle.following_runs.proofs.following.follow_modem.Goals as goal
+use Rattle.table_following.proofs.following.follow_modem.Goals as goal
 
 pub returns-clause-follows : goal.returns-clause-follows
 returns-clause-follows g c =

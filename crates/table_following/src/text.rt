@@ -2,7 +2,7 @@ ghost use Rattle.std.specs.Prelude.{◌≡◌, ◌++◌, map, string_bytes, IfOk
 ghost use Rattle.std.specs.List.{AllByRecursion};
 ghost use Rattle.message_tables.specs.View.{tlv_view};
 ghost use Rattle.message_tables.specs.WellMade.{IsSoundTlv};
-ghost use Rattle.indication_lines.specs.Lines.{id_digits_text, id_name, indication_lines};
+ghost use Rattle.table_following.specs.Lines.{id_digits_text, id_name, indication_lines};
 
 use dissect::push_tlvs;
 use kit_bytes::{Octets, Text, u16_bytes};

@@ -8,7 +8,7 @@ use Rattle.table_following.specs.declared.end.FollowedEnd.{FollowedEnd}
 use Rattle.table_following.specs.Plan.{Plan}
 use Rattle.table_following.specs.Session.{GrowBy, Session}
 use Rattle.tool_runs.specs.declared.run_end.RunEnd.{RunEnd}
-use Rattle.following_runs.specs.Following.{VisitsBy, end_by}
+use Rattle.table_following.specs.Following.{VisitsBy, end_by}
 
 pub visited_so : {plan : Plan} {old mid new : Option (List Call)} {out_old out_new : Option (List ℕ)} {ends : RunEnd} (result : Result FollowedEnd SessionFault)
     → GrowBy (Session plan result) old mid out_old out_new → Grows mid (Closed ∷ []) new → ends ≡ end_by result → VisitsBy plan ends old new out_old out_new

@@ -4,8 +4,8 @@ use Rattle.tlv_codec.specs.Tlv.{tlvs_of}
 use Rattle.qmux_frame.specs.declared.kind.MessageKind.TheVariants.{Indication}
 use Rattle.message_tables.specs.View.{tlv_view}
 use Rattle.dissect.specs.Qmi.{entry_lines}
-use Rattle.indication_lines.specs.Lines.{indication_lines}
-use Rattle.indication_lines.proofs.text.push_lines.Goals as goal
+use Rattle.table_following.specs.Lines.{indication_lines}
+use Rattle.table_following.proofs.text.push_lines.Goals as goal
 
 pub returns : goal.returns
 unfolding indication_lines

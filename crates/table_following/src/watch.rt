@@ -28,7 +28,7 @@ impl<'a> Model for Watch<'a> {
     ghost use Rattle.qmi_shapes.specs.contracts.shape.Shape as shape;
     ghost use Rattle.message_tables.specs.View.{messages_in};
     ghost use Rattle.message_tables.specs.WellMade.{IsSoundMessage};
-    ghost use Rattle.indication_lines.specs.Lines.{Watched};
+    ghost use Rattle.table_following.specs.Lines.{Watched};
 
     ghost Value = { Watched };
 
@@ -45,7 +45,7 @@ impl<'a> Watch<'a> {
     ghost use Rattle.message_tables.specs.Messages.{is_key};
     ghost use Rattle.message_tables.specs.View.{message_view, messages_in, tlv_view};
     ghost use Rattle.message_tables.specs.WellMade.{IsSoundMessage, IsSoundTlv};
-    ghost use Rattle.indication_lines.specs.Lines.{indication_text, is_followed, told_by, told_text};
+    ghost use Rattle.table_following.specs.Lines.{indication_text, is_followed, told_by, told_text};
 
     /// The indications for a client, by these tables.
     pub fn new(service: u8, cid: u8, json: bool, indications: &'a [Message]) -> Self
@@ -125,7 +125,7 @@ impl<'a> Watch<'a> {
 }
 
 impl<'a> Shows<Qmux> for Watch<'a> {
-    ghost use Rattle.indication_lines.specs.Lines.{followed_lines};
+    ghost use Rattle.table_following.specs.Lines.{followed_lines};
 
     ghost shown = { followed_lines };
 
