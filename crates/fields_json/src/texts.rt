@@ -1,5 +1,6 @@
-ghost use Rattle.std.specs.Prelude.{◌≡◌, map, IfOk};
-ghost use Rattle.serde_json.specs.View.{view};
+ghost use Rattle.std.specs.Prelude.{◌≡◌, map, IfOk, OnOk, codes};
+ghost use Rattle.serde_json.specs.Data.{put};
+ghost use Rattle.serde_json.specs.View.{members_view, view};
 ghost use Rattle.mbim_fields.specs.View.{fixed_view, value_view};
 ghost use Rattle.fields_json.specs.Json.{address_json, bytes_json, fixed_json, number_json, pair_json, prefixed_json, string_json, uuid_json};
 
@@ -78,14 +79,26 @@ fn pair_json(alloc: Global, family: Family, values: &[FieldValue]) -> Result<Val
         return Ok(Value::Null);
     };
     let mut members = Map::new(alloc);
-    put(&mut members, alloc, "Prefix", number_json(prefix))?;
+    put_pair(alloc, family, prefix, address, &mut members)?;
+    Ok(Value::Object(members))
+}
+
+fn put_pair(
+    alloc: Global,
+    family: Family,
+    prefix: &FieldValue,
+    address: &FieldValue,
+    members: &mut Map<String, Value>,
+) -> Result<(), AllocError>
+    ensures { OnOk result (members_view members.new.entries ≡ put (codes "Address") (address_json family (value_view address.now)) (put (codes "Prefix") (number_json (value_view prefix.now)) (members_view members.old.entries))) }
+{
+    put(members, alloc, "Prefix", number_json(prefix))?;
     put(
-        &mut members,
+        members,
         alloc,
         "Address",
         address_json(alloc, family, address)?,
-    )?;
-    Ok(Value::Object(members))
+    )
 }
 
 /// The JSON value of a text.

@@ -1,4 +1,4 @@
-ghost use Rattle.std.specs.Prelude.{◌≡◌, map, IfOk, OnOk};
+ghost use Rattle.std.specs.Prelude.{◌≡◌, ◌++◌, map, IfOk, OnOk};
 ghost use Rattle.serde_json.specs.Data.{array as listed, object, no_members};
 ghost use Rattle.serde_json.specs.View.{items_of, members_view, view};
 ghost use Rattle.mbim_fields.specs.View.{fixed_view, form_view, item_view, shape_view, value_view};
@@ -38,10 +38,23 @@ fn run_json(alloc: Global, fixed: Fixed, values: &[FieldValue]) -> Result<Value,
     ensures { IfOk result (λ json. view json ≡ listed (items_of (map (fixed_json (fixed_view fixed)) (map value_view values.now)))) }
 {
     let mut items = Vec::new(alloc);
-    for value in values {
-        push(&mut items, fixed_json(alloc, fixed, value)?)?;
-    }
+    push_run(alloc, fixed, values, &mut items)?;
     Ok(Value::Array(items))
+}
+
+// Adds what has one size to a list.
+fn push_run(
+    alloc: Global,
+    fixed: Fixed,
+    values: &[FieldValue],
+    items: &mut Vec<Value>,
+) -> Result<(), AllocError>
+    ensures { OnOk result (map view items.new.items ≡ map view items.old.items ++ map (fixed_json (fixed_view fixed)) (map value_view values.now)) }
+{
+    for value in values {
+        push(items, fixed_json(alloc, fixed, value)?)?;
+    }
+    Ok(())
 }
 
 // The JSON of a list of items.
@@ -51,10 +64,24 @@ fn each_json(alloc: Global, item: &Item, values: &[FieldValue]) -> Result<Value,
     ensures { IfOk result (λ json. view json ≡ listed (items_of (map (item_json (item_view item.now)) (map value_view values.now)))) }
 {
     let mut items = Vec::new(alloc);
-    for value in values {
-        push(&mut items, item_json(alloc, item, value)?)?;
-    }
+    push_each(alloc, item, values, &mut items)?;
     Ok(Value::Array(items))
+}
+
+// Adds items to a list.
+#[cycle(values)]
+fn push_each(
+    alloc: Global,
+    item: &Item,
+    values: &[FieldValue],
+    items: &mut Vec<Value>,
+) -> Result<(), AllocError>
+    ensures { OnOk result (map view items.new.items ≡ map view items.old.items ++ map (item_json (item_view item.now)) (map value_view values.now)) }
+{
+    for value in values {
+        push(items, item_json(alloc, item, value)?)?;
+    }
+    Ok(())
 }
 
 #[cycle(values)]
