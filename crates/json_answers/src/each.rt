@@ -1,4 +1,4 @@
-ghost use Rattle.std.specs.Prelude.{◌≡◌, map, option_map, string_bytes, IfOk, IfSome, OnOk};
+ghost use Rattle.std.specs.Prelude.{◌≡◌, ◌++◌, map, option_map, string_bytes, IfOk, IfSome, OnOk};
 ghost use Rattle.std.specs.List.{AllByRecursion};
 ghost use Rattle.serde_json.specs.View.{members_view};
 ghost use Rattle.qmi_values.specs.View.{val_view};
@@ -6,6 +6,7 @@ ghost use Rattle.message_tables.specs.View.{tlv_view};
 ghost use Rattle.message_tables.specs.WellMade.{IsSoundTlv};
 ghost use Rattle.dissect.specs.Places.{StandsWithin, entry_at};
 ghost use Rattle.dissect.specs.Qmi.{tlv_name};
+ghost use Rattle.print_text.specs.Texts.{hex_pair};
 ghost use Rattle.json_answers.specs.Tlvs.{with_bytes, with_form, with_reading, with_tlv, with_tlvs};
 
 use crate::forms::form_of;
@@ -128,11 +129,19 @@ fn put_bytes(
 }
 
 // A TLV by its type.
-#[tactic(auto, unfolding(hex::specs::Hex::encode_with))]
 fn tlv_name(alloc: Global, kind: u8) -> Result<String, AllocError>
     ensures { IfOk result (λ text. string_bytes text ≡ tlv_name kind) }
 {
     let mut text = String::from_str(alloc, "0x")?;
-    text.push_str(hex::encode_upper(alloc, [kind])?.as_str())?;
+    push_digits(alloc, kind, &mut text)?;
     Ok(text)
+}
+
+// Adds the two hexadecimal digits of a type.
+#[tactic(auto, unfolding(hex::specs::Hex::encode_with))]
+fn push_digits(alloc: Global, kind: u8, text: &mut String) -> Result<(), AllocError>
+    ensures { OnOk result (string_bytes text.new ≡ string_bytes text.old ++ hex_pair kind) }
+{
+    let digits = hex::encode_upper(alloc, [kind])?;
+    text.push_str(digits.as_str())
 }

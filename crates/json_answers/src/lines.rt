@@ -1,7 +1,8 @@
-ghost use Rattle.std.specs.Prelude.{◌≡◌, map, Some, IfOk};
+ghost use Rattle.std.specs.Prelude.{◌≡◌, map, Some, IfOk, OnOk, codes, encode_utf8_all};
 ghost use Rattle.std.specs.List.{AllByRecursion};
 ghost use Rattle.message_tables.specs.View.{tlv_view};
 ghost use Rattle.message_tables.specs.WellMade.{IsSoundTlv};
+ghost use Rattle.serde_json.specs.Data.{put, string as quoted};
 ghost use Rattle.serde_json.specs.Read.{read};
 ghost use Rattle.serde_json.specs.View.{members_view};
 ghost use Rattle.values_json.specs.Lines.{json_line, json_text};
@@ -61,9 +62,16 @@ fn indication_members<S: Shows>(
 {
     let mut members = Map::new(alloc);
     put_tlvs(alloc, shows, false, forms, tlvs, &mut members)?;
-    let name = Value::try_from_str(alloc, name.as_str())?;
-    put(&mut members, alloc, "indication", name)?;
+    put_name(alloc, name, &mut members)?;
     Ok(members)
+}
+
+// Adds the name of an indication.
+fn put_name(alloc: Global, name: &Text, members: &mut Map<String, Value>) -> Result<(), AllocError>
+    ensures { OnOk result (members_view members.new.entries ≡ put (codes "indication") (quoted (encode_utf8_all name.now)) (members_view members.old.entries)) }
+{
+    let name = Value::try_from_str(alloc, name.as_str())?;
+    put(members, alloc, "indication", name)
 }
 
 fn answer_members<S: Shows>(
