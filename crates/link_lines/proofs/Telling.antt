@@ -1,5 +1,5 @@
 -- One event after another is told.
-use Rattle.std.proofs.Common.{◌≡◌, ℕ, zero, suc, ◌+◌, ◌^◌, ◌<◌, ◌≤◌, Bool, true, List, [], ◌∷◌, ◌++◌, length, drop, map, slice_get, Option, None, Some, append_assoc, append-nil, length-append, drop_of_length-le, ap, sym, ◌∙◌, subst, arith, codes}
+use Rattle.std.proofs.Common.{◌≡◌, ℕ, zero, suc, ◌+◌, ◌^◌, ◌<◌, ◌≤◌, Bool, true, List, [], ◌∷◌, ◌++◌, length, drop, map, slice_get, Option, None, Some, Result, Ok, Err, OnOk, append_assoc, append-nil, length-append, drop_of_length-le, ap, sym, ◌∙◌, subst, arith, codes}
 use Rattle.std.proofs.lemmas.List.{drop_more, length-map}
 use Rattle.std.proofs.lemmas.Option.{slice_get-map, slice_get_within, get_or_from_slice_get}
 use Rattle.std.specs.List.{flat_map}
@@ -15,6 +15,11 @@ use Rattle.watched_link.specs.Notes.{Event, Called, Said, event_of}
 use Rattle.link_lines.specs.Laws.{sent_in, taken_in}
 use Rattle.link_lines.specs.Directions.{AreShort, StandsFor, Telling}
 use Rattle.link_lines.specs.Lines.{Fault, added, marked, parts_from, path_of, text_of}
+
+-- where a call ends well, what it brings goes for what follows from it
+pub on_ok : {T E : Type 0} (result : Result T E) {P Q : Type 0} → (P → Q) → OnOk result P → OnOk result Q
+on_ok (Ok value) follows it = follows it
+on_ok (Err error) follows it = tt
 
 module _ {S : Type 0} (size : List ℕ → Size) (shows : Showing → List (List ℕ) → S → Type 0) (shown : Showing) (whole : List ℕ) (events : List Event) {text path : List ℕ} {sg : Bool} {sc : Reading} {ss : S} {sp : ℕ} {tg : Bool} {tc : Reading} {ts : S} {tp : ℕ} where
   -- it was opened to a path
