@@ -5,20 +5,27 @@ use json_values::{Path, ValueFault};
 use kit_bytes::Text;
 use named_messages::NamedFault;
 use std::alloc::AllocError;
+use thiserror::Error;
 
 /// Why tables and JSON give no request.
-#[derive(Drop)]
+#[derive(Debug, Drop, Error)]
 pub enum RequestFault {
     /// The tables have no such message, or several, or it can't be read.
+    #[error("tables: {0}")]
     Tables(NamedFault),
     /// The text isn't a JSON object.
+    #[error("no JSON object")]
     Json,
     /// No TLV of the message has this name.
+    #[error("no such TLV")]
     NoTlv(Text),
     /// The part of the JSON to which this path leads doesn't fit.
+    #[error("a value doesn't fit")]
     Misfit(Path),
     /// A message has no room for the TLVs.
+    #[error("too long")]
     TooLong,
+    #[error("out of memory")]
     OutOfMemory,
 }
 

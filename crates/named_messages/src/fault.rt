@@ -1,23 +1,32 @@
 use message_tables::{MemberName, ObjectFault};
 use std::alloc::AllocError;
+use thiserror::Error;
 
 /// Why a description gives no message of a name.
-#[derive(Clone, Copy, PartialEq, Eq)]
+#[derive(Clone, Copy, Debug, PartialEq, Eq, Error)]
 pub enum NamedFault {
     /// The text isn't a JSON list of objects.
+    #[error("no JSON list of objects")]
     Json,
     /// No message has the name.
+    #[error("no such message")]
     Missing,
     /// More than one message has the name.
+    #[error("several such messages")]
     Several,
     /// A member is missing, is of another kind, or is outside its range.
+    #[error("the member {0}")]
     Member(MemberName),
     /// A format isn't known.
+    #[error("a format")]
     Format,
     /// An id stands twice in a list of TLVs.
+    #[error("an id that comes twice")]
     Twice,
     /// More than 16 formats stand inside each other.
+    #[error("too many formats inside each other")]
     Deep,
+    #[error("out of memory")]
     OutOfMemory,
 }
 
