@@ -1,3 +1,9 @@
 pub mod Walks
 pub mod Shallow
 pub mod Computed
+pub mod Held
+pub mod Told
+pub mod Parts
+pub mod Counted
+pub mod Chars
+pub mod Spelled

@@ -3,3 +3,5 @@ pub mod Answers
 pub mod Nesting
 pub mod Laws
 pub mod Examples
+pub mod Apart
+pub mod Told

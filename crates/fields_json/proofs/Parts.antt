@@ -23,8 +23,8 @@ use Rattle.mbimcli_print.specs.Texts.{uuid_text, address_text}
 use Rattle.values_json.specs.Json.{hexadecimal, text_json}
 use Rattle.values_json.proofs.Back.{octets_back}
 use Rattle.fields_json.specs.Json.{prefixed_json, fixed_json}
-use Rattle.fields_told.proofs.Chars.{chars_tell}
-use Rattle.fields_told.proofs.Spelled.{same_found, ascii_bytes, uuid_ascii, uuid_tells, length_of, address_ascii, address_tells}
+use Rattle.fields_json.proofs.Chars.{chars_tell}
+use Rattle.fields_json.proofs.Spelled.{same_found, ascii_bytes, uuid_ascii, uuid_tells, length_of, address_ascii, address_tells}
 
 -- ---- parts of JSON ----
 

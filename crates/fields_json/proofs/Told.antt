@@ -12,12 +12,12 @@ use Rattle.mbim_fields.specs.WellMade.{has_count, is_good_item, is_good_form, ar
 use Rattle.mbim_fields.specs.Fields.{IsAt, StandInRow, Stands, FormStands, FieldsStand}
 use Rattle.mbim_fields.proofs.Readings.{values_of-list_of}
 use Rattle.fields_json.specs.Json.{fixed_json, string_json, bytes_json, list_json, item_json, form_json, with_fields}
-use Rattle.fields_told.specs.Apart.{is_apart, has_items_apart, has_names_apart, are_named_apart}
-use Rattle.fields_told.specs.Laws.{JsonTellsValues}
-use Rattle.fields_told.proofs.Chars.{text_scalars}
-use Rattle.fields_told.proofs.Parts.{members_of_json, string_tells, bytes_tell, part_bytes, one_tells, perhaps_tells}
-use Rattle.fields_told.proofs.Held.{SameJson, fields_same, success_same}
-use Rattle.fields_told.proofs.Counted.{Agree, all_same}
+use Rattle.fields_json.specs.Apart.{is_apart, has_items_apart, has_names_apart, are_named_apart}
+use Rattle.fields_json.specs.Told.{JsonTellsValues}
+use Rattle.fields_json.proofs.Chars.{text_scalars}
+use Rattle.fields_json.proofs.Parts.{members_of_json, string_tells, bytes_tell, part_bytes, one_tells, perhaps_tells}
+use Rattle.fields_json.proofs.Held.{SameJson, fields_same, success_same}
+use Rattle.fields_json.proofs.Counted.{Agree, all_same}
 
 -- ---- lists ----
 

@@ -1,7 +1,7 @@
 use Rattle.std.proofs.Common.{refl}
 use Rattle.std.specs.Char.{encode_utf8}
 use Rattle.std.specs.Str.{chars}
-use Rattle.fields_told.proofs.laws.names_stand_apart.Goals as goal
+use Rattle.fields_json.proofs.laws.names_stand_apart.Goals as goal
 
 -- by computation
 pub returns : goal.returns

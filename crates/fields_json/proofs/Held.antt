@@ -12,8 +12,8 @@ use Rattle.values_json.specs.Json.{word_key, with_word}
 use Rattle.values_json.proofs.Members.{longer, with_word-other}
 use Rattle.fields_json.specs.Json.{form_json, word_of, with_field, with_fields}
 use Rattle.fields_json.specs.Answers.{success_members}
-use Rattle.fields_told.specs.Apart.{is_apart, has_names_apart, are_named_apart}
-use Rattle.fields_told.proofs.Parts.{or_null}
+use Rattle.fields_json.specs.Apart.{is_apart, has_names_apart, are_named_apart}
+use Rattle.fields_json.proofs.Parts.{or_null}
 
 not_same : (a b : List ℕ) → not (bytes_eq a b) ≡ true → ¬ (a ≡ b)
 not_same a b isnt same = true≢false (sym (sym (ap not ((bytes_eq-Decides a b).1 same)) ∙ isnt))

@@ -9,7 +9,7 @@ use Rattle.mbim_fields.specs.Fields.{Fields}
 use Rattle.mbim_fields.specs.WellMade.{is_well_made}
 use Rattle.mbim_services.specs.Table.{rows}
 use Rattle.fields_json.specs.Answers.{success_members}
-use Rattle.fields_told.specs.Apart.{is_apart, are_named_apart}
+use Rattle.fields_json.specs.Apart.{is_apart, are_named_apart}
 
 -- its lists are counted, and its names differ, also from that of the result
 abbrev pub is_told : Layout → Bool

@@ -1,6 +1,0 @@
-pub mod Spelled
-pub mod Chars
-pub mod Parts
-pub mod Held
-pub mod Counted
-pub mod Told
