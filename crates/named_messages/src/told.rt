@@ -53,5 +53,9 @@ fn tell(
 fn is_memory(fault: NamedFault) -> bool
     ensures { result ≡ is_memory fault }
 {
-    matches!(fault, NamedFault::OutOfMemory)
+    match fault {
+        NamedFault::OutOfMemory => true,
+        NamedFault::Json | NamedFault::Missing | NamedFault::Several => false,
+        NamedFault::Member(_) | NamedFault::Format | NamedFault::Twice | NamedFault::Deep => false,
+    }
 }
