@@ -33,16 +33,16 @@ pub fn table_session<L: Link>(
     ensures later_open { L.open_faults link.old ≤ L.open_faults link.new }
 {
     let end = request_session(alloc, link, plan.session())?;
-    let shown = end_of(alloc, plan, &end)?;
+    let shown = end_of(alloc, plan, end)?;
     Ok(shown)
 }
 
-fn end_of(alloc: Global, plan: &TablePlan, end: &RequestEnd) -> Result<TableEnd, AllocError>
-    ensures { IfOk result (λ shown. shown ≡ end_of plan.now end.now) }
+fn end_of(alloc: Global, plan: &TablePlan, end: RequestEnd) -> Result<TableEnd, AllocError>
+    ensures { IfOk result (λ shown. shown ≡ end_of plan.now end) }
 {
     match end {
-        RequestEnd::NotSent(error) => Ok(TableEnd::Refused(*error)),
-        RequestEnd::Answered { answer, kept } => answered(alloc, plan, answer, *kept),
+        RequestEnd::NotSent(error) => Ok(TableEnd::Refused(error)),
+        RequestEnd::Answered { answer, kept } => answered(alloc, plan, &answer, kept),
     }
 }
 
