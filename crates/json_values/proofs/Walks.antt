@@ -1,6 +1,8 @@
 -- The elements, the fields and the members that are left from a place on.
 use Rattle.std.proofs.Common.{◌≡◌, ℕ, suc, ◌+◌, ◌<◌, String, Global, true, false, List, [], ◌∷◌, length, map, drop, get_or, chars, Option, Some, None, Err, rules, refl, ap}
 use Rattle.std.specs.List.{list_any}
+use Rattle.std.specs.Option.{option_map, option_copied}
+use denote.Bor.{Bor}
 use Rattle.std.specs.Str.{encode_utf8_all}
 use Rattle.serde_json.specs.Data.{Data, Items, Members, member}
 use Rattle.serde_json.specs.Events.{items_len, members_len}
@@ -30,6 +32,11 @@ pub next_field : (fields : List ShapeField) (json : Data) (i : ℕ) (field : Sha
     → fields_given (fields_of (map field_view (drop i fields))) json
     ≡ both with_first (named_by (field_view field).name (given (field_view field).form) (get (encode_utf8_all (field_view field).name) json)) (fields_given (fields_of (map field_view (drop (i + 1) fields))) json)
 next_field fields json i field within is = ap (λ (l : List ShapeField). fields_given (fields_of (map field_view l)) json) (drop_item fields i field within is)
+
+-- what a reference that may be there leads to
+pub copied_view : (found : Option (Bor json.Value)) → option_map view (option_copied found) ≡ option_map (λ v. view v.now) found
+copied_view None = refl
+copied_view (Some v) = refl
 
 -- ---- members ----
 
