@@ -3,12 +3,15 @@ ghost use Rattle.json_values.specs.declared.fault.ValueFault.TheVariants.{Misfit
 
 use crate::{Path, Step};
 use std::alloc::{AllocError, AllocFailed, Global};
+use thiserror::Error;
 
 /// Why JSON gives no value of a shape.
-#[derive(Drop)]
+#[derive(Debug, Drop, Error)]
 pub enum ValueFault {
     /// The part to which this path leads doesn't fit.
+    #[error("a value doesn't fit")]
     Misfit(Path),
+    #[error("out of memory")]
     OutOfMemory,
 }
 
