@@ -14,7 +14,7 @@ use Rattle.qmi_values.proofs.Spellings.{list_of-values_of}
 use Rattle.values_json.specs.Showing.{Showing}
 use Rattle.values_json.specs.Json.{list_json, or_null, array_json, sequence_json, with_field, with_fields}
 
-pub next_field : (showing : Showing) (fields : List ShapeField) (items : List Val) (i : ℕ) (one : ShapeField) (item : Val) (so_far : Members)
+next_field : (showing : Showing) (fields : List ShapeField) (items : List Val) (i : ℕ) (one : ShapeField) (item : Val) (so_far : Members)
     → i < length fields → i < length items → one ≡ get_or fields i one → item ≡ get_or items i item
     → with_fields showing (fields_of (map field_view (drop i fields))) (map val_view (drop i items)) so_far
     ≡ with_fields showing (fields_of (map field_view (drop (i + 1) fields))) (map val_view (drop (i + 1) items)) (with_field showing (encode_utf8_all one.name) (shape_view one.shape) (val_view item) so_far)
@@ -22,6 +22,14 @@ next_field showing fields items i one item so_far in_fields in_items is item_is 
     ap (λ (l : List ShapeField). with_fields showing (fields_of (map field_view l)) (map val_view (drop i items)) so_far) (drop_item fields i one in_fields is)
     ∙ ap (λ (l : List Val). with_fields showing (fields_of (map field_view (one ∷ drop (i + 1) fields))) (map val_view l) so_far) (drop_item items i item in_items item_is)
     ∙ ap (λ (n : NamedForm). with_fields showing (fields_of (map field_view (drop (i + 1) fields))) (map val_view (drop (i + 1) items)) (with_field showing (encode_utf8_all n.name) n.form (val_view item) so_far)) (view-field one)
+
+-- what a field more gives
+pub field_added : (showing : Showing) (fields : List ShapeField) (items : List Val) (i : ℕ) (one : ShapeField) (item : Val) (so_far added whole : Members)
+    → i < length fields → i < length items → one ≡ get_or fields i one → item ≡ get_or items i item → added ≡ with_field showing (encode_utf8_all one.name) (shape_view one.shape) (val_view item) so_far
+    → with_fields showing (fields_of (map field_view (drop i fields))) (map val_view (drop i items)) so_far ≡ whole
+    → with_fields showing (fields_of (map field_view (drop (i + 1) fields))) (map val_view (drop (i + 1) items)) added ≡ whole
+field_added showing fields items i one item so_far added whole in_fields in_items is item_is gives before =
+    ap (with_fields showing (fields_of (map field_view (drop (i + 1) fields))) (map val_view (drop (i + 1) items))) gives ∙ sym (next_field showing fields items i one item so_far in_fields in_items is item_is) ∙ before
 
 without_values : (showing : Showing) (fields : Fields) (so_far : Members) → with_fields showing fields [] so_far ≡ so_far
 without_values showing no_fields so_far = refl

@@ -7,7 +7,7 @@ use Rattle.qmi_values.specs.View.{val_view}
 use Rattle.message_tables.proofs.Weights.{weight_field}
 use Rattle.json_values.specs.Given.{is_byte}
 use Rattle.values_json.specs.Json.{array_json, json_of, list_json, with_fields}
-use Rattle.values_json.proofs.Walks.{next_field, no_field, list_is, sequence_is}
+use Rattle.values_json.proofs.Walks.{field_added, no_field, list_is, sequence_is}
 use Rattle.values_json.proofs.values.+values.Goals as goal
 
 pub array_json-returns-in-Some : goal.array_json-returns-in-Some
@@ -34,12 +34,10 @@ put_fields-put_field-requires g t c =
 pub put_fields-loop-index-preserved : goal.put_fields-loop-index-preserved
 put_fields-loop-index-preserved g t c =
     let showing = g.S.Shows.showing c.args.shows.now in
-    let i = c.loop-index.index in
-    let step =
-    next_field showing c.args.fields.now c.args.vals.now i c.index-fields-index.result c.index-vals-index.result (members_view c.loop-index.members.entries)
-    (omega (arith, c.loop-index-test.true, c.min-index-end.ensures)) (omega (arith, c.loop-index-test.true, c.min-index-end.ensures)) c.index-fields-index.is c.index-vals-index.is in
-    let added = rw c.as_str-name.ensures at c.in_ok-put_field.ensures in
-    ap (with_fields showing (fields_of (map field_view (drop (i + 1) c.args.fields.now))) (map val_view (drop (i + 1) c.args.vals.now))) added ∙ sym step ∙ c.loop-index.invariant
+    field_added showing c.args.fields.now c.args.vals.now c.loop-index.index c.index-fields-index.result c.index-vals-index.result (members_view c.loop-index.members.entries) (members_view c.put_field.new.members.entries)
+    (with_fields showing (fields_of (map field_view c.args.fields.now)) (map val_view c.args.vals.now) (members_view c.args.members.now.entries))
+    (omega (arith, c.loop-index-test.true, c.min-index-end.ensures)) (omega (arith, c.loop-index-test.true, c.min-index-end.ensures)) c.index-fields-index.is c.index-vals-index.is
+    (rw c.as_str-name.ensures at c.in_ok-put_field.ensures) c.loop-index.invariant
 
 pub put_fields-returns : goal.put_fields-returns
 put_fields-returns g t c =
