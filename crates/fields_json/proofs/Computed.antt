@@ -1,7 +1,7 @@
 -- What computes the JSON of literal values.
 use Rattle.std.specs.Prelude.{⊤}
 use Rattle.std.specs.Char.{encode_utf8}
-use Rattle.values_json.proofs.Computed.{json_computed}
+use Rattle.json_values.proofs.Computed.{json_computed}
 use Rattle.mbimcli_print.proofs.Computed.{computed}
 
 unfoldable pub line_computed : ⊤

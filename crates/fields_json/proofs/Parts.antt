@@ -20,8 +20,8 @@ use Rattle.mbim_fields.specs.Fields.{IsAt, FormStands}
 use Rattle.mbimcli_print.specs.declared.texts.Family.{Family}
 use Rattle.mbimcli_print.specs.declared.texts.Family.TheVariants.{Ipv4, Ipv6}
 use Rattle.mbimcli_print.specs.Texts.{uuid_text, address_text}
-use Rattle.values_json.specs.Json.{hexadecimal, text_json}
-use Rattle.values_json.proofs.Back.{octets_back}
+use Rattle.json_values.specs.Json.{hexadecimal, text_json}
+use Rattle.json_values.proofs.Back.{octets_back}
 use Rattle.fields_json.specs.Json.{prefixed_json, fixed_json}
 use Rattle.fields_json.proofs.Chars.{chars_tell}
 use Rattle.fields_json.proofs.Spelled.{same_found, ascii_bytes, uuid_ascii, uuid_tells, length_of, address_ascii, address_tells}

@@ -12,11 +12,11 @@ use Rattle.mbimcli_print.specs.declared.texts.Family.{Family}
 use Rattle.mbimcli_print.specs.declared.texts.Family.TheVariants.{Ipv4, Ipv6}
 use Rattle.mbimcli_print.specs.Printed.{is_count}
 use Rattle.mbimcli_print.specs.Texts.{uuid_text, address_text}
-use Rattle.values_json.specs.declared.ending.Ending.TheVariants as ending
-use Rattle.values_json.specs.Json.{hexadecimal, text_json}
-use Rattle.values_json.proofs.Answered.{with_ending-no_float}
-use Rattle.values_json.proofs.Members.{put-shallow, put-no_float}
-use Rattle.values_json.proofs.Shallow.{or_null_all, text_shallow, text_no_float, member_shallow, member-no_float, items_shallow, items_no_float}
+use Rattle.json_values.specs.declared.ending.Ending.TheVariants as ending
+use Rattle.json_values.specs.Json.{hexadecimal, text_json}
+use Rattle.json_values.proofs.Answered.{with_ending-no_float}
+use Rattle.json_values.proofs.Members.{put-shallow, put-no_float}
+use Rattle.json_values.proofs.Shallow.{or_null_all, text_shallow, text_no_float, member_shallow, member-no_float, items_shallow, items_no_float}
 use Rattle.fields_json.specs.Json.{number_json, address_json, pair_json, prefixed_json, fixed_json, list_json, item_json, form_json, word_of, with_field, with_fields}
 use Rattle.fields_json.specs.Answers.{answer_members}
 use Rattle.fields_json.specs.Nesting.{fixed_nesting, item_nesting, form_nesting, nesting}

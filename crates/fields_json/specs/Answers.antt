@@ -6,8 +6,8 @@ use Rattle.mbim_fields.specs.Value.{Value, list_of}
 use Rattle.mbim_fields.specs.View.{shape_view, val_view}
 use Rattle.mbim_services.specs.declared.answers.MbimAnswer.{MbimAnswer}
 use Rattle.mbim_services.specs.declared.answers.MbimAnswer.TheVariants.{Success, Failure}
-use Rattle.values_json.specs.declared.ending.Ending.TheVariants as ending
-use Rattle.values_json.specs.Answers.{with_ending}
+use Rattle.json_values.specs.declared.ending.Ending.TheVariants as ending
+use Rattle.json_values.specs.Ends.{with_ending}
 use Rattle.fields_json.specs.Json.{with_fields}
 
 -- the fields of a layout

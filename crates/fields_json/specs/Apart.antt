@@ -1,7 +1,7 @@
 -- Which layouts have names that an object's members keep apart.
 use Rattle.std.specs.Prelude.{ℕ, Bool, true, not, ◌&&◌, List, bytes_eq, encode_utf8_all}
 use Rattle.mbim_fields.specs.Layout.{Item, structure, Form, one, each, Layout, no_fields, field}
-use Rattle.values_json.specs.Json.{word_key}
+use Rattle.json_values.specs.Json.{word_key}
 
 -- no field has this name, or a word of this name
 abbrev pub is_apart : List ℕ → Layout → Bool

@@ -5,9 +5,9 @@ use Rattle.serde_json.specs.Data.{object, no_members}
 use Rattle.mbim_fields.specs.Value.{Value, number, uuid_of, octets, text_of, absent}
 use Rattle.mbim_services.specs.Table.{Row, sms, phonebook, radio_state, packet_service, ip_configuration, device_services, sms_read, sms_delete, phonebook_read}
 use Rattle.mbimcli_print.specs.Examples.{list, structure}
-use Rattle.values_json.specs.declared.ending.Ending.TheVariants as ending
-use Rattle.values_json.specs.Answers.{with_ending}
-use Rattle.values_json.specs.Lines.{json_line}
+use Rattle.json_values.specs.declared.ending.Ending.TheVariants as ending
+use Rattle.json_values.specs.Ends.{with_ending}
+use Rattle.json_values.specs.Lines.{json_line}
 use Rattle.fields_json.specs.Answers.{success_members}
 
 -- what is printed of the answer to a command that has these values

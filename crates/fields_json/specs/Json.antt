@@ -11,7 +11,7 @@ use Rattle.mbimcli_print.specs.declared.texts.Family.TheVariants.{Ipv4, Ipv6}
 use Rattle.mbimcli_print.specs.Words.{word_for}
 use Rattle.mbimcli_print.specs.Texts.{uuid_text, address_text}
 use Rattle.mbimcli_print.specs.Printed.{is_count}
-use Rattle.values_json.specs.Json.{hexadecimal, or_null, text_json, with_word}
+use Rattle.json_values.specs.Json.{hexadecimal, or_null, text_json, with_word}
 
 -- In what follows a value that isn't of its form is null; so is an address that isn't there.
 

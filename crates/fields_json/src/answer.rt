@@ -2,7 +2,7 @@ ghost use Rattle.std.specs.Prelude.{◌≡◌, ◌≤◌, Some, IfOk};
 ghost use Rattle.serde_json.specs.Data.{depth};
 ghost use Rattle.serde_json.specs.Read.{max_depth, read};
 ghost use Rattle.serde_json.specs.View.{members_view};
-ghost use Rattle.values_json.specs.Lines.{json_line, json_text};
+ghost use Rattle.json_values.specs.Lines.{json_line, json_text};
 ghost use Rattle.fields_json.specs.Answers.{answer_json, answer_members};
 
 use crate::put_fields;
@@ -10,7 +10,7 @@ use kit_bytes::Octets;
 use mbim_services::MbimAnswer;
 use serde_json::{Map, Value};
 use std::alloc::{AllocError, Global};
-use values_json::{Ending, object_line, put_ending};
+use json_values::{Ending, object_line, put_ending};
 
 /// The line of an answer: the fields of a success, and then the result.
 pub fn mbim_line(alloc: Global, answer: &MbimAnswer) -> Result<Octets, AllocError>

@@ -8,7 +8,7 @@ use mbim_fields::{FieldValue, Fixed};
 use mbimcli_print::{Family, address_text, uuid_text};
 use serde_json::{Map, Value, put};
 use std::alloc::{AllocError, Global};
-use values_json::{hexadecimal, text_json};
+use json_values::{hexadecimal, text_json};
 
 /// The JSON value of what has one size.
 pub(crate) fn fixed_json(
@@ -28,7 +28,7 @@ pub(crate) fn fixed_json(
     }
 }
 
-#[tactic(auto, using(values_json::proofs::Views::json_views))]
+#[tactic(auto, using(json_values::proofs::Views::json_views))]
 fn number_json(value: &FieldValue) -> Value
     ensures { view result ≡ number_json (value_view value.now) }
 {
@@ -38,7 +38,7 @@ fn number_json(value: &FieldValue) -> Value
     }
 }
 
-#[tactic(auto, using(values_json::proofs::Views::json_views))]
+#[tactic(auto, using(json_values::proofs::Views::json_views))]
 fn uuid_json(alloc: Global, value: &FieldValue) -> Result<Value, AllocError>
     ensures { IfOk result (λ json. view json ≡ uuid_json (value_view value.now)) }
 {
@@ -49,7 +49,7 @@ fn uuid_json(alloc: Global, value: &FieldValue) -> Result<Value, AllocError>
     text_json(alloc, text.as_slice())
 }
 
-#[tactic(auto, using(values_json::proofs::Views::json_views))]
+#[tactic(auto, using(json_values::proofs::Views::json_views))]
 fn address_json(alloc: Global, family: Family, value: &FieldValue) -> Result<Value, AllocError>
     ensures { IfOk result (λ json. view json ≡ address_json family (value_view value.now)) }
 {
@@ -61,7 +61,7 @@ fn address_json(alloc: Global, family: Family, value: &FieldValue) -> Result<Val
 }
 
 // The length of a prefix, and an address.
-#[tactic(auto, using(values_json::proofs::Views::json_views))]
+#[tactic(auto, using(json_values::proofs::Views::json_views))]
 fn prefixed_json(alloc: Global, family: Family, value: &FieldValue) -> Result<Value, AllocError>
     ensures { IfOk result (λ json. view json ≡ prefixed_json family (value_view value.now)) }
 {
@@ -71,7 +71,7 @@ fn prefixed_json(alloc: Global, family: Family, value: &FieldValue) -> Result<Va
     }
 }
 
-#[tactic(auto, using(values_json::proofs::Views::json_views))]
+#[tactic(auto, using(json_values::proofs::Views::json_views))]
 fn pair_json(alloc: Global, family: Family, values: &[FieldValue]) -> Result<Value, AllocError>
     ensures { IfOk result (λ json. view json ≡ pair_json family (map value_view values.now)) }
 {
@@ -102,7 +102,7 @@ fn put_pair(
 }
 
 /// The JSON value of a text.
-#[tactic(auto, using(values_json::proofs::Views::json_views))]
+#[tactic(auto, using(json_values::proofs::Views::json_views))]
 pub(crate) fn string_json(alloc: Global, value: &FieldValue) -> Result<Value, AllocError>
     ensures { IfOk result (λ json. view json ≡ string_json (value_view value.now)) }
 {
@@ -113,7 +113,7 @@ pub(crate) fn string_json(alloc: Global, value: &FieldValue) -> Result<Value, Al
 }
 
 /// The JSON value of bytes.
-#[tactic(auto, using(values_json::proofs::Views::json_views))]
+#[tactic(auto, using(json_values::proofs::Views::json_views))]
 pub(crate) fn bytes_json(alloc: Global, value: &FieldValue) -> Result<Value, AllocError>
     ensures { IfOk result (λ json. view json ≡ bytes_json (value_view value.now)) }
 {

@@ -10,11 +10,11 @@ use mbim_fields::{FieldShape, FieldValue, Fixed, Form, Item};
 use mbimcli_print::{counts, spelled, word_for};
 use serde_json::{Map, Value, push, put};
 use std::alloc::{AllocError, Global};
-use values_json::put_word;
+use json_values::put_word;
 
 // The JSON value of a field's value, by how the field stands.
 #[cycle(values)]
-#[tactic(auto, using(values_json::proofs::Views::json_views))]
+#[tactic(auto, using(json_values::proofs::Views::json_views))]
 fn form_json(alloc: Global, form: &Form, value: &FieldValue) -> Result<Value, AllocError>
     ensures { IfOk result (λ json. view json ≡ form_json (form_view form.now) (value_view value.now)) }
 {
@@ -33,7 +33,7 @@ fn form_json(alloc: Global, form: &Form, value: &FieldValue) -> Result<Value, Al
 }
 
 // The JSON of a list of what has one size.
-#[tactic(auto, using(values_json::proofs::Views::json_views))]
+#[tactic(auto, using(json_values::proofs::Views::json_views))]
 fn run_json(alloc: Global, fixed: Fixed, values: &[FieldValue]) -> Result<Value, AllocError>
     ensures { IfOk result (λ json. view json ≡ listed (items_of (map (fixed_json (fixed_view fixed)) (map value_view values.now)))) }
 {
@@ -59,7 +59,7 @@ fn push_run(
 
 // The JSON of a list of items.
 #[cycle(values)]
-#[tactic(auto, using(values_json::proofs::Views::json_views))]
+#[tactic(auto, using(json_values::proofs::Views::json_views))]
 fn each_json(alloc: Global, item: &Item, values: &[FieldValue]) -> Result<Value, AllocError>
     ensures { IfOk result (λ json. view json ≡ listed (items_of (map (item_json (item_view item.now)) (map value_view values.now)))) }
 {
@@ -85,7 +85,7 @@ fn push_each(
 }
 
 #[cycle(values)]
-#[tactic(auto, using(values_json::proofs::Views::json_views))]
+#[tactic(auto, using(json_values::proofs::Views::json_views))]
 fn item_json(alloc: Global, item: &Item, value: &FieldValue) -> Result<Value, AllocError>
     ensures { IfOk result (λ json. view json ≡ item_json (item_view item.now) (value_view value.now)) }
 {
@@ -102,7 +102,7 @@ fn item_json(alloc: Global, item: &Item, value: &FieldValue) -> Result<Value, Al
 
 // The JSON of a structure's fields.
 #[cycle(values)]
-#[tactic(auto, using(values_json::proofs::Views::json_views))]
+#[tactic(auto, using(json_values::proofs::Views::json_views))]
 fn object_json(
     alloc: Global,
     shape: &FieldShape,

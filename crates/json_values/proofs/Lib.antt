@@ -2,3 +2,13 @@ pub mod Widths
 pub mod Continued
 pub mod Walks
 pub mod Fits
+pub mod Views
+pub mod Octets
+pub mod Members
+pub mod Back
+pub mod Read
+pub mod Beside
+pub mod Shallow
+pub mod JsonWalks
+pub mod Answered
+pub mod Computed

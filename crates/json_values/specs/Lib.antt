@@ -4,3 +4,11 @@ pub mod Given
 pub mod Answers
 pub mod Laws
 pub mod Examples
+pub mod Showing
+pub mod Json
+pub mod Words
+pub mod Apart
+pub mod Lines
+pub mod JsonLaws
+pub mod Ends
+pub mod JsonExamples

@@ -5,3 +5,6 @@ pub mod SoundTold
 pub mod Chosen
 pub mod Answering
 pub mod Telling
+pub mod Fields
+pub mod Ranges
+pub mod Decimals

@@ -4,3 +4,6 @@ pub mod Reading
 pub mod Answers
 pub mod Faults
 pub mod Told
+pub mod Described
+pub mod Laws
+pub mod Examples

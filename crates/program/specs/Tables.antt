@@ -5,8 +5,8 @@ use Rattle.std.specs.Str.{encode_utf8_all}
 use Rattle.file_io.specs.Calls.{Call}
 use Rattle.message_tables.specs.View.{messages_in}
 use Rattle.message_tables.specs.declared.message.Message.{Message}
-use Rattle.json_requests.specs.View.{asked_view}
-use Rattle.json_requests.specs.declared.asked.Asked.{Asked}
+use Rattle.table_requests.specs.View.{asked_view}
+use Rattle.table_requests.specs.declared.asked.Asked.{Asked}
 use Rattle.table_requests.specs.declared.fault.NoRequest.{NoRequest}
 use Rattle.table_requests.specs.Files.{OfFile, request_in}
 use Rattle.table_requests.specs.Plan.{Plan}

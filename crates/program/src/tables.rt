@@ -16,7 +16,7 @@ use crate::status::Status;
 use crate::tool::{Destination, ask_device, route_to, watch_if};
 use child_io::Spawner;
 use file_io::Files;
-use json_requests::Asked;
+use table_requests::Asked;
 use kit_io::Sink;
 use message_tables::Message;
 use modem_routes::Route;

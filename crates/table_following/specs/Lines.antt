@@ -12,9 +12,9 @@ use Rattle.message_tables.specs.Messages.{MessageForm, is_key}
 use Rattle.message_tables.specs.View.{messages_in}
 use Rattle.message_tables.specs.declared.message.Message.{Message}
 use Rattle.dissect.specs.Qmi.{entry_lines, head_kind, id_digits, is_indication}
-use Rattle.values_json.specs.Lines.{json_line}
-use Rattle.values_json.specs.Showing.{by_qmicli}
-use Rattle.json_answers.specs.Messages.{indication_json}
+use Rattle.json_values.specs.Lines.{json_line}
+use Rattle.json_values.specs.Showing.{by_qmicli}
+use Rattle.table_requests.specs.Messages.{indication_json}
 
 -- whose indications are shown, by which tables, and whether each is one JSON object
 pub record Watched : Type 0 where

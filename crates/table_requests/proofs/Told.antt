@@ -1,8 +1,8 @@
 -- What is answered of a file and of JSON that give no request.
 use Rattle.std.proofs.Common.{◌≡◌, inl, inr, Result, Err, sym, ap, ◌∙◌, subst}
-use Rattle.json_requests.specs.Answers.{Gives as RequestGives}
-use Rattle.json_requests.specs.declared.fault.RequestFault.{RequestFault}
-use Rattle.json_requests.specs.declared.fault.RequestFault.TheVariants as request
+use Rattle.table_requests.specs.Calls.{Gives as RequestGives}
+use Rattle.table_requests.specs.declared.request_fault.RequestFault.{RequestFault}
+use Rattle.table_requests.specs.declared.request_fault.RequestFault.TheVariants as request
 use Rattle.named_messages.specs.declared.fault.NamedFault.{NamedFault}
 use Rattle.named_messages.specs.declared.fault.NamedFault.TheVariants as named
 use Rattle.table_requests.specs.declared.fault.NoRequest.{NoRequest}

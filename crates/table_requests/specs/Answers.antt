@@ -7,9 +7,9 @@ use Rattle.message_tables.specs.Messages.{MessageForm}
 use Rattle.message_tables.specs.View.{message_view}
 use Rattle.dissect.specs.Qmi.{entry_lines}
 use Rattle.qmicli_print.specs.Answer.{kept_text}
-use Rattle.values_json.specs.Lines.{json_line}
-use Rattle.values_json.specs.Showing.{by_qmicli}
-use Rattle.json_answers.specs.Messages.{answer_json}
+use Rattle.json_values.specs.Lines.{json_line}
+use Rattle.json_values.specs.Showing.{by_qmicli}
+use Rattle.table_requests.specs.Messages.{answer_json}
 use Rattle.request_session.specs.declared.ends.RequestEnd.{RequestEnd}
 use Rattle.request_session.specs.declared.ends.RequestEnd.TheVariants as request
 use Rattle.request_session.specs.declared.ends.TlvAnswer.{TlvAnswer}

@@ -4,8 +4,8 @@ use Rattle.file_io.specs.declared.reading.FileFault.{FileFault}
 use Rattle.file_io.specs.declared.reading.FileFault.TheVariants as file
 use Rattle.named_messages.specs.declared.fault.NamedFault.{NamedFault}
 use Rattle.named_messages.specs.declared.fault.NamedFault.TheVariants as named
-use Rattle.json_requests.specs.declared.fault.RequestFault.{RequestFault}
-use Rattle.json_requests.specs.declared.fault.RequestFault.TheVariants as request
+use Rattle.table_requests.specs.declared.request_fault.RequestFault.{RequestFault}
+use Rattle.table_requests.specs.declared.request_fault.RequestFault.TheVariants as request
 use Rattle.table_requests.specs.declared.fault.InputFault.TheVariants as input
 use Rattle.table_requests.specs.declared.fault.NoRequest.{NoRequest}
 use Rattle.table_requests.specs.declared.fault.NoRequest.TheVariants.{ReadFault, Long, Message, Input, OutOfMemory}

@@ -3,7 +3,7 @@ use Rattle.std.specs.Prelude.{◌≡◌, ℕ, List, Option, Result, Ok, Err}
 use Rattle.file_io.specs.Calls.{Call}
 use Rattle.file_io.specs.Reading.{GrowsByFile}
 use Rattle.file_io.specs.declared.reading.FileFault.{FileFault}
-use Rattle.json_requests.specs.Requests.{Asked, request_by}
+use Rattle.table_requests.specs.Requests.{Asked, request_by}
 use Rattle.table_requests.specs.declared.fault.NoRequest.{NoRequest}
 use Rattle.table_requests.specs.declared.fault.NoRequest.TheVariants.{OutOfMemory}
 use Rattle.table_requests.specs.Faults.{no_file, no_request}

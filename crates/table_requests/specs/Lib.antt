@@ -4,3 +4,13 @@ pub mod Files
 pub mod Plan
 pub mod Answers
 pub mod Session
+pub mod RequestFaults
+pub mod Requests
+pub mod Written
+pub mod Calls
+pub mod Laws
+pub mod View
+pub mod Examples
+pub mod Tlvs
+pub mod Messages
+pub mod AnswerExamples

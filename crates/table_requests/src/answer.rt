@@ -6,14 +6,14 @@ ghost use Rattle.table_requests.specs.Answers.{answer_lines, answer_text};
 
 use crate::TablePlan;
 use dissect::push_tlvs;
-use json_answers::answer_line;
+use crate::answer_line;
 use kit_bytes::Octets;
 use message_tables::Message;
 use print_text::{push_heading, push_number};
 use qmux_frame::MessageKind;
 use request_session::TlvAnswer;
 use std::alloc::{AllocError, Global};
-use values_json::AsPrinted;
+use json_values::AsPrinted;
 
 /// What is printed of an answer, and of the service and the client id that are kept.
 pub fn answer_text(

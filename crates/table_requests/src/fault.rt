@@ -3,7 +3,7 @@ ghost use Rattle.table_requests.specs.Faults.{IsNoRequest};
 
 use crate::pointer::{name_pointer, pointer_text};
 use file_io::FileFault;
-use json_requests::RequestFault;
+use crate::RequestFault;
 use kit_bytes::Octets;
 use named_messages::NamedFault;
 use std::alloc::{AllocError, Global};

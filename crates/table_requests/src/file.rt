@@ -3,13 +3,13 @@ ghost use Rattle.std.specs.Str.{encode_utf8_all};
 ghost use Rattle.kit_io.specs.Causes.{Rose};
 ghost use Rattle.message_tables.specs.View.{message_view};
 ghost use Rattle.message_tables.specs.WellMade.{IsSoundMessage};
-ghost use Rattle.json_requests.specs.View.{asked_view};
+ghost use Rattle.table_requests.specs.View.{asked_view};
 ghost use Rattle.table_requests.specs.Files.{Gives, OfFile, request_in};
 
 use crate::NoRequest;
 use crate::fault::no_request;
 use file_io::{Files, read_file};
-use json_requests::{Asked, request_by};
+use crate::{Asked, request_by};
 use kit_bytes::{PathText, ShortText, Text};
 use qmux_frame::LONGEST_TLVS;
 use std::alloc::Global;

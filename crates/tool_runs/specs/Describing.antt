@@ -14,7 +14,7 @@ use Rattle.message_tables.specs.Tables.{tables_in}
 use Rattle.named_messages.specs.Reading.{named_in}
 use Rattle.named_messages.specs.declared.fault.NamedFault.{NamedFault}
 use Rattle.named_messages.specs.declared.fault.NamedFault.TheVariants as named
-use Rattle.described_messages.specs.Described.{message_text}
+use Rattle.named_messages.specs.Described.{message_text}
 use Rattle.qmicli_print.specs.declared.shown.Shown.TheVariants.{Service}
 use Rattle.qmicli_print.specs.Words.{word_of}
 use Rattle.print_text.specs.Texts.{hex_pair}

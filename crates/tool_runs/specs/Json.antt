@@ -12,9 +12,9 @@ use Rattle.tunnel_session.specs.declared.ends.TunnelEnd.TheVariants.{Qmi, Mbim, 
 use Rattle.tunnel_session.specs.Session as tunnel
 use Rattle.sms_print.specs.declared.decoding.Decoding.TheVariants.{Nothing}
 use Rattle.fields_json.specs.Answers.{answer_json}
-use Rattle.values_json.specs.Answers.{end_json}
-use Rattle.values_json.specs.Lines.{json_line}
-use Rattle.values_json.specs.Showing.{by_qmicli}
+use Rattle.json_values.specs.Ends.{end_json}
+use Rattle.json_values.specs.Lines.{json_line}
+use Rattle.json_values.specs.Showing.{by_qmicli}
 use Rattle.tool_runs.specs.Asking.{Asked, asked_of, shown}
 use Rattle.tool_runs.specs.Mbim as of_mbim
 use Rattle.tool_runs.specs.Qmi.{refused}

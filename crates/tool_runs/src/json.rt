@@ -12,7 +12,7 @@ use mbim_session::{MbimEnd, MbimPlan};
 use qmi_services::QmiEnd;
 use std::alloc::{AllocError, Global};
 use tunnel_session::TunnelEnd;
-use values_json::{AsPrinted, qmi_line};
+use json_values::{AsPrinted, qmi_line};
 
 /// A session whose end can be printed as one JSON object, on a line.
 pub trait JsonSession: Session {

@@ -6,7 +6,7 @@ ghost use Rattle.tool_runs.specs.Describing.{DescribesFile, DescribesMessage, Pr
 
 use crate::describing::describe;
 use crate::run_end::RunEnd;
-use described_messages::message_text;
+use named_messages::message_text;
 use file_io::{Files, read_file};
 use kit_bytes::{PathText, ShortText};
 use kit_io::{Sink, WriteFault, write_all_to};

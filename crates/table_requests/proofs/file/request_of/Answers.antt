@@ -1,6 +1,6 @@
 use Rattle.std.proofs.Common.{◌≡◌, ap}
-use Rattle.json_requests.specs.View.{asked_view}
-use Rattle.json_requests.specs.Requests.{request_by}
+use Rattle.table_requests.specs.View.{asked_view}
+use Rattle.table_requests.specs.Requests.{request_by}
 use Rattle.table_requests.specs.declared.fault.NoRequest.TheVariants.{ReadFault}
 use Rattle.table_requests.specs.Faults.{no_request}
 use Rattle.table_requests.specs.Files.{or_none}

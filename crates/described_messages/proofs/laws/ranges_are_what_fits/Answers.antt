@@ -1,5 +1,0 @@
-use Rattle.described_messages.proofs.Ranges.{are_what_fits}
-use Rattle.described_messages.proofs.laws.ranges_are_what_fits.Goals as goal
-
-pub returns : goal.returns
-returns c = are_what_fits

@@ -1,8 +1,0 @@
-use Rattle.std.proofs.Common.{refl}
-use Rattle.framing.specs.Cutting.{cut_from}
-use Rattle.values_json.proofs.Computed.{json_computed}
-use Rattle.json_answers.proofs.examples.answer_has_what_is_kept.Goals as goal
-
-pub returns : goal.returns
-unfolding json_computed cut_from
-returns c = refl

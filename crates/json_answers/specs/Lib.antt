@@ -1,3 +1,0 @@
-pub mod Tlvs
-pub mod Messages
-pub mod Examples

@@ -1,4 +1,0 @@
-pub mod Walks
-pub mod Written
-pub mod ReadBack
-pub mod Faults

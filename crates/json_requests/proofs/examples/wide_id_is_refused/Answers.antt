@@ -1,8 +1,0 @@
-use Rattle.std.proofs.Common.{refl}
-use Rattle.json_values.specs.Texts.{digits_in, hex_in, octets_in}
-use Rattle.json_requests.specs.Requests.{request_of}
-use Rattle.json_requests.proofs.examples.wide_id_is_refused.Goals as goal
-
-pub returns : goal.returns
-unfolding request_of digits_in hex_in octets_in lib.Utf8.encode
-returns c = refl

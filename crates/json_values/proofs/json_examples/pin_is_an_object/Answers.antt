@@ -1,0 +1,7 @@
+use Rattle.std.proofs.Common.{refl}
+use Rattle.json_values.proofs.Computed.{json_computed}
+use Rattle.json_values.proofs.examples.pin_is_an_object.Goals as goal
+
+pub returns : goal.returns
+unfolding json_computed
+returns c = refl

@@ -1,0 +1,8 @@
+use Rattle.std.proofs.Common.{refl}
+use Rattle.framing.specs.Cutting.{cut_from}
+use Rattle.json_values.proofs.Computed.{json_computed}
+use Rattle.table_requests.proofs.examples.answer_has_its_tlvs.Goals as goal
+
+pub returns : goal.returns
+unfolding json_computed cut_from
+returns c = refl
