@@ -1,11 +1,11 @@
 ghost use Rattle.std.specs.Prelude.{◌≡◌, ◌<◌, ◌≤◌, None, IfOk, length, string_bytes};
 
 use crate::{Complain, Files, Side};
-use kit_io::{Failed, Faults};
+use kit_io::{Failed, Faults, system_words};
 use libc::STDIN_FILENO;
 use libc::net::{POLLERR, POLLHUP, POLLIN, POLLNVAL, POLLOUT, poll};
 use libc::types::pollfd;
-use std::alloc::{AllocError, Global};
+use std::alloc::Global;
 use std::cell::Cell;
 use std::fs::{self, File, OpenFile, OpenOptions, TryLockError};
 use std::io::{self, ErrorKind, Read, Write};
@@ -103,26 +103,6 @@ impl<R: fs::Files<File = File>> StdFiles<'_, R> {
     }
 }
 
-// What the system says of an error, without the number that stands behind it.
-fn words_of(alloc: Global, error: io::Error) -> Result<String, AllocError> {
-    let words = error.to_string(alloc)?;
-    String::from_str(alloc, front_of(&words))
-}
-
-fn front_of(words: &str) -> &str {
-    match words.split_once(" (os error ") {
-        Some((front, _)) => front,
-        None => words,
-    }
-}
-
-fn words_or_none(alloc: Global, error: io::Error) -> String {
-    match words_of(alloc, error) {
-        Ok(words) => words,
-        Err(AllocError) => String::new(alloc),
-    }
-}
-
 fn open_file<R: fs::Files>(rt: &R, path: &str, side: Side) -> io::Result<R::File> {
     match side {
         Side::Read => fs::open(rt, path),
@@ -202,7 +182,7 @@ impl<R: fs::Files<File = File>> Files for StdFiles<'_, R> {
                 Ok(())
             }
             Err(error) => {
-                self.words = words_or_none(self.alloc, error);
+                self.words = system_words(self.alloc, error);
                 Err(self.read_faults.fail())
             }
         }
@@ -212,7 +192,7 @@ impl<R: fs::Files<File = File>> Files for StdFiles<'_, R> {
         match self.read_open(buffer) {
             Ok(count) => Ok(count),
             Err(error) => {
-                self.words = words_or_none(self.alloc, error);
+                self.words = system_words(self.alloc, error);
                 Err(self.read_faults.fail())
             }
         }
@@ -222,7 +202,7 @@ impl<R: fs::Files<File = File>> Files for StdFiles<'_, R> {
         match self.write_open(bytes) {
             Ok(count) => Ok(count),
             Err(error) => {
-                self.words = words_or_none(self.alloc, error);
+                self.words = system_words(self.alloc, error);
                 Err(self.write_faults.fail())
             }
         }

@@ -11,6 +11,7 @@ mod memory;
 mod record;
 mod sink;
 mod standard;
+mod words;
 mod write;
 
 pub use call_count::CallCount;
@@ -20,4 +21,5 @@ pub use memory::{MemSink, SinkAnswer};
 pub use record::Record;
 pub use sink::Sink;
 pub use standard::StdSink;
+pub use words::system_words;
 pub use write::{WriteFault, write_all_to};

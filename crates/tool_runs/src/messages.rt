@@ -6,11 +6,10 @@ ghost use Rattle.tool_runs.specs.Describing.{DescribesFile, DescribesMessage, Pr
 
 use crate::describing::describe;
 use crate::run_end::RunEnd;
-use named_messages::message_text;
 use file_io::{Files, read_file};
 use kit_bytes::{PathText, ShortText};
 use kit_io::{Sink, WriteFault, write_all_to};
-use named_messages::read_message;
+use named_messages::{message_text, read_message};
 use std::alloc::{AllocError, Global};
 
 /// Reads the descriptions in the file at a path, and prints a line for each message; or what the one of

@@ -9,7 +9,7 @@ ghost use Rattle.watched_link.specs.Notes.{Called, calls_recorded, events_record
 ghost use Rattle.watched_link.specs.Calls.{NotesCall, NotesFailure, sent_call};
 
 use crate::{Complain, Notes, Watch};
-use kit_io::Failed;
+use kit_io::{Failed, system_words};
 use link_io::{Link, Made, TAKE_ROOM, Taken, Target};
 use std::alloc::{AllocError, Global};
 use std::io;
@@ -51,26 +51,15 @@ impl<L: Complain> Watched<L> {
     {
         let words = words_of(self.alloc, self.link.complaint());
         self.notes.call(made, bytes);
-        self.notes.said(front_of(&words).as_bytes());
+        self.notes.said(words.as_bytes());
     }
 }
 
-// What the system says, or nothing where there is no memory for it.
+// What the system says, or nothing where it says nothing.
 fn words_of(alloc: Global, complaint: Option<io::Error>) -> String {
-    let Some(error) = complaint else {
-        return String::new(alloc);
-    };
-    match error.to_string(alloc) {
-        Ok(words) => words,
-        Err(AllocError) => String::new(alloc),
-    }
-}
-
-// The system's own words, without the number that stands behind them.
-fn front_of(words: &str) -> &str {
-    match words.split_once(" (os error ") {
-        Some((front, _)) => front,
-        None => words,
+    match complaint {
+        Some(error) => system_words(alloc, error),
+        None => String::new(alloc),
     }
 }
 
