@@ -51,10 +51,6 @@ abbrev pub elements_by : (Data → Fitting Value) → ℕ → Items → Fitting 
 elements_by read at no_items = Ok []
 elements_by read at (item json more) = both (λ first values. first ∷ values) (under (Element at) (read json)) (elements_by read (at + 1) more)
 
-abbrev pub is_byte : Form → Bool
-is_byte (unsigned size) = size == 1
-is_byte _ = false
-
 abbrev pub list_by : Prefix → Option Items → (Data → Fitting Value) → Fitting Value
 list_by prefix None read = Err []
 list_by prefix (Some items) read = if_counted prefix (items_len items) (fitting_as (λ values. elements (values_of values)) (elements_by read 0 items))

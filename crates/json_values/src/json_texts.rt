@@ -74,12 +74,3 @@ fn push_low_byte(bytes: &mut Vec<u8>, val: &Val) -> Result<(), AllocError>
     Ok(())
 }
 
-#[tactic(auto, using(qmi_shapes::proofs::Views::shape_views))]
-pub(crate) fn is_byte(element: &Shape) -> bool
-    ensures { result ≡ is_byte (shape_view element.now) }
-{
-    match element {
-        Shape::U(size) => *size == 1,
-        Shape::I(_) | Shape::Str(_) | Shape::List(..) | Shape::Seq(_) => false,
-    }
-}

@@ -54,15 +54,6 @@ pub(crate) fn digits_for(
     }
 }
 
-#[tactic(auto, using(qmi_shapes::proofs::Views::shape_views))]
-fn is_byte(element: &Shape) -> bool
-    ensures { result ≡ is_byte (shape_view element.now) }
-{
-    match element {
-        Shape::U(size) => *size == 1,
-        Shape::I(_) | Shape::Str(_) | Shape::List(..) | Shape::Seq(_) => false,
-    }
-}
 
 // The bytes of an even number of hexadecimal digits in either case.
 #[tactic(auto, unfolding(crate::specs::Texts::digits_in))]

@@ -73,6 +73,11 @@ abbrev mutual
   fields_nesting no_fields = 0
   fields_nesting (field name form more) = max (nesting form) (fields_nesting more)
 
+-- a number of one byte, whose list is shown by its digits
+abbrev pub is_byte : Form → Bool
+is_byte (unsigned size) = size == 1
+is_byte _ = false
+
 abbrev pub nests_well : Form → Bool
 nests_well form = nat_le (nesting form) 16
 

@@ -1,6 +1,7 @@
 //! Tables of QMI messages, read from descriptions in the form of libqmi's `data/qmi-service-*.json`.
 #![tactic(auto)]
 
+mod byte;
 mod comments;
 mod copies;
 mod definitions;
@@ -19,6 +20,7 @@ mod tables;
 mod tlv;
 mod tlvs;
 
+pub use byte::is_byte;
 pub use comments::without_comments;
 pub use definitions::{Definition, Definitions};
 pub use fault::{MemberName, ObjectFault, TableFault};
