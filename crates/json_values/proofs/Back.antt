@@ -19,9 +19,11 @@ use Rattle.qmi_shapes.specs.WellMade.{IsSize, IsPart, AreParts}
 use Rattle.qmi_values.specs.Value.{Value, number, integer, text, elements, members, Values, no_values, first, list_of, values_of, number_in, integer_in, text_in, elements_in, members_in}
 use Rattle.qmi_values.proofs.Spellings.{values_of-list_of}
 use Rattle.tlv_values.specs.Spelling.{count_fits, fits, fields_fit}
+use Rattle.message_tables.specs.Tlvs.{is_byte}
 use Rattle.json_values.specs.Paths.{Fitting, fitting_as}
 use Rattle.json_values.specs.Texts.{digits_in, hex_in, octets_in}
-use Rattle.json_values.specs.Given.{is_byte, if_counted, text_by, elements_by, list_by, bytes_or, digits_for, unless_other, given, fields_given}
+use Rattle.json_values.specs.Given.{if_counted, text_by, elements_by, list_by, bytes_or, digits_for, unless_other, given, fields_given}
+use Rattle.json_values.proofs.Fits.{byte_form}
 use Rattle.json_values.proofs.Widths.{wide_enough}
 use Rattle.json_values.specs.Showing.{Showing, wordless}
 use Rattle.json_values.specs.Json.{hexadecimal, text_json, low_byte, list_json, or_null, json_of, with_fields}
@@ -68,13 +70,6 @@ text_back prefix (elements _) fit are = absurd (cc)
 text_back prefix (members _) fit are = absurd (cc)
 
 -- ---- lists of bytes ----
-
-byte_form : (element : Form) → is_byte element ≡ true → element ≡ unsigned 1
-byte_form (unsigned size) is = let one : size ≡ 1 = grind (arith, nat_tests, is) in ap unsigned one
-byte_form (signed _) is = absurd (cc)
-byte_form (string _) is = absurd (cc)
-byte_form (array _ _) is = absurd (cc)
-byte_form (sequence _) is = absurd (cc)
 
 byte_first : (byte : ℕ) (bytes : List ℕ) → byte < 256 → AreBytes bytes → AreBytes (byte ∷ bytes)
 byte_first byte bytes less are zero = less

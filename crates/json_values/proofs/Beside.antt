@@ -10,7 +10,7 @@ use Rattle.qmi_shapes.specs.declared.shape.Prefix.{Prefix}
 use Rattle.qmi_shapes.specs.Form.{Form, unsigned, signed, string, array, sequence, Fields, no_fields, field}
 use Rattle.qmi_values.specs.Value.{Value, number, integer, text, elements, members, list_of, elements_in, members_in}
 use Rattle.tlv_values.specs.Spelling.{fits, fields_fit}
-use Rattle.json_values.specs.Given.{is_byte}
+use Rattle.message_tables.specs.Tlvs.{is_byte}
 use Rattle.json_values.specs.Showing.{Showing, wordless}
 use Rattle.json_values.specs.Json.{list_json, or_null, json_of, with_fields}
 use Rattle.json_values.specs.Words.{each_item, in_array, put_found, without_words, fields_alone}

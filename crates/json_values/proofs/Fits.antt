@@ -19,11 +19,12 @@ use Rattle.qmi_shapes.specs.Form.{Form, unsigned, signed, string, array, sequenc
 use Rattle.qmi_values.specs.Value.{Value, number, integer, text, elements, members, list_of, values_of}
 use Rattle.qmi_values.proofs.Spellings.{list_of-values_of}
 use Rattle.tlv_values.specs.Spelling.{unsigned_fits, signed_fits, count_fits, fits, fields_fit}
+use Rattle.message_tables.specs.Tlvs.{is_byte}
 use Rattle.json_values.specs.declared.path.Step.{Step}
 use Rattle.json_values.specs.declared.path.Step.TheVariants.{Member, Element}
 use Rattle.json_values.specs.Paths.{Fitting, fitting, fitting_as, under, both}
 use Rattle.json_values.specs.Texts.{digits_in, octets_in}
-use Rattle.json_values.specs.Given.{if_unsigned, if_signed, if_counted, text_by, elements_by, list_by, bytes_or, is_byte, digits_for, first_other, unless_other, names_of, sequence_by, member_by, named_by, given, fields_given}
+use Rattle.json_values.specs.Given.{if_unsigned, if_signed, if_counted, text_by, elements_by, list_by, bytes_or, digits_for, first_other, unless_other, names_of, sequence_by, member_by, named_by, given, fields_given}
 use Rattle.json_values.specs.Laws.{GivesWhatFits}
 
 -- ---- what is inside a value that is given ----
@@ -79,7 +80,7 @@ text_given prefix (Some octets) value is =
 listed : (prefix : Prefix) (element : Form) (vs : List Value) (count : ℕ) → IsTrue (count_fits prefix count) → length vs ≡ count → IsTrue (list_all (fits element) vs) → IsTrue (fits (array prefix element) (elements (values_of vs)))
 listed prefix element vs count fit many each = rw (list_of-values_of vs, many) (both_true fit each)
 
-byte_form : (element : Form) → is_byte element ≡ true → element ≡ unsigned 1
+pub byte_form : (element : Form) → is_byte element ≡ true → element ≡ unsigned 1
 byte_form (unsigned size) is = let one : size ≡ 1 = grind (arith, nat_tests, is) in ap unsigned one
 byte_form (signed size) is = absurd cc
 byte_form (string prefix) is = absurd cc

@@ -8,8 +8,7 @@ use Rattle.serde_json.specs.Written.{has_float, items_have_float, members_have_f
 use Rattle.serde_json.specs.View.{items_of}
 use Rattle.qmi_shapes.specs.Form.{Form, unsigned, signed, string, array, sequence, Fields, no_fields, field}
 use Rattle.qmi_values.specs.Value.{Value, list_of, number_in, integer_in, text_in, elements_in, members_in}
-use Rattle.message_tables.specs.Tlvs.{nesting, fields_nesting}
-use Rattle.json_values.specs.Given.{is_byte}
+use Rattle.message_tables.specs.Tlvs.{is_byte, nesting, fields_nesting}
 use Rattle.json_values.specs.Showing.{Showing}
 use Rattle.json_values.specs.Json.{hexadecimal, text_json, list_json, or_null, json_of, word_key, word_of, with_word, with_field, with_fields}
 use Rattle.json_values.specs.JsonLaws.{NestsAsItsForm}

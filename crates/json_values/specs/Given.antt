@@ -11,6 +11,7 @@ use Rattle.qmi_shapes.specs.declared.shape.Prefix.{Prefix}
 use Rattle.qmi_shapes.specs.Form.{Form, unsigned, signed, string, array, sequence, Fields, no_fields, field}
 use Rattle.qmi_values.specs.Value.{Value, number, integer, text, elements, members, values_of}
 use Rattle.tlv_values.specs.Spelling.{unsigned_fits, signed_fits, count_fits}
+use Rattle.message_tables.specs.Tlvs.{is_byte}
 use Rattle.json_values.specs.declared.path.Step.TheVariants.{Member, Element}
 use Rattle.json_values.specs.Paths.{Fitting, fitting, fitting_as, under, both}
 use Rattle.json_values.specs.Texts.{digits_in, octets_in}

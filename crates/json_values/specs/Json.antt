@@ -10,7 +10,7 @@ use Rattle.serde_json.specs.Find.{of_integer}
 use Rattle.serde_json.specs.View.{items_of}
 use Rattle.qmi_shapes.specs.Form.{Form, unsigned, signed, string, array, sequence, Fields, field}
 use Rattle.qmi_values.specs.Value.{Value, number, list_of, number_in, integer_in, text_in, elements_in, members_in}
-use Rattle.json_values.specs.Given.{is_byte}
+use Rattle.message_tables.specs.Tlvs.{is_byte}
 use Rattle.json_values.specs.Showing.{Showing}
 
 -- ---- texts and lists ----

@@ -3,12 +3,13 @@ ghost use Rattle.serde_json.specs.Data.{array as listed, object, no_members};
 ghost use Rattle.serde_json.specs.View.{items_of, members_view, view};
 ghost use Rattle.qmi_shapes.specs.View.{field_view, fields_of, fields_view, shape_view};
 ghost use Rattle.qmi_values.specs.View.{val_view};
-ghost use Rattle.json_values.specs.Given.{is_byte};
+ghost use Rattle.message_tables.specs.Tlvs.{is_byte};
 ghost use Rattle.json_values.specs.Json.{array_json, integer_json, json_of, list_json, number_json, sequence_json, string_json, with_field, with_fields, with_word, word_of};
 
 use crate::Shows;
-use crate::json_texts::{is_byte, list_digits, text_json};
+use crate::json_texts::{list_digits, text_json};
 use kit_bytes::Octets;
+use message_tables::is_byte;
 use qmi_shapes::{Shape, ShapeField, ShapeFields};
 use qmi_values::Val;
 use serde_json::{Map, Value, push, put};

@@ -2,12 +2,9 @@ ghost use Rattle.std.specs.Prelude.{◌≡◌, ◌++◌, codes, map, IfOk, OnOk}
 ghost use Rattle.std.specs.List.{flat_map};
 ghost use Rattle.serde_json.specs.Data.{member, no_members, object, put as with_member};
 ghost use Rattle.serde_json.specs.View.{members_view, view};
-ghost use Rattle.qmi_shapes.specs.View.{shape_view};
 ghost use Rattle.qmi_values.specs.View.{val_view};
-ghost use Rattle.json_values.specs.Given.{is_byte};
 ghost use Rattle.json_values.specs.Json.{hexadecimal, low_byte, text_json};
 
-use qmi_shapes::Shape;
 use qmi_values::Val;
 use serde_json::{Map, Value, put};
 use std::alloc::{AllocError, Global};
@@ -73,4 +70,3 @@ fn push_low_byte(bytes: &mut Vec<u8>, val: &Val) -> Result<(), AllocError>
     }
     Ok(())
 }
-

@@ -2,10 +2,11 @@ ghost use Rattle.std.specs.Prelude.{◌≡◌, IfOk};
 ghost use Rattle.serde_json.specs.View.{view};
 ghost use Rattle.qmi_shapes.specs.View.{shape_view};
 ghost use Rattle.json_values.specs.Texts.{digits_in, hex_in, octets_in};
-ghost use Rattle.json_values.specs.Given.{digits_for, is_byte};
+ghost use Rattle.json_values.specs.Given.{digits_for};
 
 use hex::FromHexError;
 use kit_bytes::Octets;
+use message_tables::is_byte;
 use qmi_shapes::Shape;
 use serde_json::Value;
 use std::alloc::{AllocError, Global};
@@ -53,7 +54,6 @@ pub(crate) fn digits_for(
         Ok(None)
     }
 }
-
 
 // The bytes of an even number of hexadecimal digits in either case.
 #[tactic(auto, unfolding(crate::specs::Texts::digits_in))]

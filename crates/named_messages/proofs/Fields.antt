@@ -7,7 +7,8 @@ use Rattle.qmi_shapes.specs.Form.{Form, array}
 use Rattle.qmi_shapes.specs.View.{NamedForm, fields_of, field_view, shape_view}
 use Rattle.qmi_shapes.proofs.Views.{view-field}
 use Rattle.message_tables.proofs.Lists.{drop_item}
-use Rattle.named_messages.specs.Described.{is_byte, many, form_text, fields_text}
+use Rattle.message_tables.specs.Tlvs.{is_byte}
+use Rattle.named_messages.specs.Described.{many, form_text, fields_text}
 
 -- a field's lines, and those of the fields behind it
 module _ (indent : List ℕ) (fields : List ShapeField) (i : ℕ) (field : ShapeField) (within : i < length fields) (is : field ≡ get_or fields i field) where

@@ -7,7 +7,7 @@ use Rattle.print_text.specs.Texts.{hex_pair}
 use Rattle.qmi_shapes.specs.declared.shape.Prefix.{Prefix}
 use Rattle.qmi_shapes.specs.declared.shape.Prefix.TheVariants.{Rest, Fixed, Counted}
 use Rattle.qmi_shapes.specs.Form.{Form, unsigned, signed, string, array, sequence, Fields, no_fields, field}
-use Rattle.message_tables.specs.Tlvs.{TlvForm}
+use Rattle.message_tables.specs.Tlvs.{TlvForm, is_byte}
 use Rattle.message_tables.specs.Messages.{MessageForm}
 
 -- ---- what stands for a value ----
@@ -28,10 +28,6 @@ abbrev pub many : Prefix → List ℕ → List ℕ
 many Rest unit = []
 many (Fixed count) unit = codes ", " ++ decimal count ++ unit
 many (Counted size) unit = codes ", up to " ++ decimal (largest size) ++ unit
-
-abbrev pub is_byte : Form → Bool
-is_byte (unsigned size) = size == 1
-is_byte _ = false
 
 abbrev mutual
   -- the lines of a value under a name; what is inside stands one level deeper

@@ -1,10 +1,11 @@
 ghost use Rattle.std.specs.Prelude.{◌≡◌, ◌++◌, map, OnOk};
 ghost use Rattle.qmi_shapes.specs.Form.{array};
 ghost use Rattle.qmi_shapes.specs.View.{fields_of, field_view, shape_view};
-ghost use Rattle.named_messages.specs.Described.{fields_text, form_text, is_byte};
+ghost use Rattle.named_messages.specs.Described.{fields_text, form_text};
 
 use crate::words::{push_counted, push_signed, push_unsigned};
 use kit_bytes::Octets;
+use message_tables::is_byte;
 use print_text::{deeper, push_line};
 use qmi_shapes::{Prefix, Shape, ShapeField};
 use std::alloc::{AllocError, Global};
@@ -53,16 +54,6 @@ fn push_list(
     let indent = deeper(alloc, indent)?;
     push_shape(alloc, text, indent.as_slice(), "each", element)?;
     Ok(())
-}
-
-#[tactic(auto, using(qmi_shapes::proofs::Views::shape_views))]
-fn is_byte(element: &Shape) -> bool
-    ensures { result ≡ is_byte (shape_view element.now) }
-{
-    match element {
-        Shape::U(size) => *size == 1,
-        Shape::I(_) | Shape::Str(_) | Shape::List(..) | Shape::Seq(_) => false,
-    }
 }
 
 // Adds the lines of a sequence's fields.

@@ -5,7 +5,7 @@ use Rattle.serde_json.specs.declared.value.Value.{Value}
 use Rattle.qmi_shapes.specs.View.{fields_of, field_view, fields_view, shape_view}
 use Rattle.qmi_values.specs.View.{val_view}
 use Rattle.message_tables.proofs.Weights.{weight_field}
-use Rattle.json_values.specs.Given.{is_byte}
+use Rattle.message_tables.specs.Tlvs.{is_byte}
 use Rattle.json_values.specs.Json.{array_json, json_of, list_json, with_fields}
 use Rattle.json_values.proofs.JsonWalks.{field_added, no_field, list_is, sequence_is}
 use Rattle.json_values.proofs.values.+values.Goals as goal
