@@ -4,7 +4,7 @@ ghost use Rattle.mbim_fields.specs.View.{shape_view};
 ghost use Rattle.mbim_frame.specs.Bodies.{read_command, read_done, read_indication};
 ghost use Rattle.dissect.specs.Mbim.{body_line, body_lines, buffer_lines, bytes_lines, command_lines, done_lines, indication_lines, layout_done, read_lines, took_lines};
 
-use crate::parts::{push_hex_line, push_number};
+use crate::parts::push_hex_line;
 use kit_bytes::Octets;
 use mbim_fields::{FieldFault, FieldShape, decode_fields};
 use mbim_fragments::Took;
@@ -13,6 +13,7 @@ use mbim_frame::{
 };
 use mbim_services::{Way, layout};
 use mbimcli_print::{fields_text, uuid_text};
+use print_text::push_number;
 use std::alloc::{AllocError, Global};
 use uuid::Uuid;
 

@@ -2,10 +2,10 @@ ghost use Rattle.std.specs.Prelude.{◌≡◌, ◌++◌, OnOk};
 ghost use Rattle.mbim_frame.specs.Kinds.{kind_numbered};
 ghost use Rattle.dissect.specs.Mbim.{head_line, kind_by, kind_digits, kind_name, tail_lines};
 
-use crate::parts::{push_decimal, push_number};
+use crate::parts::push_decimal;
 use kit_bytes::{Octets, u32_bytes};
 use mbim_frame::{MHead, MessageKind};
-use print_text::push_hex;
+use print_text::{push_hex, push_number};
 use std::alloc::AllocError;
 
 /// Adds the line of the head.

@@ -13,13 +13,6 @@ pub(crate) fn push_decimal(text: &mut Octets, number: u64) -> Result<(), AllocEr
     text.extend_from_slice(Buffer::new().format(number).as_bytes())
 }
 
-/// Adds words and a number behind them.
-pub(crate) fn push_number(text: &mut Octets, front: &str, number: u64) -> Result<(), AllocError>
-    ensures { OnOk result (text.new ≡ text.old ++ front.now ++ decimal number) }
-{
-    text.extend_from_slices(front.as_bytes(), Buffer::new().format(number).as_bytes())
-}
-
 /// Adds a line inside a message, with a name and bytes.
 #[tactic(auto, unfolding(print_text::specs::Lines::line))]
 pub(crate) fn push_hex_line(text: &mut Octets, name: &str, bytes: &[u8]) -> Result<(), AllocError>

@@ -7,11 +7,11 @@ ghost use Rattle.qmicli_print.specs.Words.{word_of};
 ghost use Rattle.tlv_codec.specs.Tlv.{tlvs_of};
 ghost use Rattle.dissect.specs.Qmi.{described, entry_lines, forms_for, framed_lines, head_kind, head_line, id_digits, is_indication, kind_word, lines_at, service_by, title, unframed_line};
 
-use crate::parts::{push_decimal, push_hex_line, push_number};
+use crate::parts::{push_decimal, push_hex_line};
 use crate::qmi_tlvs::push_each;
 use kit_bytes::{Octets, u16_bytes};
 use message_tables::{Message, Tables, TlvShape};
-use print_text::push_hex;
+use print_text::{push_hex, push_number};
 use qmicli_print::service_word;
 use qmux_frame::{Head, MessageKind, tlvs_in};
 use std::alloc::{AllocError, Global};

@@ -6,9 +6,10 @@ ghost use Rattle.qmi_values.specs.View.{val_view};
 ghost use Rattle.dissect.specs.Places.{StandsWithin, entry_at};
 ghost use Rattle.dissect.specs.Qmi.{bytes_line, is_outcome, name_behind, named_tlv, outcome_line, plain_lines, tlv_lines, tlv_name, value_lines};
 
-use crate::parts::{push_hex_line, push_number};
+use crate::parts::push_hex_line;
 use kit_bytes::{Octets, u16_at};
 use message_tables::TlvShape;
+use print_text::push_number;
 use qmi_values::Val;
 use qmicli_print::print_titled;
 use qmux_frame::MessageKind;

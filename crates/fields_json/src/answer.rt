@@ -6,11 +6,11 @@ ghost use Rattle.json_values.specs.Lines.{json_line, json_text};
 ghost use Rattle.fields_json.specs.Answers.{answer_json, answer_members};
 
 use crate::put_fields;
+use json_values::{Ending, object_line, put_ending};
 use kit_bytes::Octets;
 use mbim_services::MbimAnswer;
 use serde_json::{Map, Value};
 use std::alloc::{AllocError, Global};
-use json_values::{Ending, object_line, put_ending};
 
 /// The line of an answer: the fields of a success, and then the result.
 pub fn mbim_line(alloc: Global, answer: &MbimAnswer) -> Result<Octets, AllocError>

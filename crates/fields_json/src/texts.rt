@@ -4,11 +4,11 @@ ghost use Rattle.serde_json.specs.View.{members_view, view};
 ghost use Rattle.mbim_fields.specs.View.{fixed_view, value_view};
 ghost use Rattle.fields_json.specs.Json.{address_json, bytes_json, fixed_json, number_json, pair_json, prefixed_json, string_json, uuid_json};
 
+use json_values::{hexadecimal, text_json};
 use mbim_fields::{FieldValue, Fixed};
 use mbimcli_print::{Family, address_text, uuid_text};
 use serde_json::{Map, Value, put};
 use std::alloc::{AllocError, Global};
-use json_values::{hexadecimal, text_json};
 
 /// The JSON value of what has one size.
 pub(crate) fn fixed_json(

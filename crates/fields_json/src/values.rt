@@ -5,12 +5,12 @@ ghost use Rattle.mbim_fields.specs.View.{fixed_view, form_view, item_view, shape
 ghost use Rattle.fields_json.specs.Json.{fixed_json, form_json, item_json, with_field, with_fields, word_of};
 
 use crate::texts::{bytes_json, fixed_json, string_json};
+use json_values::put_word;
 use kit_bytes::Octets;
 use mbim_fields::{FieldShape, FieldValue, Fixed, Form, Item};
 use mbimcli_print::{counts, spelled, word_for};
 use serde_json::{Map, Value, push, put};
 use std::alloc::{AllocError, Global};
-use json_values::put_word;
 
 // The JSON value of a field's value, by how the field stands.
 #[cycle(values)]

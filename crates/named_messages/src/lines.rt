@@ -4,10 +4,9 @@ ghost use Rattle.message_tables.specs.View.{message_view, tlv_view};
 ghost use Rattle.named_messages.specs.Described.{id_digits, kind_word, message_text, section, title, tlv_text};
 
 use crate::shapes::push_shape;
-use itoa::Buffer;
 use kit_bytes::Octets;
 use message_tables::{Message, TlvShape};
-use print_text::{hex_pair, push_front, push_heading, push_line};
+use print_text::{hex_pair, push_front, push_heading, push_line, push_number};
 use std::alloc::{AllocError, Global};
 
 /// A message's lines: its name and its id, and then what it takes and what it gives, each TLV and each
@@ -31,8 +30,8 @@ fn push_title(text: &mut Octets, message: &Message) -> Result<(), AllocError>
     push_front(text, b"", message.name.as_str())?;
     text.extend_from_slice(kind_word(message.indication).as_bytes())?;
     push_id(text, message.id)?;
-    text.extend_from_slice(b" of service ")?;
-    text.extend_from_slices(Buffer::new().format(message.service).as_bytes(), b"\n")?;
+    push_number(text, " of service ", u64::from(message.service))?;
+    text.extend_from_slice(b"\n")?;
     Ok(())
 }
 

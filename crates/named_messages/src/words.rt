@@ -2,9 +2,8 @@ ghost use Rattle.std.specs.Prelude.{◌≡◌, ◌++◌, decimal, OnOk};
 ghost use Rattle.print_text.specs.Lines.{line};
 ghost use Rattle.named_messages.specs.Described.{largest, many, signed_words, unsigned_words};
 
-use itoa::Buffer;
 use kit_bytes::Octets;
-use print_text::push_front;
+use print_text::{push_front, push_number};
 use qmi_shapes::Prefix;
 use std::alloc::AllocError;
 
@@ -86,13 +85,6 @@ fn push_count(text: &mut Octets, front: &str, count: u64, unit: &str) -> Result<
     push_number(text, front, count)?;
     text.extend_from_slice(unit.as_bytes())?;
     Ok(())
-}
-
-// Adds these words and a number behind them.
-fn push_number(text: &mut Octets, front: &str, number: u64) -> Result<(), AllocError>
-    ensures { OnOk result (text.new ≡ text.old ++ front.now ++ decimal number) }
-{
-    text.extend_from_slices(front.as_bytes(), Buffer::new().format(number).as_bytes())
 }
 
 // The largest number of so many bytes, which are 8 at most.

@@ -32,7 +32,7 @@ pub fn push_worded(text: &mut Octets, number: u64, word: Option<&str>) -> Result
 }
 
 /// Adds these words and a number behind them.
-pub fn push_number(text: &mut Octets, front: &str, number: u8) -> Result<(), AllocError>
+pub fn push_number(text: &mut Octets, front: &str, number: u64) -> Result<(), AllocError>
     ensures { OnOk result (text.new ≡ text.old ++ front.now ++ decimal number) }
 {
     text.extend_from_slices(front.as_bytes(), Buffer::new().format(number).as_bytes())
@@ -85,7 +85,7 @@ pub fn push_ipv4(text: &mut Octets, address: &[u8]) -> Result<(), AllocError>
     let [first, rest @ ..] = address else {
         return Ok(());
     };
-    push_number(text, "", *first)?;
+    push_number(text, "", u64::from(*first))?;
     push_dotted(text, rest)?;
     Ok(())
 }
@@ -95,7 +95,7 @@ fn push_dotted(text: &mut Octets, bytes: &[u8]) -> Result<(), AllocError>
     ensures { OnOk result (text.new ≡ text.old ++ flat_map (λ next. codes "." ++ decimal next) bytes.now) }
 {
     for byte in bytes {
-        push_number(text, ".", *byte)?;
+        push_number(text, ".", u64::from(*byte))?;
     }
     Ok(())
 }

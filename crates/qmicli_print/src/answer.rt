@@ -1,7 +1,7 @@
 ghost use Rattle.std.specs.Prelude.{◌≡◌, ◌++◌, map, IfOk, OnOk};
 ghost use Rattle.std.specs.List.{flat_map};
 ghost use Rattle.qmi_services.specs.Answers.{field_view};
-ghost use Rattle.qmicli_print.specs.Answer.{end_text, field_text, kept_line};
+ghost use Rattle.qmicli_print.specs.Answer.{end_text, field_text, kept_line, kept_text};
 
 use crate::print_field;
 use kit_bytes::Octets;
@@ -17,9 +17,7 @@ pub fn qmi_text(alloc: Global, end: &QmiEnd) -> Result<Octets, AllocError>
         return Ok(Octets::new(alloc));
     };
     let mut text = or_ok(fields_text(alloc, fields.as_slice())?)?;
-    if let Some((service, id)) = end.kept {
-        push_kept(&mut text, service, id)?;
-    }
+    push_kept(&mut text, end.kept)?;
     Ok(text)
 }
 
@@ -34,13 +32,22 @@ fn fields_text(alloc: Global, fields: &[Field]) -> Result<Octets, AllocError>
     Ok(text)
 }
 
-// Adds the line on what is kept.
+/// Adds the line on the service and the client id that are kept, where some are.
+pub fn push_kept(text: &mut Octets, kept: Option<(u8, u8)>) -> Result<(), AllocError>
+    ensures { OnOk result (text.new ≡ text.old ++ kept_text kept) }
+{
+    match kept {
+        Some((service, id)) => push_kept_line(text, service, id),
+        None => Ok(()),
+    }
+}
+
 #[tactic(auto, unfolding(crate::specs::Answer::kept_line))]
-fn push_kept(text: &mut Octets, service: u8, id: u8) -> Result<(), AllocError>
+fn push_kept_line(text: &mut Octets, service: u8, id: u8) -> Result<(), AllocError>
     ensures { OnOk result (text.new ≡ text.old ++ kept_line service id) }
 {
-    push_number(text, "client id kept: service ", service)?;
-    push_number(text, ", id ", id)?;
+    push_number(text, "client id kept: service ", u64::from(service))?;
+    push_number(text, ", id ", u64::from(id))?;
     text.extend_from_slice(b"\n")?;
     Ok(())
 }

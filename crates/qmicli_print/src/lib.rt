@@ -6,7 +6,7 @@ mod print;
 mod shown;
 mod texts;
 
-pub use answer::qmi_text;
+pub use answer::{push_kept, qmi_text};
 pub use print::{print_field, print_titled};
 pub use shown::{Shown, service_word, shown_for, word};
 pub use texts::push_address;

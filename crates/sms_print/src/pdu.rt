@@ -55,12 +55,9 @@ fn part_shown(alloc: Global, part: &Part) -> Result<Octets, AllocError>
     ensures { IfOk result (λ shown. shown ≡ part_shown part.now) }
 {
     let mut shown = Octets::new(alloc);
-    push_number(&mut shown, "", part.place)?;
-    push_number(&mut shown, " of ", part.total)?;
-    shown.extend_from_slices(
-        b", reference ",
-        Buffer::new().format(part.reference).as_bytes(),
-    )?;
+    push_number(&mut shown, "", u64::from(part.place))?;
+    push_number(&mut shown, " of ", u64::from(part.total))?;
+    push_number(&mut shown, ", reference ", u64::from(part.reference))?;
     Ok(shown)
 }
 

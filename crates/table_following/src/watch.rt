@@ -1,12 +1,12 @@
 use crate::text::{id_name, push_lines};
-use table_requests::indication_line;
+use json_values::AsPrinted;
 use kit_bytes::{Octets, Text};
 use link_following::Shows;
 use message_tables::{Message, TlvShape};
 use qmux_frame::{Head, MessageKind, Qmux, tlvs_in};
 use std::alloc::{AllocError, Global};
 use std::marker::Model;
-use json_values::AsPrinted;
+use table_requests::indication_line;
 
 /// The client id in indications for each client of a service.
 const EACH_CLIENT: u8 = 0xFF;

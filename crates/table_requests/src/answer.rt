@@ -1,19 +1,18 @@
 ghost use Rattle.std.specs.Prelude.{◌≡◌, IfOk};
 ghost use Rattle.message_tables.specs.View.{message_view};
 ghost use Rattle.message_tables.specs.WellMade.{IsSoundMessage};
-ghost use Rattle.qmicli_print.specs.Answer.{kept_line, kept_text};
 ghost use Rattle.table_requests.specs.Answers.{answer_lines, answer_text};
 
-use crate::TablePlan;
+use crate::{TablePlan, answer_line};
 use dissect::push_tlvs;
-use crate::answer_line;
+use json_values::AsPrinted;
 use kit_bytes::Octets;
 use message_tables::Message;
-use print_text::{push_heading, push_number};
+use print_text::push_heading;
+use qmicli_print::push_kept;
 use qmux_frame::MessageKind;
 use request_session::TlvAnswer;
 use std::alloc::{AllocError, Global};
-use json_values::AsPrinted;
 
 /// What is printed of an answer, and of the service and the client id that are kept.
 pub fn answer_text(
@@ -49,27 +48,6 @@ fn answer_lines(
     push_heading(&mut text, b"", message.name.as_str())?;
     let forms = message.output.as_slice();
     push_tlvs(alloc, &mut text, MessageKind::Response, forms, tlvs)?;
-    let kept = kept_text(alloc, kept)?;
-    text.extend_from_slice(kept.as_slice())?;
-    Ok(text)
-}
-
-fn kept_text(alloc: Global, kept: Option<(u8, u8)>) -> Result<Octets, AllocError>
-    ensures { IfOk result (λ text. text ≡ kept_text kept) }
-{
-    match kept {
-        Some((service, id)) => kept_line(alloc, service, id),
-        None => Ok(Octets::new(alloc)),
-    }
-}
-
-#[tactic(auto, unfolding(qmicli_print::specs::Answer::kept_line))]
-fn kept_line(alloc: Global, service: u8, id: u8) -> Result<Octets, AllocError>
-    ensures { IfOk result (λ text. text ≡ kept_line service id) }
-{
-    let mut text = Octets::new(alloc);
-    push_number(&mut text, "client id kept: service ", service)?;
-    push_number(&mut text, ", id ", id)?;
-    text.extend_from_slice(b"\n")?;
+    push_kept(&mut text, kept)?;
     Ok(text)
 }

@@ -7,11 +7,11 @@ ghost use Rattle.tlv_codec.specs.Tlv.{tlvs_of};
 ghost use Rattle.table_requests.specs.Tlvs.{with_all};
 
 use crate::each::put_each;
+use json_values::{Shows, put_hexadecimal};
 use message_tables::TlvShape;
 use serde_json::{Map, Value};
 use std::alloc::{AllocError, Global};
 use tlv_codec::{TlvFault, tlvs};
-use json_values::{Shows, put_hexadecimal};
 
 /// Adds the TLVs that these bytes are: by their names, or by their types where the table lacks them or
 /// their value doesn't read; and where the bytes aren't whole TLVs, the bytes. The Result TLV of an

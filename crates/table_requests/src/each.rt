@@ -10,13 +10,13 @@ ghost use Rattle.print_text.specs.Texts.{hex_pair};
 ghost use Rattle.table_requests.specs.Tlvs.{with_bytes, with_form, with_reading, with_tlv, with_tlvs};
 
 use crate::forms::form_of;
+use json_values::{Shows, put_field, put_hexadecimal};
 use message_tables::TlvShape;
 use qmi_values::Val;
 use serde_json::{Map, Value};
 use std::alloc::{AllocError, Global};
 use tlv_codec::Tlv;
 use tlv_values::read_value;
-use json_values::{Shows, put_field, put_hexadecimal};
 
 /// Adds the TLVs that stand at these places of some bytes, the last first.
 pub(crate) fn put_each<S: Shows>(

@@ -1,9 +1,9 @@
 ghost use Rattle.std.specs.Prelude.{◌≡◌};
 ghost use Rattle.table_requests.specs.Faults.{IsNoRequest};
 
+use crate::RequestFault;
 use crate::pointer::{name_pointer, pointer_text};
 use file_io::FileFault;
-use crate::RequestFault;
 use kit_bytes::Octets;
 use named_messages::NamedFault;
 use std::alloc::{AllocError, Global};

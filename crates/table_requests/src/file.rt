@@ -6,10 +6,9 @@ ghost use Rattle.message_tables.specs.WellMade.{IsSoundMessage};
 ghost use Rattle.table_requests.specs.View.{asked_view};
 ghost use Rattle.table_requests.specs.Files.{Gives, OfFile, request_in};
 
-use crate::NoRequest;
 use crate::fault::no_request;
+use crate::{Asked, NoRequest, request_by};
 use file_io::{Files, read_file};
-use crate::{Asked, request_by};
 use kit_bytes::{PathText, ShortText, Text};
 use qmux_frame::LONGEST_TLVS;
 use std::alloc::Global;

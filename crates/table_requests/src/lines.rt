@@ -9,12 +9,12 @@ ghost use Rattle.json_values.specs.Lines.{json_line, json_text};
 ghost use Rattle.table_requests.specs.Messages.{answer_json, answer_members, ending_of, indication_json, indication_members};
 
 use crate::put_tlvs;
+use json_values::{Ending, Shows, object_line, put_ending, put_kept};
 use kit_bytes::{Octets, Text};
 use message_tables::TlvShape;
 use serde_json::{Map, Value, put};
 use std::alloc::{AllocError, Global};
 use tlv_codec::Outcome;
-use json_values::{Ending, Shows, object_line, put_ending, put_kept};
 
 /// The line of an answer by its table: its TLVs, the service and the client id that are kept, and its
 /// result.

@@ -5,6 +5,7 @@ use crate::session::{Refusal, Session};
 use crate::tunnel::TunnelPlan;
 use device_core::QmiPlan;
 use fields_json::mbim_line;
+use json_values::{AsPrinted, qmi_line};
 use kit_bytes::Octets;
 use link_io::Link;
 use link_session::SessionFault;
@@ -12,7 +13,6 @@ use mbim_session::{MbimEnd, MbimPlan};
 use qmi_services::QmiEnd;
 use std::alloc::{AllocError, Global};
 use tunnel_session::TunnelEnd;
-use json_values::{AsPrinted, qmi_line};
 
 /// A session whose end can be printed as one JSON object, on a line.
 pub trait JsonSession: Session {

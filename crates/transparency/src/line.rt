@@ -18,7 +18,7 @@ pub(crate) fn push_line(
 {
     lines.extend_from_slices(b"--", option.as_bytes())?;
     lines.extend_from_slices(b": ", word.as_bytes())?;
-    push_number(lines, ", status ", status)?;
+    push_number(lines, ", status ", u64::from(status))?;
     lines.extend_from_slice(b"\n")?;
     Ok(())
 }

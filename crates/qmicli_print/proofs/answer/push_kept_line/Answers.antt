@@ -1,6 +1,6 @@
 use Rattle.std.proofs.Common.{◌≡◌, ℕ, List, ◌++◌, ◌∙◌, ap, append_assoc, codes, decimal}
 use Rattle.qmicli_print.specs.Answer.{kept_line}
-use Rattle.qmicli_print.proofs.answer.push_kept.Goals as goal
+use Rattle.qmicli_print.proofs.answer.push_kept_line.Goals as goal
 
 -- three pieces behind a text are one
 joined : (old a b c d e : List ℕ) → ((((old ++ a) ++ b) ++ c) ++ d) ++ e ≡ old ++ ((((a ++ b) ++ c) ++ d) ++ e)
