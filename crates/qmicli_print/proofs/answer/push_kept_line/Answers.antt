@@ -12,6 +12,8 @@ joined old a b c d e =
 pub returns : goal.returns
 unfolding kept_line
 returns c =
+    let service = c.in_ok-push_number.ensures ∙ ap (λ (n : ℕ). (c.args.text.now ++ codes "client id kept: service ") ++ decimal n) c.from.ensures in
+    let id = c.in_ok-push_number-2.ensures ∙ ap (λ (n : ℕ). (c.push_number.new.text ++ codes ", id ") ++ decimal n) c.from-2.ensures in
     c.in_ok-extend_from_slice.ensures.ok
-    ∙ ap (λ (l : List ℕ). l ++ codes "\n") (c.in_ok-push_number-2.ensures ∙ ap (λ (l : List ℕ). (l ++ codes ", id ") ++ decimal c.args.id) c.in_ok-push_number.ensures)
+    ∙ ap (λ (l : List ℕ). l ++ codes "\n") (id ∙ ap (λ (l : List ℕ). (l ++ codes ", id ") ++ decimal c.args.id) service)
     ∙ joined c.args.text.now (codes "client id kept: service ") (decimal c.args.service) (codes ", id ") (decimal c.args.id) (codes "\n")
