@@ -9,7 +9,7 @@ use Rattle.mbim_fields.specs.Layout.{Layout, no_fields, field}
 use Rattle.mbim_fields.specs.Value.{Value}
 use Rattle.mbimcli_print.specs.Printed.{is_count}
 use Rattle.json_values.specs.Json.{word_key, with_word}
-use Rattle.json_values.proofs.Members.{longer, with_word-other}
+use Rattle.json_values.proofs.JsonMembers.{longer, with_word-other}
 use Rattle.fields_json.specs.Json.{form_json, word_of, with_field, with_fields}
 use Rattle.fields_json.specs.Answers.{success_members}
 use Rattle.fields_json.specs.Apart.{is_apart, has_names_apart, are_named_apart}

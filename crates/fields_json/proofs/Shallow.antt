@@ -15,7 +15,7 @@ use Rattle.mbimcli_print.specs.Texts.{uuid_text, address_text}
 use Rattle.json_values.specs.declared.ending.Ending.TheVariants as ending
 use Rattle.json_values.specs.Json.{hexadecimal, text_json}
 use Rattle.json_values.proofs.Answered.{with_ending-no_float}
-use Rattle.json_values.proofs.Members.{put-shallow, put-no_float}
+use Rattle.json_values.proofs.JsonMembers.{put-shallow, put-no_float}
 use Rattle.json_values.proofs.Shallow.{or_null_all, text_shallow, text_no_float, member_shallow, member-no_float, items_shallow, items_no_float}
 use Rattle.fields_json.specs.Json.{number_json, address_json, pair_json, prefixed_json, fixed_json, list_json, item_json, form_json, word_of, with_field, with_fields}
 use Rattle.fields_json.specs.Answers.{answer_members}

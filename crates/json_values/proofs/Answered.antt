@@ -10,7 +10,7 @@ use Rattle.json_values.specs.declared.ending.Ending.TheVariants as ending
 use Rattle.json_values.specs.Showing.{Showing}
 use Rattle.json_values.specs.Json.{with_field}
 use Rattle.json_values.specs.Ends.{with_error, with_ending, with_values, with_kept, answer_members}
-use Rattle.json_values.proofs.Members.{put-no_float}
+use Rattle.json_values.proofs.JsonMembers.{put-no_float}
 use Rattle.json_values.proofs.Shallow.{with_field-no_float}
 
 with_error-no_float : (word : List ℕ) (number : ℕ) (so_far : Members) → members_have_float so_far ≡ false → members_have_float (with_error word number so_far) ≡ false

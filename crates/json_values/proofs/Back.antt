@@ -29,7 +29,7 @@ use Rattle.json_values.specs.Showing.{Showing, wordless}
 use Rattle.json_values.specs.Json.{hexadecimal, text_json, low_byte, list_json, or_null, json_of, with_fields}
 use Rattle.json_values.specs.Apart.{HasNamesApart, AreNamedApart, HasBytes, EachHasBytes}
 use Rattle.json_values.specs.JsonLaws.{GivesBack}
-use Rattle.json_values.proofs.Members.{HoldsAll, with_fields-hold, no_other}
+use Rattle.json_values.proofs.JsonMembers.{HoldsAll, with_fields-hold, no_other}
 
 counted : {A : Type 0} (prefix : Prefix) (count : ℕ) (made : Fitting A) → IsTrue (count_fits prefix count) → if_counted prefix count made ≡ made
 counted prefix count made fit = rw fit refl

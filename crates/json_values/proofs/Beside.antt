@@ -16,7 +16,7 @@ use Rattle.json_values.specs.Json.{list_json, or_null, json_of, with_fields}
 use Rattle.json_values.specs.Words.{each_item, in_array, put_found, without_words, fields_alone}
 use Rattle.json_values.specs.Apart.{AreNamedApart}
 use Rattle.json_values.specs.JsonLaws.{WordsStandBeside}
-use Rattle.json_values.proofs.Members.{HoldsAll, with_fields-hold, with_no_word}
+use Rattle.json_values.proofs.JsonMembers.{HoldsAll, with_fields-hold, with_no_word}
 
 module _ (change : Data → Data) (json plain : Value → Data) (fit : Value → Bool) (good : (v : Value) → IsTrue (fit v) → change (json v) ≡ plain v) where
   items_beside : (values : List Value) → IsTrue (list_all fit values) → each_item change (items_of (map json values)) ≡ items_of (map plain values)

@@ -4,7 +4,7 @@ pub mod Walks
 pub mod Fits
 pub mod Views
 pub mod Octets
-pub mod Members
+pub mod JsonMembers
 pub mod Back
 pub mod Read
 pub mod Beside

@@ -12,7 +12,7 @@ use Rattle.message_tables.specs.Tlvs.{is_byte, nesting, fields_nesting}
 use Rattle.json_values.specs.Showing.{Showing}
 use Rattle.json_values.specs.Json.{hexadecimal, text_json, list_json, or_null, json_of, word_key, word_of, with_word, with_field, with_fields}
 use Rattle.json_values.specs.JsonLaws.{NestsAsItsForm}
-use Rattle.json_values.proofs.Members.{put-shallow, put-no_float}
+use Rattle.json_values.proofs.JsonMembers.{put-shallow, put-no_float}
 
 -- ---- what holds of a value's JSON where it holds of null and of what a value of its form gives ----
 

@@ -19,7 +19,7 @@ use Rattle.json_values.specs.Showing.{Showing}
 use Rattle.json_values.specs.Json.{hexadecimal, with_field}
 use Rattle.json_values.specs.Lines.{json_text}
 use Rattle.json_values.specs.Ends.{with_error, with_ending, with_kept}
-use Rattle.json_values.proofs.Members.{put-shallow, put-no_float}
+use Rattle.json_values.proofs.JsonMembers.{put-shallow, put-no_float}
 use Rattle.json_values.proofs.Shallow.{with_field-shallow, with_field-no_float}
 use Rattle.json_values.proofs.Answered.{with_ending-no_float, with_kept-no_float}
 use Rattle.tlv_codec.specs.declared.outcome.Outcome.{Outcome}
