@@ -8,7 +8,7 @@ use Rattle.message_tables.proofs.Weights.{weight_field}
 use Rattle.message_tables.specs.Tlvs.{is_byte}
 use Rattle.json_values.specs.Json.{array_json, json_of, list_json, with_fields}
 use Rattle.json_values.proofs.JsonWalks.{field_added, no_field, list_is, sequence_is}
-use Rattle.json_values.proofs.values.+values.Goals as goal
+use Rattle.json_values.proofs.json.+values.Goals as goal
 
 pub array_json-returns-in-Some : goal.array_json-returns-in-Some
 array_json-returns-in-Some g t c =

@@ -4,7 +4,7 @@ use Rattle.qmi_shapes.specs.View.{fields_of, field_view, fields_view, shape_view
 use Rattle.qmi_values.specs.View.{val_view}
 use Rattle.message_tables.proofs.Weights.{weight, fields_weight}
 use Rattle.json_values.specs.Json.{json_of, with_fields}
-use Rattle.json_values.proofs.values.+values.Given as goal
+use Rattle.json_values.proofs.json.+values.Given as goal
 
 abbrev pub decreases-json_of : goal.decreases-json_of
 decreases-json_of g l = 4 * weight (shape_view l.shape.now)

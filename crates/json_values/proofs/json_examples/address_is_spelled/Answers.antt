@@ -1,6 +1,6 @@
 use Rattle.std.proofs.Common.{refl}
 use Rattle.json_values.proofs.Computed.{json_computed}
-use Rattle.json_values.proofs.examples.address_is_spelled.Goals as goal
+use Rattle.json_values.proofs.json_examples.address_is_spelled.Goals as goal
 
 pub returns : goal.returns
 unfolding json_computed

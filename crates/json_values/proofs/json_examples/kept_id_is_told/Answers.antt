@@ -1,6 +1,6 @@
 use Rattle.std.proofs.Common.{refl}
 use Rattle.json_values.proofs.Computed.{json_computed}
-use Rattle.json_values.proofs.examples.kept_id_is_told.Goals as goal
+use Rattle.json_values.proofs.json_examples.kept_id_is_told.Goals as goal
 
 pub returns : goal.returns
 unfolding json_computed

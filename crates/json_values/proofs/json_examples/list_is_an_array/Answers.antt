@@ -1,6 +1,6 @@
 use Rattle.std.proofs.Common.{refl}
 use Rattle.json_values.proofs.Computed.{json_computed}
-use Rattle.json_values.proofs.examples.list_is_an_array.Goals as goal
+use Rattle.json_values.proofs.json_examples.list_is_an_array.Goals as goal
 
 pub returns : goal.returns
 unfolding json_computed

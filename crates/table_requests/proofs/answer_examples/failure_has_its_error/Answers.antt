@@ -1,7 +1,7 @@
 use Rattle.std.proofs.Common.{refl}
 use Rattle.framing.specs.Cutting.{cut_from}
 use Rattle.json_values.proofs.Computed.{json_computed}
-use Rattle.table_requests.proofs.examples.failure_has_its_error.Goals as goal
+use Rattle.table_requests.proofs.answer_examples.failure_has_its_error.Goals as goal
 
 pub returns : goal.returns
 unfolding json_computed cut_from

@@ -7,7 +7,7 @@ use Rattle.tlv_codec.specs.Tlv.{Entry}
 use Rattle.dissect.specs.Places.{StandsWithin, entry_at}
 use Rattle.dissect.proofs.Places.{hold_all}
 use Rattle.table_requests.specs.Tlvs.{with_tlvs, with_all}
-use Rattle.table_requests.proofs.tlvs.put_tlvs.Goals as goal
+use Rattle.table_requests.proofs.answer_tlvs.put_tlvs.Goals as goal
 
 pub put_each-requires-clause-within : goal.put_each-requires-clause-within
 put_each-requires-clause-within g c =
