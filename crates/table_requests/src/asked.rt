@@ -9,7 +9,7 @@ ghost use Rattle.table_requests.specs.Requests.{request_by, request_with};
 ghost use Rattle.table_requests.specs.View.{asked_view};
 
 use crate::RequestFault;
-use crate::request_tlvs::request_tlvs;
+use crate::input_tlvs::request_tlvs;
 use kit_bytes::Octets;
 use message_tables::{Message, TableFault, json_value};
 use named_messages::read_message;

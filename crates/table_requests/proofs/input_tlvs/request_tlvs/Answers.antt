@@ -4,7 +4,7 @@ use Rattle.serde_json.specs.View.{view, members_view}
 use Rattle.message_tables.specs.View.{tlv_view, tlvs_view}
 use Rattle.table_requests.specs.Requests.{TlvValue, request_of, tlvs_given}
 use Rattle.table_requests.proofs.Faults.{Gives-no_tlv, Gives-misfit, request_other, request_misfit, request_written, request_too_long}
-use Rattle.table_requests.proofs.request_tlvs.request_tlvs.Goals as goal
+use Rattle.table_requests.proofs.input_tlvs.request_tlvs.Goals as goal
 
 pub returns-in-Some-first_other : goal.returns-in-Some-first_other
 returns-in-Some-first_other c =

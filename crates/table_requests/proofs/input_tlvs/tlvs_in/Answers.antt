@@ -7,8 +7,8 @@ use Rattle.json_values.proofs.Continued.{Gives-same}
 use Rattle.table_requests.specs.Requests.{TlvValue, spelled_by, tlvs_given}
 use Rattle.table_requests.specs.Written.{IsWritten}
 use Rattle.table_requests.proofs.Walks.{sound_at, left_out, given_more, misfit_is, all_given, none_given}
-use Rattle.table_requests.proofs.request_tlvs.tlvs_in.Goals as goal
-use Rattle.table_requests.proofs.request_tlvs.tlvs_in.Goals.{in-Some+in_ok-bytes+in_ok-written, in_default}
+use Rattle.table_requests.proofs.input_tlvs.tlvs_in.Goals as goal
+use Rattle.table_requests.proofs.input_tlvs.tlvs_in.Goals.{in-Some+in_ok-bytes+in_ok-written, in_default}
 
 pub value_bytes-requires : goal.value_bytes-requires
 value_bytes-requires c = (sound_at c.args.tlvs.now c.loop-tlv.tlv-index c.tlv-item.result c.requires c.loop-tlv-test.true c.tlv-item.is).well_made
