@@ -133,6 +133,36 @@ def try_told():
         modem.wait(10)
 
 
+# ---- more than is noted ----
+
+class Flood(Tap):
+    """Before the modem's first answer come more bytes than a tool notes, as indications of DMS for everybody."""
+
+    def carry_back(self, modem, tool):
+        value = bytes(5000)
+        tlvs = b"\x10" + len(value).to_bytes(2, "little") + value
+        body = b"\x80\x02\xff" + b"\x04\0\0\x01\0" + len(tlvs).to_bytes(2, "little") + tlvs
+        message = b"\x01" + (len(body) + 2).to_bytes(2, "little") + body
+        flood = message * (MOST_BYTES // len(message) + 2)
+        tool.sendall(flood)
+        super().carry_back(modem, tool)
+
+
+MOST_BYTES = 4_194_304
+
+
+def try_full():
+    modem = subprocess.Popen([program, "modem-sim", "--kind=qmi", "--socket=flooded"])
+    wait_for("flooded")
+    tap = Flood("flood", "flooded")
+    status, out, err = run("qmicli", "-v", "-d", "flood", "--dms-get-model")
+    tap.end()
+    point("more than is noted: the command does what it does", (status, out) == run("qmicli", "-d", "flooded", "--dms-get-model")[:2], f"{status} {out}")
+    point("more than is noted: a line `..` stands behind it", err.endswith("\n..\n") and err.count("\n..\n") == 1, err[-200:])
+    modem.terminate()
+    modem.wait(10)
+
+
 # ---- calls that fail ----
 
 def fails(name, path, words, **how):
@@ -230,5 +260,5 @@ def try_busy():
 
 
 for part in parts:
-    {"told": try_told, "faults": try_faults, "nodes": try_nodes}[part]()
+    {"told": try_told, "full": try_full, "faults": try_faults, "nodes": try_nodes}[part]()
 sys.exit(failed > 0)
